@@ -17,18 +17,18 @@ use Rattle.upgrade_run.proofs.Run.{moments}
 use Rattle.second_half_laws.specs.Own.{IsExact}
 
 -- calm scrubs, as a test
-abbrev is_scrub_calm_for : Mark → List Moment → State → Option Alone → Bool
+abbrev pub is_scrub_calm_for : Mark → List Moment → State → Option Alone → Bool
 is_scrub_calm_for mark ms w None = true
 is_scrub_calm_for mark ms w (Some (Packing pack)) = true
 is_scrub_calm_for mark ms w (Some (Scrubbing scrub)) =
     nat_le (replaced_count w (mark (first_moments scrub.begun ms)) ms) (setup_in w).b
 
-abbrev are_scrubs_calm : Mark → List Moment → Bool
+abbrev pub are_scrubs_calm : Mark → List Moment → Bool
 are_scrubs_calm mark [] = true
 are_scrubs_calm mark (m ∷ ms) =
     is_scrub_calm_for mark (m ∷ ms) m.state m.state.alone && are_scrubs_calm mark ms
 
-scrubs_calm_by_test : (mark : Mark) (ms : List Moment) → are_scrubs_calm mark ms ≡ true →
+pub scrubs_calm_by_test : (mark : Mark) (ms : List Moment) → are_scrubs_calm mark ms ≡ true →
     AreScrubsCalm mark ms
 scrubs_calm_by_test mark [] h = tt
 scrubs_calm_by_test mark (m ∷ ms) h =

@@ -9,17 +9,18 @@ use Rattle.machine_defs.specs.Runs.{Moment, now}
 use Rattle.machine_defs.specs.States.{State}
 use Rattle.machine_defs.specs.Steps.{Steps}
 use Rattle.machine_defs.specs.Transcripts.{Once, RunJob, GoOn}
-use Rattle.vault.specs.declared.turn.Turn.{Turn}
 use Rattle.vault.specs.declared.turn.Turn.TheVariants as turn
 use Rattle.vault_open.specs.Devices.{Devices}
-use Rattle.vault.specs.Outcomes.{IfEnded}
+use Rattle.hail_scrub.specs.declared.turn.ScrubTurn.TheVariants as scrubs
 use Rattle.hail_client.specs.declared.client.Client.{Client}
+use Rattle.hail_client.specs.declared.turn.ClientTurn.{ClientTurn}
+use Rattle.hail_client.specs.declared.turn.ClientTurn.TheVariants as turns
 use Rattle.hail_client.specs.Client.{is_open}
-use Rattle.hail_client.specs.Outcomes.{step_outcome}
+use Rattle.hail_client.specs.Outcomes.{step_outcome, HeardIs}
 use Rattle.hail_client.specs.Stands.{ClientStands, MakesEvent, IsReached, RunsJobOn}
+use Rattle.hail_client.proofs.Standing.{open-of}
 use Rattle.hail_replay.specs.declared.came.Came.{Came}
 use Rattle.hail_replay.specs.declared.came.Came.TheVariants as came
-use Rattle.hail_replay.proofs.Standing.{open-by}
 use Rattle.hail_replay.specs.Performed.{outcome_in, heard_in_turn, heard_in_came, Performs}
 
 -- what is heard after a step is what was heard, and what its job heard
@@ -37,14 +38,16 @@ same-heard start ms job (m ∷ steps) on =
     ∙ append-nil (heard_in start (steps ++ ms)) ∙ same-heard start ms job steps on.2
 
 -- what a turn's job heard
-pub turn-heard : (w : State) (job : ℕ) (t : Option Turn) →
-    IfSome t (λ t. IfEnded t (λ ended. ended.heard ≡ heard_by (job_of w.jobs job)))
+pub turn-heard : (w : State) (job : ℕ) (t : Option ClientTurn) →
+    IfSome t (λ turn. HeardIs turn (heard_by (job_of w.jobs job)))
     → heard_at w (Step job) (step_outcome t) ≡ heard_in_turn t
-turn-heard w job (Some (turn.Done ended)) h = sym h
-turn-heard w job (Some turn.More) h = refl
-turn-heard w job (Some (turn.Waiting holder)) h = refl
-turn-heard w job (Some turn.NoSuchJob) h = refl
-turn-heard w job (Some turn.MustReopen) h = refl
+turn-heard w job (Some (turns.Job (turn.Done ended))) h = sym h
+turn-heard w job (Some (turns.Job turn.More)) h = refl
+turn-heard w job (Some (turns.Job (turn.Waiting holder))) h = refl
+turn-heard w job (Some (turns.Job turn.NoSuchJob)) h = refl
+turn-heard w job (Some (turns.Job turn.MustReopen)) h = refl
+turn-heard w job (Some (turns.Scrub n scrubs.More)) h = refl
+turn-heard w job (Some (turns.Scrub n (scrubs.Done answer))) h = h
 turn-heard w job None h = refl
 
 -- a call that is one event
@@ -65,7 +68,7 @@ once event came c next d e makes heard start ms R =
     })
 
 -- a job that was run
-pub run : (start : State) (ms : List Moment) (job : ℕ) (t : Option Turn) (next : Client) (e : Devices) →
+pub run : (start : State) (ms : List Moment) (job : ℕ) (t : Option ClientTurn) (next : Client) (e : Devices) →
     RunsJobOn start ms job t next e
     → Performs start ms (RunJob job) (Some (came.Stepped t)) next e
 run start ms job t next e R = record {
@@ -83,7 +86,7 @@ run start ms job t next e R = record {
 
 -- a vault is open in both or in none
 pub open-same : (c : Client) (d : Devices) (w : State) → ClientStands c d w → w.is_open ≡ is_open c
-open-same c d w S = open-by c.vault c.next_job d w S
+open-same c d w S = open-of c.vault c.scrub c.next_job d w S
 
 -- a job that was not run, since no vault is open
 pub not-run : (job : ℕ) → job < 2 ^ 32 → (c : Client) (d : Devices) → is_open c ≡ false →

@@ -4,7 +4,7 @@ use Rattle.std.specs.Prelude.{IfSome, is_some}
 use Rattle.std.proofs.lemmas.Bool.{cases_Bool}
 use Rattle.device_defs.specs.Cells.{Cells}
 use Rattle.device_defs.specs.Providers.{Provider}
-use Rattle.machine_defs.specs.Events.{Event, Begin, BeginAt, Step, Names}
+use Rattle.machine_defs.specs.Events.{Event, Begin, BeginAt, BeginScrub, Step, Names}
 use Rattle.machine_defs.specs.Heard.{Entry, heard_by, heard_at, reported_after}
 use Rattle.machine_defs.specs.Jobs.{Kind, PutJob, job_of}
 use Rattle.machine_defs.specs.Machine.{Happens}
@@ -15,19 +15,18 @@ use Rattle.schedule_text.specs.declared.event.Event.{Event as Read}
 use Rattle.schedule_text.specs.declared.event.Event.TheVariants as read
 use Rattle.schedule_text.specs.Events.{event_command}
 use Rattle.vault_core.specs.declared.wish.BeginFault.{BeginFault}
-use Rattle.vault.specs.declared.turn.Turn.{Turn}
 use Rattle.vault_open.specs.Devices.{Devices, devices}
-use Rattle.vault.specs.Outcomes.{IfEnded}
 use Rattle.hail_client.specs.declared.client.Client.{Client}
+use Rattle.hail_client.specs.declared.turn.ClientTurn.{ClientTurn}
 use Rattle.hail_client.specs.Begins.{put_event}
 use Rattle.hail_client.specs.Client.{is_open, client_coming, IsSame}
-use Rattle.hail_client.specs.Outcomes.{client_begin_outcome, step_outcome, replace_outcome}
+use Rattle.hail_client.specs.Outcomes.{client_begin_outcome, step_outcome, HeardIs, replace_outcome}
 use Rattle.hail_client.specs.Stands.{ClientStands, MakesEvent, IsReached, RunsJobOn}
 use Rattle.vault_core.specs.Coming.{IsNoJob}
 use Rattle.hail_replay.specs.declared.came.Came.{Came}
 use Rattle.hail_replay.specs.declared.came.Came.TheVariants as came
 use Rattle.hail_replay.specs.Performed.{StandsWhereOpen, KeepsStanding, IsPerformed}
-use Rattle.hail_replay.proofs.Same.{Same, OneMore, begins}
+use Rattle.hail_replay.proofs.Same.{Same, OneMore, begins, begins_alone}
 use Rattle.hail_replay.proofs.Arms.{begun-kept, closed-kept, closed-coming, step-kept, run-kept, replaced-kept, same-kept}
 use Rattle.hail_replay.proofs.Behind.{once, run, not-run, turn-heard}
 use Rattle.hail_replay.proofs.Standing.{lists}
@@ -63,6 +62,16 @@ begun c next d kind result S makes =
     begun-by (Begin kind) c next d result
     (λ w u h. begins w 8 0 kind None (client_begin_outcome result) u h) (λ w es. refl) S makes
 
+-- the begin of a scrub
+pub scrub-begun : (c next : Client) (d : Devices) (result : Option (Result ℕ BeginFault)) →
+    StandsWhereOpen c d
+    → ((w : State) (there : Devices) (moment : ℕ) → ClientStands c there w →
+    MakesEvent w moment BeginScrub (client_begin_outcome result) next there)
+    → IsPerformed (Once BeginScrub) (Some (came.Begun result)) c next d d
+scrub-begun c next d result S makes =
+    begun-by BeginScrub c next d result
+    (λ w u h. begins_alone w _ _ (client_begin_outcome result) u h) (λ w es. refl) S makes
+
 -- the begin of a put
 pub put-begun : (c next : Client) (d : Devices) (name bytes : List ℕ) (own : Option ℕ)
     (result : Option (Result ℕ BeginFault)) → StandsWhereOpen c d
@@ -76,11 +85,11 @@ put-begun c next d name bytes (Some profile) result S makes =
     (λ w es. refl) S makes
 
 -- a step, which does nothing where no vault is open
-pub stepped : (job : ℕ) (c next : Client) (d e : Devices) (t : Option Turn) → StandsWhereOpen c d →
+pub stepped : (job : ℕ) (c next : Client) (d e : Devices) (t : Option ClientTurn) → StandsWhereOpen c d →
     is_some e.holds ≡ is_some d.holds
     → ((w : State) (moment : ℕ) → ClientStands c d w → MakesEvent w moment (Step job) (step_outcome t) next e)
     → ((w : State) → ClientStands c d w →
-    IfSome t (λ t. IfEnded t (λ ended. ended.heard ≡ heard_by (job_of w.jobs job))))
+    IfSome t (λ turn. HeardIs turn (heard_by (job_of w.jobs job))))
     → (client_coming c job ≡ IsNoJob → IsSame c next × (e ≡ d))
     → IsPerformed (Once (Step job)) (Some (came.Stepped t)) c next d e
 stepped job c next d e t S tells makes heard none = record {
@@ -94,7 +103,7 @@ stepped job c next d e t S tells makes heard none = record {
 }
 
 -- a run of a job over an open vault
-pub ran : (job : ℕ) (c next : Client) (d e : Devices) (t : Option Turn) → StandsWhereOpen c d →
+pub ran : (job : ℕ) (c next : Client) (d e : Devices) (t : Option ClientTurn) → StandsWhereOpen c d →
     is_open c ≡ true → is_some e.holds ≡ is_some d.holds
     → ((start : State) (ms : List Moment) → IsReached start ms c d → RunsJobOn start ms job t next e)
     → IsPerformed (RunJob job) (Some (came.Stepped t)) c next d e

@@ -5,13 +5,14 @@ use Rattle.device_defs.specs.Providers.{Held}
 use Rattle.machine_defs.specs.Jobs.{Kind, Job, job_of}
 use Rattle.machine_defs.specs.Actions.{Action, WriteBody, SyncBody, WriteGate, SyncGate, Store, Fetch, Ask, Work, Remove, End}
 use Rattle.machine_defs.specs.Refusals as refusal
+use Rattle.machine_defs.specs.Refusals.{Refusal}
 use Rattle.machine_defs.specs.Answers as answer
 use Rattle.machine_defs.specs.Events.{Event, Step, Outcome, Refused, Begun, More, Waiting, Ended, Replaced, NothingHeld, Closed}
 use Rattle.machine_defs.specs.States.{State, Append, Alone}
 use Rattle.machine_defs.specs.Begins.{BeginsAt}
 use Rattle.machine_defs.specs.Appends.{Moves}
 use Rattle.machine_defs.specs.Steps.{next_action, holder_of, Acts, ActsOrWaits, StepsOn, StepsJob, StepsMine, StepsOne, StepsOpen, Steps}
-use Rattle.machine_defs.specs.Alone.{number_alone}
+use Rattle.machine_defs.specs.Alone.{number_alone, BeginsAlone}
 use Rattle.machine_defs.specs.Replacements.{ReplacesAt, ReplacesIf}
 use Rattle.machine_defs.specs.Machine.{Happens}
 use Rattle.machine_defs.specs.Runs.{Moment, now, IsRun}
@@ -150,6 +151,14 @@ module _ (old : State) where
   begins limit moment kind own (Refused why) new h = one_more old new h.2 refl (omega arith)
   begins limit moment kind own (Begun job) new h = one_more _ new h.3 refl (omega arith)
   begins limit moment kind own r new h = absurd h
+
+  -- and the begin of what runs alone
+  pub begins_alone : (why : Option Refusal) (x : Alone) (r : Outcome) (new : State) →
+      BeginsAlone old why x r new → OneMore new
+  begins_alone why x Closed new h = one_more old new h.1 refl (omega arith)
+  begins_alone why x (Refused refused) new h = one_more old new h.2 refl (omega arith)
+  begins_alone why x (Begun job) new h = one_more _ new h.3 refl (omega arith)
+  begins_alone why x r new h = absurd h
 
 -- a step of a run
 pub step_of : (start : State) (ms : List Moment) (m : Moment) (job : ℕ) → m.event ≡ Step job →

@@ -23,10 +23,11 @@ use Rattle.machine_defs.specs.Heard.{Entry, heard_in}
 use Rattle.machine_defs.specs.Runs.{Moment}
 use Rattle.machine_defs.specs.States.{State}
 use Rattle.machine_defs.specs.Transcripts.{Instruction, Once, RunJob, RunsToEnd}
-use Rattle.vault.specs.declared.turn.Turn.{Turn}
 use Rattle.vault.specs.declared.turn.Turn.TheVariants as turn
 use Rattle.vault_open.specs.Devices.{Devices}
 use Rattle.hail_client.specs.declared.client.Client.{Client}
+use Rattle.hail_client.specs.declared.turn.ClientTurn.{ClientTurn}
+use Rattle.hail_client.specs.declared.turn.ClientTurn.TheVariants as turns
 use Rattle.hail_client.specs.Client.{is_open, client_next_job, names_of}
 use Rattle.hail_client.specs.Outcomes.{names_outcome}
 use Rattle.hail_client.specs.Stands.{IsStanding, IsReached}
@@ -40,8 +41,8 @@ outcome_in c (Some what) = came_outcome what
 outcome_in c None = names_outcome (names_of c)
 
 -- what the job heard that a turn ended
-abbrev pub heard_in_turn : Option Turn → List Entry
-heard_in_turn (Some (turn.Done ended)) = ended.heard
+abbrev pub heard_in_turn : Option ClientTurn → List Entry
+heard_in_turn (Some (turns.Job (turn.Done ended))) = ended.heard
 heard_in_turn t = []
 
 -- what the job heard that a step ended

@@ -7,10 +7,10 @@ use crate::listed::names_lines;
 use crate::opened::{init_line, reopen_line};
 use crate::replaced::{replace_line, stop_line};
 use crate::stepped::step_line;
-use hail_client::ReopenFault;
+use hail_client::{ClientTurn, ReopenFault};
 use std::alloc::Global;
 use stream_model::{Bytes, Memory};
-use vault::{BeginFault, InitFault, Turn};
+use vault::{BeginFault, InitFault};
 use vault_table::Table;
 
 /// What came of an event of a schedule: what the client's call for it answered. A run of a job is told by its
@@ -20,7 +20,7 @@ pub enum Came<'a> {
     Inited(Result<(), InitFault>),
     Reopened(Result<(), ReopenFault>),
     Begun(Option<Result<u32, BeginFault>>),
-    Stepped(Option<Turn>),
+    Stepped(Option<ClientTurn>),
     /// Of an alteration or a loss.
     Replaced(bool),
     Stopped,

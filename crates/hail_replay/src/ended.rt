@@ -1,14 +1,16 @@
-// The line of a job that ended.
-ghost use Rattle.std.specs.Prelude.{◌≡◌, ◌++◌, codes, IfOk, OnOk};
+// The line of a job or a scrub that ended.
+ghost use Rattle.std.specs.Prelude.{◌≡◌, ◌++◌, [], codes, take, IfOk, OnOk};
 ghost use Rattle.std.specs.List.{flat_map};
 ghost use Rattle.std.specs.String.{string_bytes};
-ghost use Rattle.machine_defs.specs.Answers.{Got, Audited, Lost};
+ghost use Rattle.machine_defs.specs.Answers.{Got, Audited, Lost, Scrubbed};
 ghost use Rattle.machine_defs.specs.Lines.{line, then_number, hex, hex_or_dash, answer_text};
 ghost use Rattle.record_codec.specs.Entries.{counted};
 ghost use Rattle.vault.specs.Outcomes.{machine_answer};
+ghost use Rattle.hail_scrub.specs.Stands.{scrub_answer};
 
-use crate::text::{of_text, push_list};
+use crate::text::{of_text, push_list, push_sums};
 use command_lines::{counts_in_use, numbered_line, push_counted, push_line};
+use hail_scrub::ScrubAnswer;
 use record_codec::Counts;
 use std::alloc::{AllocError, Global};
 use stream_model::{Bytes, Memory};
@@ -109,5 +111,67 @@ pub fn answer_line(alloc: Global, answer: &Answer) -> Result<Bytes, Memory>
         }
         Answer::DiskFault => Bytes::from_slice(alloc, b"disk fault\n"),
         Answer::Memory => Bytes::from_slice(alloc, b"memory\n"),
+    }
+}
+
+/// What was counted of the first so many providers.
+fn sums_in_use(sums: &[u64; 16], providers: u8) -> &[u64]
+    ensures { result.now ≡ take providers sums.now }
+{
+    let n = usize::from(providers).min(sums.len());
+    &sums[..n]
+}
+
+/// Puts the line of a scrub behind a text, with the symbols that differed of each provider in use. It leaves
+/// out how many blocks differed.
+fn push_scrubbed(
+    alloc: Global,
+    text: &mut Vec<u8>,
+    stripes: u64,
+    symbols: &[u64],
+) -> Result<(), AllocError>
+    ensures { OnOk result (text.new.items ≡ text.old.items ++ line (answer_text
+        (Scrubbed stripes symbols.now []))) }
+{
+    push_counted(alloc, text, b"scrubbed", stripes)?;
+    text.extend_from_slice(b" symbols")?;
+    push_sums(alloc, text, symbols)?;
+    text.extend_from_slice(b"\n")
+}
+
+/// The line of a scrub of so many providers.
+fn scrubbed_line(
+    alloc: Global,
+    providers: u8,
+    stripes: u64,
+    symbols: &[u64; 16],
+) -> Result<Bytes, Memory>
+    ensures { IfOk result (λ text. text ≡ line (answer_text
+        (Scrubbed stripes (take providers symbols.now) []))) }
+{
+    let mut text = Vec::new(alloc);
+    push_scrubbed(alloc, &mut text, stripes, sums_in_use(symbols, providers))?;
+    Ok(Bytes::from_vec(text))
+}
+
+/// The line of a scrub of so many providers that ended so.
+pub fn scrub_answer_line(
+    alloc: Global,
+    providers: u8,
+    answer: &ScrubAnswer,
+) -> Result<Bytes, Memory>
+    ensures { IfOk result (λ text. text ≡ line (answer_text (scrub_answer providers answer.now))) }
+{
+    match answer {
+        ScrubAnswer::Scrubbed {
+            stripes,
+            symbols,
+            ..
+        } => scrubbed_line(alloc, providers, *stripes, symbols),
+        ScrubAnswer::Lost { stripe, row } => lost_line(alloc, *stripe, *row),
+        ScrubAnswer::ProviderFault { provider } => {
+            numbered_line(alloc, b"provider fault", u64::from(*provider))
+        }
+        ScrubAnswer::Memory => Bytes::from_slice(alloc, b"memory\n"),
     }
 }

@@ -9,19 +9,18 @@ ghost use Rattle.hail_replay.specs.Performed.{StandsWhereOpen, IsPerformed};
 
 use crate::Came;
 use disk_model::Disk;
-use hail_client::Client;
+use hail_client::{Client, ClientTurn};
 use provider_model::Tamper;
 use schedule_text::Event;
 use std::alloc::Global;
-use vault::Turn;
 
-/// Runs a job; while no vault is open, nothing is called.
+/// Runs a job or the scrub of its number; while no vault is open, nothing is called.
 fn run_job<D: Disk, P: Tamper>(
     client: &mut Client,
     job: u32,
     disk: &mut D,
     providers: &mut [P],
-) -> Option<Turn>
+) -> Option<ClientTurn>
     requires standing { StandsWhereOpen client.old (devices_of D.Disk P.Provider disk.old providers.old) }
     ensures performed { IsPerformed (RunJob job) (Some (came.Stepped result)) client.old client.new
         (devices_of D.Disk P.Provider disk.old providers.old)
@@ -65,6 +64,7 @@ pub fn perform<D: Disk, P: Tamper>(
         Event::BeginAudit => Some(Came::Begun(client.begin_audit())),
         Event::BeginRepair => Some(Came::Begun(client.begin_repair())),
         Event::BeginUpgrade => Some(Came::Begun(client.begin_upgrade())),
+        Event::BeginScrub => Some(Came::Begun(client.begin_scrub(alloc))),
         Event::Step { job } => Some(Came::Stepped(client.step(job, disk, providers))),
         Event::Run { job } => Some(Came::Stepped(run_job(client, job, disk, providers))),
         Event::Alter {

@@ -19,7 +19,7 @@ use crate::heard::HeardLists;
 use crate::{Came, came_lines};
 use command_lines::{NO_MEMORY, WRITTEN, write_text};
 use disk_model::Disk;
-use hail_client::Client;
+use hail_client::{Client, ClientTurn};
 use provider_model::Tamper;
 use schedule_text::Event;
 use std::alloc::Global;
@@ -44,12 +44,12 @@ pub(crate) fn named<'a>(came: Option<Came<'a>>, client: &'a Client) -> Came<'a>
     }
 }
 
-/// What the job heard that an event ended; nothing where it ended none.
+/// What the job heard that an event ended; nothing where it ended none, and of a scrub.
 pub(crate) fn heard_of(came: Came<'_>) -> HeardList
     ensures { result ≡ heard_in_came (Some came.entry) }
 {
     match came {
-        Came::Stepped(Some(Turn::Done(end))) => end.heard,
+        Came::Stepped(Some(ClientTurn::Job(Turn::Done(end)))) => end.heard,
         _ => HeardList::new(),
     }
 }

@@ -8,6 +8,7 @@ ghost use Rattle.hail_replay.specs.Seen.{IsSeen};
 
 use crate::Came;
 use command_lines::counts_in_use;
+use hail_client::ClientTurn;
 use std::alloc::{AllocError, Global};
 use vault::{Answer, Turn};
 
@@ -107,7 +108,9 @@ pub(crate) fn seen_of(
 {
     let nothing = Seen::nothing(alloc);
     match came {
-        Came::Stepped(Some(Turn::Done(end))) => seen_end(alloc, expected, tolerance, &end.answer),
+        Came::Stepped(Some(ClientTurn::Job(Turn::Done(end)))) => {
+            seen_end(alloc, expected, tolerance, &end.answer)
+        }
         Came::Stopped => Ok(Seen {
             stopped: true,
             ..nothing

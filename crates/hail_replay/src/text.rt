@@ -25,6 +25,16 @@ fn push_numbers(alloc: Global, text: &mut Vec<u8>, numbers: &[u32]) -> Result<()
     Ok(())
 }
 
+/// Puts each sum, after a space, behind a text.
+pub(crate) fn push_sums(alloc: Global, text: &mut Vec<u8>, sums: &[u64]) -> Result<(), AllocError>
+    ensures { OnOk result (text.new.items ≡ text.old.items ++ flat_map then_number sums.now) }
+{
+    for place in 0..sums.len() {
+        push_number(alloc, text, sums[place])?;
+    }
+    Ok(())
+}
+
 /// Puts a word, each number after a space, and a newline behind a text.
 pub(crate) fn push_list(
     alloc: Global,

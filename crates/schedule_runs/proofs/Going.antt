@@ -3,6 +3,7 @@ use Rattle.std.proofs.Common.{◌≡◌, ℕ, List, [], ◌∷◌, ◌++◌, sym
 use Rattle.std.specs.Prelude.{IsSome}
 use Rattle.record_defs.specs.Table.{File}
 use Rattle.machine_defs.specs.Runs.{Moment, IsRun, now}
+use Rattle.machine_defs.specs.Halves.{AllTell}
 use Rattle.machine_defs.specs.States.{State, IsStart}
 use Rattle.machine_defs.specs.Survival.{NoneTakesOut, NeverTakenOut, IsKept, ComesIn, Survives}
 use Rattle.command_defs.specs.Seen.{Seen, Ending}
@@ -10,7 +11,7 @@ use Rattle.vault_open.specs.Devices.{Devices}
 use Rattle.hail_replay.specs.Answers.{devices_of_seen}
 use Rattle.hail_replay.specs.Starts.{AreLeft, call_from}
 use Rattle.hail_top.specs.Carried.{KeepsTheHeadline}
-use Rattle.schedule_runs.specs.Left.{GoesOnWith, KeepsItsFile}
+use Rattle.schedule_runs.specs.Left.{GoesOnWith, KeepsItsFile, KeepsSecondHalf}
 
 -- a command does nothing, or goes on with the run that has left the devices
 pub goes-on : (start : State) (ms : List Moment) (d : Devices) (old new : Seen) (end : Ending) →
@@ -52,3 +53,13 @@ keeps-file survives start later before m name file old new end starts comes neve
 
     split : (goes.later ++ call ∷ later) ++ m ∷ before ≡ goes.later ++ call ∷ (later ++ m ∷ before)
     split = append_assoc goes.later (call ∷ later) (m ∷ before)
+
+-- gets end well behind the command where the whole is calm, counted from finished scrubs
+pub keeps-half : (start : State) (ms : List Moment) (old new : Seen) (end : Ending) → AllTell start →
+    GoesOnWith start ms old new end → KeepsSecondHalf start ms old new end
+keeps-half start ms old new end tell (inl undone) = inl undone
+keeps-half start ms old new end tell (inr goes) =
+    inr (record {
+      goes_on = goes;
+      half = λ calm. goes.carries.headline.scrub_calm_gets_end_well tell calm;
+    })

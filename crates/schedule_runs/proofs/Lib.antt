@@ -5,3 +5,5 @@ pub mod Text
 pub mod BadLine
 pub mod Upgraded
 pub mod UpgradedText
+pub mod Scrubbed
+pub mod ScrubbedText

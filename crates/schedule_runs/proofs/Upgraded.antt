@@ -149,7 +149,8 @@ put_steps = stepped 2 state_20 ∷ stepped 2 state_19 ∷ stepped 2 state_18 ∷
     ∷ stepped 2 state_16 ∷ stepped 2 state_15 ∷ stepped 2 state_14 ∷ stepped 2 state_13 ∷ stepped 2 state_12
     ∷ stepped 2 state_11 ∷ stepped 2 state_10 ∷ stepped 2 state_9 ∷ []
 
-abbrev put : List Moment
+-- the moments up to the put's end
+abbrev pub put : List Moment
 put = record { event = Step 2; outcome = Ended Put; state = state_21 } ∷ (put_steps ++ putting)
 
 abbrev getting : List Moment
@@ -222,7 +223,8 @@ lines_3 = lines_2 ++ (codes "more" ++ 10 ∷ [])
 writes_3 : CarriesOut (Once (Step 1) ∷ Once (Begin UpgradeJob) ∷ Once Reopen ∷ []) stepping lines_3
 writes_3 = (stepped 1 state_3, upgrading, lines_2, refl, refl, writes_2, refl)
 
-abbrev commands_4 : List Instruction
+-- the commands up to the upgrade's end
+abbrev pub commands_4 : List Instruction
 commands_4 = RunJob 1 ∷ Once (Step 1) ∷ Once (Begin UpgradeJob) ∷ Once Reopen ∷ []
 
 abbrev lines_4 : List ℕ
@@ -259,10 +261,12 @@ writes_5 = (
   refl,
 )
 
-abbrev lines_6 : List ℕ
+-- what is written up to the put's end
+abbrev pub lines_6 : List ℕ
 lines_6 = lines_5 ++ (codes "put" ++ 10 ∷ [])
 
-writes_6 : CarriesOut (RunJob 2 ∷ Once (BeginAt 1 name byte) ∷ commands_4) put lines_6
+-- the moments up to the put's end carry out their commands
+pub writes_6 : CarriesOut (RunJob 2 ∷ Once (BeginAt 1 name byte) ∷ commands_4) put lines_6
 writes_6 = (
   record { event = Step 2; outcome = Ended Put; state = state_21 },
   put_steps,

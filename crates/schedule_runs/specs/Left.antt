@@ -6,6 +6,8 @@
 --   GoesOnWith start ms old new end             == no event was done, or moments go on with this very run
 --   KeepsItsFile start ms name file old new end == the same, and the file is kept for as long as no record
 --                                                  takes it out
+--   KeepsSecondHalf start ms old new end        == the same, and where the whole is calm, counted from
+--                                                  finished scrubs, the second half holds of it
 use Rattle.std.specs.Prelude.{ℕ, List, ◌++◌, map, Some, ◌⊎◌}
 use Rattle.code_defs.specs.Points.{upto}
 use Rattle.device_defs.specs.Cells.{firm}
@@ -13,6 +15,8 @@ use Rattle.record_defs.specs.Journal.{text}
 use Rattle.record_defs.specs.Table.{File}
 use Rattle.machine_defs.specs.Runs.{Moment, now}
 use Rattle.machine_defs.specs.States.{State}
+use Rattle.machine_defs.specs.Halves.{SecondHalf}
+use Rattle.machine_defs.specs.Scrubs.{IsScrubCalm}
 use Rattle.machine_defs.specs.Survival.{NeverTakenOut, IsKept}
 use Rattle.command_defs.specs.Seen.{Seen, Ending}
 use Rattle.vault_open.specs.Devices.{Devices, devices}
@@ -42,3 +46,13 @@ pub record KeepsFile (start : State) (ms : List Moment) (name : List ℕ) (file 
 -- no event was done, or moments go on with this run, and keep a file of it
 abbrev pub KeepsItsFile : State → List Moment → List ℕ → File → Seen → Seen → Ending → Type 0
 KeepsItsFile start ms name file old new end = DidNothing old new end ⊎ KeepsFile start ms name file new end
+
+-- moments go on with this run, and gets end well where the whole is calm
+pub record EndsGetsWell (start : State) (ms : List Moment) (new : Seen) (end : Ending) : Type 0 where
+  pub goes_on : RunGoesOn start ms end.heard (devices_of_seen new)
+  pub half : IsScrubCalm start (goes_on.later ++ called_behind start ms)
+      → SecondHalf start (goes_on.later ++ called_behind start ms)
+
+-- no event was done, or moments go on with this run, and gets end well where the whole is calm
+abbrev pub KeepsSecondHalf : State → List Moment → Seen → Seen → Ending → Type 0
+KeepsSecondHalf start ms old new end = DidNothing old new end ⊎ EndsGetsWell start ms new end

@@ -1,5 +1,5 @@
--- Schedules as texts, and what carries them out: one with damage, an audit, a repair, a stop and gets; and
--- one with an upgrade, a put with a profile of its own, and a get.
+-- Schedules as texts, and what carries them out: one with damage, an audit, a repair, a stop and gets; one
+-- with an upgrade, a put with a profile of its own, and a get; and one in which a scrub comes before the get.
 --
 --   stopped_schedule  == the commands of the run with damage, and then a stop, a reopening and a get, the
 --                        newest first
@@ -13,15 +13,20 @@
 --                        a get
 --   upgraded_file     == the file of that put
 --   IsUpgradedRun ms  == the same of these; the setup's profile is 0
-use Rattle.std.specs.Prelude.{◌≡◌, ℕ, List, [], ◌∷◌, ◌++◌, codes, Some}
+--   scrubbed_schedule, scrubbed_written, scrubbed_text
+--                     == the same, with a symbol that is altered behind the put, and a scrub, of which one
+--                        step is told apart
+--   IsScrubbedRun ms  == these moments carry it out; they are calm, counted from the scrub's begin
+use Rattle.std.specs.Prelude.{◌≡◌, ℕ, true, false, List, [], ◌∷◌, ◌++◌, codes, Some}
 use Rattle.std.specs.List.{flat_map}
 use Rattle.record_defs.specs.Table.{File, version_of}
 use Rattle.machine_defs.specs.Answers.{Got}
-use Rattle.machine_defs.specs.Events.{Begin, BeginAt, Step, Stop, Reopen}
+use Rattle.machine_defs.specs.Events.{Begin, BeginAt, BeginScrub, Step, Alter, Stop, Reopen}
 use Rattle.machine_defs.specs.Examples.{set_up}
 use Rattle.machine_defs.specs.Jobs.{GetJob, UpgradeJob}
 use Rattle.machine_defs.specs.Lines.{line}
-use Rattle.machine_defs.specs.Runs.{Moment, IsRun, now}
+use Rattle.machine_defs.specs.Runs.{Moment, IsRun, now, is_replaced_since}
+use Rattle.machine_defs.specs.Scrubs.{scrubbed, IsScrubCalm}
 use Rattle.machine_defs.specs.States.{IsStart, setup_in, file_in}
 use Rattle.machine_defs.specs.Transcripts.{Instruction, Once, RunJob, CarriesOut}
 use Rattle.damage_run.specs.Schedule.{name, byte, schedule, written_lines}
@@ -83,3 +88,32 @@ pub record IsUpgradedRun (ms : List Moment) : Type 0 where
   pub own_profile : file_in (now set_up ms) name ≡ Some upgraded_file
   pub other_profile : (setup_in (now set_up ms)).profile ≡ 0
   pub last : EndsBy ms 27 3 (Got byte)
+
+-- the commands of the upgrade, the put, the alteration, the scrub and the get, the newest first
+abbrev pub scrubbed_schedule : List Instruction
+scrubbed_schedule = RunJob 4 ∷ Once (Begin (GetJob name)) ∷ RunJob 3 ∷ Once (Step 3) ∷ Once BeginScrub
+    ∷ Once (Alter 0 1 0 0 5) ∷ RunJob 2 ∷ Once (BeginAt 1 name byte) ∷ RunJob 1 ∷ Once (Step 1)
+    ∷ Once (Begin UpgradeJob) ∷ Once Reopen ∷ []
+
+-- all that they write
+abbrev pub scrubbed_written : List ℕ
+scrubbed_written = flat_map line (codes "opened" ∷ codes "job 1" ∷ codes "more" ∷ codes "upgraded"
+    ∷ codes "job 2" ∷ codes "put" ∷ codes "replaced" ∷ codes "job 3" ∷ codes "more"
+    ∷ codes "scrubbed 1 symbols 1 0 0 0" ∷ codes "job 4" ∷ codes "got 6f" ∷ [])
+
+-- the text that spells them, in their order
+abbrev pub scrubbed_text : List ℕ
+scrubbed_text = flat_map line (codes "reopen" ∷ codes "begin upgrade" ∷ codes "step 1" ∷ codes "run 1"
+    ∷ codes "begin put a 6f 1" ∷ codes "run 2" ∷ codes "alter 0 1 0 0 5" ∷ codes "begin scrub"
+    ∷ codes "step 3" ∷ codes "run 3" ∷ codes "begin get a" ∷ codes "run 4" ∷ [])
+
+-- these moments carry it out; counted from the scrub's begin, at event 22, no provider was replaced
+pub record IsScrubbedRun (ms : List Moment) : Type 0 where
+  pub clean : IsStart set_up
+  pub run : IsRun 8 set_up ms
+  pub carried_out : CarriesOut scrubbed_schedule ms scrubbed_written
+  pub calm : IsScrubCalm set_up ms
+  pub mark : scrubbed set_up ms ≡ 22
+  pub altered : is_replaced_since 21 0 ms ≡ true
+  pub unaltered : is_replaced_since 22 0 ms ≡ false
+  pub last : EndsBy ms 36 4 (Got byte)

@@ -4,7 +4,9 @@ ghost use Rattle.std.specs.List.{AllByRecursion, list_all};
 ghost use Rattle.record_defs.specs.Records.{is_appended};
 ghost use Rattle.command_defs.specs.Seen.{Seen, Ending, sinking};
 ghost use Rattle.machine_defs.specs.Examples.{set_up};
+ghost use Rattle.machine_defs.specs.Halves.{SecondHalf};
 ghost use Rattle.machine_defs.specs.Runs.{Moment, now, IsRun};
+ghost use Rattle.machine_defs.specs.Scrubs.{scrubbed};
 ghost use Rattle.machine_defs.specs.States.{State, IsStart};
 ghost use Rattle.machine_defs.specs.Transcripts.{Instruction};
 ghost use Rattle.hail_client.specs.Examples.{fresh};
@@ -17,13 +19,15 @@ ghost use Rattle.hail_replay.specs.Answers.{DoesSchedule, DoesTrial, devices_of_
 ghost use Rattle.hail_replay.specs.Trials.{RunsTrial, RunsTo};
 ghost use Rattle.trial_maker.specs.Trials.{trial_commands};
 ghost use Rattle.hail_top.specs.Carried.{KeepsTheHeadline};
+ghost use Rattle.second_half_laws.specs.Own.{IsExact};
 ghost use Rattle.damage_run.specs.Schedule.{name, IsOutright};
 ghost use Rattle.fault_run.specs.Faults.{other, IsFaulty};
-ghost use Rattle.schedule_runs.specs.Left.{devices_left, GoesOnWith, KeepsItsFile};
-ghost use Rattle.schedule_runs.specs.Schedule.{stopped_schedule, stopped_text, bad_text, IsStoppedRun, upgraded_schedule, upgraded_text, upgraded_file, IsUpgradedRun};
+ghost use Rattle.schedule_runs.specs.Left.{devices_left, GoesOnWith, KeepsItsFile, KeepsSecondHalf};
+ghost use Rattle.schedule_runs.specs.Schedule.{stopped_schedule, stopped_text, bad_text, IsStoppedRun, upgraded_schedule, upgraded_text, upgraded_file, IsUpgradedRun, scrubbed_schedule, scrubbed_text, IsScrubbedRun};
 ghost use Rattle.vault.specs.Devices.{devices_seen};
 
 use hail_client::laws::a_fresh_disk_has_a_start;
+use headline::laws::every_run_keeps_the_headline;
 use machine_defs::laws::acknowledged_files_survive;
 use state_laws::laws::runs_are_sound;
 
@@ -72,6 +76,23 @@ pub fn an_upgrade_has_its_run()
 {
     runs_leave_devices();
     acknowledged_files_survive();
+}
+
+/// So it is of a text with the same upgrade and put, an altered symbol, a scrub that finds and mends it, and a
+/// get. The run is calm, counted from the scrub's begin, so the second half holds of it by scrubs, whatever
+/// audits missed, and providers are exact; so it does of what a command makes of it that stays calm.
+pub fn a_scrub_has_its_run()
+    ensures spells { IsSchedule scrubbed_text (reverse scrubbed_schedule) }
+    ensures fits { AllByRecursion CanBeSpelled (reverse scrubbed_schedule) }
+    ensures run { (ms : List Moment) × IsScrubbedRun ms × AreLeft set_up ms (devices_left (now set_up ms)) }
+    ensures half { (ms : List Moment) × IsScrubbedRun ms × SecondHalf set_up ms
+        × IsExact set_up ms (scrubbed set_up ms) }
+    ensures used { (ms : List Moment) × IsScrubbedRun ms
+        × ((old new : Seen) (end : Ending) → devices_of_seen old ≡ devices_left (now set_up ms) →
+        KeepsTheHeadline old new end → KeepsSecondHalf set_up ms old new end) }
+{
+    runs_leave_devices();
+    every_run_keeps_the_headline();
 }
 
 /// So a replay or a trial over the devices that a run has left does nothing, or goes on with that very run,

@@ -124,6 +124,10 @@ upgrade-again : line_at (codes "begin" ∷ codes "upgrade" ∷ []) ≡ Some (Som
 unfolding line_at behind_at begin_at begun_at
 upgrade-again = refl
 
+scrub-again : line_at (codes "begin" ∷ codes "scrub" ∷ []) ≡ Some (Some (Once BeginScrub))
+unfolding line_at behind_at begin_at begun_at
+scrub-again = refl
+
 get-again : (name : Word) → line_at (codes "begin" ∷ codes "get" ∷ name ∷ [])
     ≡ Some (Some (Once (Begin (GetJob name))))
 unfolding line_at behind_at begin_at begun_at get_at
@@ -172,7 +176,7 @@ line-spelled ws (Once (Stop picks)) is =
     ∙ line-again (codes "stop") (is.0 ∷ []) (Once (Stop picks)) refl (stop-again is.0 picks is.2)
 line-spelled ws (Once Names) is = ap (λ (t : List Word). line_at t) is ∙ list-again
 line-spelled ws (Once Continue) is = absurd is
-line-spelled ws (Once BeginScrub) is = absurd is
+line-spelled ws (Once BeginScrub) is = ap (λ (t : List Word). line_at t) is ∙ scrub-again
 line-spelled ws (Once BeginPack) is = absurd is
 
 -- a line that is skipped

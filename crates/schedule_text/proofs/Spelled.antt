@@ -320,7 +320,15 @@ word_spelling (Once (Stop picks)) can = record {
 }
 word_spelling (Once Continue) can = absurd can
 word_spelling (Once (BeginAt profile name bytes)) can = put_at_spelling profile name bytes can
-word_spelling (Once BeginScrub) can = absurd can
+word_spelling (Once BeginScrub) can =
+    record {
+      plain = (
+        plain_by_test (codes "begin") (omega arith) refl,
+        (plain_by_test (codes "scrub") (omega arith) refl, tt),
+      );
+      some = omega arith;
+      spells = refl;
+    }
 word_spelling (Once BeginPack) can = absurd can
 
 -- ---- a whole schedule

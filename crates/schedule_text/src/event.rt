@@ -28,6 +28,7 @@ pub enum Event {
     BeginAudit,
     BeginRepair,
     BeginUpgrade,
+    BeginScrub,
     /// One step of a job.
     Step {
         job: u32,

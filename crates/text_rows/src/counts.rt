@@ -1,4 +1,6 @@
+use hail_client::ClientTurn;
 use hail_replay::*;
+use hail_scrub::{ScrubAnswer, ScrubTurn};
 use record_codec::Counts;
 use std::alloc::Global;
 use stream_model::Bytes;
@@ -44,7 +46,7 @@ fn events_are_counted(rt: HostRuntime) {
         Came::Inited(Ok(())),
         Came::Reopened(Ok(())),
         Came::Begun(Some(Err(BeginFault::NothingDue))),
-        Came::Stepped(Some(Turn::NoSuchJob)),
+        Came::Stepped(Some(ClientTurn::Job(Turn::NoSuchJob))),
         Came::Stopped,
         Came::Replaced(true),
         Came::Named(None),
@@ -53,6 +55,29 @@ fn events_are_counted(rt: HostRuntime) {
     let wanted =
         b"trial 18446744073709551615\nevents 8\ngets 0 right 0\naudits 0 flagged\nrepairs 0\nstops 2\n";
     assert_eq!(rt; told(rt.alloc(), &events, wanted), Some((8, true)));
+}
+
+/// A step of a scrub.
+fn scrubbed(turn: ScrubTurn) -> Came<'static> {
+    Came::Stepped(Some(ClientTurn::Scrub { providers: 6, turn }))
+}
+
+#[test]
+fn a_scrub_counts_as_events_alone(rt: HostRuntime) {
+    let found = ScrubAnswer::Scrubbed {
+        stripes: 1,
+        symbols: [9; 16],
+        blocks: [1; 16],
+    };
+    let events = [
+        Came::Begun(Some(Ok(1))),
+        scrubbed(ScrubTurn::More),
+        scrubbed(ScrubTurn::Done(found)),
+        scrubbed(ScrubTurn::Done(ScrubAnswer::Lost { stripe: 0, row: 1 })),
+    ];
+    let wanted =
+        b"trial 18446744073709551615\nevents 4\ngets 0 right 0\naudits 0 flagged\nrepairs 0\nstops 0\n";
+    assert_eq!(rt; told(rt.alloc(), &events, wanted), Some((4, true)));
 }
 
 /// Whether the end of a job is seen so by a tolerance: as a get, as a right one, as an audit, as a repair, and

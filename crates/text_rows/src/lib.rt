@@ -12,6 +12,8 @@ mod lines;
 #[cfg(test)]
 mod schedules;
 #[cfg(test)]
+mod scrubs;
+#[cfg(test)]
 mod served;
 #[cfg(test)]
 mod transcripts;

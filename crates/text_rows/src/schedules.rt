@@ -77,6 +77,7 @@ fn shown(alloc: Global, event: &Event) -> Result<String, AllocError> {
         Event::BeginAudit => String::from_str(alloc, "audit"),
         Event::BeginRepair => String::from_str(alloc, "repair"),
         Event::BeginUpgrade => String::from_str(alloc, "upgrade"),
+        Event::BeginScrub => String::from_str(alloc, "scrub"),
         Event::Step { job } => number_shown(alloc, "step", *job),
         Event::Run { job } => number_shown(alloc, "run", *job),
         Event::Alter {
@@ -176,7 +177,7 @@ fn first_read(alloc: Global, lines: &[&str]) -> Option<usize> {
     None
 }
 
-static LINES: [Row; 24] = [
+static LINES: [Row; 26] = [
     ("reopen", "reopen;"),
     ("list", "list;"),
     ("begin put a/b 00", "put 612f62 00;"),
@@ -192,6 +193,8 @@ static LINES: [Row; 24] = [
     ("begin audit", "audit;"),
     ("begin repair", "repair;"),
     ("begin upgrade", "upgrade;"),
+    ("begin scrub", "scrub;"),
+    (" begin  scrub ", "scrub;"),
     ("step 0", "step 0;"),
     ("step 4294967295", "step 4294967295;"),
     ("run 1", "run 1;"),
@@ -245,7 +248,7 @@ fn lines_are_cut_at_newlines(rt: HostRuntime) {
     no_other(&rt, first_misread(rt.alloc(), &CUTS));
 }
 
-static NO_LINES: [&str; 50] = [
+static NO_LINES: [&str; 53] = [
     "fly",
     "Reopen",
     "init",
@@ -283,7 +286,10 @@ static NO_LINES: [&str; 50] = [
     "begin repair 1",
     "begin upgrade now",
     "begin upgrades",
-    "begin scrub",
+    "begin scrub 1",
+    "begin scrubs",
+    "begin Scrub",
+    "scrub",
     "alter 0 1 0 0",
     "alter 0 1 0 0 5 6",
     "alter 4294967296 1 0 0 5",

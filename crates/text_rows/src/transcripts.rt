@@ -1,6 +1,7 @@
 use crate::given::{SETUP, TWO_FILES, is_line, no_other, table_of};
-use hail_client::ReopenFault;
+use hail_client::{ClientTurn, ReopenFault};
 use hail_replay::*;
+use hail_scrub::{ScrubAnswer, ScrubTurn};
 use record_codec::Counts;
 use std::alloc::Global;
 use stream_model::{Bytes, Memory};
@@ -50,6 +51,10 @@ enum Line {
     /// A step, or none where no vault is open.
     Step(Option<Step>),
     End(End),
+    /// A step of a scrub of so many providers.
+    Scrub(u8, ScrubTurn),
+    /// The end of one.
+    Scrubbed(u8, ScrubAnswer),
     /// The end of a get with these bytes.
     Got(&'static [u8]),
     /// The files of no table.
@@ -77,9 +82,13 @@ fn turn_of(step: Step) -> Turn {
 
 fn step_told(alloc: Global, step: Option<Step>) -> Result<Bytes, Memory> {
     match step {
-        Some(step) => step_line(alloc, &Some(turn_of(step))),
+        Some(step) => step_line(alloc, &Some(ClientTurn::Job(turn_of(step)))),
         None => step_line(alloc, &None),
     }
+}
+
+fn scrub_told(alloc: Global, providers: u8, turn: ScrubTurn) -> Result<Bytes, Memory> {
+    step_line(alloc, &Some(ClientTurn::Scrub { providers, turn }))
 }
 
 fn answer_of(end: End) -> Answer {
@@ -128,7 +137,7 @@ fn came_of(event: Event) -> Came<'static> {
         Event::Inited => Came::Inited(Ok(())),
         Event::Reopened => Came::Reopened(Ok(())),
         Event::Begun => Came::Begun(None),
-        Event::Stepped => Came::Stepped(Some(Turn::More)),
+        Event::Stepped => Came::Stepped(Some(ClientTurn::Job(Turn::More))),
         Event::Replaced => Came::Replaced(true),
         Event::Stopped => Came::Stopped,
     }
@@ -145,6 +154,8 @@ fn told(alloc: Global, what: Line) -> Result<Bytes, Memory> {
         Line::Init(answer) => init_line(alloc, answer),
         Line::Reopen(answer) => reopen_line(alloc, answer),
         Line::Step(step) => step_told(alloc, step),
+        Line::Scrub(providers, turn) => scrub_told(alloc, providers, turn),
+        Line::Scrubbed(providers, answer) => scrub_answer_line(alloc, providers, &answer),
         Line::End(end) => end_told(alloc, end),
         Line::Got(bytes) => got_told(alloc, bytes),
         Line::NoNames => names_lines(alloc, None),
@@ -305,6 +316,59 @@ static ENDS: [Row; 9] = [
 #[test]
 fn a_job_tells_how_it_ended(rt: HostRuntime) {
     no_other(&rt, first_other(rt.alloc(), &ENDS));
+}
+
+/// What a scrub found, of each of 16 providers.
+const FOUND: ScrubAnswer = ScrubAnswer::Scrubbed {
+    stripes: 1,
+    symbols: [16, 0, 0, 0, 0, 4, 7, 0, 0, 0, 0, 0, 0, 0, 0, u64::MAX],
+    blocks: [1, 0, 0, 0, 0, 1, 2, 0, 0, 0, 0, 0, 0, 0, 0, 3],
+};
+
+/// What it found where there is nothing to find.
+const NOTHING: ScrubAnswer = ScrubAnswer::Scrubbed {
+    stripes: u64::MAX,
+    symbols: [0; 16],
+    blocks: [0; 16],
+};
+
+static SCRUBS: [Row; 10] = [
+    (Line::Scrub(6, ScrubTurn::More), "more\n"),
+    (
+        Line::Scrub(6, ScrubTurn::Done(FOUND)),
+        "scrubbed 1 symbols 16 0 0 0 0 4\n",
+    ),
+    (
+        Line::Scrubbed(6, FOUND),
+        "scrubbed 1 symbols 16 0 0 0 0 4\n",
+    ),
+    (Line::Scrubbed(4, FOUND), "scrubbed 1 symbols 16 0 0 0\n"),
+    (
+        Line::Scrubbed(16, FOUND),
+        "scrubbed 1 symbols 16 0 0 0 0 4 7 0 0 0 0 0 0 0 0 18446744073709551615\n",
+    ),
+    (
+        Line::Scrubbed(4, NOTHING),
+        "scrubbed 18446744073709551615 symbols 0 0 0 0\n",
+    ),
+    (
+        Line::Scrub(4, ScrubTurn::Done(ScrubAnswer::Lost { stripe: 1, row: 6 })),
+        "lost 1 6\n",
+    ),
+    (
+        Line::Scrubbed(4, ScrubAnswer::Lost { stripe: 0, row: 0 }),
+        "lost 0 0\n",
+    ),
+    (
+        Line::Scrubbed(4, ScrubAnswer::ProviderFault { provider: 3 }),
+        "provider fault 3\n",
+    ),
+    (Line::Scrubbed(4, ScrubAnswer::Memory), "memory\n"),
+];
+
+#[test]
+fn a_scrub_tells_the_symbols_of_the_providers_in_use(rt: HostRuntime) {
+    no_other(&rt, first_other(rt.alloc(), &SCRUBS));
 }
 
 static GETS: [Row; 2] = [

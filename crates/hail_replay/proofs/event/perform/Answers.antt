@@ -11,9 +11,9 @@ use Rattle.provider_model.specs.Seen.{provider_seen}
 use Rattle.hail_client.specs.Outcomes.{replace_outcome}
 use Rattle.hail_replay.specs.declared.came.Came.TheVariants as came
 use Rattle.hail_replay.proofs.Same.{replaces_if}
-use Rattle.hail_replay.proofs.Arms.{init-kept, reopen-kept, stop-kept}
+use Rattle.hail_replay.proofs.Arms.{enough, init-kept, reopen-kept, stop-kept}
 use Rattle.hail_replay.proofs.Behind.{once}
-use Rattle.hail_replay.proofs.Performing.{performed-as, begun, put-begun, stepped, replaced, listed}
+use Rattle.hail_replay.proofs.Performing.{performed-as, begun, scrub-begun, put-begun, stepped, replaced, listed}
 use Rattle.hail_replay.proofs.event.perform.Goals as goal
 
 pub returns-in-Init : goal.returns-in-Init
@@ -88,6 +88,22 @@ returns-in-BeginUpgrade g c =
       performed = performed-as _ _ _ _ _ _ _ c.in-BeginUpgrade.is
           (begun _ _ _ UpgradeJob c.begin_upgrade.result c.requires.standing c.begin_upgrade.ensures.machine);
     }
+
+pub returns-in-BeginScrub : goal.returns-in-BeginScrub
+returns-in-BeginScrub g c =
+    record {
+      performed = performed-as _ _ _ _ _ _ _ c.in-BeginScrub.is
+          (scrub-begun _ _ _ c.begin_scrub.result c.requires.standing c.begin_scrub.ensures.machine);
+    }
+
+pub step-requires : goal.step-requires
+step-requires g c =
+    let see = provider_seen g.P.Provider in
+    let most = enough c.args.client.now
+    (devices (g.D.Disk.holds c.args.disk.now) (g.D.Disk.faults c.args.disk.now)
+    (map see c.args.providers.now)) c.requires.standing in
+    let count = length-map c.args.providers.now see in
+    omega (arith, most, count)
 
 pub returns-in-Step : goal.returns-in-Step
 returns-in-Step g c =
