@@ -102,7 +102,7 @@ has-begun : (w : State) (moment : ℕ) (kind : Kind) (own : Option ℕ) (number 
     (d : Devices) → MayName kind own → IsOpenAtRest w 1 → Stands old d w → BeginsAs old kind own number new → HasBegun w moment kind own number new d
 has-begun w moment kind own number old new d named O stands begins =
     (let M = begins w d moment stands in
-    let s = spelled-begun w M.state moment kind own number O.rest.idle.0 M.begins M.stands.core.sound in
+    let s = spelled-begun w M.state moment kind own number O.rest.idle.0 M.begins M.stands.desk.core.sound in
     let b = walk-begin moment number w M.state kind own named O s M.begins in
     record {
       made = M;
@@ -117,12 +117,12 @@ has-begun w moment kind own number old new d named O stands begins =
 module _ (law : OpensAll) (there : ThereIsOne) (v : Vault) (records : List Record) (holds : Option Cells)
     (faults : ℕ) (F : IsFreshOver v records holds faults) where
   -- a state that was just opened, for which the vault stands
-  record Opened (providers : List Provider) (w : State) : Type 0 where
-    over : IsOpenedOver w records faults providers
-    opened : IsOpenAtRest w 1
-    stands : Stands v (devices holds faults providers) w
+  pub record Opened (providers : List Provider) (w : State) : Type 0 where
+    pub over : IsOpenedOver w records faults providers
+    pub opened : IsOpenAtRest w 1
+    pub stands : Stands v (devices holds faults providers) w
 
-  opened-at : (providers : List Provider) (w : State) → (setup_in_effect records).n ≤ length providers →
+  pub opened-at : (providers : List Provider) (w : State) → (setup_in_effect records).n ≤ length providers →
       IsOpenedOver w records faults providers → Opened providers w
   opened-at providers w enough over =
       (let O = over-opened law w records faults providers F.read enough over in
@@ -132,7 +132,7 @@ module _ (law : OpensAll) (there : ThereIsOne) (v : Vault) (records : List Recor
         stands = F.stands w providers (just-opened w records faults providers O over);
       })
 
-  opened-one : (providers : List Provider) → (setup_in_effect records).n ≤ length providers →
+  pub opened-one : (providers : List Provider) → (setup_in_effect records).n ≤ length providers →
       (w : State) × Opened providers w
   opened-one providers enough =
       (let x = there records faults providers F.read.accepted in (x.0, opened-at providers x.0 enough x.1))
@@ -218,10 +218,10 @@ module _ (law : OpensAll) (there : ThereIsOne) (v : Vault) (records : List Recor
             goes_on = subst (λ n. GoesOnTo h.made.state (moment + 1) n
                 (machine_answer ended.answer) ended.heard G.last) (sym h.first) G.goes;
           };
-          images = subst (λ told. StandsForState told G.last) (sym A.disk) G.stands.devices.images;
-          faults_are = G.stands.devices.faults ∙ sym A.faults;
+          images = subst (λ told. StandsForState told G.last) (sym A.disk) G.stands.desk.devices.images;
+          faults_are = G.stands.desk.devices.faults ∙ sym A.faults;
           handed = subst (λ (ps : List Provider). AreHanded ps G.last)
-              (sym A.providers) G.stands.devices.providers;
+              (sym A.providers) G.stands.desk.devices.providers;
           past_text = subst (λ told. SamePast kind own (machine_answer ended.answer) records G.last.records
               old.disk told) (sym A.disk)
               (past-before kind own (machine_answer ended.answer) records G.last.records old.disk holds new_holds

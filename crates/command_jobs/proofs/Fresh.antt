@@ -74,7 +74,7 @@ fresh-setup : (v : Vault) (records : List Record) (holds : Option Cells) (faults
     (with_master (vault_setup v) (master_of v) ≡ setup_in_effect records) × IsFoldOf records (table_of v)
 unfolding setup_in
 fresh-setup v records holds faults w providers e S =
-    (sym S.setup ∙ ap setup_in_effect e, subst (λ rs. IsFoldOf rs (table_of v)) e S.core.table)
+    (sym S.desk.setup ∙ ap setup_in_effect e, subst (λ rs. IsFoldOf rs (table_of v)) e S.desk.core.table)
 
 -- a vault that stands for each such state is fresh over the records
 pub fresh-vault : OpensAll → ThereIsOne →
@@ -102,7 +102,7 @@ fresh-vault law there v records told holds faults r stands first =
 pub stands-enough : (v : Vault) (d : Devices) (w : State) → Stands v d w →
     provider_count v ≤ length d.providers
 stands-enough v d w S =
-    (let a = S.core.sound.handed S.core.is_open in
-    let b = S.devices.providers.count in
-    let c = ap (λ (z : Setup). z.n) S.setup in
+    (let a = S.desk.core.sound.handed S.desk.core.is_open in
+    let b = S.desk.devices.providers.count in
+    let c = ap (λ (z : Setup). z.n) S.desk.setup in
     omega (arith, a, b, c))

@@ -5,3 +5,5 @@ pub mod Fresh
 pub mod Cuts
 pub mod Goings
 pub mod Alone
+pub mod Sweeps
+pub mod Scrubbing

@@ -1,10 +1,13 @@
-//! The one job of a command: the vault is opened over the disk, and the job runs to its end.
+//! The one job of a command, or its scrub: the vault is opened over the disk, and the job or the scrub runs to
+//! its end.
 #![tactic(auto)]
 
 mod job;
 mod open;
 mod run;
+mod scrub;
 
 pub use job::Job;
 pub use open::{Unopened, open_vault};
 pub use run::run_job;
+pub use scrub::run_scrub;

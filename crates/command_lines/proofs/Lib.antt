@@ -1,4 +1,5 @@
 mod ValueSteps
 mod ListSteps
 mod CountSteps
+mod OffSteps
 pub mod Pushed

@@ -251,6 +251,50 @@ fn a_repair_is_done_or_still_due(rt: HostRuntime) {
     check(&rt, REPAIR);
 }
 
+/// A scrub that finds the block of the provider 2 lost.
+const SCRUBBED: Row = Row {
+    line: "scrub",
+    input: b"",
+    status: 0,
+    text: b"scrub stripes 1\nprovider 0 symbols 0 blocks 0\nprovider 1 symbols 0 blocks 0\nprovider 2 symbols 6 blocks 1\nprovider 3 symbols 0 blocks 0\n",
+};
+
+/// A scrub behind it.
+const FOUND_RIGHT: Row = Row {
+    line: "scrub",
+    input: b"",
+    status: 0,
+    text: b"scrub stripes 1\nprovider 0 symbols 0 blocks 0\nprovider 1 symbols 0 blocks 0\nprovider 2 symbols 0 blocks 0\nprovider 3 symbols 0 blocks 0\n",
+};
+
+/// The scrub of a store of which a block is lost, as an audit says.
+const SCRUB: &Case = &Case {
+    before: &[INIT, PUT],
+    lost: Some((
+        "home/provider-2/1-0",
+        Row {
+            line: "audit",
+            input: b"",
+            status: 0,
+            text: b"audit 1 undecided 0\nprovider 0 count 0 ok\nprovider 1 count 0 ok\nprovider 2 count 1 flagged\nprovider 3 count 0 ok\n",
+        },
+    )),
+    row: SCRUBBED,
+    without: Shown {
+        rows: &[LISTED, GOT, SCRUBBED, FOUND_RIGHT],
+        blocks: FIRST_BLOCKS,
+    },
+    with: Shown {
+        rows: &[LISTED, GOT, FOUND_RIGHT],
+        blocks: FIRST_BLOCKS,
+    },
+};
+
+#[test]
+fn a_block_that_a_scrub_tells_of_is_firm(rt: HostRuntime) {
+    check(&rt, SCRUB);
+}
+
 /// An upgrade.
 const UPGRADED: &Case = &Case {
     before: &[INIT, PUT],

@@ -28,6 +28,8 @@ mod row;
 #[cfg(test)]
 mod schedules;
 #[cfg(test)]
+mod scrubs;
+#[cfg(test)]
 mod set_up;
 #[cfg(test)]
 mod setups;

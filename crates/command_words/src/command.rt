@@ -32,6 +32,8 @@ pub enum Command<'a> {
     Repair,
     /// `upgrade`.
     Upgrade,
+    /// `scrub`.
+    Scrub,
 }
 
 /// The command that one word spells, or `None` where it spells none.
@@ -45,6 +47,7 @@ fn read_bare<'a>(word: &'a String) -> Option<Command<'a>>
         "audit" => Some(Command::Audit),
         "repair" => Some(Command::Repair),
         "upgrade" => Some(Command::Upgrade),
+        "scrub" => Some(Command::Scrub),
         _ => None,
     }
 }

@@ -12,10 +12,19 @@ pub struct Row {
     pub text: &'static [u8],
 }
 
+/// The devices as a command has them.
+fn devices_for(files: &StandIn, alloc: Global, line: &str) -> Option<Devices> {
+    if line == "scrub" {
+        Devices::syncing(files, alloc)
+    } else {
+        Devices::new(files, alloc)
+    }
+}
+
 /// What is told of a command over the journal and the providers of the home. Want of memory is the one
 /// refusal.
 fn told(files: &StandIn, alloc: Global, row: &Row) -> Option<Told> {
-    let mut home = Devices::new(files, alloc)?;
+    let mut home = devices_for(files, alloc, row.line)?;
     tell(
         alloc,
         row.line,

@@ -93,7 +93,7 @@ written-ends s (Scrubbed stripes symbols blocks) text old new end is writes plac
 written-ends s (Packed before after) text old new end is writes place = absurd is
 
 -- an answer of which nothing was written
-fault-ends : (answer : Answer) (text : List ℕ) (old new : Seen) (end : Ending) →
+pub fault-ends : (answer : Answer) (text : List ℕ) (old new : Seen) (end : Ending) →
     IsFaultEnd answer end.status end.at → new.sink ≡ old.sink → EndsByAnswer text answer old new end
 fault-ends Put text old new end fault silent =
     record { written = inr (inr (fault.0, front-none old.sink new.sink text silent)); place = fault.1 }

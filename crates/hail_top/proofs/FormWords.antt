@@ -8,7 +8,7 @@ use Rattle.std.specs.declared.alloc.Global.{Global}
 use Rattle.std.proofs.lemmas.Bool.{false≢true}
 use Rattle.command_defs.specs.Seen.{Seen, Ending}
 use Rattle.command_defs.specs.Row.{IsRowForm}
-use Rattle.command_defs.specs.Forms.{Numbers, Command as Spelled, RowOf, InitWith, PutUnder, PutAt, GetOf, DropOf, ListAll, AuditAll, RepairDue, UpgradeJournal, IsForm, IsInitForm, IsNamedForm, IsPutAtForm, IsBareForm}
+use Rattle.command_defs.specs.Forms.{Numbers, Command as Spelled, RowOf, InitWith, PutUnder, PutAt, GetOf, DropOf, ListAll, AuditAll, RepairDue, UpgradeJournal, ScrubAll, IsForm, IsInitForm, IsNamedForm, IsPutAtForm, IsBareForm}
 use Rattle.hail_replay.specs.Forms.{IsReplayForm, IsTrialForm, IsFormOf}
 use Rattle.hail_replay.specs.declared.forms.Form.{Form}
 use Rattle.hail_replay.specs.declared.forms.Form.TheVariants as forms
@@ -61,6 +61,7 @@ command-word ListAll = codes "list"
 command-word AuditAll = codes "audit"
 command-word RepairDue = codes "repair"
 command-word UpgradeJournal = codes "upgrade"
+command-word ScrubAll = codes "scrub"
 
 abbrev pub form-word : Form → List ℕ
 form-word forms.Replay = codes "replay"
@@ -120,6 +121,7 @@ command-first words ListAll form = bare-first (codes "list") words form
 command-first words AuditAll form = bare-first (codes "audit") words form
 command-first words RepairDue form = bare-first (codes "repair") words form
 command-first words UpgradeJournal form = bare-first (codes "upgrade") words form
+command-first words ScrubAll form = bare-first (codes "scrub") words form
 
 -- the first word tells the form
 pub form-first : (words : List (String Global)) (form : Form) → IsFormOf words form →
@@ -138,6 +140,7 @@ replay-apart ListAll = refl
 replay-apart AuditAll = refl
 replay-apart RepairDue = refl
 replay-apart UpgradeJournal = refl
+replay-apart ScrubAll = refl
 
 trial-apart : (command : Spelled) → bytes_eq (command-word command) (codes "trial") ≡ false
 trial-apart (RowOf n l b seen) = refl
@@ -150,6 +153,7 @@ trial-apart ListAll = refl
 trial-apart AuditAll = refl
 trial-apart RepairDue = refl
 trial-apart UpgradeJournal = refl
+trial-apart ScrubAll = refl
 
 words-apart : (command : Spelled) (form : Form) → bytes_eq (command-word command) (form-word form) ≡ false
 words-apart command forms.Replay = replay-apart command

@@ -8,6 +8,7 @@ mod SetUpReads
 mod InitRuns
 mod AnswerTexts
 mod JobEnds
+mod ScrubEnds
 mod Unopened
 mod Opened
 mod PutEnds

@@ -5,7 +5,7 @@ use Rattle.std.specs.Str.{bytes_eq}
 use Rattle.std.specs.declared.alloc.Global.{Global}
 use Rattle.std.proofs.lemmas.Bool.{false≢true}
 use Rattle.command_defs.specs.Seen.{Seen, Ending}
-use Rattle.command_defs.specs.Forms.{Command as Spelled, RowOf, InitWith, PutUnder, PutAt, GetOf, DropOf, ListAll, AuditAll, RepairDue, UpgradeJournal, IsForm}
+use Rattle.command_defs.specs.Forms.{Command as Spelled, RowOf, InitWith, PutUnder, PutAt, GetOf, DropOf, ListAll, AuditAll, RepairDue, UpgradeJournal, ScrubAll, IsForm}
 use Rattle.hail_replay.specs.Forms.{IsFormOf}
 use Rattle.hail_replay.specs.declared.forms.Form.{Form}
 use Rattle.hail_replay.specs.declared.forms.Form.TheVariants as forms
@@ -56,6 +56,7 @@ command-apart ListAll = refl
 command-apart AuditAll = refl
 command-apart RepairDue = refl
 command-apart UpgradeJournal = refl
+command-apart ScrubAll = refl
 
 form-apart : (form : Form) → bytes_eq (form-word form) (codes "serve") ≡ false
 form-apart forms.Replay = refl

@@ -8,10 +8,11 @@
 --   IsFaultEnd answer status at         == the status of a fault and the place that it speaks of; any other
 --                                          answer has want of memory
 --   TellsAnswer s answer status at sink == the text of the answer is written or cut off, or its fault is told
+--   TellsScrub answer status at sink    == the same of a scrub
 use Rattle.std.specs.Prelude.{◌≡◌, ◌⊎◌, ℕ, List, length}
 use Rattle.machine_defs.specs.Jobs.{Kind, PutJob, GetJob, DropJob, AuditJob, RepairJob, UpgradeJob}
-use Rattle.machine_defs.specs.Answers.{Answer, Put, Got, Dropped, Audited, Repaired, Upgraded, Lost, ProviderFault, DiskFault}
-use Rattle.command_defs.specs.Lines.{stored_line, dropped_line, audit_lines, repaired_line, upgraded_line}
+use Rattle.machine_defs.specs.Answers.{Answer, Put, Got, Dropped, Audited, Repaired, Upgraded, Scrubbed, Lost, ProviderFault, DiskFault}
+use Rattle.command_defs.specs.Lines.{stored_line, dropped_line, audit_lines, repaired_line, upgraded_line, scrub_lines}
 use Rattle.command_defs.specs.Seen.{Ending}
 use Rattle.command_defs.specs.Sinking.{Sinking, WritesLine}
 use Rattle.command_jobs.specs.declared.open.Unopened.{Unopened}
@@ -80,3 +81,9 @@ pub record TellsFault (answer : Answer) (status at : ℕ) (sink : Sinking) : Typ
 -- an answer was told
 abbrev pub TellsAnswer : Subject → Answer → ℕ → ℕ → Sinking → Type 0
 TellsAnswer s answer status at sink = WritesAnswer s answer status at sink ⊎ TellsFault answer status at sink
+
+-- a scrub's answer was told: what differed is written or cut off, or its fault is the status
+abbrev pub TellsScrub : Answer → ℕ → ℕ → Sinking → Type 0
+TellsScrub (Scrubbed stripes symbols blocks) status at sink =
+    WritesLine (scrub_lines stripes symbols blocks) status sink × (at ≡ 0)
+TellsScrub answer status at sink = IsFaultEnd answer status at × (sink.new ≡ sink.old)

@@ -10,6 +10,7 @@ mod reading;
 mod refusals;
 mod report;
 mod row;
+mod scrub;
 mod serve;
 mod set_up;
 mod tell;

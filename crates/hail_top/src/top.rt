@@ -15,6 +15,7 @@ use crate::list::list;
 use crate::put::put;
 use crate::report::{NO_MEMORY, Report};
 use crate::row::answer_row;
+use crate::scrub::scrub;
 use crate::serve::serve_words;
 use crate::set_up::set_up;
 use command_jobs::Job;
@@ -62,6 +63,7 @@ fn answer<D: Disk, P: Tamper, S: Source, K: Sink>(
         Command::Audit => alone(alloc, Job::Audit, disk, providers, sink),
         Command::Repair => alone(alloc, Job::Repair, disk, providers, sink),
         Command::Upgrade => alone(alloc, Job::Upgrade, disk, providers, sink),
+        Command::Scrub => scrub(alloc, disk, providers, sink),
     }
 }
 

@@ -24,6 +24,23 @@ fn is_reader(command: &str) -> bool
     command == "get" || command == "list"
 }
 
+/// Whether the command of this name may store blocks behind which it appends no record to the journal.
+fn stores_alone(command: &str) -> bool
+    ensures { IsTrue result ↔ ((command.now ≡ codes "serve") ⊎ ((command.now ≡ codes "scrub")
+        ⊎ (command.now ≡ codes "replay"))) }
+{
+    command == "serve" || command == "scrub" || command == "replay"
+}
+
+/// Whether the words are a command each of whose stores is to be synced at once: there may come no record of
+/// the journal, before which all stores are synced.
+pub fn syncs_stores(words: &[String]) -> bool {
+    match words {
+        [command, ..] => stores_alone(command.as_str()),
+        [] => false,
+    }
+}
+
 /// Whether the words are a command that only reads the home.
 pub fn only_reads(words: &[String]) -> bool {
     match words {

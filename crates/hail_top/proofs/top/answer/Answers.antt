@@ -117,3 +117,17 @@ returns-in-Upgrade-clause-counts g c =
 
 pub returns-in-Upgrade-clause-inits : goal.returns-in-Upgrade-clause-inits
 returns-in-Upgrade-clause-inits g c = inits-as _ _ _ _ _ c.in-Upgrade.is tt
+
+pub returns-in-Scrub-clause-answers : goal.returns-in-Scrub-clause-answers
+returns-in-Scrub-clause-answers g c =
+    answered _ _ _ _ _ c.in-Scrub.is (
+      c.scrub.ensures.answers (g.S.Source.left c.args.source.now) (g.S.Source.faults c.args.source.now),
+      (refl, refl),
+    )
+
+pub returns-in-Scrub-clause-counts : goal.returns-in-Scrub-clause-counts
+returns-in-Scrub-clause-counts g c =
+    c.scrub.ensures.counts (g.S.Source.left c.args.source.now) (g.S.Source.faults c.args.source.now)
+
+pub returns-in-Scrub-clause-inits : goal.returns-in-Scrub-clause-inits
+returns-in-Scrub-clause-inits g c = inits-as _ _ _ _ _ c.in-Scrub.is tt

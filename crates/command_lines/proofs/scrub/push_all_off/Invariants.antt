@@ -1,0 +1,7 @@
+use Rattle.std.proofs.Common.{◌≡◌, ◌++◌, take}
+use Rattle.command_defs.specs.Lines.{off_lines}
+use Rattle.command_lines.proofs.scrub.push_all_off.Given as goal
+
+abbrev pub invariant-loop-place : goal.invariant-loop-place
+invariant-loop-place l =
+    l.text.items ≡ l.fn.text.items ++ off_lines 0 (take l.place l.symbols) (take l.place l.blocks)

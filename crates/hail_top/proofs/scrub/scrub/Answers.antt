@@ -1,0 +1,43 @@
+use Rattle.std.proofs.Common.{Err, length, map, refl, ap, sym}
+use Rattle.std.proofs.lemmas.List.{length-map}
+use Rattle.command_defs.specs.Seen.{Seen, seen}
+use Rattle.command_defs.specs.Scrubs.{unstarted}
+use Rattle.provider_model.specs.Seen.{provider_seen}
+use Rattle.command_jobs.specs.declared.open.Unopened.{Unopened}
+use Rattle.hail_top.proofs.Unopened.{unopened-told}
+use Rattle.hail_top.proofs.Opened.{opened-read, no_count_falls, still}
+use Rattle.hail_top.proofs.scrub.scrub.Goals as goal
+
+pub returns-in-Ok-clause-answers : goal.returns-in-Ok-clause-answers
+returns-in-Ok-clause-answers g c left count =
+    let see = provider_seen g.P.Provider in
+    let old : Seen = seen (g.D.Disk.holds c.args.disk.now) (g.D.Disk.faults c.args.disk.now)
+    (map see c.args.providers.now) left count (g.K.Sink.written c.args.sink.now)
+    (g.K.Sink.faults c.args.sink.now) in
+    let found = c.in-Ok.ensures.opened in
+    let opened = opened-read old found.0 (length c.args.providers.now)
+    (sym (length-map c.args.providers.now see)) found.1 in
+    (c.answer_scrub.ensures.over found.0 _ _ old left count found.2 opened
+    (record { reads = c.in-Ok.ensures.reads; faults = c.in-Ok.ensures.cause.never_falls; providers = refl })
+    c.in-Ok.ensures.synced refl refl).answers
+
+pub returns-in-Ok-clause-counts : goal.returns-in-Ok-clause-counts
+returns-in-Ok-clause-counts g c left count =
+    let see = provider_seen g.P.Provider in
+    let old : Seen = seen (g.D.Disk.holds c.args.disk.now) (g.D.Disk.faults c.args.disk.now)
+    (map see c.args.providers.now) left count (g.K.Sink.written c.args.sink.now)
+    (g.K.Sink.faults c.args.sink.now) in
+    let found = c.in-Ok.ensures.opened in
+    let opened = opened-read old found.0 (length c.args.providers.now)
+    (sym (length-map c.args.providers.now see)) found.1 in
+    no_count_falls old _ (c.answer_scrub.ensures.over found.0 _ _ old left count found.2 opened
+    (record { reads = c.in-Ok.ensures.reads; faults = c.in-Ok.ensures.cause.never_falls; providers = refl })
+    c.in-Ok.ensures.synced refl refl).counts (still count) c.answer_scrub.ensures.count
+
+pub returns-in-Err-clause-answers : goal.returns-in-Err-clause-answers
+returns-in-Err-clause-answers g c left count =
+    let see = provider_seen g.P.Provider in
+    unstarted (unopened-told _ _ _ c.in-Err.why (length c.args.providers.now) c.unopened.ensures
+    (sym (length-map c.args.providers.now see)) c.in-Err.ensures.refused c.in-Err.ensures.disk
+    c.in-Err.ensures.resynced
+    (λ same. c.in-Err.ensures.cause.rose (ap (λ (w : Unopened). Err w) same)) refl refl)
