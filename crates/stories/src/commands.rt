@@ -8,7 +8,7 @@ ghost use Rattle.machine_defs.specs.Events.{AreBytes};
 ghost use Rattle.machine_defs.specs.Heard.{HoldsForgery};
 ghost use Rattle.record_defs.specs.Records.{Record};
 ghost use Rattle.record_defs.specs.Table.{next_audit};
-ghost use Rattle.command_defs.specs.Forms.{GetOf, AuditAll, RepairDue, IsForm};
+ghost use Rattle.command_defs.specs.Forms.{GetOf, AuditAll, RepairDue, ScrubAll, IsForm};
 ghost use Rattle.command_defs.specs.Jobs.{IsTold};
 ghost use Rattle.command_defs.specs.Lines.{audit_lines};
 ghost use Rattle.command_defs.specs.Opens.{setup_in_effect, object_in_effect};
@@ -72,6 +72,34 @@ pub fn others_may_go_after_a_repair()
         → spoilt_below (setup_in_effect records).n later ≤ (setup_in_effect records).b
         → (Rose g.disk_faults h.disk_faults → ⊥) → (Rose g.sink_faults h.sink_faults → ⊥)
         → GivesUnlessMemory bytes g h last) }
+{
+    put_files_are_got();
+}
+
+/// After a scrub all others may go. A file is put, with a profile of its own or without; at most b providers
+/// are spoilt; a scrub is done. Then at most b providers, whichever they are, may be spoilt, where the others
+/// tell what they hold: a get still gives the bytes, or finds no memory, unless the disk or the sink failed.
+pub fn all_others_may_go_after_a_scrub()
+    ensures { (put scrub get : List (String Global)) (name bytes : List ℕ) (own : Option ℕ)
+        (records : List Record) (spoilt later : ℕ → Bool) (a b c d e f : Seen)
+        (first second last : Ending)
+        → AnswersWords put a b first → IsForm put (put_of name own)
+        → AnswersWords scrub c d second → IsForm scrub ScrubAll
+        → AnswersWords get e f last → IsForm get (GetOf name)
+        → Follows b c → Follows d e → IsKnown a records → a.source ≡ Some bytes
+        → IsDone first → IsDone second
+        → ((j : ℕ) → j < (setup_in_effect records).n → spoilt j ≡ false
+        → is_some (provider_at a.providers j).held ≡ true)
+        → IsUntouched (setup_in_effect records).n spoilt b c
+        → IsSteady (setup_in_effect records).n spoilt c d
+        → spoilt_below (setup_in_effect records).n spoilt ≤ (setup_in_effect records).b
+        → ((j : ℕ) → j < (setup_in_effect records).n → later j ≡ false
+        → is_some (provider_at c.providers j).held ≡ true)
+        → IsUntouched (setup_in_effect records).n later d e
+        → IsSteady (setup_in_effect records).n later e f
+        → spoilt_below (setup_in_effect records).n later ≤ (setup_in_effect records).b
+        → (Rose e.disk_faults f.disk_faults → ⊥) → (Rose e.sink_faults f.sink_faults → ⊥)
+        → GivesUnlessMemory bytes e f last }
 {
     put_files_are_got();
 }

@@ -7,7 +7,7 @@ ghost use Rattle.machine_defs.specs.Events.{AreBytes, Begun, Ended};
 ghost use Rattle.machine_defs.specs.Answers.{Put, Got};
 ghost use Rattle.machine_defs.specs.Halves.{AllTell};
 ghost use Rattle.machine_defs.specs.Untouched.{NoneAsksOn};
-ghost use Rattle.command_defs.specs.Forms.{PutUnder, GetOf, AuditAll, RepairDue, IsForm};
+ghost use Rattle.command_defs.specs.Forms.{PutUnder, GetOf, AuditAll, RepairDue, ScrubAll, IsForm};
 ghost use Rattle.command_defs.specs.Jobs.{IsTold};
 ghost use Rattle.command_defs.specs.Lines.{audit_lines};
 ghost use Rattle.command_defs.specs.Opens.{setup_in_effect};
@@ -15,7 +15,7 @@ ghost use Rattle.command_defs.specs.Seen.{provider_at};
 ghost use Rattle.command_laws.specs.After.{Follows, HasRightFile, IsUntouched, IsSteady, spoilt_below};
 ghost use Rattle.command_laws.specs.Ends.{IsKnown};
 ghost use Rattle.command_laws.specs.Instances.{ends};
-ghost use Rattle.command_runs.specs.Devices.{named, four_records, byte_records, to_put, byte_stored, damaged, byte_audited, answers_heard, due, repaired, mended, got, own_blocks_heard, ends_hearing};
+ghost use Rattle.command_runs.specs.Devices.{named, four_records, byte_records, to_put, byte_stored, damaged, byte_audited, answers_heard, due, repaired, mended, got, own_blocks_heard, swept, robbed_later, got_later, later_heard, ends_hearing};
 ghost use Rattle.damage_run.specs.Points.{counts};
 ghost use Rattle.damage_run.specs.Schedule.{byte};
 ghost use Rattle.record_defs.specs.Table.{next_audit};
@@ -102,6 +102,27 @@ pub fn another_goes_after_the_repair()
         → ((j == 2) && not (is_flagged (setup_in_effect four_records).tolerance counts j)) ≡ false)
         × IsUntouched (setup_in_effect four_records).n (λ j. j == 0) repaired mended
         × IsSteady (setup_in_effect four_records).n (λ j. j == 0) mended got
+        × (spoilt_below (setup_in_effect four_records).n (λ j. j == 0)
+        ≤ (setup_in_effect four_records).b) }
+{
+    words_spell_one_command();
+    commands_end();
+}
+
+/// Behind that put and that loss a scrub writes the block anew; then provider 0 may go, and a get writes the
+/// byte. Both end with status 0.
+pub fn another_goes_after_the_scrub()
+    ensures scrub { (words : List (String Global)) → IsForm words ScrubAll
+        → AnswersWords words damaged swept (ends 0) }
+    ensures get { (words : List (String Global)) → IsForm words (GetOf named)
+        → AnswersWords words robbed_later got_later (ends_hearing 0 later_heard) }
+    ensures between { Follows byte_stored damaged × Follows swept robbed_later
+        × IsUntouched (setup_in_effect four_records).n (λ j. j == 2) byte_stored damaged
+        × IsSteady (setup_in_effect four_records).n (λ j. j == 2) damaged swept }
+    ensures tell { (j : ℕ) → j < (setup_in_effect four_records).n
+        → is_some (provider_at damaged.providers j).held ≡ true }
+    ensures later { IsUntouched (setup_in_effect four_records).n (λ j. j == 0) swept robbed_later
+        × IsSteady (setup_in_effect four_records).n (λ j. j == 0) robbed_later got_later
         × (spoilt_below (setup_in_effect four_records).n (λ j. j == 0)
         ≤ (setup_in_effect four_records).b) }
 {
