@@ -24,7 +24,7 @@ else
     dpkg-deb -x "$package" "$fresh" || wrong 'it does not open'
 fi
 
-for command in hail hail-init hail-watch hail-verify hail-gc hail-restore hail-salvage; do
+for command in hail hail-init hail-watch hail-verify hail-gc hail-restore hail-salvage hail-remote; do
     [ -x "$fresh/usr/bin/$command" ] || wrong "there is no command $command"
     [ -f "$fresh/usr/share/man/man1/$command.1.gz" ] || wrong "there is no page of $command"
 done
@@ -33,7 +33,8 @@ for file in doc/hail/copyright doc/hail/changelog.gz doc/hail/README.md doc/hail
     [ -s "$fresh/usr/share/$file" ] || wrong "there is no $file"
 done
 for folder in system user; do
-    for unit in hail-watch@.service hail-watch@.timer hail-verify@.service hail-verify@.timer; do
+    for unit in hail-watch@.service hail-watch@.timer hail-verify@.service hail-verify@.timer \
+        hail-scrub@.service hail-scrub@.timer; do
         [ -s "$fresh/usr/lib/systemd/$folder/$unit" ] || wrong "there is no $folder unit $unit"
     done
 done

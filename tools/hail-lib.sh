@@ -30,9 +30,31 @@ tell_version() {
     awk -v profile="$profile" '$1 == "file" && $4 != profile { print $6 ": profile " $4 }' "$scratch/standing" | LC_ALL=C sort || stop 4 "$no_room"
 }
 
-# The places of the providers' folders.
+# Hail takes a provider as remote where something stands in the home at its place.
+is_remote() {
+    [ -e "$1/remote-$2" ] || [ -L "$1/remote-$2" ]
+}
+
+# The places of a home's remote providers, and of its providers' folders.
+remote_places() {
+    local place
+    for place in {0..15}; do ! is_remote "$1" "$place" || echo "$place"; done
+}
 places() {
-    seq 0 15
+    local place
+    for place in {0..15}; do is_remote "$1" "$place" || echo "$place"; done
+}
+
+# Ends where a provider is remote, since its blocks can't be looked at from here.
+needs_folders() {
+    local place
+    place=$(remote_places "$1" | head -n 1)
+    [ -z "$place" ] || stop 2 "provider $place is remote, and its blocks can't be looked at: mount its folder as provider-$place, and put remote-$place aside meanwhile"
+}
+
+# The program over a home, with its remote providers.
+over_home() {
+    HAIL=$HAIL "$tools/hail-remote" "$@"
 }
 
 # Sets `home` to the path of the folder of a store: its journal has more than nine bytes.
@@ -112,7 +134,7 @@ hail_agrees() {
 all_blocks() {
     local place home=$1 format=$2
     shift 2
-    for place in $(places); do
+    for place in $(places "$home"); do
         { [ ! -d "$home/provider-$place/" ] || find -H "$home/provider-$place/" -maxdepth 1 -type f "$@" -printf "$format\n" || true; } |
             sed -nE "s/^(0|[1-9][0-9]{0,19})-(0|[1-9][0-9]{0,9})( [0-9]+)?$/$place \\1 \\2\\3/p" || return 1
     done
@@ -126,7 +148,7 @@ newer_than() {
 # Each place that has a folder, with the identity of the folder and of all those that it lies in, from itself upwards.
 chains_of() {
     local place path above
-    for place in $(places); do
+    for place in $(places "$1"); do
         path=$(CDPATH='' cd -P -- "$1/provider-$place" 2>/dev/null && pwd -P) || continue
         above=("$path")
         while [ "$path" != / ]; do

@@ -153,6 +153,13 @@ verifying_one() {
     says 1 'notes: comes back; wrong blocks at provider 2 4' hail-verify home
     "$HAIL" home get notes >notes.new && "$HAIL" home put notes <notes.new >out || wrong 'notes is not stored anew'
     says 0 '' hail-verify home
+    spoil provider-2/4-1
+    rm -r home/provider-5/2-*
+    "$HAIL" home scrub >out || wrong "a scrub says $(cat out)"
+    [ "$(grep -v ' blocks 0$' out)" = 'scrub stripes 9
+provider 2 symbols 16 blocks 1
+provider 5 symbols 32 blocks 2' ] || wrong "a scrub says $(cat out)"
+    says 0 '' hail-verify home
     spoil provider-0/2-0
     spoil provider-4/2-0
     says 1 'other: lost from stripe 0 on; blocks are missing at provider none' hail-verify home
@@ -504,6 +511,156 @@ long_journal() {
 odd' ] || wrong "of a long journal is told $(tail -n 1 out) $(tail -n 1 err)"
 }
 
+# What hail-remote says where HOME/remotes or its words are not right; nothing is started then.
+remote_words() {
+    local line
+    new_home 6 3 1 1 4 8 0
+    says 2 '' hail-remote
+    says 2 '' hail-remote -t 0 home list
+    says 2 '' hail-remote -t 5
+    says 0 'notes 1492
+other 692
+third 1092' hail-remote -t 5 home list
+    for line in 16 '16 touch started' 02 'x touch started' '2 touch started\n2 true'; do
+        printf "$line\n" >home/remotes
+        says 2 '' hail-remote home list
+    done
+    told 'provider 2 stands twice in home/remotes'
+    printf '# none\n  \n2 touch started' >home/remotes
+    mkdir home/remote-2 && ln -s /dev/fd/7 home/remote-2/answers
+    says 2 '' hail-remote home list
+    told 'home/remote-2/answers leads to another place than /dev/fd/122'
+    rm -r home/remote-2 && ln -s provider-2 home/remote-2
+    says 2 '' hail-remote home list
+    told 'home/remote-2 is a link'
+    [ ! -e started ] || wrong 'a far end was started'
+}
+
+# The life of a store of which providers 2 and 3 are in another home, and are served from there.
+remotes() {
+    local command
+    mkdir -m 700 home far-2 far-3
+    head -c 32 /dev/urandom | od -An -v -tx1 | tr -d ' \n' >key
+    printf '# two of six\n\n2 "$HAIL" far-2 serve 2\n3 echo hello >&2; "$HAIL" far-3 serve 3; exit 9\n' >home/remotes
+    [ "$("$tools/hail-remote" home init 6 3 1 1 4 8 0 <key 2>err)" = ready ] || wrong 'there is no store with remote providers'
+    told 'provider 3: hello'
+    seq 1 400 | "$tools/hail-remote" home put notes >out 2>err || wrong "a put says $(cat out err)"
+    [ "$(ls far-2 far-3 home)" = 'far-2:
+provider-2
+
+far-3:
+provider-3
+
+home:
+journal
+provider-0
+provider-1
+provider-4
+provider-5
+remote-2
+remote-3
+remotes' ] || wrong "there are $(ls far-2 far-3 home)"
+    seq 1 400 | cmp -s - <("$tools/hail-remote" home get notes 2>err) || wrong "a get says $(cat err)"
+    says 0 '' hail-watch home
+    says 0 'journal version 1
+provider 2 is remote: it is audited, and its blocks are not looked at
+provider 3 is remote: it is audited, and its blocks are not looked at' hail-watch -v home
+    for command in 'verify home' 'gc home' 'salvage home 3' 'restore home key'; do
+        says 2 '' hail-$command
+        told "provider 2 is remote, and its blocks can't be looked at"
+    done
+    rm -r far-3/provider-3
+    says 1 'provider 3 is flagged' hail-watch home
+    says 0 'repaired 3' hail-remote home repair
+    says 0 '' hail-watch home
+    "$HAIL" home get notes >out 2>err
+    [ "$? $(cat out err)" = '4 hail: lost row 0' ] || wrong "without pipes a get says $(cat out err)"
+    printf '2 "$HAIL" far-2 serve 2\n' >home/remotes
+    seq 1 400 | cmp -s - <("$tools/hail-remote" home get notes 2>err) || wrong "a get without provider 3 says $(cat err)"
+    "$tools/hail-remote" home put other <key >out 2>err
+    [ "$? $(cat out err)" = '13 hail: provider fault 3' ] || wrong "a put without provider 3 says $(cat out err)"
+    [ ! -e home/provider-3 ] || wrong 'a put went into the folder of a remote provider'
+    printf '2 "$HAIL" far-2 serve 2\n3 "$HAIL" far-3 serve 3\n' >home/remotes
+    says 0 'dropped notes' hail-remote home drop notes
+    [ -z "$(ls far-2/provider-2 far-3/provider-3 | grep -- '^1-')" ] || wrong "a drop leaves $(ls far-2/provider-2 far-3/provider-3)"
+    for command in 1 2 3 4; do "$tools/hail-remote" home put "$command" <key >"out-$command" 2>&1 & done
+    wait
+    [ "$(cat out-* | sort -k 2)" = 'stored 1 64
+stored 2 64
+stored 3 64
+stored 4 64' ] || wrong "four puts at a time say $(cat out-*)"
+}
+
+# A far end that does this does no harm: a put ends with one of these statuses, the file comes back, an audit flags no other, and nothing is
+# written elsewhere.
+bears() {
+    local status
+    rm -rf home far && cp -a before/. .
+    echo "2 $1" >home/remotes
+    timeout 60 "$tools/hail-remote" -t 2 home put x <key >out 2>err
+    status=$?
+    [[ " $2 " = *" $status "* ]] || wrong "with the far end $1 a put ends with $status: $(cat out err)"
+    seq 1 400 | cmp -s - <(timeout 60 "$tools/hail-remote" -t 2 home get notes 2>err) || wrong "with the far end $1 a get says $(cat err)"
+    timeout 60 "$tools/hail-remote" -t 2 home audit >out 2>err </dev/null
+    status=$?
+    [ "$status" -eq 0 ] && ! grep 'flagged$' out | grep -qv '^provider 2 ' || wrong "with the far end $1 an audit ends with $status: $(cat out err)"
+    [ "$(ls home)" = "$names" ] || wrong "with the far end $1 there are $(ls home)"
+    cmp -s -n $(($(stat -c %s before/home/journal) - 1)) before/home/journal home/journal || wrong "with the far end $1 the journal is another"
+}
+
+# Far ends that are hostile.
+hostile_remotes() {
+    local names
+    new_home 6 3 1 1 4 8 0
+    mkdir -m 700 far && mv home/provider-2 far/ && cp -r home/provider-3 far/
+    mkdir home/remote-2 && ln -s /dev/fd/102 home/remote-2/requests && ln -s /dev/fd/122 home/remote-2/answers
+    : >home/remotes
+    names=$(ls home)
+    mkdir before && cp -a home far before/
+    bears '"$HAIL" far serve 2' 0
+    bears true 13
+    bears no-such-command 13
+    bears 'exec >&-; cat' 13
+    bears 'exec <&-; sleep 99.7' 13
+    bears 'cat /dev/urandom' '0 13'
+    bears 'exec yes' 13
+    bears cat '0 13'
+    bears 'sleep 99.7' 13
+    bears '{ head -c 100000 /dev/zero; "$HAIL" far serve 2; }' 13
+    bears '{ printf "\\0"; "$HAIL" far serve 2; }' 13
+    bears '{ printf "\\1"; "$HAIL" far serve 2; }' '0 13'
+    bears '"$HAIL" far serve 3' 0
+    bears 'cat /dev/urandom >&2' 13
+    pgrep -f '^sleep 99.7$' >/dev/null && wrong 'a far end is left'
+}
+
+# Things in place of a remote provider's folder or pipes: it is a provider that fails, at once, and nothing is written there.
+false_remotes() {
+    local names shape
+    new_home 6 3 1 1 4 8 0
+    rm -r home/provider-2
+    mkfifo fifo-98
+    mkdir pipes && ln -s /dev/fd/102 pipes/requests && ln -s /dev/fd/122 pipes/answers
+    for shape in 'ln -s ../pipes home/remote-2' 'ln -s nowhere home/remote-2' ': >home/remote-2' 'mkdir home/remote-2' 'mkfifo home/remote-2' \
+        'mkdir home/remote-2; echo kept | tee home/remote-2/requests >home/remote-2/answers' \
+        'mkdir -p home/remote-2/requests home/remote-2/answers' \
+        'mkdir home/remote-2; mkfifo home/remote-2/requests home/remote-2/answers' \
+        'mkdir home/remote-2; ln -s ../../fifo home/remote-2/requests; ln -s ../../fifo home/remote-2/answers; mkfifo fifo' \
+        'mkdir home/remote-2; ln -s ../journal home/remote-2/requests; ln -s ../journal home/remote-2/answers' \
+        'mkdir home/remote-2; ln -s /dev/fd/3 home/remote-2/requests; ln -s /dev/fd/4 home/remote-2/answers' \
+        'mkdir home/remote-2; ln -s /dev/fd/98 home/remote-2/requests; ln -s /dev/fd/98 home/remote-2/answers'; do
+        eval "$shape"
+        find home/remote-2 fifo -printf '%p %y %s %l\n' >before 2>/dev/null
+        seq 1 400 | cmp -s - <(timeout 20 "$HAIL" home get notes 2>err 98<>fifo-98) || wrong "behind $shape a get says $(cat err)"
+        timeout 20 "$HAIL" home put x <key >out 2>err 98<>fifo-98
+        [ "$? $(cat err)" = '13 hail: provider fault 2' ] || wrong "behind $shape a put says $(cat out err)"
+        [ "$("$HAIL" home list | wc -l)" -eq 3 ] || wrong "behind $shape the list is another"
+        find home/remote-2 fifo -printf '%p %y %s %l\n' 2>/dev/null | cmp -s - before || wrong "behind $shape there is $(find home/remote-2)"
+        [ ! -e home/provider-2 ] || wrong "behind $shape blocks went elsewhere"
+        rm -rf home/remote-2 fifo
+    done
+}
+
 # A test in a folder of its own, with one for what the companions write for a while.
 run() {
     mkdir -p "$scratch/$1/tmp" && cd "$scratch/$1" || exit 1
@@ -513,7 +670,7 @@ run() {
 }
 
 all='setting_up words watching verifying_one stuck_repair verifying_two verifying_three no_key_is_left collecting flipping reading
-    own_profiles restoring salvaging long_journal'
+    own_profiles restoring salvaging long_journal remote_words remotes hostile_remotes false_remotes'
 running=()
 for test in ${*:-$all}; do
     run "$test" &

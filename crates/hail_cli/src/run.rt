@@ -3,8 +3,10 @@ use crate::guard::{hold_streams, lock_home};
 use disk_model::{Disk, SureDisk};
 use hail_adapters::{FolderProvider, StdSink, StdSource, Unsynced, folder_providers, journal_disk};
 use hail_top::{DISK_FAULT, NO_MEMORY, hail};
+use program_words::syncs_stores;
 use provider_model::{SureProvider, Tamper};
 use provider_wire::{LinkProvider, LoopLink};
+use remote_adapters::home_providers;
 use std::alloc::Global;
 use stream_model::{Sink, Source};
 
@@ -88,7 +90,7 @@ fn run_in_memory<P: Tamper + Drop>(
     run_over(rt, words, &mut disk, &mut providers)
 }
 
-/// The providers of a home, where each store syncs its folder.
+/// The folders of a home's providers, where each store syncs its own.
 fn synced_providers(
     rt: &HostRuntime,
     alloc: Global,
@@ -103,22 +105,14 @@ fn synced_providers(
     Some(providers)
 }
 
-/// Whether the command serves a provider. No record of the journal follows its stores, which would sync them.
-fn serves(words: &[String]) -> bool {
-    match words {
-        [command, ..] => command.as_str() == "serve",
-        [] => false,
-    }
-}
-
-/// The providers of a home for a command. Want of memory is the one refusal.
-fn home_providers(
+/// The folders of a home's providers for a command. Want of memory is the one refusal.
+fn home_folders(
     rt: &HostRuntime,
     home: &str,
     words: &[String],
     unsynced: &Unsynced,
 ) -> Option<Vec<FolderProvider<HostRuntime>>> {
-    if serves(words) {
+    if syncs_stores(words) {
         return synced_providers(rt, rt.alloc(), home);
     }
     folder_providers(rt, rt.alloc(), home, unsynced).ok()
@@ -129,7 +123,8 @@ fn home_providers(
 fn run_at_home(rt: &HostRuntime, home: &str, words: &[String]) -> Option<Told> {
     let unsynced = Unsynced::new(rt.alloc()).ok()?;
     let mut disk = journal_disk(rt, rt.alloc(), home, &unsynced).ok()?;
-    let mut providers = home_providers(rt, home, words, &unsynced)?;
+    let folders = home_folders(rt, home, words, &unsynced)?;
+    let mut providers = home_providers(rt, rt.alloc(), home, folders).ok()?;
     run_over(rt, words, &mut disk, &mut providers)
 }
 

@@ -1,0 +1,2 @@
+pub mod HomeProviders
+pub mod PipeCounts
