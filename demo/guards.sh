@@ -110,6 +110,11 @@ closed_streams() {
     done
     closed 15 out upgrade
     closed 24 in upgrade
+    closed 15 out scrub
+    closed 0 in scrub
+    closed 0 err scrub
+    rm -r home/provider-1
+    closed 15 all scrub
 }
 
 # What stands in the place of the next block, or of one that is there, is not followed, not waited for, and not written to.

@@ -1,5 +1,5 @@
 #!/bin/bash
-# Kills the program at random moments of puts, drops, audits, repairs and an upgrade over a real home: kill.sh [KILLS [SEED]]
+# Kills the program at random moments of puts, drops, audits, repairs, scrubs and an upgrade over a real home: kill.sh [KILLS [SEED]]
 # After half of the kills the journal is upgraded, and behind that each put names a profile.
 # One provider at a time loses its folder. After each kill the home is looked at: each acknowledged file must come back byte for
 # byte, and what the killed command was about as it was before or as it was to be. It prints 'N kills, L lost, W wrong', ends
@@ -94,7 +94,7 @@ settle() {
 
 # One command, killed or not, and a look at what it left.
 turn() {
-    local name=${names[RANDOM % 6]} file kind=$((RANDOM % 8)) spoken='' later=''
+    local name=${names[RANDOM % 6]} file kind=$((RANDOM % 9)) spoken='' later=''
     source=/dev/null
     [ -n "$upgraded" ] || [ $killed -lt $((kills / 2)) ] || kind=upgrade
     case $kind in
@@ -119,6 +119,13 @@ turn() {
             rm -rf "home/provider-$((RANDOM % 6))"
             run audit || note_wrong "audit ends with $? ($(cat err))"
             cut repair
+            ;;
+        8)
+            settle
+            rm -rf "home/provider-$((RANDOM % 6))"
+            cut scrub
+            source=/dev/null
+            [ $status -eq 0 ] || run scrub || note_wrong "scrub ends with $? ($(cat err))"
             ;;
     esac
     case $status in

@@ -1,6 +1,6 @@
 #!/bin/bash
 # Refuses one allocation a run, over a real home: memory.sh [RUNS]
-# It goes through init, put, get, audit, repair, list, upgrade and a put at a profile, and refuses of each command the first allocation,
+# It goes through init, put, get, audit, repair, list, scrub, upgrade and a put at a profile, and refuses of each command the first allocation,
 # then the second and so on, at most RUNS of them, spread over all that the command makes. Such a run must end with 70, with a counted fault
 # of a device where an allocation of a call without an answer for want of memory was refused, or as it would have ended; where its very
 # words found none it may tell them as no command. Then the same command, over the home that the run left, must end well, or as where its
@@ -108,7 +108,7 @@ try_one() {
     case $1/$status in
         */0 | */12 | */13 | */14 | */15 | */70) ;;
         */2) [ "$number" -le $(($# + 8)) ] || note_wrong "$* ends with $status where the allocation $number is refused" ;;    # the words found none
-        repair/4) ;;    # the blocks of a second provider could not be fetched
+        repair/4 | scrub/4) ;;    # the blocks of a second provider could not be fetched
         *) note_wrong "$* ends with $status where the allocation $number is refused" ;;
     esac
     [ "$status" -ne 0 ] || [ "$1" != get ] || cmp -s out text || note_wrong "get gives other bytes where the allocation $number is refused"
@@ -150,6 +150,8 @@ goes_on audit
 goes_on repair
 goes_on get a
 goes_on list
+rm home/provider-0/1-*
+goes_on scrub
 goes_on upgrade
 source=text && goes_on put a 2
 echo "$tried runs, $wrong wrong"

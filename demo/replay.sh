@@ -88,6 +88,87 @@ for line in 'begin put a 00 256' 'begin put a 00 01' 'begin upgrade 2'; do
     row 19 'hail: bad schedule line 1' bad - replay
 done
 
+# A scrub runs alone, counts what differs and mends it; a stop and a reopening drop it. The file has two stripes of 32 bytes.
+bytes=$(printf '%080d' 7)
+{
+    echo "init 4 1 1 0 2 2 0 $digits"
+    echo 'begin scrub'
+    echo reopen
+    echo "begin put a $bytes"
+    cat <<'SCHEDULE'
+begin scrub
+run 1
+alter 0 1 0 0 5
+lose 3 1 1
+begin scrub
+begin scrub
+begin get a
+begin upgrade
+step 1
+step 2
+run 2
+begin scrub
+run 3
+begin get a
+begin scrub
+run 4
+begin scrub
+step 5
+stop -
+step 5
+reopen
+step 5
+begin scrub
+reopen
+run 6
+lose 0 1 0
+lose 1 1 0
+begin scrub
+run 7
+begin get a
+run 8
+SCHEDULE
+} >schedule
+told="ready
+closed
+opened
+job 1
+refused Busy
+put
+replaced
+replaced
+job 2
+refused Busy
+refused Busy
+refused Busy
+refused NoSuchJob
+more
+scrubbed 2 symbols 1 0 0 6
+job 3
+scrubbed 2 symbols 0 0 0 0
+job 4
+refused Busy
+got $bytes
+job 5
+more
+stopped
+closed
+opened
+refused NoSuchJob
+job 6
+opened
+refused NoSuchJob
+replaced
+replaced
+job 7
+lost 0 0
+job 8
+lost 0 0"
+row 0 "$told" schedule - replay
+new_home
+row 0 "$told" schedule home replay
+row 19 'hail: bad schedule line 1' <(echo 'begin scrub 2') - replay
+
 # Two puts beside one another, an audit that is given up, a get and a drop: the same lines over memory and over folders.
 cat >schedule <<SCHEDULE
 # a store of four providers

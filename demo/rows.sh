@@ -100,8 +100,36 @@ row 6 'hail: repair due' empty audit
 row 0 'repaired 1' empty repair
 diff -r -x journal kept home || wrong 'a repair leaves other blocks'
 row 7 'hail: nothing due' empty repair
+
+# A scrub counts what differs, mends the block that is lost and the one with four wrong symbols, and leaves the journal as it was.
+none_differs=$(for provider in 0 1 2 3 4 5; do echo "provider $provider symbols 0 blocks 0"; done)
+rm -r home && cp -r kept home
+rm home/provider-0/1-0
+for place in 0 1 2 3; do
+    printf '\377' | dd of=home/provider-5/1-0 bs=1 seek=$((16 * place)) conv=notrunc 2>dd
+done
+row 0 "scrub stripes 1
+$(echo "$none_differs" | sed 's/^provider 0 .*/provider 0 symbols 16 blocks 1/; s/^provider 5 .*/provider 5 symbols 4 blocks 1/')" empty scrub
+diff -r kept home || wrong 'a scrub leaves other blocks'
+row 0 "scrub stripes 1
+$none_differs" empty scrub
+row 2 'hail: usage' empty scrub notes.txt
 rm home/provider-0/1-0 home/provider-1/1-0
 row 4 "$lost 0" empty get notes.txt
+row 4 "$lost 0" empty scrub
+[ ! -e home/provider-0/1-0 ] && [ ! -e home/provider-1/1-0 ] || wrong 'a scrub of a lost row stores blocks'
+set_up 6 3 1 1 4 8 0
+row 0 "scrub stripes 0
+$none_differs" empty scrub
+set_up 4 1 1 0 1 1 0
+printf abc >three
+row 0 'stored a 3' three put a
+rm -r home/provider-2
+: >home/provider-2
+row 13 'hail: provider fault 2' empty scrub
+rm home/provider-2
+row 0 "scrub stripes 1
+$(echo "$none_differs" | head -n 4 | sed 's/^provider 2 .*/provider 2 symbols 6 blocks 1/')" empty scrub
 
 # Columns of another file that were made with the key under the same number are given: only who has the key can make them.
 set_up 6 3 1 1 4 8 0
