@@ -526,6 +526,10 @@ third 1092' hail-remote -t 5 home list
         says 2 '' hail-remote home list
     done
     told 'provider 2 stands twice in home/remotes'
+    echo '2 touch started' >home/remotes && chmod g+w home/remotes
+    says 2 '' hail-remote home list
+    told 'others may write home/remotes'
+    chmod g-w home/remotes
     printf '# none\n  \n2 touch started' >home/remotes
     mkdir home/remote-2 && ln -s /dev/fd/7 home/remote-2/answers
     says 2 '' hail-remote home list
