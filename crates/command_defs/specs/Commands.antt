@@ -2,27 +2,31 @@
 --
 --   AnswersRow of Row               == `row`; it looks at no device but the sink
 --   AnswersInit of Inits            == `init`
---   AnswersPut name own old new end == `put`, with the profile that it names: it opens the store, reads its
---                                      source, and runs its job
+--   MayBeWhole name bytes own records answers
+--                                   == the job of a put has ended with its last record in effect, or in doubt
+--   AnswersPut name own old new end == `put`, with the profile that it names: it opens the store, and reads its
+--                                      source stripe by stripe, the first one before its job begins
 --   AnswersAlone kind old new end   == `get`, `drop`, `audit`, `repair`, `upgrade`: they open the store and
 --                                      run their job
 --   AnswersList old new end         == `list`: it opens the store and writes the files in effect
 --   AnswersScrub of Scrubs          == `scrub`
 --   Answers command old new end     == how a command ends, by its words
 --   IsUsage old new end             == words that are no form of a command: status 2, or that of no memory
-use Rattle.std.specs.Prelude.{◌≡◌, ℕ, ◌+◌, false, IsTrue, List, [], Option, None, Some}
+use Rattle.std.specs.Prelude.{◌≡◌, ℕ, ◌+◌, ◌≤◌, false, IsTrue, List, [], length, Option, None, Some, IfSome}
 use Rattle.device_defs.specs.Faults.{Rose}
 use Rattle.record_defs.specs.Records.{Record, largest_file}
 use Rattle.record_defs.specs.Table.{files_of}
 use Rattle.machine_defs.specs.Jobs.{Kind, PutJob, GetJob, DropJob, AuditJob, RepairJob, UpgradeJob}
 use Rattle.command_defs.specs.Forms.{Command, RowOf, InitWith, PutUnder, PutAt, GetOf, DropOf, ListAll, AuditAll, RepairDue, UpgradeJournal, ScrubAll}
-use Rattle.command_defs.specs.Seen.{Seen, Ending, IsSynced, SameSource, ReadsAtMost, ReadsUpTo, IsRefused, sinking}
+use Rattle.command_defs.specs.Seen.{Seen, Ending, IsSynced, SameSource, ReadsAtMost, ReadsFront, IsRefused, sinking}
 use Rattle.command_defs.specs.Sinking.{Refuses, WritesLine}
 use Rattle.command_defs.specs.Opens.{IsOpened, Unstarted}
-use Rattle.command_defs.specs.Refusals.{is_unknown}
+use Rattle.command_defs.specs.Refusals.{is_unknown, refusal_over}
 use Rattle.command_defs.specs.Lines.{list_lines}
 use Rattle.command_defs.specs.Row.{AnswersRow}
+use Rattle.command_defs.specs.Puts.{MayHaveEnd}
 use Rattle.command_defs.specs.Jobs.{AnswersJob}
+use Rattle.command_defs.specs.GivenUp.{put_stripe, StopsReading, PartRuns, PartLeft}
 use Rattle.command_defs.specs.Inits.{AnswersInit}
 use Rattle.command_defs.specs.Scrubs.{AnswersScrub}
 
@@ -35,7 +39,17 @@ pub record TouchesSink (old new : Seen) (end : Ending) : Type 0 where
   pub place : end.at ≡ 0
   pub heard : end.heard ≡ []
 
--- a `put`, with the profile that it names; where there is none of its number, the source is not read
+-- the job of a put has ended with its last record in effect, or in doubt
+abbrev pub MayBeWhole : (name bytes : List ℕ) (own : Option ℕ) (records : List Record) {old new : Seen}
+    {end : Ending} → AnswersJob (PutJob name bytes) own records old new end → Type 0
+MayBeWhole name bytes own records (AnswersJob.refused why is synced refused) = ⊥
+MayBeWhole name bytes own records (AnswersJob.no_memory synced refused) = ⊥
+MayBeWhole name bytes own records (AnswersJob.ended answer unrefused runs left ends) =
+    MayHaveEnd records left.after left.doubt name (length bytes) own
+
+-- A `put`, with the profile that it names; where there is none of its number, the source is not read. The job
+-- is one of a file of the bytes that were read: the whole source, where its last record is in effect or in
+-- doubt, and else a first part of it.
 pub data AnswersPut (name : List ℕ) (own : Option ℕ) (old new : Seen) (end : Ending) : Type 0 where
   unstarted : Unstarted old new end → SameSource old new → AnswersPut name own old new end
   bad_profile : (records : List Record) → IsOpened old records → IsTrue (is_unknown own)
@@ -47,8 +61,15 @@ pub data AnswersPut (name : List ℕ) (own : Option ℕ) (old new : Seen) (end :
   no_memory : ReadsAtMost (largest_file + 1) old.source new.source → IsRefused 70 0 old new end
       → AnswersPut name own old new end
   begun : (records : List Record) (bytes : List ℕ) → IsOpened old records → is_unknown own ≡ false
-      → ReadsUpTo (largest_file + 1) old.source new.source bytes →
-      AnswersJob (PutJob name bytes) own records old new end → AnswersPut name own old new end
+      → ReadsFront old.source new.source bytes → length bytes ≤ largest_file →
+      (answers : AnswersJob (PutJob name bytes) own records old new end)
+      → (MayBeWhole name bytes own records answers → IfSome new.source (λ left. left ≡ []))
+      → AnswersPut name own old new end
+  given_up : (records : List Record) (bytes : List ℕ) → IsOpened old records → is_unknown own ≡ false
+      → refusal_over records (PutJob name bytes) own ≡ None →
+      StopsReading (put_stripe records own) bytes old new end
+      → PartRuns records name bytes own old new → PartLeft records name bytes own old new
+      → AnswersPut name own old new end
 
 -- a command that runs a job and reads no source
 pub data AnswersAlone (kind : Kind) (old new : Seen) (end : Ending) : Type 0 where

@@ -6,6 +6,8 @@
 --                                          == the job of this kind begins in the state, after so many events,
 --                                             of a put also with a profile of its own, and its steps come to
 --                                             this answer and leave the new state; it heard these entries
+--   RunsPart w moment kind own count new   == the job begins so, and so many steps, which all answered more,
+--                                             leave the new state
 use Rattle.std.specs.Prelude.{◌≡◌, ℕ, ◌+◌, List, [], ◌∷◌, length, Option}
 use Rattle.machine_defs.specs.Jobs.{Kind, job_of}
 use Rattle.machine_defs.specs.Answers.{Answer}
@@ -38,3 +40,14 @@ pub record RunsJob (w : State) (moment : ℕ) (kind : Kind) (own : Option ℕ) (
   pub job : ℕ
   pub begins : BeginsAt 8 moment w kind own (Begun job) begun
   pub goes_on : GoesOnTo begun (moment + 1) job answer heard new
+
+-- a job begins in a state, after so many events, and makes so many steps that all answer more
+pub record RunsPart (w : State) (moment : ℕ) (kind : Kind) (own : Option ℕ) (count : ℕ)
+    (new : State) : Type 0 where
+  pub begun : State
+  pub job : ℕ
+  pub begins : BeginsAt 8 moment w kind own (Begun job) begun
+  pub steps : List Moment
+  pub are_steps : AreSteps begun (moment + 1) job steps
+  pub made : length steps ≡ count
+  pub last : new ≡ now begun steps

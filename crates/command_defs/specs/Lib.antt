@@ -20,5 +20,6 @@ pub mod Repairs
 pub mod Upgrades
 pub mod Scrubs
 pub mod Jobs
+pub mod GivenUp
 pub mod Inits
 pub mod Commands

@@ -4,6 +4,8 @@
 --   put_records records name size own   == the records that it appends, the oldest first, of the next number
 --   PutIsCut x own name bytes           == a put that a fault of the disk cut off, at its first record or at
 --                                          its last one
+--   MayHaveEnd records after doubt name size own
+--                                       == its last record is in effect, or in doubt
 --   PutLeaves x own name bytes answer   == what it leaves where it ended with this answer
 --
 -- own is the profile that the put names; None where it has the setup's.
@@ -28,6 +30,12 @@ put_done records size own =
 -- the records that a put appends, the oldest first
 abbrev pub put_records : List Record → List ℕ → ℕ → Option ℕ → List Record
 put_records records name size own = PutStart (next_id records) name ∷ put_done records size own ∷ []
+
+-- the last record of a put is in effect, or in doubt
+abbrev pub MayHaveEnd : List Record → List Record → Option Record → List ℕ → ℕ → Option ℕ → Type 0
+MayHaveEnd records after doubt name size own =
+    (after ≡ put_done records size own ∷ PutStart (next_id records) name ∷ records)
+    ⊎ (doubt ≡ Some (put_done records size own))
 
 -- the object of the put
 abbrev pub object_put : Ran → Option ℕ → Object

@@ -13,6 +13,7 @@
 --   ReadsAtMost most old new        == some bytes were read of a source, at most so many
 --   ReadsUpTo most old new bytes    == these bytes were read of a source, at most so many; where they are
 --                                      fewer, it is at its end
+--   ReadsFront old new bytes        == these bytes were read of a source, whether or not it is at its end
 --   Ending                          == how a command ended: its status, the place that the status speaks of,
 --                                      and what its job heard
 --   IsRefused status at old new end == the command ended so: nothing was heard or written, the disk was at
@@ -97,6 +98,11 @@ pub record ReadsUpTo (most : ℕ) (old new : Option (List ℕ)) (bytes : List �
   pub front : old ≡ then_told bytes new
   pub few : length bytes ≤ most
   pub end : length bytes < most → IfSome new (λ left. left ≡ [])
+
+-- these bytes were read of a source
+pub record ReadsFront (old new : Option (List ℕ)) (bytes : List ℕ) : Type 0 where
+  pub are_bytes : AreBytes bytes
+  pub front : old ≡ then_told bytes new
 
 -- how a command ended
 pub record Ending : Type 0 where
