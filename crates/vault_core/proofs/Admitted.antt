@@ -1,8 +1,8 @@
 -- A core with one more job: it is kept, and stands for the state after the begin.
-use Rattle.std.proofs.Common.{rules, ◌≡◌, ℕ, ◌+◌, ◌<◌, ◌≤◌, Bool, true, false, List, [], ◌∷◌, ◌++◌, Option, Some, None, Vec, Global, length, map, inl, inr, refl, ap, sym, subst, ◌∙◌, length-append, arith}
+use Rattle.std.proofs.Common.{rules, ◌≡◌, ◌≢◌, ℕ, zero, suc, ◌+◌, ◌*◌, ◌^◌, ◌<◌, ◌≤◌, Bool, true, false, List, [], ◌∷◌, ◌++◌, Option, Some, None, Vec, Global, length, map, inl, inr, refl, ap, sym, subst, ◌∙◌, length-append, arith}
 use Rattle.std.specs.Prelude.{IsTrue, nat_lt, ◌==◌, ◌||◌, sum, sum_by, if◌then◌else◌, nat_le}
 use Rattle.std.specs.List.{All, AllZip}
-use Rattle.std.specs.Prelude.{Result, Ok, Err, OnOk}
+use Rattle.std.specs.Prelude.{Result, Ok, Err, OnOk, OnErr, IfOk}
 use Rattle.std.proofs.lemmas.Bool.{cases_Bool, leb-false, lt-ltb}
 use Rattle.std.proofs.lemmas.Bool.Decides.{nat_tests}
 use Rattle.std.proofs.lemmas.List.Elements.{All-push}
@@ -23,18 +23,21 @@ use Rattle.vault_core.specs.declared.wish.BeginFault.{BeginFault}
 use Rattle.vault_core.specs.declared.wish.BeginFault.TheVariants as fault
 use Rattle.vault_core.specs.declared.job.Job.{Job}
 use Rattle.vault_core.specs.declared.own.Core.TheInside.{Inside}
-use Rattle.vault_core.specs.View.{CoreJob, CoreView, appends_in, HasLoneUpgrade, AreRising, job_in}
+use Rattle.vault_core.specs.View.{CoreJob, CoreView, appends_in, HasLoneUpgrade, AreRising, job_in, told_by, told_in, IsStreamless}
 use Rattle.vault_core.proofs.Lone.{lone_more}
 use Rattle.vault_core.proofs.Places.{any-map}
 use Rattle.vault_core.specs.Reserves.{sizes_of, reserved_of, starts_by, starts_of, Reserves}
 use Rattle.vault_core.specs.Coming.{written_as, written_of}
-use Rattle.vault_core.specs.Carried.{IsKindOf, IsJobOf, IsCoreFlight, CoreIs, begun}
-use Rattle.vault_core.specs.Parts.{setup_kept, core_job, view_of, IsJobKept, IsCore}
+use Rattle.vault_core.specs.Carried.{IsKindOf, IsAimOf, IsShortAim, IsJobOf, IsCoreFlight, CoreIs, begun}
+use Rattle.vault_core.specs.Parts.{setup_kept, core_job, view_of, MayBegin, IsJobKept, IsCore}
+use Rattle.vault_core.specs.Streams.{stripe_size, IsLongest, IsToldAs, IsTold}
+use Rattle.vault_core.proofs.Told.{streamless_push, told_push, in_push, in_push_other}
+use Rattle.code_defs.specs.Profiles.{profile_of}
 use Rattle.machine_defs.specs.Sights.{is_upgrade, is_busy, is_crowded_for, is_shut, is_full, are_numbers_used_up, are_jobs_in_the_way}
 use Rattle.machine_defs.proofs.Refused.{left_false, right_false}
-use Rattle.vault_core.specs.Wished.{aim_of_wish, profile_named}
+use Rattle.vault_core.specs.Wished.{aim_of_wish, profile_named, IsShort}
 use Rattle.vault_core.specs.Refusing.{aims_in, sight_in, word_refusal_in, or_full, refusal_in}
-use Rattle.vault_core.specs.Making.{starts_for, appends_for, admitted, IsMade}
+use Rattle.vault_core.specs.Making.{starts_for, appends_for, admitted, AreMore, IsMade}
 use Rattle.vault_core.proofs.Joins.{made-is}
 use Rattle.vault_core.proofs.Refusals.{way}
 use Rattle.vault_core.proofs.Kept.{rising_push}
@@ -202,11 +205,14 @@ module _ (a : Inside) (job : Job) (t : Kept) (js : Vec Job Global) (k : ℕ)
       a.end + sum_by (reserved_of a.table.version (setup_kept a)) (map (core_job) a.jobs.items) + reserved_of
       a.table.version (setup_kept a)
       (core_job job) ≤ largest_journal → HasLoneUpgrade ((view_of a).jobs ++ core_job job ∷ []) →
+      IsTold (setup_kept a) (core_job job) →
       IsCore (record a { table = t; jobs = js; next_job = a.next_job + 1 })
-  admitted-core core number kept few room lone = record {
+  admitted-core core number kept few room lone told = record {
     set_up = core.set_up;
     kept = subst (All (IsJobKept (setup_kept a))) (sym jobs)
         (All-push (IsJobKept (setup_kept a)) a.jobs.items job core.kept kept);
+    told = subst (All (IsTold (setup_kept a))) (sym jobs-seen)
+        (All-push (IsTold (setup_kept a)) (map core_job a.jobs.items) (core_job job) core.told told);
     few = (let e = ap (λ (xs : List Job). length xs) jobs in let l = length-append a.jobs.items (job ∷ []) in
         let o : length (job ∷ []) ≡ 1 = refl in omega (arith, e, l, o, few));
     begun = core.begun;
@@ -262,40 +268,50 @@ flight-more c v job (Some a) h = (
       (found-more c.setup c.jobs (core_job job) a.job c.table a.entry h.1) ∙ h.1),
 )
 
+-- a wish of a put, and a stream's, is for a put of the machine
+put_kind : (o : Option ℕ) (name : List ℕ) (size : ℕ) (own : Option ℕ) (k : Kind) →
+    IsAimOf o (wish.Put name size own) k → (word : List ℕ) × ((bytes : List ℕ) × (k ≡ PutJob word bytes))
+put_kind o name size own (PutJob word bytes) e = (word, (bytes, refl))
+put_kind None name size own (GetJob word) e = (let f : ToPut name size ≡ ToGet word = e in cc)
+put_kind None name size own (DropJob word) e = (let f : ToPut name size ≡ ToDrop word = e in cc)
+put_kind None name size own AuditJob e = (let f : ToPut name size ≡ ToAudit = e in cc)
+put_kind None name size own RepairJob e = (let f : ToPut name size ≡ ToRepair = e in cc)
+put_kind None name size own UpgradeJob e = (let f : ToPut name size ≡ ToUpgrade = e in cc)
+put_kind (Some n) name size own (GetJob word) e = (let f : ToPut name size ≡ ToGet word = e in cc)
+put_kind (Some n) name size own (DropJob word) e = (let f : ToPut name size ≡ ToDrop word = e in cc)
+put_kind (Some n) name size own AuditJob e = (let f : ToPut name size ≡ ToAudit = e in cc)
+put_kind (Some n) name size own RepairJob e = (let f : ToPut name size ≡ ToRepair = e in cc)
+put_kind (Some n) name size own UpgradeJob e = (let f : ToPut name size ≡ ToUpgrade = e in cc)
+
 -- a begin leaves a sound state, of a put also with a profile of its own
-begin-sound : (w : State) (kind : Kind) (moment : ℕ) (v : Wish) → IsSound 8 w → w.is_open ≡ true →
-    IsKindOf v kind → IsSpelledKind kind → ((p : ℕ) → profile_named v ≡ Some p → p < 256) →
+begin-sound : (w : State) (kind : Kind) (moment : ℕ) (told : Option ℕ) (v : Wish) → IsSound 8 w →
+    w.is_open ≡ true → IsAimOf told v kind → IsSpelledKind kind →
+    ((p : ℕ) → profile_named v ≡ Some p → p < 256) →
     refusal_of_begin 8 w kind (profile_named v) ≡ None → IsSound 8 (begun w moment kind (profile_named v))
-begin-sound w kind moment (wish.Put name size (Some own)) sound opened of spelled few allowed =
-    by kind of spelled allowed
-  where
-    by : (k : Kind) → ToPut name size ≡ aim_of k → IsSpelledKind k →
-        refusal_of_begin 8 w k (Some own) ≡ None →
-        IsSound 8 (begun w moment k (Some own))
-    by (PutJob word bytes) e spelt entered = events-sound 8 moment w sound (omega arith, omega arith)
-        (BeginAt own word bytes) (Begun w.next_job) (begun w moment (PutJob word bytes) (Some own))
-        (few own refl, spelt) (opened, entered, refl, refl)
-    by (GetJob word) e spelt entered = (let f : ToPut name size ≡ ToGet word = e in cc)
-    by (DropJob word) e spelt entered = (let f : ToPut name size ≡ ToDrop word = e in cc)
-    by AuditJob e spelt entered = (let f : ToPut name size ≡ ToAudit = e in cc)
-    by RepairJob e spelt entered = (let f : ToPut name size ≡ ToRepair = e in cc)
-    by UpgradeJob e spelt entered = (let f : ToPut name size ≡ ToUpgrade = e in cc)
-begin-sound w kind moment (wish.Put name size None) sound opened of spelled few allowed =
+begin-sound w kind moment told (wish.Put name size (Some own)) sound opened of spelled few allowed =
+    let p = put_kind told name size (Some own) kind of in
+    subst (λ (k : Kind). IsSpelledKind k → refusal_of_begin 8 w k (Some own) ≡ None →
+    IsSound 8 (begun w moment k (Some own))) (sym p.1.1)
+    (λ spelt entered. events-sound 8 moment w sound (omega arith, omega arith)
+    (BeginAt own p.0 p.1.0) (Begun w.next_job) (begun w moment (PutJob p.0 p.1.0) (Some own))
+    (few own refl, spelt) (opened, entered, refl, refl)) spelled allowed
+begin-sound w kind moment told (wish.Put name size None) sound opened of spelled few allowed =
     events-sound 8 moment w sound (omega arith, omega arith) (Begin kind) (Begun w.next_job)
     (begun w moment kind None) spelled (opened, allowed, refl, refl)
-begin-sound w kind moment v sound opened of spelled few allowed =
+begin-sound w kind moment told v sound opened of spelled few allowed =
     events-sound 8 moment w sound (omega arith, omega arith) (Begin kind) (Begun w.next_job)
     (begun w moment kind None) spelled (opened, allowed, refl, refl)
 
 -- with a new job, a core stands for the machine's state after the begin
 pub core-begun : (c : CoreView) (w : State) (kind : Kind) (moment : ℕ) (v : Wish) (job : Job) → CoreIs c w →
-    IsKindOf v kind → IsSpelledKind kind → ((p : ℕ) → profile_named v ≡ Some p → p < 256) →
+    IsAimOf job.told v kind → MayBegin job.told v → IsTold c.setup (core_job job) → IsSpelledKind kind →
+    ((p : ℕ) → profile_named v ≡ Some p → p < 256) →
     refusal_of_begin 8 w kind (profile_named v) ≡ None →
     c.setup.n ≤ 16 → IsMade c.table c.setup c.next_job v job →
     CoreIs (admitted c v job) (begun w moment kind (profile_named v))
 unfolding setup_in
-core-begun c w kind moment v job is of spelled own allowed most made = record {
-  sound = begin-sound w kind moment v is.sound is.is_open of spelled own allowed;
+core-begun c w kind moment v job is of begins within spelled own allowed most made = record {
+  sound = begin-sound w kind moment job.told v is.sound is.is_open of spelled own allowed;
   is_open = is.is_open;
   none_alone = is.none_alone;
   table = record {
@@ -314,11 +330,96 @@ core-begun c w kind moment v job is of spelled own allowed most made = record {
       (beginning w moment kind (profile_named v)) is.jobs
       (made-is c.table c.setup w moment v kind job
       (subst (λ (k : ℕ). IsMade c.table c.setup k v job) is.next_job made) most is.table is.setup
-      is.sound.files of);
+      is.sound.files of begins within);
   next_job = ap (λ (k : ℕ). k + 1) is.next_job;
   append = flight-more c v job w.append is.append;
   barred = is.barred;
 }
+
+-- ---- streams
+
+-- the machine's kind of a wish that is not too long is not too long
+pub short-aim : (v : Wish) (k : Kind) → IsKindOf v k → IsShort v → IsShortAim (aim_of k)
+short-aim (wish.Put name size own) k e l = subst IsShortAim e l
+short-aim (wish.Get name) k e l = subst IsShortAim e tt
+short-aim (wish.Drop name) k e l = subst IsShortAim e tt
+short-aim wish.Audit k e l = subst IsShortAim e tt
+short-aim wish.Repair k e l = subst IsShortAim e tt
+short-aim wish.Upgrade k e l = subst IsShortAim e tt
+
+some-keep : (p : ℕ) → 1 ≤ (profile_of p).keep
+some-keep zero = omega arith
+some-keep (suc zero) = omega arith
+some-keep (suc (suc zero)) = omega arith
+some-keep (suc (suc (suc zero))) = omega arith
+some-keep (suc (suc (suc (suc p)))) = omega arith
+
+-- a setup within its limits has a primary provider
+pub primary : (s : Setup) → IsTrue (is_setup s) → 1 ≤ s.l
+primary s h = search rules
+
+-- a stripe has some bytes
+pub some-stripe : (s : Setup) (p : ℕ) → IsTrue (is_setup s) → 0 < stripe_size s p
+some-stripe s p h = let l = primary s h in let k = some-keep p in
+    let m : 1 ≤ s.l * (profile_of p).keep = times s.l (profile_of p).keep l k in omega (arith, m)
+  where
+    times : (a b : ℕ) → 1 ≤ a → 1 ≤ b → 1 ≤ a * b
+    times zero b x y = absurd (omega (arith, x))
+    times (suc a) b x y = (let e : suc a * b ≡ b + a * b = omega arith in omega (arith, e, y))
+
+-- a new job is told as it should be
+pub told-start : (t : Kept) (s : Setup) (k : ℕ) (v : Wish) (job : Job) → IsTrue (is_setup s) →
+    IsMade t s k v job → MayBegin job.told v → IsTold s (core_job job)
+told-start t s k v job ok made = by job.told
+  where
+    by : (o : Option ℕ) → MayBegin o v → IsToldAs s (core_job job) o
+    by None m = tt
+    by (Some n) m = (
+      (let p = made.place in omega (arith, p)),
+      some-stripe s job.profile ok,
+      subst (λ (x : ℕ). x * stripe_size s job.profile ≤ 2 ^ 22) (sym m.0) (omega arith),
+      subst (λ (w : Wish). IsLongest (aim_of_wish w)) (sym made.wish) m.1,
+    )
+
+-- a core in which one more job runs
+pub more-jobs : (a : Inside) (c new : CoreView) (w : Wish) (job : Job) → view_of a ≡ c → IsCore a →
+    new ≡ admitted c w job → job.number ≡ c.next_job → AreMore job.told c new
+more-jobs a c new w job v h e n = record {
+  job = core_job job;
+  jobs = ap (λ (x : CoreView). x.jobs) e;
+  number = n;
+  told = refl;
+  here = ap (λ (x : CoreView). job_in x.jobs c.next_job) e
+      ∙ in_push 0 c.jobs c.next_job (core_job job)
+      (subst (λ (x : CoreView). AreRising 0 x.jobs x.next_job) v h.numbered) n;
+}
+
+-- a stream that begins is open, with no stripe given
+pub stream-open : (r : Result ℕ BeginFault) (c new : CoreView) → OnOk r (AreMore (Some 0) c new) →
+    IfOk r (λ job. job ≡ c.next_job) → IfOk r (λ job. told_in new.jobs job ≡ Some 0)
+stream-open (Ok job) c new h n = ap (told_in new.jobs) n ∙ (ap told_by h.here ∙ h.told)
+stream-open (Err why) c new h n = tt
+
+-- and no other job changes
+pub stream-others : (r : Result ℕ BeginFault) (c new : CoreView) → OnOk r (AreMore (Some 0) c new) →
+    OnErr r (new ≡ c) → (other : ℕ) → other ≢ c.next_job → told_in new.jobs other ≡ told_in c.jobs other
+stream-others (Ok job) c new h e other o = ap (λ (js : List CoreJob). told_in js other) h.jobs
+    ∙ ap told_by (in_push_other c.jobs other h.job (λ m. o (sym m ∙ h.number)))
+stream-others (Err why) c new h e other o = ap (λ (x : CoreView). told_in x.jobs other) e
+
+-- what a begin leaves of open streams, of a job that is none
+pub begun-told : (r : Result ℕ BeginFault) (c new : CoreView) → OnOk r (AreMore None c new) →
+    OnErr r (new ≡ c) →
+    (IsStreamless c → IsStreamless new) × ((number : ℕ) → told_in new.jobs number ≡ told_in c.jobs number)
+begun-told (Ok number) c new h e = (
+  (λ none. subst (All (λ (j : CoreJob). j.told ≡ None)) (sym h.jobs)
+      (streamless_push c.jobs h.job h.told none)),
+  (λ n. ap (λ (js : List CoreJob). told_in js n) h.jobs ∙ told_push c.jobs h.job n h.told),
+)
+begun-told (Err why) c new h e = (
+  (λ none. subst IsStreamless (sym e) none),
+  (λ n. ap (λ (x : CoreView). told_in x.jobs n) e),
+)
 
 -- ---- what a call gave
 

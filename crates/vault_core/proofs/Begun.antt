@@ -43,7 +43,8 @@ all_more P x xs p all = λ k d l. by k d l
     by zero d l = p
     by (suc k) d l = all k d (omega arith)
 
-tasks-all : (f : Pinned → ℕ) (ps : List Pinned) → All (λ (t : Task). 0 < t.turns) (tasks_made f ps)
+-- each task that is made has something to do
+pub tasks-all : (f : Pinned → ℕ) (ps : List Pinned) → All (λ (t : Task). 0 < t.turns) (tasks_made f ps)
 tasks-all f [] = all_none (λ (t : Task). 0 < t.turns)
 tasks-all f (p ∷ ps) = elim (cases_Bool (nat_lt 0 (f p))) [
   | inl h ↦ subst (All (λ (t : Task). 0 < t.turns))

@@ -38,12 +38,14 @@ gates_behind (y ∷ ys) x e =
     let f : Some y ≡ Some x = e in let g : y ≡ x = cc in
     gates-cons y ys ∙ ap (λ (z : Action). cond {A = ℕ} (ends_append z) 1 0 + gates ys) g
 
-none_map : (f : ℕ → Action) (ks : List ℕ) → ((k : ℕ) → ends_append (f k) ≡ false) → gates (map f ks) ≡ 0
+-- lists that a function makes have no gate where its values are none
+pub none_map : (f : ℕ → Action) (ks : List ℕ) → ((k : ℕ) → ends_append (f k) ≡ false) → gates (map f ks) ≡ 0
 none_map f [] h = refl
 none_map f (k ∷ ks) h = let e = gates-cons (f k) (map f ks) in let i =
     none_map f ks h in let c = ap (λ (b : Bool). cond {A = ℕ} b 1 0) (h k) in omega (arith, e, i, c)
 
-none_flat : {X : Type 0} (f : X → List Action) (ks : List X) → ((k : X) → gates (f k) ≡ 0) →
+-- so for a function of lists
+pub none_flat : {X : Type 0} (f : X → List Action) (ks : List X) → ((k : X) → gates (f k) ≡ 0) →
     gates (flat_map f ks) ≡ 0
 none_flat f [] h = refl
 none_flat f (k ∷ ks) h = let e =

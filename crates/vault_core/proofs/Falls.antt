@@ -19,7 +19,7 @@ use Rattle.vault_core.specs.declared.action.Action.TheVariants as act
 use Rattle.vault_core.specs.declared.reply.Reply.{Reply}
 use Rattle.vault_core.specs.declared.reply.Reply.TheVariants as reply
 use Rattle.record_codec.specs.declared.counts.Counts.{Counts}
-use Rattle.vault_core.specs.View.{CoreJob, CoreView, planned, rest_in, AreRising, job_in}
+use Rattle.vault_core.specs.View.{CoreJob, CoreView, planned, rest_in, AreRising, job_in, wanted_by, wants_in}
 use Rattle.vault_core.specs.Rest.{rest_of}
 use Rattle.vault_core.specs.Parts.{sums_kept, core_job, view_of, setup_kept, comes_to, IsSteady, IsJobKept, IsCore}
 use Rattle.vault_core.specs.Coming.{Coming, Acts, Waits, IsNoJob, IsBarred, seen_action, action_next, next_in, is_idle, most_of, core_left, written_as, HasReply, TakesReply}
@@ -105,9 +105,10 @@ some_rest a c place j v h e =
 
 -- ---- what is left of it
 
-left_some : (c : CoreView) (k : ℕ) (j : CoreJob) → job_in c.jobs k ≡ Some j →
+-- so many steps may remain of the job of a number
+pub left_job : (c : CoreView) (k : ℕ) (j : CoreJob) → job_in c.jobs k ≡ Some j →
     core_left c k ≡ most_of c.setup j
-left_some c k j e = ap (λ (o : Option CoreJob). unwrap_or (option_map (most_of c.setup) o) 0) e
+left_job c k j e = ap (λ (o : Option CoreJob). unwrap_or (option_map (most_of c.setup) o) 0) e
 
 left_none : (c : CoreView) (k : ℕ) → job_in c.jobs k ≡ None → core_left c k ≡ 0
 left_none c k e = ap (λ (o : Option CoreJob). unwrap_or (option_map (most_of c.setup) o) 0) e
@@ -121,7 +122,7 @@ pub removed_falls : (a : Inside) (c new : CoreView) (place : ℕ) → view_of a 
     (j : CoreJob) → slice_get c.jobs place ≡ Some j → core_left new j.number < core_left c j.number
 removed_falls a c new place v h r j e =
     let up = rising_at a c v h in
-    let x = left_some c j.number j (at_number 0 c.jobs a.next_job place j up e) in
+    let x = left_job c j.number j (at_number 0 c.jobs a.next_job place j up e) in
     let y = left_none new j.number (ap (λ (js : List CoreJob). job_in js j.number) r
     ∙ gone 0 c.jobs a.next_job place j up e) in
     let l = some_rest a c place j v h e in
@@ -134,12 +135,12 @@ pub set_falls : (a : Inside) (c new : CoreView) (place : ℕ) (j k : CoreJob) �
     core_left new j.number < core_left c j.number
 set_falls a c new place j k v h e s r m l =
     let up = rising_at a c v h in
-    let x = left_some c j.number j (at_number 0 c.jobs a.next_job place j up e) in
+    let x = left_job c j.number j (at_number 0 c.jobs a.next_job place j up e) in
     let found : job_in (set c.jobs place k) j.number ≡ Some k =
     ap (job_in (set c.jobs place k)) (sym m)
     ∙ at_number 0 (set c.jobs place k) a.next_job place k (rising_set 0 c.jobs a.next_job place j k e m up)
     (set_here c.jobs place j k e) in
-    let y = left_some new j.number k (ap (λ (js : List CoreJob). job_in js j.number) r ∙ found) in
+    let y = left_job new j.number k (ap (λ (js : List CoreJob). job_in js j.number) r ∙ found) in
     let z = ap (λ (t : Setup). most_of t k) s in
     omega (arith, x, y, z, l)
 
@@ -159,7 +160,8 @@ placed_falls a c new place old job v h here kept next l s js m j g =
 
 -- ---- the step of a job
 
-in_number : (js : List CoreJob) (k : ℕ) (j : CoreJob) → job_in js k ≡ Some j → j.number ≡ k
+-- the job of a number has the number
+pub in_number : (js : List CoreJob) (k : ℕ) (j : CoreJob) → job_in js k ≡ Some j → j.number ≡ k
 in_number [] k j e = let r : None ≡ Some j = e in cc
 in_number (x ∷ js) k j e = elim (cases_Bool (x.number == k)) [
   | inl t ↦ (let g : Some x ≡ Some j = sym (ap (λ (b : Bool). if b then Some x else job_in js k) t) ∙ e in
@@ -225,6 +227,11 @@ pub step_left : (c new : CoreView) (k place : ℕ) (r : Reply) (a : Action) → 
     ((j : CoreJob) → slice_get c.jobs place ≡ Some j → core_left new j.number < core_left c j.number) →
     core_left new k < core_left c k
 step_left c new k place r a s f = subst (λ (n : ℕ). core_left new n < core_left c n) s.number (f s.job s.here)
+
+-- the job of a step does not wait for a stripe
+pub step_given : (c : CoreView) (k place : ℕ) (r : Reply) (a : Action) → StepHere c k place r a →
+    wants_in c k ≡ None → wanted_by c.setup (slice_get c.jobs place) ≡ None
+step_given c k place r a s free = ap (wanted_by c.setup) (s.here ∙ sym s.runs) ∙ free
 
 -- the setup stays where a job goes on
 pub moved_setup : (c new : CoreView) (place : ℕ) (f : CoreJob → CoreJob) (j : CoreJob) →

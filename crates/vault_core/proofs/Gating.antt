@@ -32,6 +32,7 @@ use Rattle.vault_core.specs.Rest.{rest_of}
 use Rattle.vault_core.specs.Coming.{is_move, written_as, written_by}
 use Rattle.vault_core.specs.Going.{decides_on, listed_older, removals_of, LeavesBehind}
 use Rattle.vault_core.specs.Parts.{setup_kept, sums_kept, core_job, view_of, IsCore, IsSteady, MayFinish, IsJobKept}
+use Rattle.vault_core.specs.Streams.{IsTold}
 use Rattle.vault_core.specs.Fed.{first_of, first_at, taken_as, taken_by, gated_by, gated, HasGated}
 use Rattle.vault_core.specs.Reserves.{sizes_of, room_behind, reserved_of, starts_by, starts_of}
 use Rattle.vault_core.specs.Wished.{aim_of_wish, is_opener, is_closer}
@@ -507,13 +508,14 @@ pub gated_core : (a : Inside) (t : Kept) (v : Vec Job Global) (place z : ℕ) (o
     IsJobKept (setup_kept a) one_ →
     slice_get (rest_of a.setup.n old) 0 ≡ Some SyncGate →
     new.number ≡ old.number → new.wish ≡ old.wish → new.appends ≡ old.appends - 1 →
-    IsJobKept (setup_kept a) new → z ≡ record_size wrote →
+    IsJobKept (setup_kept a) new → IsTold (setup_kept a) (core_job new) → z ≡ record_size wrote →
     Some wrote ≡ written_as a.table one_.appends one_.profile one_.subject (sums_kept one_)
     (aim_of_wish one_.wish) →
     t.spare ≡ (if is_put_start wrote then a.table.spare - 1 else a.table.spare) →
     t.version ≡ (if is_version wrote then 2 else a.table.version) → IsCore a →
     IsCore (record a { table = t; end = a.end + (1 + z); jobs = v; append = None })
-gated_core a t v place z old new one_ wrote items here here1 kept kept1 gate number same_wish fewer next size w spare version h =
+gated_core a t v place z old new one_ wrote items here here1 kept kept1 gate number same_wish fewer
+    next told size w spare version h =
     let s = setup_kept a in
     let f0 : Some (core_job one_) ≡ Some (core_job old) = sym here1 ∙ here in
     let e0 : core_job one_ ≡ core_job old = cc in
@@ -542,6 +544,8 @@ gated_core a t v place z old new one_ wrote items here here1 kept kept1 gate num
     record {
       set_up = h.set_up;
       kept = subst (All (IsJobKept s)) (sym items) (All-set (IsJobKept s) a.jobs.items place new next h.kept);
+      told = subst (All (IsTold s)) (sym js)
+          (All-set (IsTold s) (view_of a).jobs place (core_job new) told h.told);
       few = (let r = length-set a.jobs.items place new in let q = ap length items in let f = h.few in
           omega (arith, r, q, f));
       begun = (let b = h.begun in omega (arith, b));
@@ -550,7 +554,7 @@ gated_core a t v place z old new one_ wrote items here here1 kept kept1 gate num
           number h.numbered);
       lone = subst HasLoneUpgrade (sym js)
           (lone_set (view_of a).jobs place (core_job old) (core_job new) here
-          (ap aim_of_wish same_wish) h.lone);
+          (ap (λ (w : Wish). is_upgrade (aim_of_wish w)) same_wish) h.lone);
       reserves = record {
         room =
             (let p = ap (λ (i : ℕ). sum_by (reserved_of i s) (map core_job v.items)) versions

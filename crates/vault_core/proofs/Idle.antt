@@ -17,6 +17,7 @@ pub drawn_core : (a : Inside) → IsCore a → IsCore (record a { next_job = a.n
 drawn_core a h = record {
   set_up = h.set_up;
   kept = h.kept;
+  told = h.told;
   few = h.few;
   begun = h.begun;
   reserves = record { room = h.reserves.room; spare = h.reserves.spare };
@@ -29,6 +30,7 @@ pub bar_core : (a : Inside) → IsCore a → IsCore (record a { barred = true })
 bar_core a h = record {
   set_up = h.set_up;
   kept = h.kept;
+  told = h.told;
   few = h.few;
   begun = h.begun;
   reserves = record { room = h.reserves.room; spare = h.reserves.spare };

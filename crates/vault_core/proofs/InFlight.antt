@@ -1,16 +1,35 @@
 -- The record of the append in flight.
-use Rattle.std.proofs.Common.{◌≡◌, refl, Bool, true, Option, None, Some, sym, ap, subst, ◌∙◌}
-use Rattle.std.specs.Prelude.{if◌then◌else◌}
+use Rattle.std.proofs.Common.{◌≡◌, ◌+◌, ◌*◌, ◌<◌, ℕ, inl, inr, refl, Bool, true, Option, None, Some, sym, ap, subst, ◌∙◌, arith}
+use Rattle.std.specs.Prelude.{if◌then◌else◌, ◌==◌, slice_get}
+use Rattle.std.proofs.lemmas.Bool.{cases_Bool, eqb-true}
+use Rattle.machine_defs.specs.Jobs.{Job}
+use Rattle.machine_defs.specs.Actions.{Action, actions_of}
+use Rattle.state_laws.specs.Orders.{moves_before}
 use Rattle.record_defs.specs.Records.{Setup}
 use Rattle.machine_defs.specs.States.{State, Append, setup_in}
 use Rattle.machine_defs.specs.Steps.{next_action}
-use Rattle.vault_core.specs.View.{CoreJob, CoreView, job_in}
+use Rattle.vault_core.specs.View.{CoreJob, CoreView, job_in, wanted_at}
 use Rattle.vault_core.specs.Coming.{action_next, is_move, written_by, written_of, written_in, entry_of_found, entry_in}
-use Rattle.vault_core.specs.Carried.{IsCoreFlight, CoreIs}
+use Rattle.vault_core.specs.Streams.{IsToldAs}
+use Rattle.vault_core.specs.Carried.{IsJobOf, IsCoreFlight, CoreIs}
 use Rattle.vault_core.proofs.Pairs.{pair_some}
 use Rattle.vault_core.proofs.Standing.{same_job}
 use Rattle.vault_core.proofs.Links.{next_same}
-use Rattle.vault_core.proofs.Steps.{flight-moves}
+use Rattle.vault_core.proofs.Fronts.{shared, shared-waits}
+use Rattle.vault_core.proofs.Steps.{flight-stands, flight-moves}
+
+-- a stream that is in an append does not wait for a stripe
+pub flies_free : (s : Setup) (j : CoreJob) (m : Job) → IsJobOf s j m → (a : Action) →
+    slice_get (actions_of s m) m.place ≡ Some a → 0 < moves_before a → wanted_at s j.place j.told ≡ None
+flies_free s j m is a stands begun = by j.told refl is.within
+  where
+    by : (o : Option ℕ) → j.told ≡ o → IsToldAs s j o → wanted_at s j.place o ≡ None
+    by None e h = refl
+    by (Some k) e h = elim (cases_Bool (j.place == 4 + k * s.n)) [
+      | inl t ↦ absurd (let z = shared-waits s j m k is.place (shared s j m k is e h) a
+          (eqb-true j.place (4 + k * s.n) t) stands in omega (arith, z, begun))
+      | inr f ↦ ap (λ (b : Bool). if b then Some k else None) f
+    ]
 
 -- it is the one that the core gives for its job
 pub flight-entry : (c : CoreView) (w : State) (a : Append) → CoreIs c w → w.append ≡ Some a →
@@ -25,11 +44,14 @@ flight-entry c w a is e = by (job_in c.jobs a.job) refl
     by (Some j) f =
         (let p = pair_some c.setup c.jobs w.jobs a.job j is.jobs f in
         let q = same_job c.setup (setup_in w) j p.job is.setup p.is in
+        let stands = flight-stands c w p.job a is p.runs e in
+        let free : wanted_at (setup_in w) j.place j.told ≡ None =
+        flies_free (setup_in w) j p.job q stands.0 stands.1.1 stands.1.2 in
         let next : next_action w p.job ≡ action_next c.setup c.table j = next_same w c.table j
-        p.job is.table q
+        p.job is.table q free
         ∙ ap (λ (s : Setup). action_next s c.table j) (sym is.setup) in
         let moves : is_move (action_next c.setup c.table j) ≡ true =
-        sym (ap is_move next) ∙ flight-moves c w j p.job a is q p.runs e in
+        sym (ap is_move next) ∙ flight-moves c w p.job a is p.runs e in
         ap (entry_of_found c.setup c.table) f
         ∙ (ap (λ (b : Bool). if b then written_by c.setup c.table j else None) moves
         ∙ (sym (ap (written_of c.setup c.table) f) ∙ held)))

@@ -1,5 +1,5 @@
 -- A job as it is made stands for the job that the machine adds.
-use Rattle.std.proofs.Common.{◌≡◌, ℕ, ◌≤◌, Bool, true, false, List, [], ◌∷◌, Option, Some, None, length, map, inl, inr, refl, ap, sym, ◌∙◌}
+use Rattle.std.proofs.Common.{◌≡◌, ℕ, ◌*◌, ◌^◌, ◌≤◌, Bool, true, false, List, [], ◌∷◌, Option, Some, None, length, map, inl, inr, refl, ap, sym, subst, ◌∙◌, arith}
 use Rattle.std.specs.Prelude.{nat_lt, ◌&&◌, not, replicate, slice_get}
 use Rattle.std.proofs.lemmas.Bool.{cases_Bool, false≢true}
 use Rattle.algebra_laws.specs.Lists.{In}
@@ -7,7 +7,7 @@ use Rattle.column_defs.specs.Verdicts.{Sums}
 use Rattle.record_defs.specs.Records.{Setup}
 use Rattle.record_defs.specs.Table.{File, Due, find_file, files_of, due_of}
 use Rattle.record_defs.proofs.FilesLaws.{find-files_of}
-use Rattle.machine_defs.specs.Jobs.{Kind, RepairJob, ToPut, ToGet, ToDrop, ToAudit, ToRepair, ToUpgrade, Aim, aim_of}
+use Rattle.machine_defs.specs.Jobs.{Kind, PutJob, GetJob, DropJob, AuditJob, RepairJob, UpgradeJob, ToPut, ToGet, ToDrop, ToAudit, ToRepair, ToUpgrade, Aim, aim_of}
 use Rattle.machine_defs.specs.Jobs.{Pinned as PinnedBytes}
 use Rattle.machine_defs.specs.Actions.{actions_of, machine_pins}
 use Rattle.machine_defs.specs.Begins.{pinned_file, pinned_for, due_number, due_flags, subject_at_begin, chosen, beginning, pin_by, pin_each, pin_found, pins_by}
@@ -22,12 +22,14 @@ use Rattle.vault_core.specs.declared.wish.Wish.{Wish}
 use Rattle.vault_core.specs.declared.wish.Wish.TheVariants as wish
 use Rattle.vault_core.specs.declared.job.Job.{Job}
 use Rattle.vault_core.specs.View.{core_pins, plan_in, flag_at}
-use Rattle.vault_core.specs.Carried.{IsKindOf, pin_of, seen_plan, no_sums, is_audit, IsJobOf}
+use Rattle.vault_core.specs.Streams.{stripe_size, IsLongest, IsTold}
+use Rattle.vault_core.specs.Carried.{IsKindOf, IsAimOf, pin_of, seen_plan, no_sums, is_audit, longest, shown, IsPutFrom, HasTold, IsJobOf}
 use Rattle.vault_core.specs.Coming.{asks_next}
 use Rattle.vault_core.specs.Going.{listed_older}
-use Rattle.vault_core.specs.Parts.{plan_kept, core_job, sums_kept}
+use Rattle.vault_core.specs.Parts.{plan_kept, core_job, sums_kept, MayBegin}
 use Rattle.vault_core.specs.Making.{pin_of_file, pins_for, subject_for, IsMade}
 use Rattle.vault_core.specs.Wished.{aim_of_wish, profile_named}
+use Rattle.vault_core.proofs.Links.{shown_aim}
 use Rattle.vault_core.proofs.Begun.{take-zeros}
 
 -- ---- pinned files
@@ -56,19 +58,18 @@ pins-one : (w : State) (o : Option File) → ((f : File) → o ≡ Some f → le
 pins-one w None h = refl
 pins-one w (Some f) h = ap (λ (p : Pinned). p ∷ []) (pin-file w f (h f refl))
 
--- the files that a job of a wish works on are those that the machine pins
-pub pins-are : (t : Kept) (w : State) (v : Wish) (k : Kind) → IsFoldOf w.records t → AreHeld w.bytes w.records →
-    IsKindOf v k → pins_for t v ≡ map pin_of (pinned_for w k)
-pins-are t w v k fold held kind =
-    ap (pins_by core_pins pin_of_file (find_file t.files) t.files) kind ∙ by (aim_of k)
+pins-aim : (t : Kept) (w : State) (aim : Aim) → IsFoldOf w.records t → AreHeld w.bytes w.records →
+    pins_by core_pins pin_of_file (find_file t.files) t.files aim
+    ≡ map pin_of (pins_by machine_pins (pinned_file w) (file_in w) (files_of w.records) aim)
+pins-aim t w aim fold held = by aim
   where
     all : pin_each core_pins pin_of_file t.files ≡ map pin_of
         (pin_each machine_pins (pinned_file w) (files_of w.records))
     all = ap (pin_each core_pins pin_of_file) fold.files
         ∙ pins-all w (files_of w.records) (λ f i. (held f.name f (listed_file w.records f i)).1)
 
-    by : (aim : Aim) → pins_by core_pins pin_of_file (find_file t.files) t.files aim
-        ≡ map pin_of (pins_by machine_pins (pinned_file w) (file_in w) (files_of w.records) aim)
+    by : (x : Aim) → pins_by core_pins pin_of_file (find_file t.files) t.files x
+        ≡ map pin_of (pins_by machine_pins (pinned_file w) (file_in w) (files_of w.records) x)
     by (ToPut name size) = refl
     by (ToGet name) = ap (pin_found pin_of_file) (ap (λ (fs : List File). find_file fs name) fold.files
         ∙ find-files_of w.records name) ∙ pins-one w (file_in w name) (λ f e. (held name f e).1)
@@ -76,6 +77,12 @@ pins-are t w v k fold held kind =
     by ToAudit = all
     by ToRepair = all
     by ToUpgrade = refl
+
+-- the files that a job of a wish works on are those that the machine pins
+pub pins-are : (t : Kept) (w : State) (v : Wish) (k : Kind) → IsFoldOf w.records t → AreHeld w.bytes w.records →
+    IsKindOf v k → pins_for t v ≡ map pin_of (pinned_for w k)
+pins-are t w v k fold held kind =
+    ap (pins_by core_pins pin_of_file (find_file t.files) t.files) kind ∙ pins-aim t w (aim_of k) fold held
 
 -- ---- the job
 
@@ -99,9 +106,28 @@ subject-kind w k = refl
 module _ (t : Kept) (s : Setup) (w : State) (moment : ℕ) (v : Wish) (k : Kind) (job : Job)
     (made : IsMade t s w.next_job v job) (most : s.n ≤ 16)
     (fold : IsFoldOf w.records t) (setup : s ≡ setup_in w) (held : AreHeld w.bytes w.records)
-    (kind : IsKindOf v k) where
+    (kind : IsAimOf job.told v k) (begins : MayBegin job.told v) where
+  -- what does not hang on the length of a put's file is the same of both aims
+  same-aim : {X : Type 0} (f : Aim → X) →
+      ((name : List ℕ) (a b : ℕ) → f (ToPut name a) ≡ f (ToPut name b)) → f (aim_of_wish v) ≡ f (aim_of k)
+  same-aim f h = by job.told kind
+    where
+      level : (aim : Aim) → f (longest aim) ≡ f aim
+      level (ToPut name size) = h name (2 ^ 22) size
+      level (ToGet name) = refl
+      level (ToDrop name) = refl
+      level ToAudit = refl
+      level ToRepair = refl
+      level ToUpgrade = refl
+
+      by : (o : Option ℕ) → IsAimOf o v k → f (aim_of_wish v) ≡ f (aim_of k)
+      by None e = ap f e
+      by (Some n) e = ap f e ∙ level (aim_of k)
+
   made-pins : job.pinned.items ≡ map pin_of (pinned_for w k)
-  made-pins = made.pinned ∙ pins-are t w v k fold held kind
+  made-pins = made.pinned
+      ∙ (same-aim (pins_by core_pins pin_of_file (find_file t.files) t.files) (λ name a b. refl)
+      ∙ pins-aim t w (aim_of k) fold held)
 
   made-flags : (i : ℕ) → flag_at job.flagged i ≡ due_flags (setup_in w).tolerance (due_of w.records) i
   made-flags i = made.flags i
@@ -111,10 +137,14 @@ module _ (t : Kept) (s : Setup) (w : State) (moment : ℕ) (v : Wish) (k : Kind)
   made-subject : job.subject ≡ subject_at_begin w k
   made-subject = made.subject ∙ (subject-wish t v
       ∙ (ap (λ (d : Option Due). aimed_subject d (aim_of_wish v)) fold.due
-      ∙ (ap (aimed_subject (due_of w.records)) kind ∙ sym (subject-kind w k))))
+      ∙ (same-aim (aimed_subject (due_of w.records)) (λ name a b. refl) ∙ sym (subject-kind w k))))
 
-  made-aim : aim_of_wish job.wish ≡ aim_of k
-  made-aim = ap aim_of_wish made.wish ∙ kind
+  made-aim : aim_of_wish job.wish ≡ shown_aim job.told (aim_of k)
+  made-aim = ap aim_of_wish made.wish ∙ by job.told kind
+    where
+      by : (o : Option ℕ) → IsAimOf o v k → aim_of_wish v ≡ shown_aim o (aim_of k)
+      by None e = e
+      by (Some n) e = e
 
   made-profile : job.profile ≡ chosen (setup_in w) (profile_named v)
   made-profile = made.profile ∙ ap (λ (x : Setup). chosen x (profile_named v)) setup
@@ -127,21 +157,47 @@ module _ (t : Kept) (s : Setup) (w : State) (moment : ℕ) (v : Wish) (k : Kind)
       ∙ (ap (λ (xs : List ℕ). sums_of xs job.undecided) (take-zeros s.n 16 most)
       ∙ ap (sums_of (replicate s.n 0)) made.undecided)
 
-  made-plan : plan_in (plan_kept job) ≡ seen_plan (beginning w moment k (profile_named v))
-  made-plan = λ i. record {
+  made-plan : plan_in (plan_kept job) ≡ shown job.told (seen_plan (beginning w moment k (profile_named v)))
+  made-plan = (λ i. record {
     aim = made-aim i;
     profile = made-profile i;
     subject = made-subject i;
     older = made-older i;
     flagged = λ j. made-flags j i;
     pins = made-pins i;
-  }
+  }) ∙ by job.told
+    where
+      by : (o : Option ℕ) →
+          record (seen_plan (beginning w moment k (profile_named v))) { aim = shown_aim o (aim_of k) }
+          ≡ shown o (seen_plan (beginning w moment k (profile_named v)))
+      by None = refl
+      by (Some n) = refl
+
+  made-told : HasTold s job.told (beginning w moment k (profile_named v))
+  made-told = by job.told kind begins
+    where
+      put : (n size : ℕ) (x : Kind) → n ≡ 0 → IsLongest (longest (aim_of x)) →
+          IsPutFrom (n * size) (aim_of x)
+      put n size (PutJob name bytes) z l = subst (λ (m : ℕ). m * size ≤ length bytes) (sym z) (omega arith)
+      put n size (GetJob name) z l = absurd l
+      put n size (DropJob name) z l = absurd l
+      put n size AuditJob z l = absurd l
+      put n size RepairJob z l = absurd l
+      put n size UpgradeJob z l = absurd l
+
+      by : (o : Option ℕ) → IsAimOf o v k → MayBegin o v →
+          HasTold s o (beginning w moment k (profile_named v))
+      by None e m = tt
+      by (Some n) e m = put n (stripe_size s (chosen (setup_in w) (profile_named v))) k m.0
+          (subst IsLongest e m.1)
 
   -- a job as it is made stands for the job that the machine adds
-  pub made-is : IsJobOf s (core_job job) (beginning w moment k (profile_named v))
-  made-is = record {
+  pub made-is : IsTold s (core_job job) → IsJobOf s (core_job job) (beginning w moment k (profile_named v))
+  made-is within = record {
     number = made.number;
     plan = made-plan;
+    told = made-told;
+    within = within;
     place = made.place;
     unjudged = λ a l. made-sums;
     judged = λ h. absurd (early (is_audit k) h);

@@ -1,5 +1,5 @@
 -- A job of a core stands for a job of the machine after an action: most of all, the sums of an audit.
-use Rattle.std.proofs.Common.{◌≡◌, ℕ, ◌+◌, ◌<◌, ◌≤◌, Bool, true, false, List, Some, drop, inl, inr, refl, ap, sym, subst, ◌∙◌, arith}
+use Rattle.std.proofs.Common.{◌≡◌, ℕ, ◌+◌, ◌<◌, ◌≤◌, Bool, true, false, List, Some, None, drop, inl, inr, refl, ap, sym, subst, ◌∙◌, arith}
 use Rattle.std.specs.Prelude.{Option, ◌⊎◌, ◌&&◌, not, slice_get, IsTrue, if◌then◌else◌}
 use Rattle.std.specs.List.{AllZip}
 use Rattle.std.proofs.lemmas.Bool.{cases_lt, false≢true, not-true, and_parts, le-ltb, ltb-false}
@@ -18,12 +18,13 @@ use Rattle.state_laws.proofs.Gates.{decided, audit-same}
 use Rattle.state_laws.proofs.Done.{gate-within}
 use Rattle.state_laws.proofs.Going.{onward, actions-onward}
 use Rattle.vault_table.specs.Values.{Kept, IsFoldOf}
-use Rattle.vault_core.specs.View.{CoreJob, rest_in}
+use Rattle.vault_core.specs.View.{CoreJob, rest_in, wanted_at}
 use Rattle.vault_core.specs.Coming.{asks_next, begins_append, is_last_ask}
-use Rattle.vault_core.specs.Carried.{is_audit, has_asked, IsJobOf}
+use Rattle.vault_core.specs.Carried.{seen_plan, is_audit, has_asked, IsJobOf}
 use Rattle.vault_core.specs.Fed.{goes_plainly, stepped, judged, number_drawn, drawn, gated}
 use Rattle.vault_core.proofs.Onward.{sums-same, no-sums, asks-none, ask-then, past-first, no-ask-first}
-use Rattle.vault_core.proofs.Links.{left-here, head-here, number_same, taken_same}
+use Rattle.vault_core.proofs.Told.{told_on}
+use Rattle.vault_core.proofs.Links.{left-here, number_same, taken_same, audit-closed, told-same, shown-subject, shown-older}
 use Rattle.vault_core.proofs.Gates.{second_of}
 
 audit_is : (k : Kind) → is_audit k ≡ true → k ≡ AuditJob
@@ -61,7 +62,8 @@ no_gate : (a : Action) → goes_plainly (Some a) ≡ true → a ≡ SyncGate →
 no_gate a h e = false≢true (ap (λ (x : Action). goes_plainly (Some x)) (sym e) ∙ h)
 
 module _ (w : State) (c : CoreJob) (m : Job) (a : Action) (is : IsJobOf (setup_in w) c m)
-    (next : next_action w m ≡ Some a) (on : a ≡ End → ⊥) where
+    (next : next_action w m ≡ Some a) (on : a ≡ End → ⊥)
+    (free : wanted_at (setup_in w) c.place c.told ≡ None) where
   listed : slice_get (actions_of (setup_in w) m) m.place ≡ Some a
   listed = next_stands w m a next on
 
@@ -73,6 +75,8 @@ module _ (w : State) (c : CoreJob) (m : Job) (a : Action) (is : IsJobOf (setup_i
   on-moved given sums = record {
     number = is.number;
     plan = is.plan;
+    told = told-same (setup_in w) c.told m (onward m m.subject given) refl refl is.told;
+    within = told_on (setup_in w) c (stepped c) refl refl refl refl free is.within;
     place = ap (λ (p : ℕ). p + 1) is.place;
     unjudged = λ k l. is.unjudged k (omega (arith, l));
     judged = sums;
@@ -104,6 +108,9 @@ module _ (w : State) (c : CoreJob) (m : Job) (a : Action) (is : IsJobOf (setup_i
       ]
       by true e = absurd (not_ask a e listed)
         where
+          closed : c.told ≡ None
+          closed = audit-closed (setup_in w) c m is parts.audit
+
           not_ask : (x : Action) → asks_next (Some x) ≡ true →
               slice_get (actions_of (setup_in w) m) m.place ≡ Some x → ⊥
           not_ask (Ask j o t) f stands = elim (ask-then (setup_in w) m j o t parts.audit stands) [
@@ -112,10 +119,10 @@ module _ (w : State) (c : CoreJob) (m : Job) (a : Action) (is : IsJobOf (setup_i
                 (sym last
                 ∙ (ap (λ (y : Option Action). asks_next y && begins_append
                 (slice_get (rest_in (setup_in w) c) 1))
-                (head-here w c m a is next on)
+                (ap (λ (xs : List Action). slice_get xs 0) (left-here w c m a is next on closed))
                 ∙ (ap (λ (b : Bool). b && begins_append (slice_get (rest_in (setup_in w) c) 1)) e
                 ∙ (ap begins_append (second_of (rest_in (setup_in w) c)
-                ∙ (ap (λ (xs : List Action). slice_get (drop 1 xs) 0) (left-here w c m a is next on)
+                ∙ (ap (λ (xs : List Action). slice_get (drop 1 xs) 0) (left-here w c m a is next on closed)
                 ∙ get-drop (actions_of (setup_in w) m) (m.place + 1))) ∙ starts))))
           ]
           not_ask x f stands = false≢true f
@@ -127,6 +134,8 @@ module _ (w : State) (c : CoreJob) (m : Job) (a : Action) (is : IsJobOf (setup_i
   on-judged j o t e given sums h = record {
     number = is.number;
     plan = is.plan;
+    told = told-same (setup_in w) c.told m (onward m m.subject given) refl refl is.told;
+    within = told_on (setup_in w) c (judged c sums) refl refl refl refl free is.within;
     place = ap (λ (p : ℕ). p + 1) is.place;
     unjudged = λ k l. absurd (let p = early k in let f = l in omega (arith, p, f));
     judged = λ p. h;
@@ -140,12 +149,17 @@ module _ (w : State) (c : CoreJob) (m : Job) (a : Action) (is : IsJobOf (setup_i
 
 -- the job has begun its append
 pub on-drawn : (w : State) (t : Kept) (c : CoreJob) (m : Job) → IsFoldOf w.records t →
-    IsJobOf (setup_in w) c m → next_action w m ≡ Some WriteBody →
+    IsJobOf (setup_in w) c m → wanted_at (setup_in w) c.place c.told ≡ None →
+    next_action w m ≡ Some WriteBody →
     IsJobOf (setup_in w) (drawn c (number_drawn (setup_in w) t c))
     (onward m (subject_drawn w m m.kind) m.given)
-on-drawn w t c m f is next = record {
+on-drawn w t c m f is free next = record {
   number = is.number;
-  plan = λ i. record (is.plan i) { subject = number_same w t c m f is i };
+  plan = (λ i. record (is.plan i) { subject = number_same w t c m f is i })
+      ∙ shown-subject c.told (seen_plan m) (subject_drawn w m m.kind);
+  told = told-same (setup_in w) c.told m (onward m (subject_drawn w m m.kind) m.given) refl refl is.told;
+  within = told_on (setup_in w) c (drawn c (number_drawn (setup_in w) t c)) refl refl refl refl free
+      is.within;
   place = ap (λ (p : ℕ). p + 1) is.place;
   unjudged = λ k l. is.unjudged k (omega (arith, l));
   judged = sums;
@@ -165,11 +179,16 @@ on-drawn w t c m f is next = record {
 
 -- the append of the job is done
 pub on-gated : (w : State) (t : Kept) (cs : List CoreJob) (c : CoreJob) (m : Job) → IsFoldOf w.records t →
-    AllZip (IsJobOf (setup_in w)) cs w.jobs → IsJobOf (setup_in w) c m → next_action w m ≡ Some SyncGate →
-    0 < (setup_in w).n → IsJobOf (setup_in w) (gated (setup_in w) t cs c) (decided m (taken_out w m m.kind))
-on-gated w t cs c m f all is next some = record {
+    AllZip (IsJobOf (setup_in w)) cs w.jobs → IsJobOf (setup_in w) c m →
+    wanted_at (setup_in w) c.place c.told ≡ None →
+    next_action w m ≡ Some SyncGate → 0 < (setup_in w).n → IsJobOf (setup_in w) (gated (setup_in w) t
+    cs c) (decided m (taken_out w m m.kind))
+on-gated w t cs c m f all is free next some = record {
   number = is.number;
-  plan = λ i. record (is.plan i) { older = taken_same w t cs c m f all is i };
+  plan = (λ i. record (is.plan i) { older = taken_same w t cs c m f all is i })
+      ∙ shown-older c.told (seen_plan m) (taken_out w m m.kind);
+  told = told-same (setup_in w) c.told m (decided m (taken_out w m m.kind)) refl refl is.told;
+  within = told_on (setup_in w) c (gated (setup_in w) t cs c) refl refl refl refl free is.within;
   place = ap (λ (p : ℕ). p + 1) is.place;
   unjudged = λ k l. is.unjudged k (omega (arith, l));
   judged = sums;

@@ -16,8 +16,9 @@ use Rattle.vault_core.specs.declared.job.Job.{Job}
 use Rattle.std.specs.declared.vec.Vec.{Vec}
 use Rattle.vault_core.specs.declared.own.Core.TheInside.{Inside}
 use Rattle.vault_core.specs.Parts.{setup_kept, core_job, view_of, IsJobKept, IsCore}
+use Rattle.vault_core.specs.Streams.{IsTold, AreTold}
 use Rattle.vault_core.proofs.Lone.{lone_less, lone_set}
-use Rattle.vault_core.specs.View.{HasLoneUpgrade, CoreJob, CoreView, appends_in, AreRising, job_in}
+use Rattle.vault_core.specs.View.{is_upgrading, HasLoneUpgrade, CoreJob, CoreView, appends_in, AreRising, job_in}
 use Rattle.vault_core.specs.Reserves.{reserved_of, starts_by, starts_of, Reserves}
 use Rattle.vault_core.specs.Fed.{is_own, freed}
 
@@ -28,7 +29,8 @@ map-remove f [] (suc i) = refl
 map-remove f (x ∷ xs) zero = refl
 map-remove f (x ∷ xs) (suc i) = ap (λ (ys : List _). f x ∷ ys) (map-remove f xs i)
 
-All-remove : {X : Type 0} (P : X → Type 0) (xs : List X) (i : ℕ) → All P xs → All P (remove xs i)
+-- what each element has, each has of a list without one
+pub All-remove : {X : Type 0} (P : X → Type 0) (xs : List X) (i : ℕ) → All P xs → All P (remove xs i)
 All-remove P xs i h = All-append P (take i xs) (drop (suc i) xs) (All-take P i xs h) (All-drop P (suc i) xs h)
 
 -- ---- what is reserved, with one job less
@@ -147,6 +149,8 @@ less_core a v place d o b l e h = record {
   set_up = h.set_up;
   kept = subst (All (IsJobKept (setup_kept a))) (sym e)
       (All-remove (IsJobKept (setup_kept a)) a.jobs.items place h.kept);
+  told = subst AreTold (sym (less_view a v place o b e))
+      (All-remove (IsTold (setup_kept a)) (view_of a).jobs place h.told);
   few = (let m : length (map (core_job) a.jobs.items) ≡ length a.jobs.items = simp length-map in
       let r = length-remove a.jobs.items place (omega (arith, l, m)) in let s = ap length e in
       let f = h.few in omega (arith, r, s, f));
@@ -174,15 +178,17 @@ other_view a v place job k o e s = ap (λ (js : List CoreJob). record (view_of a
 -- a core stays one as it is kept with another job at a place that has its number and needs no more
 pub other_core : (a : Inside) (v : Vec Job Global) (place : ℕ) (job : Job) (j k : CoreJob) (o : Option ℕ) →
     v.items ≡ set a.jobs.items place job → core_job job ≡ k →
-    slice_get (view_of a).jobs place ≡ Some j → k.number ≡ j.number → k.plan.aim ≡ j.plan.aim →
-    IsJobKept (setup_kept a) job →
+    slice_get (view_of a).jobs place ≡ Some j → k.number ≡ j.number → is_upgrading k ≡ is_upgrading j →
+    IsJobKept (setup_kept a) job → IsTold (setup_kept a) k →
     ((n : ℕ) → reserved_of n (setup_kept a) k ≤ reserved_of n (setup_kept a) j) →
     starts_of (setup_kept a) k ≤ starts_of (setup_kept a) j →
     IsCore a → IsCore (record a { jobs = v; append = o })
-other_core a v place job j k o e s g num aim kept r t h = record {
+other_core a v place job j k o e s g num aim kept told r t h = record {
   set_up = h.set_up;
   kept = subst (All (IsJobKept (setup_kept a))) (sym e)
       (All-set (IsJobKept (setup_kept a)) a.jobs.items place job kept h.kept);
+  told = subst AreTold (sym (other_view a v place job k o e s))
+      (All-set (IsTold (setup_kept a)) (view_of a).jobs place k told h.told);
   few = (let r = length-set a.jobs.items place job in let s = ap length e in let f = h.few in
       omega (arith, r, s, f));
   begun = h.begun;

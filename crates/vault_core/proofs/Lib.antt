@@ -7,12 +7,14 @@ pub mod Whole
 pub mod Goes
 pub mod Lone
 pub mod Kept
+pub mod Told
 pub mod Moving
 pub mod Places
 pub mod Gating
 pub mod Drawing
 pub mod Pairs
 pub mod NextMoves
+pub mod Fronts
 pub mod Links
 pub mod Onward
 pub mod Judging
@@ -28,3 +30,5 @@ pub mod Replied
 pub mod Falls
 pub mod Steps
 pub mod InFlight
+pub mod Cut
+pub mod Waiting

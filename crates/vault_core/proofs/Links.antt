@@ -1,6 +1,6 @@
 -- A job of a core and the job of the machine that it stands for: what comes next, what is left, and what it
 -- draws and takes away.
-use Rattle.std.proofs.Common.{◌≡◌, ℕ, ◌+◌, ◌<◌, ◌≤◌, Bool, true, false, List, [], ◌∷◌, ◌++◌, Some, None, drop, inl, inr, refl, ap, sym, ◌∙◌, arith}
+use Rattle.std.proofs.Common.{◌≡◌, ℕ, ◌+◌, ◌*◌, ◌^◌, ◌<◌, ◌≤◌, Bool, true, false, List, [], ◌∷◌, ◌++◌, Some, None, map, drop, inl, inr, refl, ap, sym, subst, ◌∙◌, arith}
 use Rattle.std.specs.Prelude.{◌⊎◌, Option, if◌then◌else◌, ◌==◌, ◌&&◌, ◌||◌, not, is_some, slice_get, count_by}
 use Rattle.std.specs.List.{AllZip, flat_map, list_any}
 use Rattle.std.proofs.lemmas.Bool.{cases_lt, lt-ltb, le-ltb, ne_eqb, eq-eqb}
@@ -9,21 +9,26 @@ use Rattle.record_defs.specs.Records.{Setup}
 use Rattle.record_defs.specs.Table.{File, find_file, next_id, next_audit}
 use Rattle.record_defs.proofs.FilesLaws.{find-files_of}
 use Rattle.machine_defs.specs.Setups.{profiled}
-use Rattle.machine_defs.specs.Jobs.{Kind, PutJob, GetJob, DropJob, AuditJob, RepairJob, UpgradeJob, aim_of, Job}
+use Rattle.machine_defs.specs.Jobs.{Kind, PutJob, GetJob, DropJob, AuditJob, RepairJob, UpgradeJob, Aim, ToPut, ToGet, ToDrop, ToAudit, ToRepair, ToUpgrade, aim_of, Job}
 use Rattle.machine_defs.specs.Jobs.{Pinned as PinnedBytes}
 use Rattle.machine_defs.specs.Actions.{Action, WriteBody, End, append_actions, on_each_provider, on_each_stripe, open_actions, rewrite_plan, rounds_of, Ask, Plan, plan_actions, actions_by, actions_of, actions_left, appends_left, ends_append}
 use Rattle.machine_defs.specs.States.{State, setup_in, file_in}
 use Rattle.machine_defs.specs.Appends.{is_first_append, subject_drawn, removable, taken_out}
 use Rattle.machine_defs.specs.Steps.{is_idle_drop, next_action}
-use Rattle.state_laws.proofs.Orders.{next-left, put-first, put-later, audit-first, audit-later, put-second, audit-second, gates}
+use Rattle.machine_defs.proofs.NextActions.{next_stands}
+use Rattle.vault_core.specs.Streams.{stripe_size}
+use Rattle.state_laws.proofs.Orders.{next-left, get-drop, put-first, put-later, audit-first, audit-later, put-second, audit-second, gates}
 use Rattle.state_laws.proofs.Going.{onward, count-onward}
 use Rattle.vault_table.specs.Values.{Kept, IsFoldOf, id_after}
 use Rattle.vault_core.specs.declared.pinned.Pinned.{Pinned}
-use Rattle.vault_core.specs.View.{CoreJob, core_pins, planned, planned_by, rest_in, appends_in}
+use Rattle.vault_core.specs.View.{CoreJob, core_pins, planned, planned_by, rest_in, appends_in, wanted_at}
 use Rattle.vault_core.specs.Coming.{is_gone, is_idle, action_next}
-use Rattle.vault_core.specs.Carried.{pin_of, seen_plan, IsJobOf}
+use Rattle.vault_core.specs.Carried.{pin_of, seen_plan, longest, shown, IsPutFrom, HasTold, IsJobOf}
+use Rattle.vault_core.specs.Streams.{IsToldAs}
 use Rattle.vault_core.specs.Fed.{is_pinned_in, removable_in, number_as, number_drawn, taken_as, taken_by}
 use Rattle.vault_core.proofs.Places.{any-map}
+use Rattle.vault_core.proofs.Told.{below}
+use Rattle.vault_core.proofs.Fronts.{shared, shared-stands, shared-appends}
 
 -- ---- the actions
 
@@ -46,18 +51,120 @@ planned-seen s m = by m.kind
         (λ stripe. open_actions s f.id stripe ++ rewrite_plan s m.flagged f.id stripe)) pin_of m.pinned)
     by UpgradeJob = refl
 
-module _ (s : Setup) (c : CoreJob) (m : Job) (is : IsJobOf s c m) where
-  -- it has the same actions
-  pub list-is : planned s c.plan ≡ actions_of s m
-  list-is = ap (planned_by s) is.plan ∙ planned-seen s m
+-- ---- the parts of a plan
 
-  -- what is left is the same
-  pub rest-is : rest_in s c ≡ actions_left s m
-  rest-is = λ i. drop (is.place i) (list-is i)
+-- the aim of a job as a core sees it
+abbrev pub shown_aim : Option ℕ → Aim → Aim
+shown_aim None aim = aim
+shown_aim (Some told) aim = longest aim
+
+module _ (s : Setup) (c : CoreJob) (m : Job) (is : IsJobOf s c m) where
+  aim-of : (o : Option ℕ) → (shown o (seen_plan m)).aim ≡ shown_aim o (aim_of m.kind)
+  aim-of None = refl
+  aim-of (Some k) = refl
+
+  -- it is for the same, but for the length of an open stream's file
+  pub aim-is : c.plan.aim ≡ shown_aim c.told (aim_of m.kind)
+  aim-is = ap (λ (p : Plan Pinned). p.aim) is.plan ∙ aim-of c.told
+
+  profile-of : (o : Option ℕ) → (shown o (seen_plan m)).profile ≡ m.profile
+  profile-of None = refl
+  profile-of (Some k) = refl
+
+  -- it has the same profile
+  pub profile-is : c.plan.profile ≡ m.profile
+  profile-is = ap (λ (p : Plan Pinned). p.profile) is.plan ∙ profile-of c.told
+
+  subject-of : (o : Option ℕ) → (shown o (seen_plan m)).subject ≡ m.subject
+  subject-of None = refl
+  subject-of (Some k) = refl
+
+  -- and the same number
+  pub subject-is : c.plan.subject ≡ m.subject
+  subject-is = ap (λ (p : Plan Pinned). p.subject) is.plan ∙ subject-of c.told
+
+  pins-of : (o : Option ℕ) → (shown o (seen_plan m)).pins ≡ map pin_of m.pinned
+  pins-of None = refl
+  pins-of (Some k) = refl
+
+  -- it works on the same files
+  pub pins-are-same : c.plan.pins ≡ map pin_of m.pinned
+  pins-are-same = ap (λ (p : Plan Pinned). p.pins) is.plan ∙ pins-of c.told
+
+  -- what does not hang on the length of a put's file is the same of both aims
+  pub aim-alike : {X : Type 0} (f : Aim → X) →
+      ((name : List ℕ) (a b : ℕ) → f (ToPut name a) ≡ f (ToPut name b)) →
+      f c.plan.aim ≡ f (aim_of m.kind)
+  aim-alike f h = ap f aim-is ∙ by c.told (aim_of m.kind)
+    where
+      by : (o : Option ℕ) (aim : Aim) → f (shown_aim o aim) ≡ f aim
+      by None aim = refl
+      by (Some k) (ToPut name size) = h name (2 ^ 22) size
+      by (Some k) (ToGet name) = refl
+      by (Some k) (ToDrop name) = refl
+      by (Some k) ToAudit = refl
+      by (Some k) ToRepair = refl
+      by (Some k) ToUpgrade = refl
+
+  module _ (closed : c.told ≡ None) where
+    -- a job that is no open stream has the same actions
+    pub list-is : planned s c.plan ≡ actions_of s m
+    list-is = ap (planned_by s) (is.plan ∙ ap (λ (o : Option ℕ). shown o (seen_plan m)) closed)
+        ∙ planned-seen s m
+
+    -- what is left is the same
+    pub rest-is : rest_in s c ≡ actions_left s m
+    rest-is = λ i. drop (is.place i) (list-is i)
+
+  -- an audit is no stream
+  pub audit-closed : m.kind ≡ AuditJob → c.told ≡ None
+  audit-closed kind = by c.told is.told
+    where
+      by : (o : Option ℕ) → HasTold s o m → o ≡ None
+      by None h = refl
+      by (Some k) h = absurd
+          (subst (λ (x : Kind). IsPutFrom (k * stripe_size s m.profile) (aim_of x)) kind h)
 
   -- so many appends are left
   pub appends-is : appends_in s c ≡ appends_left s m
-  appends-is = ap (count_by ends_append) rest-is
+  appends-is = by c.told refl is.within
+    where
+      by : (o : Option ℕ) → c.told ≡ o → IsToldAs s c o → appends_in s c ≡ appends_left s m
+      by None e h = ap (count_by ends_append) (rest-is e)
+      by (Some k) e h = shared-appends s c m k is.place (shared s c m k is e h) h.0
+
+  -- where it does not wait for a stripe, the same action comes next
+  pub stands-is : wanted_at s c.place c.told ≡ None →
+      slice_get (planned s c.plan) c.place ≡ slice_get (actions_of s m) m.place
+  stands-is = by c.told refl is.within
+    where
+      by : (o : Option ℕ) → c.told ≡ o → IsToldAs s c o → wanted_at s c.place o ≡ None →
+          slice_get (planned s c.plan) c.place ≡ slice_get (actions_of s m) m.place
+      by None e h free = λ i. slice_get (list-is e i) (is.place i)
+      by (Some k) e h free = shared-stands s c m k is.place (shared s c m k is e h)
+          (below c.place (4 + k * s.n) k free h.0)
+
+-- ---- changes of a plan
+
+-- an open stream stays one of a job of this kind and profile
+pub told-same : (s : Setup) (o : Option ℕ) (m n : Job) → m.kind ≡ n.kind → m.profile ≡ n.profile →
+    HasTold s o m → HasTold s o n
+told-same s None m n kind profile h = tt
+told-same s (Some k) m n kind profile h =
+    subst (λ (x : Kind). IsPutFrom (k * stripe_size s n.profile) (aim_of x)) kind
+    (subst (λ (p : ℕ). IsPutFrom (k * stripe_size s p) (aim_of m.kind)) profile h)
+
+-- with another number
+pub shown-subject : (o : Option ℕ) (p : Plan Pinned) (k : ℕ) →
+    record (shown o p) { subject = k } ≡ shown o (record p { subject = k })
+shown-subject None p k = refl
+shown-subject (Some n) p k = refl
+
+-- with another object to take away
+pub shown-older : (o : Option ℕ) (p : Plan Pinned) (k : List ℕ) →
+    record (shown o p) { older = k } ≡ shown o (record p { older = k })
+shown-older None p k = refl
+shown-older (Some n) p k = refl
 
 -- ---- the first append
 
@@ -87,10 +194,12 @@ file_here t w name f = ap (λ (fs : List File). find_file fs name) f.files ∙ f
 
 -- the number that its append draws, or has drawn, is the machine's
 pub number_same : (w : State) (t : Kept) (c : CoreJob) (m : Job) → IsFoldOf w.records t →
-    IsJobOf (setup_in w) c m → number_drawn (setup_in w) t c ≡ subject_drawn w m m.kind
+    IsJobOf (setup_in w) c m →
+    number_drawn (setup_in w) t c ≡ subject_drawn w m m.kind
 number_same w t c m f is =
-    (λ i. number_as t (appends-is (setup_in w) c m is i) (is.plan i).subject (is.plan i).aim)
-    ∙ by m.kind refl
+    (λ i. number_as t (appends-is (setup_in w) c m is i) (subject-is (setup_in w) c m is i) c.plan.aim)
+    ∙ (aim-alike (setup_in w) c m is (number_as t (appends_left (setup_in w) m) m.subject) (λ name a b. refl)
+    ∙ by m.kind refl)
   where
     by : (k : Kind) → m.kind ≡ k →
         number_as t (appends_left (setup_in w) m) m.subject (aim_of k) ≡ subject_drawn w m k
@@ -113,7 +222,7 @@ pinned_jobs s [] (j ∷ js) id h = absurd h
 pinned_jobs s (c ∷ cs) [] id h = absurd h
 pinned_jobs s (c ∷ cs) (j ∷ js) id h =
     ap (λ (b : Bool). b || is_pinned_in cs id)
-    (ap (λ (x : Plan Pinned). list_any (λ (file : Pinned). file.id == id) x.pins) h.0.plan
+    (ap (list_any (λ (file : Pinned). file.id == id)) (pins-are-same s c j h.0)
     ∙ sym (any-map pin_of (λ (file : Pinned). file.id == id) j.pinned))
     ∙ ap (λ (b : Bool). list_any (λ (f : PinnedBytes). f.id == id) j.pinned || b) (pinned_jobs s cs js id h.1)
 
@@ -129,7 +238,9 @@ pub taken_same : (w : State) (t : Kept) (cs : List CoreJob) (c : CoreJob) (m : J
     AllZip (IsJobOf (setup_in w)) cs w.jobs → IsJobOf (setup_in w) c m →
     taken_by (setup_in w) t cs c ≡ taken_out w m m.kind
 taken_same w t cs c m f all is =
-    (λ i. taken_as t cs (appends-is (setup_in w) c m is i) (is.plan i).aim) ∙ by m.kind refl
+    ap (λ (k : ℕ). taken_as t cs k c.plan.aim) (appends-is (setup_in w) c m is)
+    ∙ (aim-alike (setup_in w) c m is (taken_as t cs (appends_left (setup_in w) m)) (λ name a b. refl)
+    ∙ by m.kind refl)
   where
     here : (name : List ℕ) → removable_in cs (find_file t.files name) ≡ removable w (file_in w name)
     here name = ap (removable_in cs) (file_here t w name f) ∙ removable_same (setup_in w) cs w
@@ -151,7 +262,10 @@ taken_same w t cs c m f all is =
 -- a drop is idle in a core as in the machine
 pub idle_same : (w : State) (t : Kept) (c : CoreJob) (m : Job) → IsFoldOf w.records t →
     IsJobOf (setup_in w) c m → is_idle_drop w m m.kind ≡ is_idle t c
-idle_same w t c m f is = by m.kind ∙ sym (λ i. is_gone t (is.plan i).aim && (is.place i == 0))
+idle_same w t c m f is = by m.kind
+    ∙ sym (ap (λ (b : Bool). b && (c.place == 0)) (aim-alike (setup_in w) c m is (is_gone t) (λ name a
+    b. refl))
+    ∙ ap (λ (p : ℕ). is_gone t (aim_of m.kind) && (p == 0)) is.place)
   where
     swap : (a b : Bool) → (a && b) ≡ (b && a)
     swap true true = refl
@@ -170,22 +284,26 @@ idle_same w t c m f is = by m.kind ∙ sym (λ i. is_gone t (is.plan i).aim && (
 
 -- the next action is the same
 pub next_same : (w : State) (t : Kept) (c : CoreJob) (m : Job) → IsFoldOf w.records t →
-    IsJobOf (setup_in w) c m → next_action w m ≡ action_next (setup_in w) t c
-next_same w t c m f is =
+    IsJobOf (setup_in w) c m → wanted_at (setup_in w) c.place c.told ≡ None →
+    next_action w m ≡ action_next (setup_in w) t c
+next_same w t c m f is free =
     ap (λ (b : Bool). if b then Some End else slice_get (actions_of (setup_in w) m) m.place)
     (idle_same w t c m f is)
-    ∙ (λ i. if is_idle t c then Some End
-    else slice_get (sym (list-is (setup_in w) c m is) i) (sym is.place i))
+    ∙ ap (λ (o : Option Action). if is_idle t c then Some End else o)
+    (sym (stands-is (setup_in w) c m is free))
 
 module _ (w : State) (c : CoreJob) (m : Job) (a : Action) (is : IsJobOf (setup_in w) c m)
     (next : next_action w m ≡ Some a) (on : a ≡ End → ⊥) where
-  -- a job of a core has before it the machine's next action and all behind it
-  pub left-here : rest_in (setup_in w) c ≡ a ∷ drop (m.place + 1) (actions_of (setup_in w) m)
-  left-here = rest-is (setup_in w) c m is ∙ next-left w m a next on
+  -- a job of a core that is no open stream has before it the machine's next action and all behind it
+  pub left-here : c.told ≡ None →
+      rest_in (setup_in w) c ≡ a ∷ drop (m.place + 1) (actions_of (setup_in w) m)
+  left-here closed = rest-is (setup_in w) c m is closed ∙ next-left w m a next on
 
   -- the first action that a job of a core has not yet made is the machine's next
-  pub head-here : slice_get (rest_in (setup_in w) c) 0 ≡ Some a
-  head-here = ap (λ (xs : List Action). slice_get xs 0) left-here
+  pub head-here : wanted_at (setup_in w) c.place c.told ≡ None →
+      slice_get (rest_in (setup_in w) c) 0 ≡ Some a
+  head-here free = get-drop (planned (setup_in w) c.plan) c.place
+      ∙ (stands-is (setup_in w) c m is free ∙ next_stands w m a next on)
 
 -- the first move of an append leaves as many appends, whatever number it draws
 pub drawn-appends : (w : State) (m : Job) → next_action w m ≡ Some WriteBody →

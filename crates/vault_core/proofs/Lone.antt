@@ -47,9 +47,9 @@ lone_less js i h = λ e. (let a = h (any_remove is_upgrading js i e) in let b = 
     omega (arith, a, b))
 
 pub lone_set : (js : List CoreJob) (i : ℕ) (x y : CoreJob) → slice_get js i ≡ Some x →
-    y.plan.aim ≡ x.plan.aim → HasLoneUpgrade js → HasLoneUpgrade (slice_set js i y)
+    is_upgrading y ≡ is_upgrading x → HasLoneUpgrade js → HasLoneUpgrade (slice_set js i y)
 lone_set js i x y g e h = λ u.
-    (let a = h (sym (any_set is_upgrading js i x y g (ap is_upgrade e)) ∙ u) in
+    (let a = h (sym (any_set is_upgrading js i x y g e) ∙ u) in
     let b = length-set js i y in omega (arith, a, b))
 
 -- one of a list is among it

@@ -12,13 +12,14 @@ use Rattle.std.proofs.lemmas.List.{length-map}
 use Rattle.std.proofs.lemmas.List.Sums.{sum_by-cons}
 use Rattle.record_defs.specs.Records.{Setup, largest_file, largest_journal, most_files, all_profiles}
 use Rattle.record_defs.specs.Table.{File, is_same_name, find_file}
-use Rattle.machine_defs.specs.Jobs.{Aim, ToPut, ToGet, ToDrop, ToAudit, ToRepair, ToUpgrade}
+use Rattle.machine_defs.specs.Jobs.{Kind, Aim, ToPut, ToGet, ToDrop, ToAudit, ToRepair, ToUpgrade, aim_of}
 use Rattle.machine_defs.specs.Jobs.{Job as MachineJob}
 use Rattle.machine_defs.specs.Refusals as refusal
 use Rattle.machine_defs.specs.Refusals.{Refusal, first_refusal}
 use Rattle.machine_defs.specs.States.{State, Alone, setup_in}
+use Rattle.machine_defs.specs.Actions.{appends_left}
 use Rattle.machine_defs.specs.Space.{append_sizes, room_left, reserved}
-use Rattle.machine_defs.specs.Sights.{Sight, sight_of, aims_of, room_used, is_put_or_check, is_check, is_upgrade, is_shut, are_jobs_in_the_way, is_busy, is_name_among, with_name, is_crowded_for, is_stored, is_full, is_too_full, are_numbers_used_up, causes}
+use Rattle.machine_defs.specs.Sights.{Sight, sight_of, aims_of, room_used, is_put_or_check, is_check, is_upgrade, is_shut, are_jobs_in_the_way, is_busy, is_name_among, with_name, names_in, with_puts, is_crowded_for, is_stored, is_full, is_too_full, are_numbers_used_up, causes}
 use Rattle.state_laws.proofs.NamesTaken.{listed-with_puts, listed-files, length-names_in}
 use Rattle.state_laws.proofs.NamesTaken.{puts_name as machine_puts}
 use Rattle.vault_core.specs.declared.wish.Wish.{Wish}
@@ -33,8 +34,8 @@ use Rattle.vault_core.proofs.Places.{any-map}
 use Rattle.vault_core.specs.Wished.{aim_of_wish, profile_named, HasName, IsShort}
 use Rattle.vault_core.specs.Parts.{setup_kept, core_job, view_of, IsJobKept, IsCore}
 use Rattle.vault_core.specs.Reserves.{sizes_of, room_behind, reserved_of}
-use Rattle.vault_core.specs.Carried.{IsJobOf, CoreIs, refusal_of}
-use Rattle.vault_core.proofs.Links.{appends-is}
+use Rattle.vault_core.specs.Carried.{longest, IsAimOf, IsShortAim, IsJobOf, CoreIs, refusal_of}
+use Rattle.vault_core.proofs.Links.{appends-is, aim-alike}
 use Rattle.vault_core.specs.Refusing.{aims_in, sight_in, aims_kept, puts_name, taken_names, or_full, refusal_in}
 
 -- ---- lists of jobs, as they are kept and as they are seen
@@ -268,12 +269,22 @@ used-none x w p a = refl
 
 -- ---- what the machine sees
 
+-- an aim without the length of a put's file, on which no refusal hangs
+abbrev pub bare : Aim → Aim
+bare (ToPut name size) = ToPut name 0
+bare aim = aim
+
+-- a sight of aims without lengths
+abbrev pub bare_sight : Sight → Sight
+bare_sight x = record x { aims = map bare x.aims }
+
 aims-same : (s : Setup) (cs : List CoreJob) (js : List MachineJob) → AllZip (IsJobOf s) cs js →
-    aims_in cs ≡ aims_of js
+    map bare (aims_in cs) ≡ map bare (aims_of js)
 aims-same s [] [] is = refl
 aims-same s [] (j ∷ js) is = absurd is
 aims-same s (c ∷ cs) [] is = absurd is
-aims-same s (c ∷ cs) (j ∷ js) is = λ i. (is.0.plan i).aim ∷ aims-same s cs js is.1 i
+aims-same s (c ∷ cs) (j ∷ js) is =
+    λ i. aim-alike s c j is.0 bare (λ name a b. refl) i ∷ aims-same s cs js is.1 i
 
 room-jobs : (v : ℕ) (s : Setup) (cs : List CoreJob) (js : List MachineJob) → AllZip (IsJobOf s) cs js →
     sum_by (reserved_of v s) cs ≡ sum_by (reserved v s) js
@@ -283,13 +294,13 @@ room-jobs v s (c ∷ cs) [] is = absurd is
 room-jobs v s (c ∷ cs) (j ∷ js) is =
     let a = sum_by-cons (reserved_of v s) c cs in
     let b = sum_by-cons (reserved v s) j js in
-    let e : reserved_of v s c ≡ reserved v s j = λ i. room_left v s (is.0.plan i).aim
-    (appends-is s c j is.0 i) in
+    let e : reserved_of v s c ≡ reserved v s j = ap (room_left v s c.plan.aim) (appends-is s c j is.0)
+    ∙ aim-alike s c j is.0 (λ (aim : Aim). room_left v s aim (appends_left s j)) (λ name a b. refl) in
     let i = room-jobs v s cs js is.1 in
     omega (arith, a, b, e, i)
 
--- a core and a state that it stands for look the same to a begin
-pub sight-same : (c : CoreView) (w : State) → CoreIs c w → sight_in c ≡ sight_of w
+-- a core and a state that it stands for look the same to a begin, but for the lengths of puts
+pub sight-same : (c : CoreView) (w : State) → CoreIs c w → bare_sight (sight_in c) ≡ bare_sight (sight_of w)
 sight-same c w is = λ i. record {
   is_barred = is.barred i;
   is_alone = sym (ap (λ (o : Option Alone). is_some o) is.none_alone) i;
@@ -310,6 +321,95 @@ sight-same c w is = λ i. record {
         ∙ ap (λ (i : ℕ). sum_by (reserved i (setup_in w)) w.jobs) is.table.version) in
         omega (arith, a, b))
 
+any-bare : (p : Aim → Bool) → ((name : List ℕ) (size : ℕ) → p (ToPut name 0) ≡ p (ToPut name size)) →
+    (aims : List Aim) → list_any p (map bare aims) ≡ list_any p aims
+any-bare p h [] = refl
+any-bare p h (ToPut name size ∷ aims) = λ i. h name size i || any-bare p h aims i
+any-bare p h (ToGet name ∷ aims) = ap (λ (b : Bool). p (ToGet name) || b) (any-bare p h aims)
+any-bare p h (ToDrop name ∷ aims) = ap (λ (b : Bool). p (ToDrop name) || b) (any-bare p h aims)
+any-bare p h (ToAudit ∷ aims) = ap (λ (b : Bool). p ToAudit || b) (any-bare p h aims)
+any-bare p h (ToRepair ∷ aims) = ap (λ (b : Bool). p ToRepair || b) (any-bare p h aims)
+any-bare p h (ToUpgrade ∷ aims) = ap (λ (b : Bool). p ToUpgrade || b) (any-bare p h aims)
+
+shut-bare : (x : Sight) → is_shut (bare_sight x) ≡ is_shut x
+shut-bare x = ap (λ (b : Bool). x.is_alone || b) (any-bare is_upgrade (λ name size. refl) x.aims)
+
+way-bare : (aims : List Aim) (aim : Aim) →
+    are_jobs_in_the_way 8 (map bare aims) aim ≡ are_jobs_in_the_way 8 aims aim
+way-bare aims aim = by aim
+  where
+    long : nat_le 8 (length (map bare aims)) ≡ nat_le 8 (length aims)
+    long = ap (nat_le 8) (length-map aims bare)
+
+    by : (x : Aim) → are_jobs_in_the_way 8 (map bare aims) x ≡ are_jobs_in_the_way 8 aims x
+    by ToAudit = λ i. long i || any-bare is_put_or_check (λ name size. refl) aims i
+    by ToRepair = λ i. long i || any-bare is_check (λ name size. refl) aims i
+    by ToUpgrade = ap (nat_lt 0) (length-map aims bare)
+    by (ToPut name size) = long
+    by (ToGet name) = long
+    by (ToDrop name) = long
+
+busy-bare : (x : Sight) (aim : Aim) → is_busy 8 (bare_sight x) aim ≡ is_busy 8 x aim
+busy-bare x aim = λ i. shut-bare x i || way-bare x.aims aim i
+
+puts-bare : (names : List (List ℕ)) (aims : List Aim) → with_puts names (map bare aims) ≡ with_puts names aims
+puts-bare names [] = refl
+puts-bare names (ToPut name size ∷ aims) =
+    ap (λ (others : List (List ℕ)). with_name others name) (puts-bare names aims)
+puts-bare names (ToGet name ∷ aims) = puts-bare names aims
+puts-bare names (ToDrop name ∷ aims) = puts-bare names aims
+puts-bare names (ToAudit ∷ aims) = puts-bare names aims
+puts-bare names (ToRepair ∷ aims) = puts-bare names aims
+puts-bare names (ToUpgrade ∷ aims) = puts-bare names aims
+
+crowded-bare : (x : Sight) (name : List ℕ) → is_crowded_for (bare_sight x) name ≡ is_crowded_for x name
+crowded-bare x name = ap (λ (names : List (List ℕ)). nat_le most_files (length names)
+    && not (is_name_among names name)) (puts-bare (names_in x.files) x.aims)
+
+-- no refusal of a begin hangs on the lengths of the puts that run
+pub causes-bare : (x : Sight) (aim : Aim) (own : Option ℕ) →
+    causes 8 (bare_sight x) aim own ≡ causes 8 x aim own
+causes-bare x (ToPut name size) None = rw (busy-bare x (ToPut name size), crowded-bare x name) refl
+causes-bare x (ToPut name size) (Some p) = rw (busy-bare x (ToPut name size), crowded-bare x name) refl
+causes-bare x (ToGet name) own = rw (busy-bare x (ToGet name)) refl
+causes-bare x (ToDrop name) own = rw (busy-bare x (ToDrop name)) refl
+causes-bare x ToAudit own = rw (busy-bare x ToAudit) refl
+causes-bare x ToRepair own = rw (busy-bare x ToRepair) refl
+causes-bare x ToUpgrade own = rw (busy-bare x ToUpgrade) refl
+
+not_long : (size : ℕ) → size ≤ 2 ^ 22 → nat_lt largest_file size ≡ false
+not_long size short = elim (cases_Bool (nat_lt largest_file size)) [
+  | inl t ↦ absurd (let x = ltb-true largest_file size t in omega (arith, x, short))
+  | inr f ↦ f
+]
+
+-- nor on the length of the put that begins, where it is not too long
+causes-size : (x : Sight) (name : List ℕ) (size : ℕ) (own : Option ℕ) → size ≤ 2 ^ 22 →
+    causes 8 x (ToPut name (2 ^ 22)) own ≡ causes 8 x (ToPut name size) own
+causes-size x name size own l = rw (not_long size l) refl
+
+-- the causes for which a begin is refused are the machine's, of a stream those of each put
+pub causes-same : (c : CoreView) (w : State) (told : Option ℕ) (v : Wish) (k : Kind) → CoreIs c w →
+    IsAimOf told v k → IsShortAim (aim_of k) →
+    causes 8 (sight_in c) (aim_of_wish v) (profile_named v) ≡ causes 8 (sight_of w) (aim_of k)
+    (profile_named v)
+causes-same c w told v k is of short =
+    sym (causes-bare (sight_in c) (aim_of_wish v) (profile_named v))
+    ∙ (ap (λ (x : Sight). causes 8 x (aim_of_wish v) (profile_named v)) (sight-same c w is)
+    ∙ (causes-bare (sight_of w) (aim_of_wish v) (profile_named v) ∙ by told of))
+  where
+    of_stream : (aim : Aim) → IsShortAim aim →
+        causes 8 (sight_of w) (longest aim) (profile_named v) ≡ causes 8 (sight_of w) aim (profile_named v)
+    of_stream (ToPut name size) l = causes-size (sight_of w) name size (profile_named v) l
+    of_stream aim l = refl
+
+    by : (o : Option ℕ) → IsAimOf o v k →
+        causes 8 (sight_of w) (aim_of_wish v) (profile_named v)
+        ≡ causes 8 (sight_of w) (aim_of k) (profile_named v)
+    by None e = ap (λ (aim : Aim). causes 8 (sight_of w) aim (profile_named v)) e
+    by (Some n) e = ap (λ (aim : Aim). causes 8 (sight_of w) aim (profile_named v)) e
+        ∙ of_stream (aim_of k) short
+
 -- whether a begin is refused before its words are looked at, by what a core keeps
 abbrev pub refused_early : Bool → Bool → ℕ → Option Refusal
 refused_early barred upgrade running =
@@ -327,7 +427,8 @@ early a c w v is = λ i. refused_early (bar i) (up i) (count i)
 
     up : has_upgrade a ≡ is_shut (sight_of w)
     up = sym (ap (list_any is_upgrade) (aims-seen a.jobs.items))
-        ∙ (ap (λ (x : CoreView). list_any is_upgrade (aims_in x.jobs)) v ∙ ap is_shut (sight-same c w is))
+        ∙ (ap (λ (x : CoreView). list_any is_upgrade (aims_in x.jobs)) v
+        ∙ (sym (shut-bare (sight_in c)) ∙ (ap is_shut (sight-same c w is) ∙ shut-bare (sight_of w))))
 
     count : length a.jobs.items ≡ length w.jobs
     count = sym (length-map a.jobs.items core_job)
@@ -376,12 +477,6 @@ orders false false false true m f = refl
 orders false false false false true f = refl
 orders false false false false false true = refl
 orders false false false false false false = refl
-
-not_long : (size : ℕ) → size ≤ 2 ^ 22 → nat_lt largest_file size ≡ false
-not_long size short = elim (cases_Bool (nat_lt largest_file size)) [
-  | inl t ↦ absurd (let x = ltb-true largest_file size t in omega (arith, x, short))
-  | inr f ↦ f
-]
 
 -- the causes that a core looks at are those of the machine: a name is one, and a put is not too long
 pub refusal-sight : (c : CoreView) (w : Wish) → HasName w → IsShort w →

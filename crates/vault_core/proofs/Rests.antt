@@ -17,7 +17,6 @@ use Rattle.vault_core.specs.declared.job.Task.{Task}
 use Rattle.vault_core.specs.declared.job.Job.{Job}
 use Rattle.vault_core.specs.View.{flag_at}
 use Rattle.vault_core.specs.Rest.{numbers, call_of, calls_from, rewrite_of, rewrites_from, work_of, turn_of, turns_from, tasks_of, moves_from, actions_after, closing_of, tasks_on, beyond, rest_at, rest_of}
-use Rattle.vault_core.specs.Going.{aimed}
 use Rattle.vault_core.specs.Parts.{comes_to, is_caller, is_worker, is_rewriter, IsWithin, IsSet, MayBeAt}
 
 -- numbers from a on start with a
@@ -60,7 +59,8 @@ rewrites_skip j n fl o t l f = ap (flat_map (rewrite_of fl o t)) (numbers_here j
 pub rewrites_none : (j n : ℕ) (fl : List Bool) (o t : ℕ) → n ≤ j → rewrites_from j n fl o t ≡ []
 rewrites_none j n fl o t l = ap (flat_map (rewrite_of fl o t)) (numbers_none j n l)
 
-turns_here : (a n : ℕ) (w : Wish) (fl : List Bool) (o b : ℕ) → a < b →
+-- the actions from a stripe or round on start with those at it
+pub turns_here : (a n : ℕ) (w : Wish) (fl : List Bool) (o b : ℕ) → a < b →
     turns_from a n w fl o b ≡ turn_of n w fl o a ++ turns_from (a + 1) n w fl o b
 turns_here a n w fl o b l = ap (flat_map (turn_of n w fl o)) (numbers_here a b l)
 
@@ -168,7 +168,8 @@ drop_past [] (suc i) e = refl
 drop_past (y ∷ ys) zero e = let f : Some y ≡ None = e in cc
 drop_past (y ∷ ys) (suc i) e = drop_past ys i e
 
-turn_joined : (n : ℕ) (w : Wish) (fl : List Bool) (o t : ℕ) (more rest : List Action) →
+-- those at one are its calls and its work
+pub turn_joined : (n : ℕ) (w : Wish) (fl : List Bool) (o t : ℕ) (more rest : List Action) →
     (turn_of n w fl o t ++ more) ++ rest ≡ calls_from 0 n w o t ++ (work_of n w fl o t ++ (more ++ rest))
 turn_joined n w fl o t more rest = simp append_assoc
 
@@ -431,20 +432,18 @@ worker_calls w h = refl
 
 -- ---- the object of a put's own file
 
-abbrev pub front_aimed : ℕ → ℕ → List Task → List Task
-front_aimed o i xs = map (aimed o) (take i xs) ++ drop i xs
+abbrev pub front_each : (Task → Task) → ℕ → List Task → List Task
+front_each f i xs = map f (take i xs) ++ drop i xs
 
-aims : (o : ℕ) (d : Task) (xs : List Task) (i : ℕ) → i < length xs →
-    set (front_aimed o i xs) i (record { object = o; turns = (get_or (front_aimed o i xs) i d).turns })
-    ≡ front_aimed o (suc i) xs
-aims o d [] i l = absurd (omega arith)
-aims o d (x ∷ xs) zero l = refl
-aims o d (x ∷ xs) (suc i) l = ap (λ (ys : List Task). aimed o x ∷ ys) (aims o d xs i (omega arith))
+each_first : (f : Task → Task) (d : Task) (xs : List Task) (i : ℕ) → i < length xs →
+    set (front_each f i xs) i (f (get_or (front_each f i xs) i d)) ≡ front_each f (suc i) xs
+each_first f d [] i l = absurd (omega arith)
+each_first f d (x ∷ xs) zero l = refl
+each_first f d (x ∷ xs) (suc i) l = ap (λ (ys : List Task). f x ∷ ys) (each_first f d xs i (omega arith))
 
--- the tasks aimed so far and one more are the tasks aimed up to there
-pub aim_more : (o : ℕ) (d : Task) (xs ys : List Task) (i : ℕ) → i < length xs → ys ≡ front_aimed o i xs →
-    set ys i (record { object = o; turns = (get_or ys i d).turns }) ≡ front_aimed o (i + 1) xs
-aim_more o d xs ys i l e =
-    subst (λ (zs : List Task). set zs i (record { object = o; turns = (get_or zs i d).turns })
-    ≡ front_aimed o (i + 1) xs) (sym e)
-    (aims o d xs i l ∙ ap (λ (k : ℕ). front_aimed o k xs) (let k : suc i ≡ i + 1 = omega arith in k))
+-- the tasks changed so far and one more are the tasks changed up to there
+pub each_more : (f : Task → Task) (d : Task) (xs ys : List Task) (i : ℕ) → i < length xs →
+    ys ≡ front_each f i xs → set ys i (f (get_or ys i d)) ≡ front_each f (i + 1) xs
+each_more f d xs ys i l e =
+    subst (λ (zs : List Task). set zs i (f (get_or zs i d)) ≡ front_each f (i + 1) xs) (sym e)
+    (each_first f d xs i l ∙ ap (λ (k : ℕ). front_each f k xs) (let k : suc i ≡ i + 1 = omega arith in k))

@@ -1,13 +1,13 @@
 -- What comes next for a job, in a core and in a state of the machine that it stands for.
-use Rattle.std.proofs.Common.{◌≡◌, ℕ, Bool, true, false, List, [], ◌∷◌, Some, None, length, drop, inl, inr, refl, ap, sym, subst, ◌∙◌}
-use Rattle.std.specs.Prelude.{Option, ◌⊎◌, if◌then◌else◌, slice_get}
+use Rattle.std.proofs.Common.{◌≡◌, ℕ, ◌+◌, ◌*◌, Bool, true, false, List, [], ◌∷◌, Some, None, length, drop, inl, inr, refl, ap, sym, subst, ◌∙◌, arith}
+use Rattle.std.specs.Prelude.{Option, is_some, ◌==◌, ◌⊎◌, if◌then◌else◌, slice_get}
 use Rattle.std.specs.Option.{option_map}
 use Rattle.std.proofs.lemmas.Bool.{cases_Bool, cases_lt, lt-ltb, le-ltb, false≢true}
 use Rattle.algebra_laws.proofs.Each.{each_get, each_append, each_map, each_flat}
 use Rattle.column_defs.specs.Verdicts.{Sums}
 use Rattle.record_defs.specs.Records.{Setup, Record, PutStart, AuditStart, AuditDone}
 use Rattle.record_defs.specs.Table.{next_id}
-use Rattle.machine_defs.specs.Jobs.{Kind, PutJob, GetJob, DropJob, AuditJob, RepairJob, UpgradeJob, Pinned, aim_of, Job, job_of}
+use Rattle.machine_defs.specs.Jobs.{Kind, PutJob, GetJob, DropJob, AuditJob, RepairJob, UpgradeJob, Aim, Pinned, aim_of, Job, job_of}
 use Rattle.machine_defs.specs.Actions.{Action, WriteBody, Fetch, Ask, Work, End, on_each_provider, on_each_stripe, open_actions, read_actions, actions_by, actions_of, actions_left, appends_left}
 use Rattle.code_defs.specs.Points.{upto}
 use Rattle.machine_defs.specs.Setups.{profiled, stripes_of}
@@ -21,22 +21,35 @@ use Rattle.vault_core.specs.declared.action.Action.{Action as ActionValue}
 use Rattle.vault_core.specs.declared.action.Action.TheVariants as act
 use Rattle.vault_core.specs.declared.action.Next.{Next}
 use Rattle.vault_core.specs.declared.action.Next.TheVariants as next
-use Rattle.vault_core.specs.View.{CoreJob, CoreView, planned, appends_in, job_in}
+use Rattle.vault_core.specs.View.{CoreJob, CoreView, planned, rest_in, appends_in, job_in, wanted_at, wanted_by, wants_in, is_open_stream}
+use Rattle.vault_core.specs.Streams.{IsToldAs}
+use Rattle.vault_core.proofs.Told.{below}
+use Rattle.vault_core.proofs.Fronts.{shared, shared-early}
 use Rattle.vault_core.specs.Coming.{Acts, Waits, IsNoJob, IsBarred, seen_action, seen_next, is_idle, action_next, is_move, asks_next, waits_or_acts, next_of, next_in, most_of, left_in, written_as, written_by, entry_of_job, entry_of_found, entry_in}
 use Rattle.vault_core.specs.Carried.{IsJobOf, IsCoreFlight, CoreIs, ComesNext, IsNextOf, IsEntryOf}
 use Rattle.vault_core.proofs.Pairs.{pair_some, pair_none}
-use Rattle.vault_core.proofs.Links.{list-is, rest-is, appends-is, put-two, audit-two, next_same}
+use Rattle.vault_core.proofs.Links.{shown_aim, aim-is, profile-is, subject-is, aim-alike, rest-is, appends-is, stands-is, put-two, audit-two, next_same}
 use Rattle.vault_core.proofs.Judging.{asked_whole}
 
 -- ---- how many steps may remain
 
-most_same : (s : Setup) (c : CoreJob) (m : Job) → IsJobOf s c m → most_of s c ≡ most_left s m
-most_same s c m is = λ i. most_after s (is.plan i).aim (rest-is s c m is i)
+most_same : (s : Setup) (c : CoreJob) (m : Job) → IsJobOf s c m → c.told ≡ None → most_of s c ≡ most_left s m
+most_same s c m is closed =
+    ap (λ (aim : Aim). most_after s aim (rest_in s c))
+    (aim-is s c m is ∙ ap (λ (o : Option ℕ). shown_aim o (aim_of m.kind)) closed)
+    ∙ ap (most_after s (aim_of m.kind)) (rest-is s c m is closed)
 
--- a job may still make as many steps in a core as in the machine
-pub left_same : (c : CoreView) (w : State) (k : ℕ) → CoreIs c w →
+not_open : (j : CoreJob) → is_some j.told ≡ false → j.told ≡ None
+not_open j h = by j.told h
+  where
+    by : (o : Option ℕ) → is_some o ≡ false → o ≡ None
+    by None e = refl
+    by (Some k) e = absurd (false≢true (sym e))
+
+-- a job that is no open stream may still make as many steps in a core as in the machine
+pub left_same : (c : CoreView) (w : State) (k : ℕ) → CoreIs c w → is_open_stream (job_in c.jobs k) ≡ false →
     left_in c k ≡ option_map (most_left (setup_in w)) (job_of w.jobs k)
-left_same c w k is = by (job_in c.jobs k) refl
+left_same c w k is closed = by (job_in c.jobs k) refl
   where
     by : (o : Option CoreJob) → job_in c.jobs k ≡ o →
         option_map (most_of c.setup) (job_in c.jobs k)
@@ -45,7 +58,8 @@ left_same c w k is = by (job_in c.jobs k) refl
         ∙ sym (ap (option_map (most_left (setup_in w))) (pair_none c.setup c.jobs w.jobs k is.jobs e))
     by (Some j) e = (let p = pair_some c.setup c.jobs w.jobs k j is.jobs e in
         ap (option_map (most_of c.setup)) e
-        ∙ (ap Some (most_same c.setup j p.job p.is ∙ ap (λ (s : Setup). most_left s p.job) is.setup)
+        ∙ (ap Some (most_same c.setup j p.job p.is (not_open j (sym (ap is_open_stream e) ∙ closed))
+        ∙ ap (λ (s : Setup). most_left s p.job) is.setup)
         ∙ sym (ap (option_map (most_left (setup_in w))) p.runs)))
 
 -- ---- the record of an append
@@ -60,19 +74,43 @@ no_ask o h = refl
 
 -- the record that a job of a core writes is the machine's
 writes_same : (w : State) (t : Kept) (c : CoreJob) (m : Job) (entry : Record) →
-    IsFoldOf w.records t → IsJobOf (setup_in w) c m →
+    IsFoldOf w.records t → IsJobOf (setup_in w) c m → wanted_at (setup_in w) c.place c.told ≡ None →
     is_move (slice_get (planned (setup_in w) c.plan) c.place) ≡ true →
     written_by (setup_in w) t c ≡ Some entry → Writes w m m.kind entry
-writes_same w t c m entry f is mv e = by m.kind refl
-    (sym (λ i. written_as t (appends-is (setup_in w) c m is i) (is.plan i).profile (is.plan i).subject
-    c.sums (is.plan i).aim) ∙ e)
+writes_same w t c m entry f is free mv e = by m.kind refl
+    (sym ((λ i. written_as t (appends-is (setup_in w) c m is i) (profile-is (setup_in w) c m is i)
+    (subject-is (setup_in w) c m is i) c.sums c.plan.aim) ∙ written_alike) ∙ e)
   where
+    first : (k : ℕ) → c.told ≡ Some k → IsToldAs (setup_in w) c (Some k) →
+        wanted_at (setup_in w) c.place (Some k) ≡ None → (appends_left (setup_in w) m == 2) ≡ true
+    first k o told waits =
+        (let sh = shared (setup_in w) c m k is o told in
+        let l = shared-early (setup_in w) c m k is.place sh (below c.place (4 + k * (setup_in w).n) k waits
+        told.0) mv in
+        put-two (setup_in w) m sh.name sh.bytes sh.kind
+        ∙ lt-ltb m.place 4 (let p = is.place in omega (arith, l, p)))
+
+    -- a stream is at its first append, whose record does not hang on its length
+    written_alike : written_as t (appends_left (setup_in w) m) m.profile m.subject c.sums c.plan.aim
+        ≡ written_as t (appends_left (setup_in w) m) m.profile m.subject c.sums (aim_of m.kind)
+    written_alike = by_told c.told refl is.within free
+      where
+        by_told : (o : Option ℕ) → c.told ≡ o → IsToldAs (setup_in w) c o →
+            wanted_at (setup_in w) c.place o ≡ None →
+            written_as t (appends_left (setup_in w) m) m.profile m.subject c.sums c.plan.aim
+            ≡ written_as t (appends_left (setup_in w) m) m.profile m.subject c.sums (aim_of m.kind)
+        by_told None o told waits = ap (written_as t (appends_left (setup_in w) m) m.profile m.subject c.sums)
+            (aim-is (setup_in w) c m is ∙ ap (λ (x : Option ℕ). shown_aim x (aim_of m.kind)) o)
+        by_told (Some k) o told waits = aim-alike (setup_in w) c m is
+            (written_as t (appends_left (setup_in w) m) m.profile m.subject c.sums)
+            (λ name a b. rw (first k o told waits) refl)
+
     is_it : (x r : Record) → Some x ≡ Some r → r ≡ x
     is_it x r h = cc
 
     no_more : asks_next (slice_get (actions_of (setup_in w) m) m.place) ≡ false
     no_more = no_ask (slice_get (actions_of (setup_in w) m) m.place)
-        (sym (λ i. is_move (slice_get (list-is (setup_in w) c m is i) (is.place i))) ∙ mv)
+        (sym (ap is_move (stands-is (setup_in w) c m is free)) ∙ mv)
 
     by : (k : Kind) → m.kind ≡ k →
         written_as t (appends_left (setup_in w) m) m.profile m.subject c.sums (aim_of k) ≡ Some entry →
@@ -271,51 +309,58 @@ holder_same c (Some f) a h = some a ∙ ap (λ (x : Option ℕ). core_holder x a
 pub same_job : (s t : Setup) (c : CoreJob) (m : Job) → s ≡ t → IsJobOf s c m → IsJobOf t c m
 same_job s t c m e is = subst (λ (x : Setup). IsJobOf x c m) e is
 
+-- a job does not wait for a stripe where its number does not
+pub free_here : (c : CoreView) (w : State) (k : ℕ) (j : CoreJob) → CoreIs c w → wants_in c k ≡ None →
+    job_in c.jobs k ≡ Some j → wanted_at (setup_in w) j.place j.told ≡ None
+free_here c w k j is free e = subst (λ (s : Setup). wanted_at s j.place j.told ≡ None) is.setup
+    (sym (ap (wanted_by c.setup) e) ∙ free)
+
 -- what comes next in a core comes next in the machine that it stands for
 pub comes_next : (c : CoreView) (w : State) (k : ℕ) (a : Action) (held : Option ℕ) → CoreIs c w →
-    Comes c k a held → ComesNext w k a held
-comes_next c w k a held is h =
+    wants_in c k ≡ None → Comes c k a held → ComesNext w k a held
+comes_next c w k a held is free h =
     let p = pair_some c.setup c.jobs w.jobs k h.job is.jobs h.runs in
     record {
       unbarred = sym is.barred ∙ h.unbarred;
       job = p.job;
       runs = p.runs;
       comes = next_same w c.table h.job p.job is.table
-          (same_job c.setup (setup_in w) h.job p.job is.setup p.is)
+          (same_job c.setup (setup_in w) h.job p.job is.setup p.is) (free_here c w k h.job is free h.runs)
           ∙ (ap (λ (s : Setup). action_next s c.table h.job) (sym is.setup) ∙ h.comes);
       holder = holder_same c w.append a is.append ∙ h.waits;
     }
 
-some_next : (c : CoreView) (w : State) (k : ℕ) (j : CoreJob) → CoreIs c w → job_in c.jobs k ≡ Some j →
-    action_next c.setup c.table j ≡ None → ⊥
-some_next c w k j is e f = elim (cases_Bool (is_idle c.table j)) [
+some_next : (c : CoreView) (w : State) (k : ℕ) (j : CoreJob) → CoreIs c w → wants_in c k ≡ None →
+    job_in c.jobs k ≡ Some j → action_next c.setup c.table j ≡ None → ⊥
+some_next c w k j is free e f = elim (cases_Bool (is_idle c.table j)) [
   | inl b ↦ (let g : Some End ≡ None = sym (ap (λ (x : Bool). if x then Some End
       else slice_get (planned c.setup j.plan) j.place) b) ∙ f in cc)
   | inr b ↦ (let p = pair_some c.setup c.jobs w.jobs k j is.jobs e in
       let o = in_order-first _ (actions_left (setup_in w) p.job) (is.sound.jobs k p.job p.runs).order in
       let g : Some o.0 ≡ None = sym o.1
-      ∙ (ap (λ (xs : List Action). slice_get xs 0)
-      (sym (rest-is c.setup j p.job p.is ∙ ap (λ (s : Setup). actions_left s p.job) is.setup))
-      ∙ (get-first (planned c.setup j.plan) j.place
+      ∙ (get-first (actions_of (setup_in w) p.job) p.job.place
+      ∙ (sym (stands-is (setup_in w) j p.job (same_job c.setup (setup_in w) j p.job is.setup p.is)
+      (free_here c w k j is free e))
+      ∙ (ap (λ (s : Setup). slice_get (planned s j.plan) j.place) (sym is.setup)
       ∙ (sym (ap (λ (x : Bool). if x then Some End else slice_get (planned c.setup j.plan) j.place) b)
-      ∙ f))) in cc)
+      ∙ f)))) in cc)
 ]
 
 -- the answer to what comes next is right for the machine
-pub next_machine : (c : CoreView) (w : State) (k : ℕ) (r : Next) → CoreIs c w → seen_next r ≡ next_in c k →
-    IsNextOf w k r
-next_machine c w k (next.Act a) is e =
-    comes_next c w k (seen_action a) None is (acts_comes c k (seen_action a) (sym e))
-next_machine c w k (next.Waiting h) is e =
-    let r = waits_comes c k h (sym e) in (r.0, comes_next c w k r.0 (Some h) is r.1)
-next_machine c w k next.NoSuchJob is e = let r = missing c k (sym e) in (
+pub next_machine : (c : CoreView) (w : State) (k : ℕ) (r : Next) → CoreIs c w → wants_in c k ≡ None →
+    seen_next r ≡ next_in c k → IsNextOf w k r
+next_machine c w k (next.Act a) is free e =
+    comes_next c w k (seen_action a) None is free (acts_comes c k (seen_action a) (sym e))
+next_machine c w k (next.Waiting h) is free e =
+    let r = waits_comes c k h (sym e) in (r.0, comes_next c w k r.0 (Some h) is free r.1)
+next_machine c w k next.NoSuchJob is free e = let r = missing c k (sym e) in (
   sym is.barred ∙ r.0,
   elim r.1 [
     | inl n ↦ pair_none c.setup c.jobs w.jobs k is.jobs n
-    | inr s ↦ absurd (some_next c w k s.0 is s.1.0 s.1.1)
+    | inr s ↦ absurd (some_next c w k s.0 is free s.1.0 s.1.1)
   ],
 )
-next_machine c w k next.MustReopen is e = sym is.barred ∙ bars c k (sym e)
+next_machine c w k next.MustReopen is free e = sym is.barred ∙ bars c k (sym e)
 
 -- ---- the record that is written
 
@@ -369,14 +414,15 @@ found_entry c k e h = by (job_in c.jobs k) refl
     by (Some j) f = (j, (f, sym (ap (entry_of_found c.setup c.table) f) ∙ h))
 
 -- only a get writes nothing
-nothing_get : (t : Kept) (k p a : ℕ) (sums : Sums) (kind : Kind) →
-    written_as t k p a sums (aim_of kind) ≡ None → (name : List ℕ) × (kind ≡ GetJob name)
-nothing_get t k p a sums (GetJob name) h = (name, refl)
-nothing_get t k p a sums kind h = cc
+nothing_get : (t : Kept) (k p a : ℕ) (sums : Sums) (o : Option ℕ) (kind : Kind) →
+    written_as t k p a sums (shown_aim o (aim_of kind)) ≡ None → (name : List ℕ) × (kind ≡ GetJob name)
+nothing_get t k p a sums o (GetJob name) h = (name, refl)
+nothing_get t k p a sums None kind h = cc
+nothing_get t k p a sums (Some n) kind h = cc
 
-entry_none : (c : CoreView) (w : State) (k : ℕ) → CoreIs c w → entry_in c k ≡ None → (m : Job) →
-    job_of w.jobs k ≡ Some m → is_move (next_action w m) ≡ false
-entry_none c w k is h m runs = by (job_in c.jobs k) refl
+entry_none : (c : CoreView) (w : State) (k : ℕ) → CoreIs c w → wants_in c k ≡ None →
+    entry_in c k ≡ None → (m : Job) → job_of w.jobs k ≡ Some m → is_move (next_action w m) ≡ false
+entry_none c w k is free h m runs = by (job_in c.jobs k) refl
   where
     of_get : (name : List ℕ) → m.kind ≡ GetJob name → is_move (next_action w m) ≡ false
     of_get name q = by_action (slice_get (actions_of (setup_in w) m) m.place) refl
@@ -399,36 +445,38 @@ entry_none c w k is h m runs = by (job_in c.jobs k) refl
         let q : IsJobOf (setup_in w) j m = subst (IsJobOf (setup_in w) j) r
         (same_job c.setup (setup_in w) j p.job is.setup p.is) in
         let next : next_action w m ≡ action_next c.setup c.table j = next_same w c.table j m is.table q
+        (free_here c w k j is free f)
         ∙ ap (λ (s : Setup). action_next s c.table j) (sym is.setup) in
         let entry : entry_of_job c.setup c.table j ≡ None = sym (ap (entry_of_found c.setup c.table) f) ∙ h in
         ap is_move next
         ∙ elim (cases_Bool (is_move (action_next c.setup c.table j))) [
           | inl b ↦ (let n : written_by c.setup c.table j ≡ None =
               sym (ap (λ (x : Bool). if x then written_by c.setup c.table j else None) b) ∙ entry in
-              let g = nothing_get c.table (appends_in c.setup j) m.profile m.subject j.sums m.kind
-              (sym (λ i. written_as c.table (appends_in c.setup j) (q.plan i).profile (q.plan i).subject
-              j.sums (q.plan i).aim) ∙ n) in
+              let g = nothing_get c.table (appends_in c.setup j) j.plan.profile j.plan.subject j.sums j.told
+              m.kind
+              (ap (written_as c.table (appends_in c.setup j) j.plan.profile j.plan.subject j.sums)
+              (sym (aim-is (setup_in w) j m q)) ∙ n) in
               sym (ap is_move next) ∙ of_get g.0 g.1)
           | inr b ↦ b
         ])
 
 -- the record that a core names for an append is the one that the machine writes
-pub entry_machine : (c : CoreView) (w : State) (k : ℕ) (o : Option Record) → CoreIs c w → o ≡ entry_in c k →
-    IsEntryOf w k o
-entry_machine c w k None is e = λ m runs. entry_none c w k is (sym e) m runs
-entry_machine c w k (Some r) is e =
+pub entry_machine : (c : CoreView) (w : State) (k : ℕ) (o : Option Record) → CoreIs c w →
+    wants_in c k ≡ None → o ≡ entry_in c k → IsEntryOf w k o
+entry_machine c w k None is free e = λ m runs. entry_none c w k is free (sym e) m runs
+entry_machine c w k (Some r) is free e =
     let f = found_entry c k r (sym e) in
     let p = pair_some c.setup c.jobs w.jobs k f.0 is.jobs f.1.0 in
     let q = same_job c.setup (setup_in w) f.0 p.job is.setup p.is in
     let a = in_append c.setup c.table f.0 r f.1.1 in
     let next : next_action w p.job ≡ action_next c.setup c.table f.0 = next_same w c.table f.0
-    p.job is.table q
+    p.job is.table q (free_here c w k f.0 is free f.1.0)
     ∙ ap (λ (s : Setup). action_next s c.table f.0) (sym is.setup) in
     record {
       job = p.job;
       runs = p.runs;
       moves = ap is_move next ∙ a.0;
-      writes = writes_same w c.table f.0 p.job r is.table q
+      writes = writes_same w c.table f.0 p.job r is.table q (free_here c w k f.0 is free f.1.0)
           (subst (λ (s : Setup). is_move (slice_get (planned s f.0.plan) f.0.place) ≡ true) is.setup
           (head_moves c.setup c.table f.0 a.0))
           (ap (λ (s : Setup). written_by s c.table f.0) (sym is.setup) ∙ a.1);

@@ -36,14 +36,14 @@ use Rattle.machine_defs.proofs.NextActions.{next_stands}
 use Rattle.vault_core.specs.declared.action.Action.{Action as ActionValue}
 use Rattle.vault_core.specs.declared.action.Action.TheVariants as act
 use Rattle.vault_core.specs.declared.reply.Reply.{Reply}
-use Rattle.vault_core.specs.View.{CoreJob, CoreView, planned, rest_in, appends_in, job_in}
+use Rattle.vault_core.specs.View.{CoreJob, CoreView, planned, rest_in, appends_in, job_in, wanted_at, wants_in}
 use Rattle.vault_core.specs.Coming.{Acts as ActsNext, seen_action, HasReply, is_last_ask_of, begins_append, action_next, is_move, asks_next, is_last_ask, written_as, written_by, written_of, written_in, entry_of_job, entry_of_found, entry_in}
 use Rattle.vault_core.specs.Carried.{IsJobOf, IsCoreFlight, CoreIs}
 use Rattle.vault_core.specs.Fed.{is_own, freed, stopped, barred_at, with_at, stepped, judged, goes_plainly, number_as, number_drawn, drawn, gated, HasGated}
 use Rattle.vault_core.specs.declared.reply.Reply.TheVariants as reply
 use Rattle.vault_core.specs.Replies.{IsEndAnswer, Tells}
 use Rattle.vault_core.proofs.Pairs.{IsFirst, pair_some, pair_with, pair_without, in_set_same, in_set_other, in_remove_other}
-use Rattle.vault_core.proofs.Standing.{acts_comes, comes_next, same_job, in_append}
+use Rattle.vault_core.proofs.Standing.{acts_comes, comes_next, same_job, free_here, in_append}
 use Rattle.vault_core.proofs.Judging.{sums-on, on-moved, on-judged, on-drawn, on-gated}
 use Rattle.vault_core.proofs.Onward.{audit-action}
 use Rattle.vault_core.proofs.Links.{head-here, appends-is, drawn-appends}
@@ -71,13 +71,15 @@ pub record OnMachine (c : CoreView) (w new : State) (k place : ℕ) (cj : CoreJo
   pub here : slice_get c.jobs place ≡ Some cj
   pub first : IsFirst c.jobs k place
   pub comes : action_next c.setup c.table cj ≡ Some action
+  pub free : wanted_at (setup_in w) cj.place cj.told ≡ None
 
 -- a step that a core has a reply for is a step of the machine's job of that number
 pub on_machine : (c : CoreView) (w new : State) (k place : ℕ) (r : Reply) (action : Action)
     (outcome : Outcome) (moment : ℕ) → (s : StepHere c k place r action) → CoreIs c w →
-    k < 2 ^ 32 → Happens 8 moment w (Step k) outcome new → OnMachine c w new k place s.job action outcome
-on_machine c w new k place r action outcome moment s is l h =
-    let n = comes_next c w k action None is (acts_comes c k action s.coming) in
+    wants_in c k ≡ None → k < 2 ^ 32 → Happens 8 moment w (Step k) outcome new →
+    OnMachine c w new k place s.job action outcome
+on_machine c w new k place r action outcome moment s is free l h =
+    let n = comes_next c w k action None is free (acts_comes c k action s.coming) in
     let p = pair_some c.setup c.jobs w.jobs k s.job is.jobs s.runs in
     let same : n.job ≡ p.job = same_value (job_of w.jobs k) n.job p.job n.runs p.runs in
     let next : next_action w p.job ≡ Some action = subst
@@ -108,6 +110,7 @@ on_machine c w new k place r action outcome moment s is l h =
       here = s.here;
       first = s.first;
       comes = s.next;
+      free = free_here c w k s.job is free s.runs;
     }
 
 -- ---- what a step leaves
@@ -144,7 +147,7 @@ set_stands c w new k place cj m flight is sound first stays bar js number job fl
     }
 
 -- a job has ended
-remove_stands : (c : CoreView) (w new : State) (k place : ℕ) (flight : Option ℕ) (b : Bool) → CoreIs c w →
+pub remove_stands : (c : CoreView) (w new : State) (k place : ℕ) (flight : Option ℕ) (b : Bool) → CoreIs c w →
     IsSound 8 new → IsFirst c.jobs k place → Stays w new →
     b ≡ new.is_barred → new.jobs ≡ without_job w.jobs k →
     IsCoreFlight (record c { jobs = remove c.jobs place; append = flight; barred = b }) new.append →
@@ -174,11 +177,12 @@ after_move WriteGate l = refl
 after_move SyncGate l = refl
 after_move a l = absurd (omega (arith, l))
 
--- the job whose append is in flight has a move of it next
-pub flight-moves : (c : CoreView) (w : State) (j : CoreJob) (m : Job) (a : Append) → CoreIs c w →
-    IsJobOf (setup_in w) j m → job_of w.jobs a.job ≡ Some m → w.append ≡ Some a →
-    is_move (next_action w m) ≡ true
-flight-moves c w j m a is of runs e =
+-- the job whose append is in flight has a move of it next, which is not the first
+pub flight-stands : (c : CoreView) (w : State) (m : Job) (a : Append) → CoreIs c w →
+    job_of w.jobs a.job ≡ Some m → w.append ≡ Some a →
+    (x : Action) × ((next_action w m ≡ Some x) × (slice_get (actions_of (setup_in w) m) m.place ≡ Some x)
+    × (0 < moves_before x))
+flight-stands c w m a is runs e =
     let s = is.sound.append a e in
     let order : IsInOrder (moves_made w.append a.job) (actions_left (setup_in w) m) =
     (is.sound.jobs a.job m runs).order in
@@ -189,14 +193,15 @@ flight-moves c w j m a is of runs e =
     (subst (λ (n : ℕ). IsInOrder n (actions_left (setup_in w) m)) made order) begun
   where
     by_left : (xs : List Action) → actions_left (setup_in w) m ≡ xs → IsInOrder a.moves xs → 1 ≤ a.moves →
-        is_move (next_action w m) ≡ true
+        (x : Action) × ((next_action w m ≡ Some x)
+        × (slice_get (actions_of (setup_in w) m) m.place ≡ Some x) × (0 < moves_before x))
     by_left [] f o l = absurd o
     by_left (x ∷ xs) f o l =
         (let before = moves-first a.moves x xs o in
-        let moves : is_move (Some x) ≡ true = after_move x (omega (arith, before, l)) in
         let stands : slice_get (actions_of (setup_in w) m) m.place ≡ Some x =
         sym (get-drop (actions_of (setup_in w) m) m.place) ∙ ap (λ (ys : List Action). slice_get ys 0) f in
-        ap is_move (busy x stands (omega (arith, before, l)) m.kind refl) ∙ moves)
+        let some : 0 < moves_before x = omega (arith, before, l) in
+        (x, (busy x stands some m.kind refl, stands, some)))
       where
         -- a drop that has begun its append is not idle
         busy : (y : Action) → slice_get (actions_of (setup_in w) m) m.place ≡ Some y → 0 < moves_before y →
@@ -219,12 +224,18 @@ flight-moves c w j m a is of runs e =
         busy y g n UpgradeJob k = ap (λ (b : Bool). if b then Some End
             else slice_get (actions_of (setup_in w) m) m.place) (ap (is_idle_drop w m) k) ∙ g
 
+-- so it has a move of it next
+pub flight-moves : (c : CoreView) (w : State) (m : Job) (a : Append) → CoreIs c w →
+    job_of w.jobs a.job ≡ Some m → w.append ≡ Some a → is_move (next_action w m) ≡ true
+flight-moves c w m a is runs e =
+    let f = flight-stands c w m a is runs e in ap is_move f.1.0 ∙ after_move f.0 f.1.2
+
 module _ (c : CoreView) (w : State) (k place : ℕ) (cj : CoreJob) (m : Job) (is : CoreIs c w)
     (first : IsFirst c.jobs k place) (here : slice_get c.jobs place ≡ Some cj)
     (called : cj.number ≡ k) (of : IsJobOf (setup_in w) cj m) (runs : job_of w.jobs k ≡ Some m) where
   -- it is not that of a job that makes another action
   not_own : (a : Append) → w.append ≡ Some a → is_move (next_action w m) ≡ false → a.job ≡ k → ⊥
-  not_own a e still own = false≢true (sym still ∙ flight-moves c w cj m a is of
+  not_own a e still own = false≢true (sym still ∙ flight-moves c w m a is
       (ap (job_of w.jobs) own ∙ runs) e)
 
   flight_on : is_move (next_action w m) ≡ false → (x : CoreJob) → x.number ≡ k →
@@ -315,7 +326,8 @@ module _ (c : CoreView) (w new : State) (k place : ℕ) (cj : CoreJob) (a : Acti
       CoreIs (with_at c place (stepped cj)) new
   plain_arm p given on h plain last gave e =
       on_arm p (stepped cj) (onward o.job o.job.subject given) o.called o.number h e
-      (on-moved w cj o.job a o.is o.next on given (sums-on w cj o.job a o.is o.next on given plain last gave))
+      (on-moved w cj o.job a o.is o.next on o.free given
+      (sums-on w cj o.job a o.is o.next on o.free given plain last gave))
 
   -- the append of a job ends by a fault of the disk
   bar_arm : Stays w new → new.is_barred ≡ true → new.jobs ≡ without_job w.jobs o.job.number →
@@ -416,7 +428,7 @@ module _ (c : CoreView) (w new : State) (k place : ℕ) (cj : CoreJob) (a : Acti
   gateless : ends_append a ≡ false → (a ≡ End → ⊥) → appends_in c.setup (stepped cj) ≡ appends_in c.setup cj
   gateless g on =
       let e = subst (λ (s : Setup). slice_get (rest_in s cj) 0 ≡ Some a) (sym o.stands.setup)
-      (head-here w cj o.job a o.is o.next on) in
+      (head-here w cj o.job a o.is o.next on o.free) in
       let b = gates_behind (rest_in c.setup cj) a e in
       let x = ap (λ (t : Bool). cond {A = ℕ} t 1 0) g in
       let d = ap gates (drop_one cj.place (planned c.setup cj.plan)) in
@@ -432,8 +444,8 @@ module _ (c : CoreView) (w new : State) (k place : ℕ) (cj : CoreJob) (a : Acti
       ≡ with_job w.jobs (onward o.job o.job.subject o.job.given) → new.is_barred ≡ w.is_barred → Stays w new →
       (a ≡ WriteBody → ⊥) → CoreIs (with_at c place (stepped cj)) new
   move_arm y z on g plain last e own entry same f js bar stays later =
-      let job = on-moved w cj o.job a o.is o.next on o.job.given
-      (sums-on w cj o.job a o.is o.next on o.job.given plain last (inl refl)) in
+      let job = on-moved w cj o.job a o.is o.next on o.free o.job.given
+      (sums-on w cj o.job a o.is o.next on o.free o.job.given plain last (inl refl)) in
       let writes : written_by c.setup c.table (stepped cj) ≡ written_by c.setup c.table cj =
       ap (λ (n : ℕ). written_as c.table n cj.plan.profile cj.plan.subject cj.sums cj.plan.aim)
       (gateless g on) in
@@ -456,7 +468,7 @@ drawn_arm c w new k place cj outcome o entry told faults e =
     o.job.given) =
     subst (λ (s : Setup). IsJobOf (setup_in w) (drawn cj (number_drawn s c.table cj))
     (onward o.job (subject_drawn w o.job o.job.kind) o.job.given)) (sym o.stands.setup)
-    (on-drawn w c.table cj o.job o.stands.table o.is o.next) in
+    (on-drawn w c.table cj o.job o.stands.table o.is o.free o.next) in
     let f : new.append ≡ Some (record { job = o.job.number; entry = entry; moves = 1 }) =
     ap (λ (s : State). s.append) e in
     let stays : Stays w new =
@@ -512,7 +524,7 @@ gated_arm c cnew w new k place cj outcome o y at own gates faults e =
     (let p = (setup-providers 8 w o.stands.sound o.stands.is_open).0 in omega (arith, p)) in
     let all : AllZip (IsJobOf (setup_in w)) c.jobs w.jobs =
     subst (λ (s : Setup). AllZip (IsJobOf s) c.jobs w.jobs) o.stands.setup o.stands.jobs in
-    let job = on-gated w c.table c.jobs cj o.job o.stands.table all o.is o.next some in
+    let job = on-gated w c.table c.jobs cj o.job o.stands.table all o.is o.free o.next some in
     let zip : AllZip (IsJobOf (setup_in w)) (set c.jobs place (gated (setup_in w) c.table c.jobs cj))
     (with_job w.jobs (decided o.job (taken_out w o.job o.job.kind))) =
     pair_with (setup_in w) c.jobs w.jobs k place (gated (setup_in w) c.table c.jobs cj)
@@ -622,7 +634,7 @@ more_done c w new k place cj SyncBody o p h = by w.append refl o.acts
     by (Some y) e g = move_arm c w new k place cj SyncBody More o y (record y { moves = y.moves + 1 })
         (λ x. cc) refl refl
         (ap (λ (x : Option Action). asks_next x && begins_append (slice_get (rest_in (setup_in w) cj) 1))
-        (head-here w cj o.job SyncBody o.is o.next (λ x. cc))) e g.0.0 refl refl
+        (head-here w cj o.job SyncBody o.is o.next (λ x. cc) o.free)) e g.0.0 refl refl
         (ap (λ (s : State). s.append) g.1.2)
         (ap (λ (s : State). s.jobs) g.1.2) (ap (λ (s : State). s.is_barred) g.1.2)
         (record {
@@ -640,7 +652,7 @@ more_done c w new k place cj WriteGate o p h = by w.append refl o.acts
     by (Some y) e g = move_arm c w new k place cj WriteGate More o y (record y { moves = y.moves + 1 })
         (λ x. cc) refl refl
         (ap (λ (x : Option Action). asks_next x && begins_append (slice_get (rest_in (setup_in w) cj) 1))
-        (head-here w cj o.job WriteGate o.is o.next (λ x. cc))) e g.0.0 refl refl
+        (head-here w cj o.job WriteGate o.is o.next (λ x. cc) o.free)) e g.0.0 refl refl
         (ap (λ (s : State). s.append) g.1.2)
         (ap (λ (s : State). s.jobs) g.1.2) (ap (λ (s : State). s.is_barred) g.1.2)
         (record {
@@ -654,24 +666,24 @@ more_done c w new k place cj (Store j object stripe) o p h =
     plain_arm c w new k place cj (Store j object stripe) More o
     (with_provider w.providers j o.acts.0) o.job.given (λ x. cc) refl refl
     (ap (λ (x : Option Action). asks_next x && begins_append (slice_get (rest_in (setup_in w) cj) 1))
-    (head-here w cj o.job (Store j object stripe) o.is o.next (λ x. cc))) (inl refl) o.acts.2
+    (head-here w cj o.job (Store j object stripe) o.is o.next (λ x. cc) o.free)) (inl refl) o.acts.2
 more_done c w new k place cj (Remove j object) o p h =
     plain_arm c w new k place cj (Remove j object) More o (with_provider w.providers j o.acts.0) o.job.given
     (λ x. cc) refl refl
     (ap (λ (x : Option Action). asks_next x && begins_append (slice_get (rest_in (setup_in w) cj) 1))
-    (head-here w cj o.job (Remove j object) o.is o.next (λ x. cc))) (inl refl) o.acts.2
+    (head-here w cj o.job (Remove j object) o.is o.next (λ x. cc) o.free)) (inl refl) o.acts.2
 more_done c w new k place cj (Fetch j object stripe) o p h =
     plain_arm c w new k place cj (Fetch j object stripe) More o (with_provider w.providers j o.acts.1.0)
     (Fetched j object stripe o.acts.0 ∷ o.job.given) (λ x. cc) refl refl
     (ap (λ (x : Option Action). asks_next x && begins_append (slice_get (rest_in (setup_in w) cj) 1))
-    (head-here w cj o.job (Fetch j object stripe) o.is o.next (λ x. cc)))
+    (head-here w cj o.job (Fetch j object stripe) o.is o.next (λ x. cc) o.free))
     (inr (λ kind. absurd (audit-action (setup_in w) o.job (Fetch j object stripe) kind
     (next_stands w o.job (Fetch j object stripe) o.next (λ x. cc))))) o.acts.1.2
 more_done c w new k place cj (Work object stripe) o p h =
     plain_arm c w new k place cj (Work object stripe) More o w.providers
     (Worked object stripe o.acts.0 ∷ o.job.given) (λ x. cc) refl refl
     (ap (λ (x : Option Action). asks_next x && begins_append (slice_get (rest_in (setup_in w) cj) 1))
-    (head-here w cj o.job (Work object stripe) o.is o.next (λ x. cc)))
+    (head-here w cj o.job (Work object stripe) o.is o.next (λ x. cc) o.free))
     (inr (λ kind. absurd (audit-action (setup_in w) o.job (Work object stripe) kind
     (next_stands w o.job (Work object stripe) o.next (λ x. cc))))) o.acts.2
 more_done c w new k place cj (Ask j object round) o p h =
@@ -891,7 +903,7 @@ verdict_more c w new k place cj (Ask j object round) u counts o r t =
     (t m found) in
     on_arm c w new k place cj (Ask j object round) More o (with_provider w.providers j o.acts.1.0)
     (judged cj (record { counts = counted counts; undecided = u })) m o.called o.number refl e
-    (on-judged w cj o.job (Ask j object round) o.is o.next (λ x. cc) j object round refl given
+    (on-judged w cj o.job (Ask j object round) o.is o.next (λ x. cc) o.free j object round refl given
     (record { counts = counted counts; undecided = u }) sums))
 verdict_more c w new k place cj a u counts o r t = absurd r
 

@@ -54,7 +54,8 @@ length-turn n w fl o t = let a = length-append (calls_from 0 n w o t) (work_of n
         let k : length (work_of n wish.Repair fl o t) ≡ suc (length (rewrites_from 0 n fl o t)) = refl in
         omega (arith, e, k)
 
-length-each : {X : Type 0} (f : X → List Action) (m : ℕ) (ks : List X) → ((k : X) → length (f k) ≡ m) →
+-- lists of one length in a row
+pub length-each : {X : Type 0} (f : X → List Action) (m : ℕ) (ks : List X) → ((k : X) → length (f k) ≡ m) →
     length (flat_map f ks) ≡ length ks * m
 length-each f m [] h = omega arith
 length-each f m (k ∷ ks) h =

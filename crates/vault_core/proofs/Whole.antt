@@ -31,7 +31,8 @@ front_of w = if is_opener w then append_actions else []
 numbers-upto : (n : ℕ) → numbers 0 n ≡ upto n
 numbers-upto n = ap (range_with_len 0) (let e : n - 0 ≡ n = omega arith in e)
 
-flat-same : {X : Type 0} (f g : X → List Action) (ks : List X) → ((k : X) → f k ≡ g k) →
+-- lists of lists are the same where each of them is
+pub flat-same : {X : Type 0} (f g : X → List Action) (ks : List X) → ((k : X) → f k ≡ g k) →
     flat_map f ks ≡ flat_map g ks
 flat-same f g [] h = refl
 flat-same f g (k ∷ ks) h = rw (h k, flat-same f g ks h) refl
@@ -60,7 +61,8 @@ turns-each n w fl o k g h =
 calls-each : (n : ℕ) (w : Wish) (o t : ℕ) → calls_from 0 n w o t ≡ map (call_of w o t) (upto n)
 calls-each n w o t = ap (map (call_of w o t)) (numbers-upto n)
 
-put-turn : (s : Setup) (name : List ℕ) (size : ℕ) (own : Option ℕ) (fl : List Bool) (o t : ℕ) →
+-- at a stripe a put stores it on each provider
+pub put-turn : (s : Setup) (name : List ℕ) (size : ℕ) (own : Option ℕ) (fl : List Bool) (o t : ℕ) →
     turn_of s.n (wish.Put name size own) fl o t ≡ on_each_provider s (λ j. Store j o t)
 put-turn s name size own fl o t = append-nil (calls_from 0 s.n (wish.Put name size own) o t)
     ∙ calls-each s.n (wish.Put name size own) o t

@@ -4,7 +4,12 @@
 --   pin_of f                == a pinned file, without its bytes
 --   seen_plan j             == the plan of a job of the machine, without bytes
 --   has_asked s j           == an audit that has asked all that it asks
---   IsJobOf s c j           == a job of a core stands for a job of the machine
+--   shown told plan         == a plan as a core sees it: that of an open stream is of the longest file
+--   HasTold s told job      == a put has at least the bytes of so many stripes
+--   IsAimOf told wish kind  == the machine's kind of a wish; of a stream, a put of this name of any file
+--   IsJobOf s c j           == a job of a core stands for a job of the machine; an open stream for each put
+--                              with at least the stripes given so far
+--   IsShortAim aim          == a put of this aim has at most 2^22 bytes
 --   IsCoreFlight c append   == the append in flight is that of the same job, and its record is the one that
 --                              this job writes
 --   CoreIs c w              == a core stands for a state of the machine: its vault is open, and nothing runs
@@ -13,11 +18,11 @@
 --   begun w moment kind own == the state after a begin, of a put also with a profile of its own
 --   IsNextOf w number next  == what comes next for a job in a state of the machine
 --   IsEntryOf w number e    == the record that the append of a job writes in a state of the machine
-use Rattle.std.specs.Prelude.{◌≡◌, ℕ, ◌+◌, ◌<◌, ◌&&◌, Bool, true, false, not, IsTrue, [], ◌∷◌, ◌++◌, length, map, replicate, slice_get, Option, None, Some}
+use Rattle.std.specs.Prelude.{◌≡◌, ℕ, ◌+◌, ◌*◌, ◌^◌, ◌<◌, ◌≤◌, ◌&&◌, Bool, true, false, not, IsTrue, [], ◌∷◌, ◌++◌, length, map, replicate, slice_get, Option, None, Some}
 use Rattle.std.specs.List.{AllZip}
 use Rattle.column_defs.specs.Verdicts.{Sums}
 use Rattle.record_defs.specs.Records.{Setup, Record}
-use Rattle.machine_defs.specs.Jobs.{Kind, AuditJob, aim_of, Job, job_of}
+use Rattle.machine_defs.specs.Jobs.{Kind, AuditJob, Aim, ToPut, aim_of, Job, job_of}
 use Rattle.machine_defs.specs.Jobs.{Pinned as PinnedBytes}
 use Rattle.machine_defs.specs.Actions.{Action, Plan, actions_of}
 use Rattle.machine_defs.specs.Refusals as refusal
@@ -36,6 +41,7 @@ use Rattle.vault_core.specs.declared.wish.Wish.{Wish}
 use Rattle.vault_core.specs.declared.wish.BeginFault.{BeginFault}
 use Rattle.vault_core.specs.declared.wish.BeginFault.TheVariants as fault
 use Rattle.vault_core.specs.Wished.{aim_of_wish}
+use Rattle.vault_core.specs.Streams.{stripe_size, IsTold}
 use Rattle.vault_core.specs.View.{CoreJob, CoreView, plan_in}
 use Rattle.vault_core.specs.Coming.{seen_action, asks_next, is_move, written_in}
 
@@ -73,10 +79,42 @@ has_asked s j =
     is_audit j.kind
     && (not (is_first_append j) && not (asks_next (slice_get (actions_of s j) j.place)))
 
+-- a put of the longest file
+abbrev pub longest : Aim → Aim
+longest (ToPut name size) = ToPut name (2 ^ 22)
+longest aim = aim
+
+-- a plan as a core sees it
+abbrev pub shown : Option ℕ → Plan Pinned → Plan Pinned
+shown None plan = plan
+shown (Some told) plan = record plan { aim = longest plan.aim }
+
+-- the machine's kind of a wish, or any put of a stream's name
+abbrev pub IsAimOf : Option ℕ → Wish → Kind → Type 0
+IsAimOf None w kind = IsKindOf w kind
+IsAimOf (Some told) w kind = aim_of_wish w ≡ longest (aim_of kind)
+
+-- a put of this aim is not too long
+abbrev pub IsShortAim : Aim → Type 0
+IsShortAim (ToPut name size) = size ≤ 2 ^ 22
+IsShortAim aim = Unit {0}
+
+-- a put of this aim has at least so many bytes
+abbrev pub IsPutFrom : ℕ → Aim → Type 0
+IsPutFrom least (ToPut name size) = least ≤ size
+IsPutFrom least aim = ⊥
+
+-- a put has at least the bytes of the stripes given so far
+abbrev pub HasTold : Setup → Option ℕ → Job → Type 0
+HasTold s None j = Unit {0}
+HasTold s (Some stripes) j = IsPutFrom (stripes * stripe_size s j.profile) (aim_of j.kind)
+
 -- a job of a core stands for a job of the machine
 pub record IsJobOf (s : Setup) (c : CoreJob) (j : Job) : Type 0 where
   pub number : c.number ≡ j.number
-  pub plan : plan_in c.plan ≡ seen_plan j
+  pub plan : plan_in c.plan ≡ shown c.told (seen_plan j)
+  pub told : HasTold s c.told j
+  pub within : IsTold s c
   pub place : c.place ≡ j.place
   pub unjudged : j.kind ≡ AuditJob → j.place < 4 → c.sums ≡ no_sums s
   pub judged : IsTrue (has_asked s j) → HasSums s j c.sums

@@ -1,5 +1,7 @@
 pub mod Wished
 pub mod View
+pub mod Streams
+pub mod Cut
 pub mod Rest
 pub mod Parts
 pub mod Coming

@@ -11,7 +11,9 @@
 --   starts_for w           == 1 for a put, which has a PutStart
 --   appends_for w          == how many appends it has
 --   admitted c w job       == the core in which the job runs
-use Rattle.std.specs.Prelude.{◌≡◌, ℕ, ◌+◌, ◌*◌, Bool, List, [], ◌∷◌, ◌++◌, length, replicate, sum_by, None}
+--   AreMore stripes old new == a job runs besides the old ones, with the next number, that was given so many
+--                             stripes
+use Rattle.std.specs.Prelude.{◌≡◌, ℕ, ◌+◌, ◌*◌, Bool, List, [], ◌∷◌, ◌++◌, length, replicate, sum_by, Option, None, Some}
 use Rattle.record_defs.specs.Records.{Setup}
 use Rattle.record_defs.specs.Table.{File, find_file}
 use Rattle.machine_defs.specs.Begins.{pins_by, due_number, due_flags, chosen}
@@ -25,7 +27,7 @@ use Rattle.vault_core.specs.declared.cursor.Cursor.TheVariants as at
 use Rattle.vault_core.specs.declared.job.Task.{Task}
 use Rattle.vault_core.specs.declared.job.Job.{Job}
 use Rattle.vault_core.specs.Wished.{aim_of_wish, profile_named}
-use Rattle.vault_core.specs.View.{CoreView, core_pins, flag_at}
+use Rattle.vault_core.specs.View.{CoreJob, CoreView, core_pins, flag_at, job_in}
 use Rattle.vault_core.specs.Parts.{core_job}
 use Rattle.vault_core.specs.Rest.{rewrites_from}
 use Rattle.vault_core.specs.Reserves.{sizes_of}
@@ -108,3 +110,11 @@ admitted c w job = record c {
   jobs = c.jobs ++ core_job job ∷ [];
   next_job = c.next_job + 1;
 }
+
+-- a job runs besides the old ones, with the next number
+pub record AreMore (stripes : Option ℕ) (old new : CoreView) : Type 0 where
+  pub job : CoreJob
+  pub jobs : new.jobs ≡ old.jobs ++ job ∷ []
+  pub number : job.number ≡ old.next_job
+  pub told : job.told ≡ stripes
+  pub here : job_in new.jobs old.next_job ≡ Some job

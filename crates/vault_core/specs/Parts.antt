@@ -11,8 +11,10 @@
 --   IsSteady n job            == a job as it is kept, for n providers, whatever its plan
 --   MayFinish n job           == a job is at the last move of an append
 --   IsJobKept s job           == a job as it is kept: from its cursor on stand the actions of its plan
+--   MayBegin told wish        == a job of this wish may begin, or a stream of the longest file that was given
+--                                no stripe
 --   IsCore a                  == a core as it is kept
-use Rattle.std.specs.Prelude.{◌≡◌, ℕ, ◌+◌, ◌<◌, ◌≤◌, ◌^◌, Bool, true, false, IsTrue, nat_lt, List, [], length, map, None, Some}
+use Rattle.std.specs.Prelude.{◌≡◌, ℕ, ◌+◌, ◌<◌, ◌≤◌, ◌^◌, Bool, true, false, IsTrue, nat_lt, List, [], length, map, Option, None, Some}
 use Rattle.std.specs.List.{All}
 use Rattle.column_defs.specs.Verdicts.{Sums}
 use Rattle.record_defs.specs.Records.{Setup, is_setup, all_profiles}
@@ -33,6 +35,7 @@ use Rattle.vault_core.specs.Rest.{rest_at, rest_of}
 use Rattle.vault_core.specs.Reserves.{Reserves}
 use Rattle.vault_core.specs.Coming.{most_of}
 use Rattle.vault_core.specs.Going.{listed_older, decides_on}
+use Rattle.vault_core.specs.Streams.{IsLongest, AreTold}
 use Rattle.vault_core.specs.Targets.{turns_for, targets_of, tasks_made}
 
 -- a cursor is at the first move of an append
@@ -63,8 +66,13 @@ sums_kept job = record { counts = counted job.counts; undecided = job.undecided 
 
 -- what a contract sees of a job
 abbrev pub core_job : Job → CoreJob
-core_job job =
-    record { number = job.number; plan = plan_kept job; place = job.place; sums = sums_kept job }
+core_job job = record {
+  number = job.number;
+  plan = plan_kept job;
+  place = job.place;
+  sums = sums_kept job;
+  told = job.told;
+}
 
 -- the setup of a core
 abbrev pub setup_kept : Inside → Setup
@@ -167,12 +175,18 @@ pub record IsJobKept (s : Setup) (job : Job) : Type 0 where
   pub fits : job.place + job.left < 2 ^ 64
   pub undecided : 0 < job.appends → job.older ≡ None
 
+-- a job of this wish may begin, or a stream of the longest file
+abbrev pub MayBegin : Option ℕ → Wish → Type 0
+MayBegin None w = Unit {0}
+MayBegin (Some stripes) w = (stripes ≡ 0) × IsLongest (aim_of_wish w)
+
 -- A core as it is kept: its setup is within its limits, the journal has room for all records of its jobs,
 -- the table for their PutStarts, the jobs have ascending numbers, and where an upgrade runs it is the only
 -- one.
 pub record IsCore (a : Inside) : Type 0 where
   pub set_up : IsTrue (is_setup (setup_kept a))
   pub kept : All (IsJobKept (setup_kept a)) a.jobs.items
+  pub told : AreTold (view_of a)
   pub few : length a.jobs.items ≤ 8
   pub begun : 9 ≤ a.end
   pub reserves : Reserves (view_of a)

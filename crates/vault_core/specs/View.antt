@@ -2,7 +2,7 @@
 --
 --   core_pins               == how pinned files are read
 --   CoreJob                 == a running job: its number, the plan of its actions, how many of them it has
---                              made, and the sums of an audit
+--                              made, the sums of an audit, and of an open stream the stripes given so far
 --   plan_in plan            == the plan, as the machine has it
 --   planned s plan          == its actions
 --   rest_in s j             == those that a job has not yet made
@@ -17,8 +17,17 @@
 --   flag_at flags j         == the flag of provider j; false past the end
 --   of_providers n          == a setup of so many providers, all else 0: the room of records and the steps
 --                              left hang on no more of it
-use Rattle.std.specs.List.{list_any}
-use Rattle.std.specs.Prelude.{◌≡◌, ℕ, ◌+◌, ◌≤◌, ◌==◌, Bool, true, false, length, List, [], ◌∷◌, Option, None, Some, drop, count_by, slice_index_or, if◌then◌else◌}
+--   wants_in c number       == the stripe that an open stream waits for, its first append and the stores of
+--                              all stripes given so far being done; None for every other job
+--   told_in jobs number     == how many stripes the open stream of a number was given; None for every other
+--                              job
+--   is_open_stream job      == a job is a stream whose last piece was not given
+--   IsStreamless c          == no stream is open
+--
+-- A stream is a put that is told the length of its file only with its last piece. While it is open its plan
+-- is that of the longest file.
+use Rattle.std.specs.List.{list_any, All}
+use Rattle.std.specs.Prelude.{◌≡◌, ℕ, ◌+◌, ◌*◌, ◌≤◌, ◌==◌, Bool, true, false, length, List, [], ◌∷◌, Option, None, Some, drop, count_by, slice_index_or, if◌then◌else◌, is_some}
 use Rattle.column_defs.specs.Verdicts.{Sums}
 use Rattle.record_defs.specs.Records.{Setup}
 use Rattle.machine_defs.specs.Jobs.{Aim}
@@ -46,6 +55,7 @@ pub record CoreJob : Type 0 where
   pub plan : CorePlan
   pub place : ℕ  -- in the list of the plan's actions
   pub sums : Sums
+  pub told : Option ℕ  -- how many stripes an open stream was given
 
 -- the flag of a provider
 abbrev pub flag_at : List Bool → ℕ → Bool
@@ -110,3 +120,35 @@ HasLoneUpgrade jobs = list_any is_upgrading jobs ≡ true → length jobs ≤ 1
 abbrev pub of_providers : ℕ → Setup
 of_providers n =
     record { n = n; l = 0; b = 0; profile = 0; rounds = 0; picks = 0; tolerance = 0; master = [] }
+
+-- the stripe that an open stream waits for, by its place and the stripes given so far
+abbrev pub wanted_at : Setup → ℕ → Option ℕ → Option ℕ
+wanted_at s place None = None
+wanted_at s place (Some stripes) = if place == 4 + stripes * s.n then Some stripes else None
+
+-- the same of a job, if it runs
+abbrev pub wanted_by : Setup → Option CoreJob → Option ℕ
+wanted_by s None = None
+wanted_by s (Some j) = wanted_at s j.place j.told
+
+-- the same of the job of a number
+abbrev pub wants_in : CoreView → ℕ → Option ℕ
+wants_in c number = wanted_by c.setup (job_in c.jobs number)
+
+-- how many stripes a job was given that is an open stream, if it runs
+abbrev pub told_by : Option CoreJob → Option ℕ
+told_by None = None
+told_by (Some j) = j.told
+
+-- the same of the job of a number
+abbrev pub told_in : List CoreJob → ℕ → Option ℕ
+told_in jobs number = told_by (job_in jobs number)
+
+-- a job, if it runs, is a stream whose last piece was not given
+abbrev pub is_open_stream : Option CoreJob → Bool
+is_open_stream None = false
+is_open_stream (Some j) = is_some j.told
+
+-- no stream is open
+abbrev pub IsStreamless : CoreView → Type 0
+IsStreamless c = All (λ (j : CoreJob). j.told ≡ None) c.jobs

@@ -1,16 +1,17 @@
 ghost use Rattle.std.specs.Prelude.{◌≡◌, ◌≢◌, ◌<◌, ◌≤◌, ◌+◌, ◌-◌, ◌^◌, ◌∷◌, ◌++◌, [], ℕ, length, sum_by, None, Some, OnOk, OnErr, IfErr, IfOk};
-ghost use Rattle.machine_defs.specs.Jobs.{Kind};
+ghost use Rattle.machine_defs.specs.Jobs.{Kind, aim_of};
 ghost use Rattle.machine_defs.specs.Events.{IsSpelledKind};
 ghost use Rattle.machine_defs.specs.States.{State};
 ghost use Rattle.machine_defs.specs.Begins.{refusal_of_begin};
 ghost use Rattle.vault_core.specs.declared.wish.BeginFault.TheVariants as fault;
-ghost use Rattle.vault_core.specs.Carried.{CoreIs, IsKindOf, refusal_of, begun};
+ghost use Rattle.vault_core.specs.Carried.{CoreIs, IsKindOf, IsAimOf, IsShortAim, refusal_of, begun};
 ghost use Rattle.record_defs.specs.Records.{largest_journal};
-ghost use Rattle.vault_core.specs.Parts.{core_job, IsJobKept};
+ghost use Rattle.vault_core.specs.Parts.{core_job, IsJobKept, MayBegin};
+ghost use Rattle.vault_core.specs.Streams.{IsTold};
 ghost use Rattle.vault_core.specs.Reserves.{reserved_of};
-ghost use Rattle.vault_core.specs.View.{HasLoneUpgrade};
+ghost use Rattle.vault_core.specs.View.{HasLoneUpgrade, told_in, IsStreamless};
 ghost use Rattle.vault_core.specs.Wished.{profile_named, IsShort};
-ghost use Rattle.vault_core.specs.Making.{starts_for, admitted};
+ghost use Rattle.vault_core.specs.Making.{starts_for, admitted, AreMore};
 
 use crate::job::Job;
 use crate::made::make_job;
@@ -36,11 +37,42 @@ impl Core {
             → refusal_of_begin 8 w kind (profile_named wish) ≡ Some (refusal_of why)) }
         ensures unchanged { OnErr result (self.new ≡ self.old) }
         ensures setup { self.new.setup ≡ self.old.setup }
+        ensures streams { IsStreamless self.old → IsStreamless self.new }
+        ensures told { (number : ℕ) → told_in self.new.jobs number ≡ told_in self.old.jobs number }
+    {
+        self.start_job(wish, None)
+    }
+
+    /// Begins a job, or a stream that stands for each put of its name of at most 2^22 bytes.
+    pub(crate) fn start_job(&mut self, wish: Wish, told: Option<u32>) -> Result<u32, BeginFault>
+        requires number { self.old.next_job < 2 ^ 32 - 1 }
+        requires size { IsShort wish }
+        requires told { MayBegin told wish }
+        ensures begun { (w : State) (kind : Kind) (moment : ℕ) → CoreIs self.old w → IsAimOf told wish kind
+            → IsShortAim (aim_of kind) → IsSpelledKind kind →
+            OnOk result (CoreIs self.new (begun w moment kind (profile_named wish))) }
+        ensures accepted { (w : State) (kind : Kind) → CoreIs self.old w → IsAimOf told wish kind
+            → IsShortAim (aim_of kind) →
+            OnOk result (refusal_of_begin 8 w kind (profile_named wish) ≡ None) }
+        ensures number { IfOk result (λ job. job ≡ self.old.next_job) }
+        ensures refused { (w : State) (kind : Kind) → CoreIs self.old w → IsAimOf told wish kind
+            → IsShortAim (aim_of kind) → IfErr result (λ why. why ≢ fault.Memory
+            → refusal_of_begin 8 w kind (profile_named wish) ≡ Some (refusal_of why)) }
+        ensures jobs { OnOk result (AreMore told self.old self.new) }
+        ensures unchanged { OnErr result (self.new ≡ self.old) }
+        ensures setup { self.new.setup ≡ self.old.setup }
     {
         if let Some(fault) = self.refusal(&wish) {
             return Err(fault);
         }
-        match make_job(self.alloc, &self.table, &self.setup, wish, self.next_job) {
+        match make_job(
+            self.alloc,
+            &self.table,
+            &self.setup,
+            wish,
+            told,
+            self.next_job,
+        ) {
             Ok(job) => self.admit(job),
             Err(_) => Err(BeginFault::Memory),
         }
@@ -56,6 +88,7 @@ impl Core {
             self.old.jobs
             + reserved_of self.old.table.version self.old.setup (core_job job) ≤ largest_journal }
         requires lone { HasLoneUpgrade (self.old.jobs ++ core_job job ∷ []) }
+        requires told { IsTold self.old.setup (core_job job) }
         ensures admitted { OnOk result (self.new ≡ admitted self.old job.wish job) }
         ensures number { IfOk result (λ number. number ≡ self.old.next_job) }
         ensures memory { IfErr result (λ why. why ≡ fault.Memory) }

@@ -11,7 +11,7 @@ ghost use Rattle.machine_defs.specs.States.{State};
 ghost use Rattle.machine_defs.specs.Machine.{Happens};
 ghost use Rattle.record_codec.specs.Entries.{counted, IsPadded};
 ghost use Rattle.vault_table.specs.Values.{file_of_entry, IsFoldOf};
-ghost use Rattle.vault_core.specs.View.{CoreJob};
+ghost use Rattle.vault_core.specs.View.{CoreJob, job_in, told_in, wanted_by, wants_in, IsStreamless};
 ghost use Rattle.vault_core.specs.Coming.{TakesReply, core_left, written_by};
 ghost use Rattle.vault_core.specs.Wished.{aim_of_wish};
 ghost use Rattle.vault_core.specs.Going.{listed_older};
@@ -43,15 +43,19 @@ fn pin(jobs: &[Job], object: u64) -> bool
 }
 
 impl Core {
-    /// Goes on by what came of a job's next action. Condition: `next` gave an action, and the reply is one
-    /// that it has.
+    /// Goes on by what came of a job's next action. Conditions: `next` gave an action, the reply is one that
+    /// it has, and the job is no stream that waits for a stripe.
     pub fn feed(&mut self, job: u32, reply: Reply)
-        requires { TakesReply self.old job reply }
+        requires reply { TakesReply self.old job reply }
+        requires given { wants_in self.old job ≡ None }
         ensures step { (w new : State) (outcome : Outcome) (moment : ℕ) → CoreIs self.old w
             → Happens 8 moment w (Step job) outcome new →
             IsReplyTo self.old job reply outcome new → CoreIs self.new new }
         ensures falls { core_left self.new job < core_left self.old job }
         ensures setup { self.new.setup ≡ self.old.setup }
+        ensures streams { IsStreamless self.old → IsStreamless self.new }
+        ensures told { (number : ℕ) (j : CoreJob) → job_in self.new.jobs number ≡ Some j
+            → j.told ≡ told_in self.old.jobs number }
     {
         let Some(place) = self.place_of(job) else {
             return;
@@ -104,7 +108,8 @@ impl Core {
 
     /// The job at a place has made its next action.
     fn advance(&mut self, place: usize)
-        requires { goes_plainly (first_at self.old place) ≡ true }
+        requires plain { goes_plainly (first_at self.old place) ≡ true }
+        requires given { wanted_by self.old.setup (slice_get self.old.jobs place) ≡ None }
         ensures moved { (j : CoreJob) → slice_get self.old.jobs place ≡ Some j
             → self.new ≡ with_at self.old place (stepped j) }
         ensures falls { (j : CoreJob) → slice_get self.old.jobs place ≡ Some j
@@ -120,6 +125,7 @@ impl Core {
         requires plain { goes_plainly (first_at self.old place) ≡ true }
         requires counts { counts.n ≡ self.old.setup.n }
         requires padded { IsPadded counts }
+        requires given { wanted_by self.old.setup (slice_get self.old.jobs place) ≡ None }
         ensures moved { (j : CoreJob) → slice_get self.old.jobs place ≡ Some j →
             self.new ≡ with_at self.old place
             (judged j (record { counts = counted counts; undecided = undecided })) }
@@ -148,7 +154,8 @@ impl Core {
 
     /// The append of the job at a place has begun: it draws its number.
     fn begin_append(&mut self, place: usize)
-        requires { first_at self.old place ≡ Some WriteBody }
+        requires begins { first_at self.old place ≡ Some WriteBody }
+        requires given { wanted_by self.old.setup (slice_get self.old.jobs place) ≡ None }
         ensures moved { (j : CoreJob) → slice_get self.old.jobs place ≡ Some j →
             self.new ≡ record (with_at self.old place
             (drawn j (number_drawn self.old.setup self.old.table j))) { append = Some j.number } }
@@ -201,12 +208,16 @@ impl Core {
 
     /// The append of the job at a place is done: its record is in effect.
     fn end_append(&mut self, place: usize)
-        requires { first_at self.old place ≡ Some SyncGate }
+        requires gate { first_at self.old place ≡ Some SyncGate }
+        requires given { wanted_by self.old.setup (slice_get self.old.jobs place) ≡ None }
         ensures gated { (j : CoreJob) (entry : EntryData) (rs : List EntryData)
             → slice_get self.old.jobs place ≡ Some j →
             written_by self.old.setup self.old.table j ≡ Some entry → IsFoldOf rs self.old.table
             → refused rs entry ≡ None →
             HasGated self.old place j entry rs self.new }
+        ensures streams { IsStreamless self.old → IsStreamless self.new }
+        ensures told { (number : ℕ) (j : CoreJob) → job_in self.new.jobs number ≡ Some j
+            → j.told ≡ told_in self.old.jobs number }
         ensures falls { (j : CoreJob) → slice_get self.old.jobs place ≡ Some j
             → core_left self.new j.number < core_left self.old j.number }
         ensures setup { self.new.setup ≡ self.old.setup }

@@ -25,7 +25,8 @@ pub struct Task {
 }
 
 /// A running job: the plan of its actions, and where it is among them. A put's own file is its one task. Of
-/// its appends so many have not ended; so many actions are made, and so many may be left at most.
+/// its appends so many have not ended; so many actions are made, and so many may be left at most. An open
+/// stream is a put of 2^22 bytes that was given so many stripes so far.
 #[derive(Drop)]
 pub struct Job {
     pub number: u32,
@@ -42,6 +43,7 @@ pub struct Job {
     pub left: u64,
     pub undecided: u32,
     pub counts: Counts,
+    pub told: Option<u32>,
 }
 
 /// What a job calls a provider for.

@@ -17,6 +17,7 @@ mod pinned;
 mod refusal;
 mod reply;
 mod room;
+mod stream;
 mod wish;
 
 pub use action::{Action, Next};

@@ -11,7 +11,7 @@ ghost use Rattle.machine_defs.specs.Refusals as refusal;
 ghost use Rattle.machine_defs.specs.Refusals.{first_refusal};
 ghost use Rattle.column_defs.specs.Verdicts.{Sums};
 ghost use Rattle.record_codec.specs.Entries.{entry_of, counted, HasSpelling, IsInGrammar, IsPadded};
-ghost use Rattle.vault_core.specs.View.{job_in, CoreJob};
+ghost use Rattle.vault_core.specs.View.{job_in, CoreJob, wants_in, is_open_stream};
 ghost use Rattle.vault_core.specs.Coming.{seen_next, waits_or_acts, next_in, left_in, entry_in, is_last_ask_of, called_provider, calls_disk};
 ghost use Rattle.vault_core.specs.Reserves.{Reserves};
 ghost use Rattle.vault_core.specs.Parts.{core_job, IsJobKept};
@@ -130,8 +130,9 @@ impl Core {
         }
     }
 
-    /// What comes next for a job.
+    /// What comes next for a job. Condition: it is no stream that waits for a stripe.
     pub fn next(&self, job: u32) -> Next
+        requires { wants_in self.now job ≡ None }
         ensures value { seen_next result ≡ next_in self.now job }
         ensures within { (j : ℕ) → called_provider (next_in self.now job) ≡ Some j → j < self.now.setup.n }
         ensures machine { (w : State) → CoreIs self.now w → IsNextOf w job result }
@@ -140,10 +141,11 @@ impl Core {
     }
 
     /// How many steps of a job may remain at most if nothing fails: a removal from each provider counts until
-    /// it is decided. None exactly where no running job has the number.
+    /// it is decided, and an open stream counts as a put of 2^22 bytes. None exactly where no running job has
+    /// the number.
     pub fn left(&self, job: u32) -> Option<u64>
         ensures value { result ≡ left_in self.now job }
-        ensures machine { (w : State) → CoreIs self.now w
+        ensures machine { (w : State) → CoreIs self.now w → is_open_stream (job_in self.now.jobs job) ≡ false
             → result ≡ option_map (most_left (setup_in w)) (job_of w.jobs job) }
         ensures some { IfSome result (λ left. 0 < left) }
     {
@@ -169,7 +171,8 @@ impl Core {
     pub fn entry(&self, job: u32) -> Option<Record>
         ensures value { option_map entry_of result ≡ entry_in self.now job }
         ensures there { calls_disk (next_in self.now job) ≡ true → IsSome result }
-        ensures machine { (w : State) → CoreIs self.now w → IsEntryOf w job (option_map entry_of result) }
+        ensures machine { (w : State) → CoreIs self.now w → wants_in self.now job ≡ None
+            → IsEntryOf w job (option_map entry_of result) }
         ensures spelled { IfSome result (λ entry. HasSpelling entry) }
         ensures in_grammar { IfSome result (λ entry. IsInGrammar entry) }
         ensures room { IfSome result (λ entry. self.now.end + (1 + record_size (entry_of entry)) ≤ 2 ^ 24) }

@@ -41,7 +41,7 @@ fn profile_at(number: u8) -> Profile
 }
 
 /// How many stripes a file has.
-fn stripes(setup: &Setup, file: &Pinned) -> u32
+pub fn stripes(setup: &Setup, file: &Pinned) -> u32
     requires primary { 1 ≤ setup.now.l }
     ensures { (key : List ℕ) → result ≡ stripes_in (with_master setup.now key) file.now }
 {
@@ -379,6 +379,7 @@ pub fn make_job(
     table: &Table,
     setup: &Setup,
     wish: Wish,
+    told: Option<u32>,
     number: u32,
 ) -> Result<Job, Memory>
     requires primary { 1 ≤ setup.now.l }
@@ -391,6 +392,7 @@ pub fn make_job(
     ensures made { (key : List ℕ) → IfOk result (λ job. IsMade table.now (with_master setup.now key) number
         wish job) }
     ensures kept { (key : List ℕ) → IfOk result (λ job. IsJobKept (with_master setup.now key) job) }
+    ensures told { IfOk result (λ job. job.told ≡ told) }
 {
     let due = table.due();
     let flagged = flags(&due, setup.tolerance);
@@ -419,5 +421,6 @@ pub fn make_job(
             n: setup.n,
             by: [0; 16],
         },
+        told,
     })
 }

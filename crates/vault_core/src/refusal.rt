@@ -1,14 +1,14 @@
 //! Why a job does not begin.
-ghost use Rattle.std.specs.Prelude.{◌≡◌, ◌≤◌, ◌+◌, ℕ, Some, None, if◌then◌else◌, length, sum_by, ◌∷◌};
+ghost use Rattle.std.specs.Prelude.{◌≡◌, ◌≤◌, ◌+◌, ℕ, Option, Some, None, if◌then◌else◌, length, sum_by, ◌∷◌};
 ghost use Rattle.std.specs.Option.{option_map};
 ghost use Rattle.std.specs.List.{list_any};
-ghost use Rattle.machine_defs.specs.Jobs.{Kind};
+ghost use Rattle.machine_defs.specs.Jobs.{Kind, aim_of};
 ghost use Rattle.machine_defs.specs.States.{State};
+ghost use Rattle.machine_defs.specs.Begins.{refusal_of_begin};
 ghost use Rattle.machine_defs.specs.Refusals.{first_refusal};
 ghost use Rattle.machine_defs.specs.Sights.{is_check, is_put_or_check, is_upgrade, is_name_among, is_busy, is_crowded_for, is_full, causes};
-ghost use Rattle.machine_defs.specs.Begins.{refusal_of_begin};
 ghost use Rattle.vault_core.specs.declared.job.Job.{Job as JobData};
-ghost use Rattle.vault_core.specs.Carried.{CoreIs, IsKindOf, refusal_of};
+ghost use Rattle.vault_core.specs.Carried.{CoreIs, IsAimOf, IsShortAim, refusal_of};
 ghost use Rattle.vault_core.specs.Wished.{aim_of_wish, profile_named, HasName, IsShort};
 ghost use Rattle.vault_core.specs.Reserves.{room_behind};
 ghost use Rattle.vault_core.specs.Refusing.{sight_in, aims_kept, puts_name, taken_names, put_refusal_in, word_refusal_in, refusal_in};
@@ -248,14 +248,14 @@ impl Core {
         None
     }
 
-    /// The first refusal that applies to a wish, which is that of the machine.
+    /// The first refusal that applies to a wish, or to a stream, which is that of the machine.
     pub(crate) fn refusal(&self, wish: &Wish) -> Option<BeginFault>
         ensures value { result ≡ refusal_in self.now wish.now }
         ensures named { HasName wish.now }
         ensures sight { IsShort wish.now → option_map refusal_of result
             ≡ first_refusal (causes 8 (sight_in self.now) (aim_of_wish wish.now) (profile_named wish.now)) }
-        ensures machine { (w : State) (kind : Kind) → CoreIs self.now w → IsKindOf wish.now kind
-            → IsShort wish.now →
+        ensures machine { (told : Option ℕ) (w : State) (kind : Kind) → CoreIs self.now w
+            → IsAimOf told wish.now kind → IsShort wish.now → IsShortAim (aim_of kind) →
             option_map refusal_of result ≡ refusal_of_begin 8 w kind (profile_named wish.now) }
     {
         read_name(wish);

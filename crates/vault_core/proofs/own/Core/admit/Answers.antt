@@ -4,6 +4,7 @@ use Rattle.record_defs.specs.Records.{largest_journal}
 use Rattle.vault_core.specs.declared.job.Job.{Job}
 use Rattle.vault_core.specs.View.{CoreView, HasLoneUpgrade}
 use Rattle.vault_core.specs.Parts.{core_job, IsJobKept}
+use Rattle.vault_core.specs.Streams.{IsTold}
 use Rattle.vault_core.specs.Reserves.{reserved_of}
 use Rattle.vault_core.proofs.Admitted.{admitted-core, admitted-view, fewer-than}
 use Rattle.vault_core.proofs.own.Core.admit.Goals as goal
@@ -25,6 +26,7 @@ invariant_of-self-2 c =
     (core_job c.args.job) ≤ largest_journal) (sym c.self.view_is) c.requires.room)
     (subst (λ (v : CoreView). HasLoneUpgrade (v.jobs ++ core_job c.args.job ∷ [])) (sym c.self.view_is)
     c.requires.lone)
+    (subst (λ (v : CoreView). IsTold v.setup (core_job c.args.job)) (sym c.self.view_is) c.requires.told)
 
 pub returns-clause-admitted : goal.returns-clause-admitted
 returns-clause-admitted c =

@@ -1,71 +1,22 @@
-use Rattle.std.proofs.Common.{◌≡◌, ◌∙◌, ap, sym, subst, ◌+◌, ◌≤◌, None, arith}
-use Rattle.std.specs.Prelude.{IsTrue, sum_by}
-use Rattle.std.specs.Option.{option_map}
-use Rattle.record_defs.specs.Records.{is_setup, largest_journal}
-use Rattle.machine_defs.specs.Begins.{refusal_of_begin}
-use Rattle.vault_core.specs.declared.wish.Wish.{Wish}
-use Rattle.vault_core.specs.View.{CoreView}
-use Rattle.vault_core.specs.Wished.{aim_of_wish, profile_named}
-use Rattle.vault_core.specs.Parts.{setup_kept, core_job, IsJobKept}
-use Rattle.vault_core.specs.Reserves.{Reserves, reserved_of}
-use Rattle.vault_core.specs.Carried.{CoreIs, refusal_of, begun}
-use Rattle.vault_core.specs.Making.{admitted, IsMade}
-use Rattle.vault_core.proofs.Admitted.{core-begun, own-left, own-known, made-room, room-left, few-left, lone-left, on_ok_then}
+use Rattle.vault_core.proofs.Admitted.{short-aim, begun-told}
 use Rattle.vault_core.proofs.own.Core.begin.Goals as goal
-use Rattle.vault_core.proofs.Gating.{providers}
 
-pub admit-requires-clause-room : goal.admit-requires-clause-room
-admit-requires-clause-room c =
-    let made = subst (λ (v : CoreView). IsMade v.table v.setup v.next_job c.args.wish c.in-Ok.job)
-    c.self.view_is (c.in-Ok.ensures.made c.self.inside.master.0) in
-    let e = made-room c.args.self.now.table c.args.self.now.setup c.args.self.now.next_job c.args.wish
-    c.in-Ok.job made (subst (λ (v : CoreView). IsJobKept v.setup c.in-Ok.job) c.self.view_is
-    (c.in-Ok.ensures.kept c.self.inside.master.0)) in
-    let l = room-left c.args.self.now c.args.wish (subst Reserves c.self.view_is c.self.invariant.reserves)
-    (sym c.in_default.is ∙ c.refusal.ensures.value) in
-    let whole : c.args.self.now.end + sum_by (reserved_of c.args.self.now.table.version c.args.self.now.setup)
-    c.args.self.now.jobs + reserved_of c.args.self.now.table.version c.args.self.now.setup
-    (core_job c.in-Ok.job) ≤ largest_journal = omega (arith, e, l) in
-    whole
+pub returns-clause-begun : goal.returns-clause-begun
+returns-clause-begun c = λ w kind moment is of spelled.
+    c.start_job.ensures.begun w kind moment is of (short-aim c.args.wish kind of c.requires.size) spelled
 
-pub admit-requires-clause-few : goal.admit-requires-clause-few
-admit-requires-clause-few c =
-    few-left c.args.self.now c.args.wish (sym c.in_default.is ∙ c.refusal.ensures.value)
+pub returns-clause-accepted : goal.returns-clause-accepted
+returns-clause-accepted c = λ w kind is of.
+    c.start_job.ensures.accepted w kind is of (short-aim c.args.wish kind of c.requires.size)
 
-pub admit-requires-clause-lone : goal.admit-requires-clause-lone
-admit-requires-clause-lone c =
-    lone-left c.args.self.now c.args.wish (core_job c.in-Ok.job)
-    (ap aim_of_wish (c.in-Ok.ensures.made c.self.inside.master.0).wish)
-    (sym c.in_default.is ∙ c.refusal.ensures.value)
+pub returns-clause-refused : goal.returns-clause-refused
+returns-clause-refused c = λ w kind is of.
+    c.start_job.ensures.refused w kind is of (short-aim c.args.wish kind of c.requires.size)
 
-pub returns-in-Ok-clause-begun : goal.returns-in-Ok-clause-begun
-returns-in-Ok-clause-begun c = λ w kind moment is of spelled.
-    let made = subst (λ (v : CoreView). IsMade v.table v.setup v.next_job c.args.wish c.in-Ok.job)
-    c.self.view_is (c.in-Ok.ensures.made c.self.inside.master.0) in
-    let bounds = providers c.args.self.now.setup
-    (subst (λ (v : CoreView). IsTrue (is_setup v.setup)) c.self.view_is c.self.invariant.set_up) in
-    let allowed : refusal_of_begin 8 w kind (profile_named c.args.wish) ≡ None = sym
-    (c.refusal.ensures.machine w kind is of c.requires.size)
-    ∙ ap (option_map refusal_of) c.in_default.is in
-    on_ok_then c.admit.result _ _
-    (λ (e : c.admit.new.self ≡ admitted c.args.self.now c.in-Ok.job.wish c.in-Ok.job).
-    subst (λ (v : CoreView). CoreIs v (begun w moment kind (profile_named c.args.wish)))
-    (sym (e ∙ ap (λ (v : Wish). admitted c.args.self.now v c.in-Ok.job) made.wish))
-    (core-begun c.args.self.now w kind moment c.args.wish c.in-Ok.job is of spelled
-    (λ p e. (let l = own-left c.args.self.now c.args.wish (sym c.in_default.is ∙ c.refusal.ensures.value) p e
-    in
-    omega (arith, l))) allowed bounds.1 made))
-    c.admit.ensures.admitted
+pub returns-clause-streams : goal.returns-clause-streams
+returns-clause-streams c = (begun-told c.start_job.result c.args.self.now c.start_job.new.self
+    c.start_job.ensures.jobs c.start_job.ensures.unchanged).0
 
-pub admit-requires-clause-next : goal.admit-requires-clause-next
-admit-requires-clause-next c =
-    (c.in-Ok.ensures.made c.self.inside.master.0).number ∙ ap (λ (v : CoreView). v.next_job) c.self.view_is
-
-pub admit-requires-clause-kept : goal.admit-requires-clause-kept
-admit-requires-clause-kept c = subst (λ (v : CoreView). IsJobKept v.setup c.in-Ok.job) c.self.view_is
-    (c.in-Ok.ensures.kept c.self.inside.master.0)
-
-pub make_job-requires-clause-known : goal.make_job-requires-clause-known
-make_job-requires-clause-known c = λ key.
-    own-known c.args.self.now (setup_kept c.self.inside) c.args.wish
-    (sym c.in_default.is ∙ c.refusal.ensures.value) c.self.invariant.set_up
+pub returns-clause-told : goal.returns-clause-told
+returns-clause-told c = (begun-told c.start_job.result c.args.self.now c.start_job.new.self
+    c.start_job.ensures.jobs c.start_job.ensures.unchanged).1

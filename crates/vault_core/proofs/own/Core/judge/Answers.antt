@@ -3,12 +3,14 @@ use Rattle.std.specs.Vec.{with_item}
 use Rattle.record_codec.specs.Entries.{counted}
 use Rattle.vault_core.specs.declared.job.Job.{Job}
 use Rattle.vault_core.specs.View.{CoreView, CoreJob}
+use Rattle.machine_defs.specs.Sights.{is_upgrade}
 use Rattle.vault_core.specs.Wished.{aim_of_wish}
 use Rattle.vault_core.specs.Parts.{setup_kept, core_job, view_of}
 use Rattle.vault_core.specs.Fed.{judged}
 use Rattle.vault_core.proofs.Goes.{left_some}
 use Rattle.vault_core.proofs.Kept.{other_core, jobs_set}
 use Rattle.vault_core.proofs.Moving.{plain_here, judged_here, went_judged, set_view_same}
+use Rattle.vault_core.proofs.Told.{told_went}
 use Rattle.vault_core.proofs.Falls.{placed_falls}
 use Rattle.vault_core.proofs.own.Core.judge.Goals as goal
 
@@ -47,7 +49,13 @@ invariant_of-self c =
     other_core c.self.inside (with_item c.self.inside.jobs c.args.place c.advance.new.self) c.args.place
     c.advance.new.self (core_job c.index_mut-job.result.now) (core_job c.advance.new.self)
     c.self.inside.append refl refl here.here (ap (λ (j : Job). j.number) c.advance.ensures.same)
-    (ap (λ (j : Job). aim_of_wish j.wish) c.advance.ensures.same) went.kept
+    (ap (λ (j : Job). is_upgrade (aim_of_wish j.wish)) c.advance.ensures.same) went.kept
+    (told_went c.self.inside c.args.self.now c.args.place c.index_mut-job.result.now c.advance.new.self
+    c.self.view_is c.self.invariant here.here c.requires.given
+    (ap (λ (j : Job). j.told) c.advance.ensures.same)
+    (ap (λ (j : Job). j.wish) c.advance.ensures.same)
+    (ap (λ (j : Job). j.profile) c.advance.ensures.same)
+    (ap (λ (j : Job). j.place) c.advance.ensures.same))
     went.room went.starts c.self.invariant
 
 pub returns-clause-moved : goal.returns-clause-moved
