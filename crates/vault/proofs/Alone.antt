@@ -24,6 +24,8 @@ use Rattle.vault.specs.declared.tasks.Running.{Running}
 use Rattle.vault.proofs.AtWork.{beside_sound}
 use Rattle.vault.proofs.Free.{none_run}
 use Rattle.vault.proofs.Ways.{setup_same, handed_same, stands_on}
+use Rattle.vault.specs.AtHand.{AreAtHand}
+use Rattle.machine_defs.proofs.JobLists.{found_none}
 
 -- ---- why nothing may run alone
 
@@ -115,16 +117,21 @@ drawn_stands v v' d w idle core keeps flight jobs S =
     (handed_same d.providers w (drawn w) S.devices.providers refl (λ j. refl))
     (subst (λ (c : CoreView). CoreIs c (drawn w)) (sym core) (core_drawn v.core w idle S.core)) keeps flight
     (subst (λ (items : List Running). AreRunning (setup_in w) items w.jobs) (sym jobs) S.jobs)
+    (subst (λ (c : CoreView). AreAtHand (setup_in w) c.jobs v'.jobs.items w.jobs) (sym core)
+    (subst (λ (items : List Running). AreAtHand (setup_in w) v.core.jobs items w.jobs) (sym jobs) S.streams))
 
 -- and goes on to be at work
 pub drawn_works : (v v' : Desk) → length v.core.jobs ≤ 0
     → v'.core ≡ record v.core { next_job = v.core.next_job + 1 } → KeepsAll v v' → v'.flight ≡ v.flight
     → v'.jobs.items ≡ v.jobs.items → IsAtWork v → IsAtWork v'
-drawn_works v v' few core keeps flight jobs at =
-    ∥∥₁_map at (λ x. (
+drawn_works v v' few core keeps flight jobs at = λ rest bytes.
+    ∥∥₁_map (at rest bytes) (λ x. (
       drawn x.0,
       x.1,
       x.2,
       drawn_stands v v' (devices None x.1 x.2) x.0
           (none_run v.core.setup v.core.jobs x.0.jobs x.3.core.jobs few) core keeps flight jobs x.3,
+      λ number stripes job told runs.
+          absurd (found_none x.0.jobs number job
+          (none_run v.core.setup v.core.jobs x.0.jobs x.3.core.jobs few) runs),
     ))

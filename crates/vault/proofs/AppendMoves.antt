@@ -150,7 +150,7 @@ module _ (v : Desk) (w : State) (holds : Option Cells) (faults number : ℕ) (ps
       let next = comes.machine w stands.core in
       let entry_now : IsEntryOf w number (Some first.entry) =
       subst (λ (o : Option Record). IsEntryOf w number o) first.given
-      (entry_machine v.core w number (entry_in v.core number) stands.core refl) in
+      (entry_machine v.core w number (entry_in v.core number) stands.core comes.wants refl) in
       record {
         entry = first.entry;
         given = first.given;
@@ -409,7 +409,7 @@ module _ (v : Desk) (w : State) (holds holds' : Option Cells) (faults faults' mo
       ∙ ap (λ (x : Append). Some x.entry)
       (one_of (record { job = job.number; entry = m.entry; moves = 1 }) a is))
       (beyond_of w.records m.entry f.append holds holds' m.appends beyond)
-      keeps fed
+      keeps fed comes.wants
   append_goes_on SyncBody comes move m v' g made beyond cause flight jobs keeps fed =
       let next = comes.machine w stands.core in
       let job = next.job in
@@ -433,7 +433,7 @@ module _ (v : Desk) (w : State) (holds holds' : Option Cells) (faults faults' mo
       (λ x is mine. a.3 ∙ ap (λ (y : Append). Some y.entry)
       (one_of (record a.0 { moves = a.0.moves + 1 }) x is))
       (beyond_of w.records a.0.entry f.append holds holds' a.4 beyond)
-      keeps fed
+      keeps fed comes.wants
   append_goes_on WriteGate comes move m v' g made beyond cause flight jobs keeps fed =
       let next = comes.machine w stands.core in
       let job = next.job in
@@ -458,7 +458,7 @@ module _ (v : Desk) (w : State) (holds holds' : Option Cells) (faults faults' mo
       (λ x is mine. a.3 ∙ ap (λ (y : Append). Some y.entry)
       (one_of (record a.0 { moves = a.0.moves + 1 }) x is))
       (beyond_of w.records a.0.entry f.append holds holds' a.4 beyond)
-      keeps fed
+      keeps fed comes.wants
   append_goes_on SyncGate comes move m v' g made beyond cause flight jobs keeps fed =
       absurd (let k = m.moves in let d = made.0 in let u = g.undone in omega (arith, k, d, u))
   append_goes_on (Store j object stripe) comes move m v' g made beyond cause flight jobs keeps fed =
@@ -505,7 +505,7 @@ module _ (v : Desk) (w : State) (holds holds' : Option Cells) (faults faults' mo
       })
       (λ x so mine. absurd (none_some x so))
       (beyond_of w.records a.0.entry f.append holds holds' a.4 beyond)
-      keeps fed
+      keeps fed comes.wants
   append_done WriteBody comes move m v' made beyond cause flight jobs keeps fed =
       absurd (let k = m.moves in let d = made.0 in omega (arith, k, d))
   append_done SyncBody comes move m v' made beyond cause flight jobs keeps fed =

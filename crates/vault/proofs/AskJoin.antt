@@ -63,7 +63,9 @@ use Rattle.vault.proofs.Fetched.{after}
 use Rattle.vault.proofs.Limits.{setup-picks}
 use Rattle.vault.proofs.Pins.{pin_by_id, among_is, pins_found, profile_found, core_job}
 use Rattle.vault.proofs.JobPlaces.{place_is, put_back}
-use Rattle.vault.proofs.Ways.{happens_by, setup_same, actions_same, handed_on, stands_on, entry_kept, same_beyond, at_place, working}
+use Rattle.vault.proofs.Ways.{happens_by, setup_same, actions_same, handed_on, stands_on, entry_kept, same_beyond, at_place, working, hands_goes}
+use Rattle.vault.specs.AtHand.{AreAtHand, hand_of}
+use Rattle.vault.proofs.CoreJobs.{shown_subject, shown_pins, audit_untold}
 
 -- ---- numbers
 
@@ -151,6 +153,8 @@ audit_of : (s : Setup) (job : Job) (tail : List Action) (k o r : ℕ) → IsAllo
     (t : Task) → IsTask s job (Ask k o r ∷ tail) t → AsksAt s job tail k o r t
 audit_of s job tail k o r allowed (task.Put t) is =
     absurd (subst (λ (x : Kind). IsAllowed s.n x (Ask k o r)) is.kind allowed)
+audit_of s job tail k o r allowed (task.Stream t) is =
+    absurd (subst (λ (x : Kind). IsAllowed s.n x (Ask k o r)) is.kind allowed)
 audit_of s job tail k o r allowed (task.Get t) is =
     absurd (subst (λ (x : Kind). IsAllowed s.n x (Ask k o r)) is.kind allowed)
 audit_of s job tail k o r allowed task.Drop is =
@@ -227,6 +231,7 @@ module _ (v : Desk) (w : State) (number k o r : ℕ) (it : IsAsking v w number k
       ap (λ (j : Option CoreJob). pin_of_job j o) it.in_core.1
       ∙ among_is it.in_core.0.plan.pins o
       ∙ (λ i. pin_by_id (it.in_core.2.plan i).pins (nx.id_is i))
+      ∙ ap (λ (l : List PinnedValue). pin_by_id l nx.x.file.id) (shown_pins it.in_core.0.told it.next.job)
       ∙ found
 
   -- its profile is the one under which the machine asks
@@ -292,6 +297,7 @@ module _ (v : Desk) (w : State) (number k o r : ℕ) (it : IsAsking v w number k
     q_number : q.number ≡ it.next.job.subject
     q_number = subst (λ (j : Option CoreJob). IsAuditNumber j q.number) it.in_core.1 put.number_is
         ∙ ap (λ (p : Plan PinnedValue). p.subject) it.in_core.2.plan
+        ∙ shown_subject it.in_core.0.told it.next.job
 
     q_n : q.file.shape.n ≡ (setup_in w).n
     q_n = ap (λ (x : ShapeValue). x.n) put.shape_is ∙ it.n_is
@@ -375,6 +381,7 @@ module _ (v : Desk) (w : State) (number k o r : ℕ) (it : IsAsking v w number k
       let s = setup_in w in
       let rest : rest_in v.core.setup it.in_core.0 ≡ Ask k o r ∷ after w job =
       rest-is v.core.setup it.in_core.0 job it.in_core.2
+      (audit_untold v.core.setup it.in_core.0.told job is.kind it.in_core.2.told)
       ∙ ap (λ (x : Setup). actions_left x job) it.setup_is ∙ it.left_is in
       let is_last : is_last_ask (Ask k o r ∷ after w job) ≡ true = ap is_last_ask (sym rest)
       ∙ sym (ap (is_last_ask_of v.core.setup) it.in_core.1) ∙ last in
@@ -456,6 +463,7 @@ module _ (v : Desk) (w : State) (holds : Option Cells) (faults moment number k o
           (y : Task) → Asked v.master.0 q k (task.Audit t) y symbol → AsksStill y symbol
       by_task t is (task.Audit u) takes = (u, refl, audit_on v w number k o r it t is q put u symbol takes)
       by_task t is (task.Put u) takes = absurd takes
+      by_task t is (task.Stream u) takes = absurd takes
       by_task t is (task.Get u) takes = absurd takes
       by_task t is task.Drop takes = absurd takes
       by_task t is (task.Repair u) takes = absurd takes
@@ -559,7 +567,7 @@ module _ (v : Desk) (w : State) (holds : Option Cells) (faults moment number k o
         task = subst (λ (l : List Action). IsTask (setup_in w) next_job l y.task) (sym tail_is)
             (subst (IsTask (setup_in w) next_job (after w job)) (sym u.1) u.2);
       } in
-      let core = fed w new More moment stands.core happens (record {
+      let core = fed.step w new More moment stands.core happens (record {
         tells = tells_more symbol y.task p' is_last told asked last_is tells;
         entry = λ b is mine. entry_kept v.core w number stands.core b is mine;
       }) in
@@ -574,7 +582,17 @@ module _ (v : Desk) (w : State) (holds : Option Cells) (faults moment number k o
             (record { records = refl; journal = refl; doubt = refl; append = refl; faults = refl; barred = refl })
             (subst (λ (l : List Provider). AreHanded l new) (sym ps_is)
             (handed_on ps w new k p' stands.devices.providers is_handed_in refl (λ j. refl)))
-            core keeps flight are;
+            core keeps flight are
+            (subst (λ (rs : List Running). AreAtHand (setup_in w) v'.core.jobs rs new.jobs) (sym jobs)
+            (hands_goes v v' w new number place x y job next_job stands.streams stands.core core fed.streams
+            it.next.runs mine at there refl (record {
+              wants = comes.wants;
+              number_is = same_number;
+              hand = ap hand_of u.1 ∙ sym (ap hand_of a.1);
+              kind = refl;
+              profile = refl;
+              place_is = refl;
+            })));
         heard = tt;
         beyond = λ ended. same_beyond new holds faults ps ps';
         torn = λ e. cc;

@@ -1,14 +1,14 @@
 -- What a desk at work stands for, whatever devices it was lent.
 use mathlib.Core.Bool.{Bool-set}
-use Rattle.std.proofs.Common.{◌≡◌, ℕ, ◌≤◌, List, length, get_or, Option, None, Result, refl, sym, ap, subst, ◌∙◌}
-use Rattle.std.specs.Prelude.{IsSome, is_some}
+use Rattle.std.proofs.Common.{◌≡◌, ◌⊎◌, ℕ, ◌*◌, ◌≤◌, List, [], length, get_or, Option, Some, None, Result, Ok, Err, refl, sym, ap, subst, ◌∙◌, inl, inr, arith}
+use Rattle.std.specs.Prelude.{IsSome, is_some, OnOk, OnErr}
 use Rattle.std.proofs.Math.Logic.{∥∥₁_elim, ∥∥₁_map}
 use Rattle.std.proofs.Math.Nat.{ℕ_set}
 use Rattle.std.proofs.lemmas.Option.{slice_get-get_or}
 use Rattle.device_defs.specs.Providers.{Provider}
 use Rattle.record_defs.specs.Records.{Setup}
 use Rattle.machine_defs.specs.Actions.{Action}
-use Rattle.machine_defs.specs.Jobs.{Kind}
+use Rattle.machine_defs.specs.Jobs.{Kind, Job, job_of}
 use Rattle.machine_defs.specs.States.{State, setup_in}
 use Rattle.state_laws.specs.Orders.{AreNumbered}
 use Rattle.state_laws.specs.Sound.{IsSound}
@@ -16,11 +16,24 @@ use Rattle.state_laws.proofs.Packs.{journal-same}
 use Rattle.vault_core.specs.declared.wish.BeginFault.{BeginFault}
 use Rattle.vault_open.specs.Devices.{Devices, devices}
 use Rattle.vault.specs.declared.desk.Desk.{Desk}
-use Rattle.vault.specs.Desks.{DeskStands, IsAtWork, DeskMakesBegin, Comes}
-use Rattle.vault.specs.Running.{place_in}
+use Rattle.vault.specs.Desks.{DeskStands, IsAtWork, DeskMakesBegin, Comes, EndsIn, HasEnds, DeskMakesStep}
+use Rattle.vault.specs.Running.{place_in, IsSameDesk}
 use Rattle.vault.specs.Tasks.{AreRunning}
 use Rattle.vault.proofs.JobPlaces.{place_is}
 use Rattle.vault.proofs.Ways.{setup_same, working}
+use Rattle.machine_defs.specs.Begins.{BeginsAt, beginning}
+use Rattle.machine_defs.specs.Events.{Outcome, Step}
+use Rattle.machine_defs.specs.Machine.{Happens}
+use Rattle.machine_defs.proofs.Changes.{Job_is, Changes}
+use Rattle.machine_defs.proofs.Events.{changes}
+use Rattle.machine_defs.proofs.JobLists.{found_more}
+use Rattle.vault_core.specs.Carried.{CoreIs}
+use Rattle.vault_core.specs.Streams.{stripe_size}
+use Rattle.vault_core.specs.View.{told_in}
+use Rattle.vault.specs.declared.turn.Turn.{Turn}
+use Rattle.vault.specs.AtHand.{AreAtHand, KeepsStreams}
+use Rattle.vault.specs.Outcomes.{begin_outcome, outcome_of}
+use Rattle.vault.proofs.Hands.{keeps_same, told_same, told_below}
 
 -- ---- from one state that a desk stands for
 
@@ -28,20 +41,72 @@ use Rattle.vault.proofs.Ways.{setup_same, working}
 pub by_work : {P : Type 0} → IsProp P → (v : Desk)
     → ((w : State) (faults : ℕ) (ps : List Provider) → DeskStands v (devices None faults ps) w → P)
     → IsAtWork v → P
-by_work prop v shows at = ∥∥₁_elim at prop (λ x. shows x.0 x.1 x.2 x.3)
+by_work prop v shows at = ∥∥₁_elim (at (λ number. []) (λ number. refl)) prop (λ x. shows x.0 x.1 x.2 x.3)
 
--- a desk that stands for a state over a disk that tells nothing is at work
+-- a desk that stands for a state over a disk that tells nothing, in which no stream is open, is at work
 pub works : (v : Desk) (w : State) (faults : ℕ) (ps : List Provider)
-    → DeskStands v (devices None faults ps) w → IsAtWork v
-works v w faults ps stands = ∣ (w, faults, ps, stands) ∣₁
+    → DeskStands v (devices None faults ps) w → ((rest : ℕ → List ℕ) → HasEnds v w rest) → IsAtWork v
+works v w faults ps stands ends = λ rest bytes. ∣ (w, faults, ps, stands, ends rest) ∣₁
+
+-- the jobs of a state that were there before, and one that began
+abbrev pub ComesFrom : State → State → Type 0
+ComesFrom w new =
+    (number : ℕ) (job : Job) → job_of new.jobs number ≡ Some job
+    → (number ≡ w.next_job) ⊎ ((before : Job) × (job_of w.jobs number ≡ Some before)
+    × (job.kind ≡ before.kind) × (job.profile ≡ before.profile))
+
+-- the files of open streams end as before
+pub ends_kept : (v v' : Desk) (w new : State) (rest : ℕ → List ℕ) → CoreIs v.core w → CoreIs v'.core new
+    → KeepsStreams v.core v'.core → ComesFrom w new → HasEnds v w rest → HasEnds v' new rest
+ends_kept v v' w new rest core core' keeps from ends number stripes job told runs =
+    let before : told_in v.core.jobs number ≡ Some stripes =
+    sym (told_same v.core v'.core new number job core' keeps runs) ∙ told in
+    let same : setup_in w ≡ setup_in new = sym core.setup ∙ sym keeps.setup ∙ core'.setup in
+    elim (from number job runs) [
+      | inl next ↦ absurd (let l = told_below v.core w number stripes core before in omega (arith, l, next))
+      | inr there ↦
+          subst (λ (s : Setup). EndsIn (stripes * stripe_size s job.profile) (rest number) job.kind) same
+          (subst (λ (p : ℕ). EndsIn (stripes * stripe_size (setup_in w) p) (rest number) job.kind)
+          (sym there.3)
+          (subst (EndsIn (stripes * stripe_size (setup_in w) (there.0).profile) (rest number)) (sym there.2)
+          (ends number stripes there.0 before there.1)))
+    ]
+
+-- a begin leaves each job as it was, and may bring one more
+begun_from : (w new : State) (moment : ℕ) (kind : Kind) (own : Option ℕ) (result : Result ℕ BeginFault)
+    → BeginsAt 8 moment w kind own (begin_outcome result) new → ComesFrom w new
+begun_from w new moment kind own (Ok job) begins number j runs =
+    elim (found_more w.jobs (beginning w moment kind own) number j
+    (ap (λ (x : State). job_of x.jobs number) (sym begins.3) ∙ runs)) [
+      | inl h ↦ inl h.0
+      | inr h ↦ inr (j, h, refl, refl)
+    ]
+begun_from w new moment kind own (Err why) begins number j runs =
+    inr (j, ap (λ (x : State). job_of x.jobs number) (sym begins.2) ∙ runs, refl, refl)
 
 -- and so is one that a begin left
 pub begun_works : (old new : Desk) (kind : Kind) (own : Option ℕ) (result : Result ℕ BeginFault)
+    → KeepsStreams old.core new.core
     → ((w : State) (d : Devices) (moment : ℕ) → DeskStands old d w
     → DeskMakesBegin w moment kind own result new d)
     → IsAtWork old → IsAtWork new
-begun_works old new kind own result makes at =
-    ∥∥₁_map at (λ x. (let m = makes x.0 (devices None x.1 x.2) 0 x.3 in (m.state, x.1, x.2, m.stands)))
+begun_works old new kind own result keeps makes at = λ rest bytes.
+    ∥∥₁_map (at rest bytes) (λ x.
+    let m = makes x.0 (devices None x.1 x.2) 0 x.3 in (
+      m.state,
+      x.1,
+      x.2,
+      m.stands,
+      ends_kept old new x.0 m.state rest x.3.core m.stands.core keeps
+          (begun_from x.0 m.state 0 kind own result m.begins) x.4,
+    ))
+
+-- what a begin keeps, whether it is refused or not
+pub begin_keeps : (old new : Desk) (result : Result ℕ BeginFault) → OnErr result (IsSameDesk old new)
+    → OnOk result (KeepsStreams old.core new.core) → KeepsStreams old.core new.core
+begin_keeps old new (Ok job) same keeps = keeps
+begin_keeps old new (Err why) same keeps =
+    subst (KeepsStreams old.core) (sym same.core) (keeps_same old.core)
 
 -- a job whose action comes next has its place
 pub place_there : (v : Desk) (number : ℕ) (action : Action) → Comes v.core number action → IsAtWork v
@@ -143,15 +208,55 @@ over_stands v w old faults older ps enough S =
       setup = same ∙ S.setup;
       shaped = S.shaped;
       jobs = subst (λ (s : Setup). AreRunning s v.jobs.items w.jobs) (sym same) S.jobs;
+      streams = subst (λ (s : Setup). AreAtHand s v.core.jobs v.jobs.items w.jobs) (sym same) S.streams;
       flight = S.flight;
     }
 
--- a desk at work stays so by what its devices, told of nothing, show of it
-pub works_on : (v v' : Desk) (faults faults' : ℕ) (ps ps' : List Provider) → v.setup.n ≤ length ps
+-- the files of its streams end as before
+ends_over : (v : Desk) (w : State) (faults : ℕ) (ps : List Provider) (rest : ℕ → List ℕ) → HasEnds v w rest
+    → HasEnds v (over w faults ps) rest
+ends_over v w faults ps rest ends number stripes job told runs =
+    subst (λ (s : Setup). EndsIn (stripes * stripe_size s job.profile) (rest number) job.kind)
+    (sym (setup_same w (over w faults ps) refl)) (ends number stripes job told runs)
+
+-- a step leaves each job what it is for
+stepped_from : (w new : State) (moment number : ℕ) (outcome : Outcome) → IsSound 8 w
+    → Happens 8 moment w (Step number) outcome new → ComesFrom w new
+stepped_from w new moment number outcome sound happens k job runs =
+    by_change (changes 8 moment w (Step number) outcome new
+    (record { idle = λ closed. (let i = sound.closed closed in (i.0, i.1)); lone = sound.lone }) happens)
+  where
+    by_job : Job_is 8 moment w new k job → (k ≡ w.next_job) ⊎ ((before : Job)
+        × (job_of w.jobs k ≡ Some before) × (job.kind ≡ before.kind) × (job.profile ≡ before.profile))
+    by_job (Job_is.kept there grown) = inr (job, there, refl, refl)
+    by_job (Job_is.begun kind profile is next free records) = inl next
+    by_job (Job_is.plain before action there next plain goes records stores) =
+        inr (before, there, goes.kind, goes.profile)
+    by_job (Job_is.drew before there next free is records) =
+        inr (before, there, ap (λ (j : Job). j.kind) is, ap (λ (j : Job). j.profile) is)
+    by_job (Job_is.finished before a there next flies mine is records none) =
+        inr (before, there, ap (λ (j : Job). j.kind) is, ap (λ (j : Job). j.profile) is)
+
+    by_change : Changes 8 moment w (Step number) outcome new → (k ≡ w.next_job) ⊎ ((before : Job)
+        × (job_of w.jobs k ≡ Some before) × (job.kind ≡ before.kind) × (job.profile ≡ before.profile))
+    by_change made = by_job (made.job k job runs)
+
+-- a desk at work stays so by a step, over devices that tell nothing
+pub works_on : (v v' : Desk) (faults faults' job : ℕ) (ps ps' : List Provider) (turn : Turn)
+    → v.setup.n ≤ length ps → KeepsStreams v.core v'.core
     → ((w : State) → DeskStands v (devices None faults ps) w
-    → (new : State) × DeskStands v' (devices None faults' ps') new)
+    → DeskMakesStep w 0 job turn v' (devices None faults ps) (devices None faults' ps'))
     → IsAtWork v → IsAtWork v'
-works_on v v' faults faults' ps ps' enough shows at =
-    ∥∥₁_map at (λ x.
-    let made = shows (over x.0 faults ps) (over_stands v x.0 x.1 faults x.2 ps enough x.3) in
-    (made.0, faults', ps', made.1))
+works_on v v' faults faults' job ps ps' turn enough keeps shows at = λ rest bytes.
+    ∥∥₁_map (at rest bytes) (λ x.
+    let w = over x.0 faults ps in
+    let stands = over_stands v x.0 x.1 faults x.2 ps enough x.3 in
+    let made = shows w stands in (
+      made.state,
+      faults',
+      ps',
+      made.stands,
+      ends_kept v v' w made.state rest stands.core made.stands.core keeps
+          (stepped_from w made.state 0 job (outcome_of turn) stands.core.sound made.happens)
+          (ends_over v x.0 faults ps rest x.4),
+    ))

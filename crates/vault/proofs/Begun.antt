@@ -1,5 +1,5 @@
 -- Begins, accepted and refused, and the states that a vault stands for after them.
-use Rattle.std.proofs.Common.{◌≡◌, inl, inr, ℕ, List, [], ◌∷◌, ◌++◌, Option, Some, None, Result, Ok, Err, refl, ap, sym, ◌∙◌, subst}
+use Rattle.std.proofs.Common.{◌≡◌, inl, inr, ℕ, List, [], ◌∷◌, ◌++◌, Option, Some, None, Result, Ok, Err, refl, ap, sym, ◌∙◌, subst, arith}
 use Rattle.std.specs.Prelude.{◌||◌, IsErr, IsErrOf, length, nat_le, not}
 use Rattle.record_defs.specs.Records.{Setup}
 use Rattle.machine_defs.specs.Actions.{actions_left}
@@ -21,6 +21,9 @@ use Rattle.vault.specs.Running.{KeepsAll}
 use Rattle.vault.specs.Desks.{DeskStands, DeskMakesBegin}
 use Rattle.vault.specs.Tasks.{IsTask, IsRunning, AreRunning}
 use Rattle.vault.proofs.Ways.{stands_on, handed_same}
+use Rattle.vault_core.specs.View.{CoreView, told_in}
+use Rattle.vault.specs.AtHand.{hand_of, HasAtHand, AreAtHand}
+use Rattle.vault.proofs.Hands.{told_below, hands_more}
 
 -- the causes of a get or a drop behind that of its name
 abbrev pub causes_of_name : State → Kind → List ℕ → List Cause
@@ -56,6 +59,15 @@ running-push s [] (k ∷ js) r j are is = absurd are
 running-push s (q ∷ rs) [] r j are is = absurd are
 running-push s (q ∷ rs) (k ∷ js) r j are is = (are.0, running-push s rs js r j are.1 is)
 
+-- a core was told of no job under the next number
+pub untold-next : (c : CoreView) (w : State) → CoreIs c w → told_in c.jobs w.next_job ≡ None
+untold-next c w is = by_value (told_in c.jobs w.next_job) refl
+  where
+    by_value : (o : Option ℕ) → told_in c.jobs w.next_job ≡ o → o ≡ None
+    by_value None told = refl
+    by_value (Some stripes) told =
+        absurd (let l = told_below c w w.next_job stripes is told in omega (arith, l))
+
 module _ (old new : Desk) (d : Devices) (w : State) (moment : ℕ) (kind : Kind) (own : Option ℕ)
     (stands : DeskStands old d w) where
   -- a begin that is accepted
@@ -63,9 +75,12 @@ module _ (old new : Desk) (d : Devices) (w : State) (moment : ℕ) (kind : Kind)
       refusal_of_begin 8 w kind own ≡ None → number ≡ old.core.next_job
       → IsTask (setup_in w) (beginning w moment kind own)
       (actions_left (setup_in w) (beginning w moment kind own)) task
+      → ((m : ℕ) → (m ≡ w.next_job → ⊥) → told_in new.core.jobs m ≡ told_in old.core.jobs m)
+      → (told : Option ℕ) → told_in new.core.jobs w.next_job ≡ told
+      → HasAtHand (setup_in w) told (hand_of task) (beginning w moment kind own)
       → new.jobs.items ≡ old.jobs.items ++ record { number = number; task = task } ∷ [] → KeepsAll old new →
       new.flight ≡ old.flight → DeskMakesBegin w moment kind own (Ok number) new d
-  admitted number task core accepted number_is is jobs keeps flight =
+  admitted number task core accepted number_is is others told told_is hand jobs keeps flight =
       let next : number ≡ w.next_job = number_is ∙ stands.core.next_job in
       record {
         state = begun w moment kind own;
@@ -79,7 +94,15 @@ module _ (old new : Desk) (d : Devices) (w : State) (moment : ℕ) (kind : Kind)
             (subst (λ (items : List Running). AreRunning (setup_in w) items
             (w.jobs ++ beginning w moment kind own ∷ [])) (sym jobs)
             (running-push (setup_in w) old.jobs.items w.jobs _ _ stands.jobs
-            (record { number = next; task = is })));
+            (record { number = next; task = is })))
+            (subst (λ (items : List Running). AreAtHand (setup_in w) new.core.jobs items
+            (w.jobs ++ beginning w moment kind own ∷ [])) (sym jobs)
+            (hands_more (setup_in w) old.core.jobs new.core.jobs old.jobs.items w.jobs
+            (record { number = number; task = task }) (beginning w moment kind own) w.next_job stands.jobs
+            stands.core.sound.numbered refl others
+            (subst (λ (o : Option ℕ). HasAtHand (setup_in w) o (hand_of task) (beginning w moment kind own))
+            (sym told_is) hand)
+            stands.streams));
       }
 
   -- a begin that is refused, and leaves the vault as it was

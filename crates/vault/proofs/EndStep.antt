@@ -1,9 +1,8 @@
 -- The end of a job is a step of the machine.
-use Rattle.std.proofs.Common.{◌≡◌, ℕ, zero, suc, ◌==◌, false, List, [], ◌∷◌, take, drop, Option, Some, None, refl, sym, ap, subst, ◌∙◌, inl, inr, arith}
+use Rattle.std.proofs.Common.{◌≡◌, ℕ, zero, suc, false, List, [], ◌∷◌, take, drop, Option, Some, None, refl, sym, ap, subst, ◌∙◌, arith}
 use Rattle.std.specs.Prelude.{slice_get, nat_lt, not, ◌&&◌}
 use Rattle.std.specs.List.{flat_map, AllZip}
 use Rattle.std.specs.Option.{option_map}
-use Rattle.std.proofs.lemmas.Bool.{cases_Bool}
 use Rattle.std.proofs.lemmas.Bool.{le-ltb}
 use Rattle.code_defs.specs.Points.{upto}
 use Rattle.column_defs.specs.Objects.{bytes_of_symbols}
@@ -15,11 +14,11 @@ use Rattle.machine_defs.specs.Events.{Ended}
 use Rattle.machine_defs.specs.Appends.{is_first_append}
 use Rattle.machine_defs.specs.Audits.{HasSums}
 use Rattle.machine_defs.specs.Given.{symbols_given}
-use Rattle.machine_defs.specs.Jobs.{Kind, GetJob, AuditJob, Pinned, Job, job_of, without_job}
+use Rattle.machine_defs.specs.Jobs.{Kind, GetJob, AuditJob, Pinned, Job, without_job}
 use Rattle.machine_defs.specs.Setups.{pinned_stripes}
 use Rattle.machine_defs.specs.States.{State, setup_in, ended}
 use Rattle.machine_defs.specs.Steps.{Ends, GotBytes, next_action, is_idle_drop}
-use Rattle.machine_defs.proofs.JobLists.{number_of, cond_true, cond_false, same_value}
+use Rattle.machine_defs.proofs.JobLists.{number_of, cond_false}
 use Rattle.record_codec.specs.declared.counts.Counts.{Counts}
 use Rattle.record_codec.specs.Entries.{counted}
 use Rattle.vault_core.specs.declared.pinned.Pinned.{Pinned as PinnedFile}
@@ -40,41 +39,10 @@ use Rattle.vault.specs.Outcomes.{machine_answer}
 use Rattle.vault.specs.Running.{place_in, IsStopped}
 use Rattle.vault.specs.Desks.{DeskStands, Comes, DeskMakesStep}
 use Rattle.vault.specs.Tasks.{IsTask}
+use Rattle.vault.proofs.CoreJobs.{CoreOf, core_of, shown_subject}
 use Rattle.vault.proofs.RemoveStep.{set_same}
 use Rattle.vault.proofs.Stops.{ends_by}
 use Rattle.vault.proofs.Ways.{at_place, handed_same}
-
--- ---- the job of the core
-
--- a job of the machine has its job in the core
-pub record CoreOf (s : Setup) (cs : List CoreJob) (k : ℕ) (j : Job) : Type 0 where
-  pub job : CoreJob
-  pub runs : job_in cs k ≡ Some job
-  pub is : IsJobOf s job j
-
--- a job of the machine has its job in the core
-pub core_of : (s : Setup) (cs : List CoreJob) (js : List Job) (k : ℕ) (j : Job) → AllZip (IsJobOf s) cs js →
-    job_of js k ≡ Some j → CoreOf s cs k j
-core_of s [] [] k j are runs = (let e : None ≡ Some j = runs in cc)
-core_of s [] (x ∷ js) k j are runs = absurd are
-core_of s (c ∷ cs) [] k j are runs = absurd are
-core_of s (c ∷ cs) (x ∷ js) k j are runs = elim (cases_Bool (x.number == k)) [
-  | inl t ↦ (
-      let same : x ≡ j = same_value _ x j (cond_true _ (Some x) (job_of js k) t) runs in
-      record {
-        job = c;
-        runs = cond_true (c.number == k) (Some c) (job_in cs k) (ap (λ (n : ℕ). n == k) are.0.number ∙ t);
-        is = subst (λ (y : Job). IsJobOf s c y) same are.0;
-      })
-  | inr f ↦ (
-      let more = core_of s cs js k j are.1 (sym (cond_false _ (Some x) (job_of js k) f) ∙ runs) in
-      record {
-        job = more.job;
-        runs = cond_false (c.number == k) (Some c) (job_in cs k) (ap (λ (n : ℕ). n == k) are.0.number ∙ f)
-            ∙ more.runs;
-        is = more.is;
-      })
-]
 
 -- ---- what is left at an end
 
@@ -125,6 +93,7 @@ module _ (w : State) (job : Job) (next : next_action w job ≡ Some End) where
   drawn_is : (c : CoreJob) → IsJobOf (setup_in w) c job → (subject : ℕ) → c.plan.subject ≡ subject →
       subject ≡ job.subject
   drawn_is c of subject drawn = sym drawn ∙ ap (λ (p : Plan PinnedFile). p.subject) of.plan
+      ∙ shown_subject c.told job
 
   -- what a job answers at its end is what the machine says
   ends : (c : CoreJob) → IsJobOf (setup_in w) c job → (subject undecided : ℕ) (counts : Counts) →
@@ -132,6 +101,8 @@ module _ (w : State) (job : Job) (next : next_action w job ≡ Some End) where
       → (t : Task) → IsTask (setup_in w) job (actions_left (setup_in w) job) t →
       Ends w job job.kind (machine_answer (answer_at_end t subject undecided counts))
   ends c of subject undecided counts drawn sums (task.Put t) is =
+      subst (λ (k : Kind). Ends w job k answers.Put) (sym is.kind) tt
+  ends c of subject undecided counts drawn sums (task.Stream t) is =
       subst (λ (k : Kind). Ends w job k answers.Put) (sym is.kind) tt
   ends c of subject undecided counts drawn sums (task.Get t) is =
       let whole : is.opened ≡ pinned_stripes (setup_in w) is.file =
@@ -162,6 +133,7 @@ module _ (w : State) (job : Job) (next : next_action w job ≡ Some End) where
 well : (number subject undecided : ℕ) (counts : Counts) (new : State) (t : Task) →
     Tells number reply.Done (Ended (machine_answer (answer_at_end t subject undecided counts))) new
 well number subject undecided counts new (task.Put t) = tt
+well number subject undecided counts new (task.Stream t) = tt
 well number subject undecided counts new (task.Get t) = tt
 well number subject undecided counts new task.Drop = tt
 well number subject undecided counts new (task.Audit t) = tt
@@ -172,6 +144,7 @@ well number subject undecided counts new task.Upgrade = tt
 no_fault : (t : Task) (subject undecided : ℕ) (counts : Counts) →
     machine_answer (answer_at_end t subject undecided counts) ≡ answers.DiskFault → ⊥
 no_fault (task.Put t) subject undecided counts e = cc
+no_fault (task.Stream t) subject undecided counts e = cc
 no_fault (task.Get t) subject undecided counts e = cc
 no_fault task.Drop subject undecided counts e = cc
 no_fault (task.Audit t) subject undecided counts e = cc

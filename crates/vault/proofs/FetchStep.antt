@@ -38,7 +38,7 @@ use Rattle.vault.proofs.Kits.{turned_is, bench_size, by_size, served, own_swappe
 use Rattle.vault.proofs.Allowed.{IsAllowed, next_allowed}
 use Rattle.vault.proofs.Fetched.{HasBench, none_fetched, order_after, count_before, left_is, after, room_for, runs_on, within}
 use Rattle.vault.proofs.Worked.{own_object}
-use Rattle.vault.proofs.Ways.{at_place, is_handed, handed_on, goes_on}
+use Rattle.vault.proofs.Ways.{at_place, is_handed, handed_on, goes_on, hands_alike}
 
 -- ---- the bench of the stripe in work
 
@@ -132,6 +132,7 @@ module _ (w : State) (job : Job) (k o s : ℕ) (next : next_action w job ≡ Som
   got : (t : Task) → IsTask (setup_in w) job (Fetch k o s ∷ after w job) t → HasBench w job k o s next t →
       IsTurned t
   got (task.Put t) is has = absurd (not_allowed (PutJob is.name t.bytes) is.kind)
+  got (task.Stream t) is has = absurd (not_allowed (PutJob is.name is.bytes) is.kind)
   got (task.Get t) is has = record {
     task = is;
     bench = tt;
@@ -151,11 +152,13 @@ module _ (w : State) (job : Job) (k o s : ℕ) (next : next_action w job ≡ Som
   first_turned (task.Repair t) (task.Repair u) first turns is =
       got (task.Repair u) (taken_up t u first turns is) (taken_is t u turns is)
   first_turned (task.Repair t) (task.Put u) first turns is = absurd (let e : ⊥ = cc in e)
+  first_turned (task.Repair t) (task.Stream u) first turns is = absurd (let e : ⊥ = cc in e)
   first_turned (task.Repair t) (task.Get u) first turns is = absurd (let e : ⊥ = cc in e)
   first_turned (task.Repair t) task.Drop first turns is = absurd (let e : ⊥ = cc in e)
   first_turned (task.Repair t) (task.Audit u) first turns is = absurd (let e : ⊥ = cc in e)
   first_turned (task.Repair t) task.Upgrade first turns is = absurd (let e : ⊥ = cc in e)
   first_turned (task.Put t) u first turns is = absurd (not_allowed (PutJob is.name t.bytes) is.kind)
+  first_turned (task.Stream t) u first turns is = absurd (not_allowed (PutJob is.name is.bytes) is.kind)
   first_turned (task.Get t) u first turns is = subst IsTurned (sym turns) (got (task.Get t) is tt)
   first_turned task.Drop u first turns is = absurd (not_allowed (DropJob is.name) is.kind)
   first_turned (task.Audit t) u first turns is = absurd (not_allowed AuditJob is.kind)
@@ -163,6 +166,7 @@ module _ (w : State) (job : Job) (k o s : ℕ) (next : next_action w job ≡ Som
 
   later_turned : (t : Task) → (k ≡ 0 → ⊥) → IsTask (setup_in w) job (Fetch k o s ∷ after w job) t → IsTurned t
   later_turned (task.Put t) later is = absurd (not_allowed (PutJob is.name t.bytes) is.kind)
+  later_turned (task.Stream t) later is = absurd (not_allowed (PutJob is.name is.bytes) is.kind)
   later_turned (task.Get t) later is = got (task.Get t) is tt
   later_turned task.Drop later is = absurd (not_allowed (DropJob is.name) is.kind)
   later_turned (task.Audit t) later is = absurd (not_allowed AuditJob is.kind)
@@ -233,13 +237,22 @@ module _ (v : Desk) (w : State) (holds : Option Cells) (faults moment number k o
           seen
           (subst (λ (m : ℕ). Fetches m o s p (given_of found block) q)
           turned.size fetches) in
-          goes_on v v' w new holds faults moment number place ps ps' (Fetch k o s) r' next_job stands coming
+          let on = runs_on w job k o s coming.comes m r' fetch found block runs_turned number_is fetch_is takes
+          turned.bench in
+          goes_on v v' w new holds faults moment number place ps ps' (Fetch k o s) r r' next_job stands coming
           (given_of found block, (q, call, refl))
           (record { records = refl; journal = refl; doubt = refl; append = refl; faults = refl; barred = refl })
           refl refl
-          (runs_on w job k o s coming.comes m r' fetch found block runs_turned number_is fetch_is takes
-          turned.bench)
-          at jobs
+          on at there jobs
           (subst (λ (l : List Provider). Rattle.opening_defs.specs.Opened.AreHanded l new) (sym ps_is)
           (handed_on ps w new k q stands.devices.providers provider_there refl (λ j. refl)))
           keeps flight fed
+          (record {
+            wants = comes.wants;
+            number_is = number_is ∙ same_number;
+            hand = hands_alike w job next_job (Fetch k o s) r r' coming.comes (λ n name bytes no. no) refl runs
+                on;
+            kind = refl;
+            profile = refl;
+            place_is = refl;
+          })

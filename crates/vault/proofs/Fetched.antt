@@ -284,6 +284,7 @@ module _ (w : State) (job : Job) (k o s : ℕ) (next : next_action w job ≡ Som
 
       by_task : (t : Task) → IsTask (setup_in w) job (Fetch k o s ∷ after w job) t → HasRoomFor t
       by_task (task.Put t) is = absurd (not_allowed (PutJob is.name t.bytes) is.kind)
+      by_task (task.Stream t) is = absurd (not_allowed (PutJob is.name is.bytes) is.kind)
       by_task (task.Get t) is = record {
         fetches = omega (arith, is.room_fetches, fetches_are);
         blocks = record {
@@ -351,20 +352,7 @@ module _ (w : State) (job : Job) (k o s : ℕ) (next : next_action w job ≡ Som
           subst (λ (x : RepairTask). IsRepair (setup_in w) x
           (advanced_with job (Fetched k o s (given_of found block))) (after w job)) (sym takes.0)
           (repair_after (setup_in w) job k o s (after w job) t u.blocks found block is has takes.1)
-      by_task (task.Get t) (task.Repair u) is takes has = absurd takes
-      by_task (task.Get t) (task.Put u) is takes has = absurd takes
-      by_task (task.Get t) task.Drop is takes has = absurd takes
-      by_task (task.Get t) task.Upgrade is takes has = absurd takes
-      by_task (task.Get t) (task.Audit u) is takes has = absurd takes
-      by_task (task.Repair t) (task.Get u) is takes has = absurd takes
-      by_task (task.Repair t) (task.Put u) is takes has = absurd takes
-      by_task (task.Repair t) task.Drop is takes has = absurd takes
-      by_task (task.Repair t) task.Upgrade is takes has = absurd takes
-      by_task (task.Repair t) (task.Audit u) is takes has = absurd takes
-      by_task (task.Put t) u is takes has = absurd takes
-      by_task task.Drop u is takes has = absurd takes
-      by_task (task.Audit t) u is takes has = absurd takes
-      by_task task.Upgrade u is takes has = absurd takes
+      by_task t u is takes has = absurd takes
 
   -- the provider is one of the setup's
   pub within : k < (setup_in w).n

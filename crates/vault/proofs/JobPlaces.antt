@@ -1,5 +1,5 @@
 -- Running jobs by their numbers, beside the jobs of the machine.
-use Rattle.std.proofs.Common.{◌≡◌, ℕ, suc, ◌+◌, ◌<◌, ◌==◌, get_or, true, false, cond, List, [], ◌∷◌, length, Option, Some, None, refl, sym, ap, subst, ◌∙◌, inl, inr, arith, zero-add, add-zero}
+use Rattle.std.proofs.Common.{◌≡◌, ℕ, zero, suc, ◌+◌, ◌<◌, ◌==◌, get_or, true, false, cond, List, [], ◌∷◌, length, Option, Some, None, refl, sym, ap, subst, ◌∙◌, inl, inr, arith, zero-add, add-zero}
 use Rattle.std.specs.Prelude.{slice_get, slice_set}
 use Rattle.std.specs.List.{remove, position_from}
 use Rattle.std.specs.Option.{option_map}
@@ -101,7 +101,7 @@ found s (r ∷ rs) (x ∷ js) k j are runs = elim (cases_Bool (x.number == k)) [
 none_at_none : {X : Type 0} (p : ℕ) → None ≡ Some p → X
 none_at_none p e = absurd cc
 
-before : (o : Option ℕ) (p : ℕ) → option_map suc o ≡ Some p → (q : ℕ) × (o ≡ Some q) × (p ≡ suc q)
+pub before : (o : Option ℕ) (p : ℕ) → option_map suc o ≡ Some p → (q : ℕ) × (o ≡ Some q) × (p ≡ suc q)
 before None p e = none_at_none p e
 before (Some q) p e = (q, refl, (let same : suc q ≡ p = cc in sym same))
 
@@ -160,6 +160,17 @@ taken_out s (r ∷ rs) (x ∷ js) low next k p numbered are at = elim (cases_Boo
 ]
 
 -- ---- what stands at a place
+
+-- another job of the same number at a place
+pub at_set : (rs : List Running) (k p : ℕ) (r r' : Running) → slice_get rs p ≡ Some r → r'.number ≡ r.number →
+    at_number (slice_set rs p r') k ≡ at_number rs k
+at_set [] k p r r' there same = refl
+at_set (x ∷ rs) k zero r r' there same =
+    let number : r'.number ≡ x.number = same
+    ∙ (let e : Some x ≡ Some r = there in let f : x ≡ r = cc in ap (λ (y : Running). y.number) (sym f)) in
+    ap (λ (n : ℕ). cond (n == k) (Some 0) (option_map suc (at_number rs k))) number
+at_set (x ∷ rs) k (suc p) r r' there same =
+    ap (λ (o : Option ℕ). cond (x.number == k) (Some 0) (option_map suc o)) (at_set rs k p r r' there same)
 
 -- a place that was found is there
 pub item_at : (rs : List Running) (k p : ℕ) (r : Running) → place_in rs k ≡ Some p → r ≡ get_or rs p r →

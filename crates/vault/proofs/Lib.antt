@@ -2,6 +2,10 @@ pub mod Unpacked
 pub mod Opened
 pub mod Limits
 pub mod JobPlaces
+pub mod CoreJobs
+pub mod Hands
+pub mod StoredStripes
+pub mod Pieces
 pub mod RunningJobs
 pub mod Ways
 pub mod Allowed
@@ -9,6 +13,7 @@ pub mod Fetched
 pub mod FetchStep
 pub mod RemoveStep
 pub mod Begun
+pub mod Refused
 pub mod BenchLemmas
 pub mod Kits
 pub mod Pins
@@ -42,3 +47,5 @@ pub mod Free
 pub mod Alone
 pub mod Replaced
 pub mod Scrubbed
+pub mod GivenStripes
+pub mod Streams

@@ -45,7 +45,10 @@ use Rattle.vault.proofs.Unpacked.{unpacked-core}
 use Rattle.vault.proofs.JobPlaces.{place_is, put_back}
 use Rattle.vault.proofs.Moving.{IsMove, moved_on, move_runs}
 use Rattle.vault.proofs.Stops.{IsAside, is_left}
-use Rattle.vault.proofs.Ways.{happens_by, shaped_on, working}
+use Rattle.vault.proofs.Ways.{happens_by, shaped_on, working, hands_goes}
+use Rattle.vault_core.specs.View.{wants_in}
+use Rattle.vault.specs.AtHand.{AreAtHand}
+use Rattle.vault.proofs.Hands.{hands_without}
 
 -- ---- the state after
 
@@ -62,8 +65,9 @@ pub record IsLeft (v' : Desk) (w new : State) (holds : Option Cells) (count : �
 stands_left : (v v' v2 : Desk) (w new : State) (holds holds' : Option Cells) (faults faults' : ℕ)
     (ps : List Provider) → DeskStands v (devices holds faults ps) w → IsLeft v' w new holds' faults' ps
     → CoreIs v2.core new → KeepsAll v v2 → v2.flight ≡ v'.flight →
-    AreRunning (setup_in w) v2.jobs.items new.jobs → DeskStands v2 (devices holds' faults' ps) new
-stands_left v v' v2 w new holds holds' faults faults' ps stands left core keeps flight jobs = record {
+    AreRunning (setup_in w) v2.jobs.items new.jobs →
+    AreAtHand (setup_in w) v2.core.jobs v2.jobs.items new.jobs → DeskStands v2 (devices holds' faults' ps) new
+stands_left v v' v2 w new holds holds' faults faults' ps stands left core keeps flight jobs streams = record {
   devices = record {
     images = images-first holds' new (unpacked-core v2.core new core left.appended) left.images;
     faults = left.faults;
@@ -74,6 +78,7 @@ stands_left v v' v2 w new holds holds' faults faults' ps stands left core keeps 
   setup = left.setup ∙ stands.setup ∙ sym (λ i. with_master (keeps.setup i) (keeps.master i).0);
   shaped = shaped_on v v2 keeps stands.shaped;
   jobs = subst (λ (s : Setup). AreRunning s v2.jobs.items new.jobs) (sym left.setup) jobs;
+  streams = subst (λ (s : Setup). AreAtHand s v2.core.jobs v2.jobs.items new.jobs) (sym left.setup) streams;
   flight = λ free. subst (λ (f : Option Flight). IsFlight f new.append new.records holds') (sym flight)
       (left.flight free);
 }
@@ -94,16 +99,16 @@ pub moves_on : (v v' : Desk) (w new : State) (holds holds' : Option Cells) (faul
     IsLeft v' w new holds' faults' ps
     → ((a : Append) → new.append ≡ Some a → a.job ≡ number → entry_in v.core number ≡ Some a.entry)
     → IsSameBeyond new (devices holds faults ps) (devices holds' faults' ps) → KeepsAll v v' →
-    IsFed v.core number reply.Done v'.core
+    IsFed v.core number reply.Done v'.core → wants_in v.core number ≡ None
     → DeskMakesStep w moment number turn.More v' (devices holds faults ps) (devices holds' faults' ps)
-moves_on v v' w new holds holds' faults faults' moment number ps action subject older stands next move kept acts jobs same left entry beyond keeps fed =
+moves_on v v' w new holds holds' faults faults' moment number ps action subject older stands next move kept acts jobs same left entry beyond keeps fed wants =
     let f = working v (devices holds faults ps) w number action stands next in
     let j = moved_on next.job subject older in
     let running = move_runs w next.job action subject older f.running move next.comes kept f.is in
     let happens = happens_by w new moment number action More stands.core.is_open stands.core.none_alone next
     acts in
     let mine : j.number ≡ number = number_of w.jobs number next.job next.runs in
-    let core = fed w new More moment stands.core happens (record { tells = tt; entry = entry }) in
+    let core = fed.step w new More moment stands.core happens (record { tells = tt; entry = entry }) in
     let are : AreRunning (setup_in w) v'.jobs.items new.jobs =
     subst (λ (js : List Job). AreRunning (setup_in w) v'.jobs.items js) (sym jobs)
     (subst (λ (rs : List Running). AreRunning (setup_in w) rs (with_job w.jobs j))
@@ -112,7 +117,18 @@ moves_on v v' w new holds holds' faults faults' moment number ps action subject 
     record {
       state = new;
       happens = happens;
-      stands = stands_left v v' v' w new holds holds' faults faults' ps stands left core keeps refl are;
+      stands = stands_left v v' v' w new holds holds' faults faults' ps stands left core keeps refl are
+          (subst (λ (rs : List Running). AreAtHand (setup_in w) v'.core.jobs rs new.jobs)
+          (set_same v.jobs.items f.place f.running f.there ∙ sym same)
+          (hands_goes v v' w new number f.place f.running f.running next.job j stands.streams stands.core core
+          fed.streams next.runs mine (place_is v.jobs.items number ∙ f.at) f.there jobs (record {
+            wants = wants;
+            number_is = refl;
+            hand = refl;
+            kind = refl;
+            profile = refl;
+            place_is = refl;
+          })));
       heard = tt;
       beyond = λ on. beyond;
       torn = λ e. cc;
@@ -147,7 +163,7 @@ moves_end v v1 v2 w new holds holds' faults faults' moment number ps action repl
     next at f.there aside v2 reply answer t stopped in
     let happens = happens_by w new moment number action
     (Ended (machine_answer answer)) stands.core.is_open stands.core.none_alone next acts in
-    let core = gone.fed w new (Ended (machine_answer answer)) moment stands.core happens
+    let core = gone.fed.step w new (Ended (machine_answer answer)) moment stands.core happens
     (record {
       tells = tells;
       entry = λ a is mine. (let e : None ≡ Some a = sym none ∙ is in absurd (none_some a e));
@@ -165,7 +181,9 @@ moves_end v v1 v2 w new holds holds' faults faults' moment number ps action repl
       state = new;
       happens = happens;
       stands = stands_left v v1 v2 w new holds holds' faults faults' ps stands left core keeps2 stopped.flight
-          are;
+          are
+          (hands_without (setup_in w) v.core v2.core v.jobs.items w.jobs stands.streams new core
+          gone.fed.streams number f.place f.running f.at f.there v2.jobs.items gone.removed jobs);
       heard = gone.heard_is;
       beyond = beyond;
       torn = torn;

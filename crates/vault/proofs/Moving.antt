@@ -218,6 +218,8 @@ move_runs w job a subject older r move next kept running =
         IsTask (setup_in w) (moved_on job subject older)
         (actions_left (setup_in w) (moved_on job subject older)) t
     by_task (task.Put t) is = record { name = is.name; kind = is.kind; bench = is.bench }
+    by_task (task.Stream t) is =
+        record { name = is.name; bytes = is.bytes; kind = is.kind; bench = is.bench; rows = is.rows }
     by_task (task.Get t) is =
         absurd (no_get (setup_in w).n is.name a move
         (subst (λ (x : Kind). IsAllowed (setup_in w).n x a) is.kind (next_allowed w job a next)))

@@ -30,6 +30,7 @@ use Rattle.vault.specs.Desks.{DeskStands, IsAtWork, DeskCarries}
 use Rattle.vault.specs.Fresh.{IsFreshDesk}
 use Rattle.vault.proofs.AtWork.{works}
 use Rattle.vault_open.proofs.FirstVersion.{FirstStands, images-first}
+use Rattle.machine_defs.proofs.JobLists.{found_none}
 
 module _ (told now : Option Cells) (rs : List Record) (store : Store) (first : ℕ) (v : Desk)
     (read : IsRead told rs) (is : IsStoreOf store rs now) (fresh : IsFreshDesk v store first) where
@@ -94,6 +95,7 @@ module _ (told now : Option Cells) (rs : List Record) (store : Store) (first : �
       setup = in_effect ∙ ap setup_or_none fresh.setup;
       shaped = fresh.shaped;
       jobs = rw (fresh.jobs, j.at_rest.rest.idle.0) tt;
+      streams = λ number t job tasks runs. absurd (found_none w.jobs number job j.at_rest.rest.idle.0 runs);
       flight = (λ unbarred. rw (fresh.flight, j.at_rest.rest.idle.1, j.records) is.closed);
     }
 
@@ -135,6 +137,7 @@ fresh_works told now rs store first v read is fresh =
       faults_are = refl;
       handed = record { count = refl; each = each };
     }))
+    (λ rest number stripes job told runs. absurd (found_none w.jobs number job rests.rest.idle.0 runs))
   where
     n : ℕ
     n = (setup_or_none (setup_of rs)).n

@@ -18,6 +18,7 @@ use Rattle.vault_core.specs.declared.pinned.Pinned.{Pinned as PinnedValue}
 use Rattle.vault.specs.Asking.{pin_at, pin_among, pin_of_job, pin_in, profile_or}
 use Rattle.vault.proofs.Asks.{above, each_both}
 use Rattle.vault.proofs.JobPlaces.{one_further, from_zero}
+use Rattle.vault.proofs.CoreJobs.{shown_pins}
 
 -- ---- the file of a number among those of a job
 
@@ -116,6 +117,7 @@ pin_is c w number o job is runs =
     let j = core_job c.setup c.jobs w.jobs number job is.jobs runs in
     ap (λ (x : Option CoreJob). pin_of_job x o) j.1
     ∙ ap (λ (p : Plan PinnedValue). pin_among p.pins o) j.2.plan
+    ∙ ap (λ (l : List PinnedValue). pin_among l o) (shown_pins j.0.told job)
     ∙ among_is (map pin_of job.pinned) o
 
 -- so it knows the profile of a file as the machine does

@@ -3,6 +3,7 @@ use Rattle.std.proofs.Common.{ℕ}
 use Rattle.std.proofs.Props.{props}
 use Rattle.vault.specs.declared.tasks.Task.{Task}
 use Rattle.vault.specs.declared.tasks.Task.TheVariants as task
+use Rattle.vault.specs.AtHand.{IsStreaming}
 use Rattle.vault.specs.Asking.{MayAsk, MayTell}
 use Rattle.vault.specs.Fetching.{HasRoomFor}
 use Rattle.vault.specs.Opening.{CanWork}
@@ -17,6 +18,7 @@ room_prop t = hlevel props
 -- it stores on this provider
 pub storer_prop : (t : Task) (j : ℕ) → IsProp (IsStorer t j)
 storer_prop (task.Put t) j = hlevel props
+storer_prop (task.Stream t) j = hlevel props
 storer_prop (task.Repair t) j = hlevel props
 storer_prop t j = hlevel props
 
@@ -35,3 +37,8 @@ ask_prop n k t = hlevel props
 pub tell_prop : (n : ℕ) (t : Task) → IsProp (MayTell n t)
 tell_prop n (task.Audit t) = hlevel props
 tell_prop n t = hlevel props
+
+-- it is that of a stream
+pub streaming_prop : (t : Task) → IsProp (IsStreaming t)
+streaming_prop (task.Stream t) = hlevel props
+streaming_prop t = hlevel props

@@ -48,6 +48,8 @@ module _ (w : State) (job : Job) (k o : ℕ) (next : next_action w job ≡ Some 
       by_task : (t : Task) → IsTask (setup_in w) job (actions_left (setup_in w) job) t →
           IsTask (setup_in w) (advanced job) (actions_left (setup_in w) (advanced job)) t
       by_task (task.Put t) is = record { name = is.name; kind = is.kind; bench = is.bench }
+      by_task (task.Stream t) is =
+          record { name = is.name; bytes = is.bytes; kind = is.kind; bench = is.bench; rows = is.rows }
       by_task (task.Get t) is = absurd (not_allowed (GetJob is.name) is.kind)
       by_task task.Drop is = record { name = is.name; kind = is.kind }
       by_task (task.Audit t) is = absurd (not_allowed AuditJob is.kind)
@@ -83,14 +85,22 @@ module _ (v : Desk) (w : State) (holds : Option Cells) (faults moment number k o
       let seen : p ≡ w.providers k =
       (let e : Some p ≡ Some (w.providers k) = sym p_is ∙ stands.devices.providers.each k provider_there in
       cc) in
-      goes_on v v' w new holds faults moment number f.place ps ps' (Remove k o) f.running
+      goes_on v v' w new holds faults moment number f.place ps ps' (Remove k o) f.running f.running
       (advanced job) stands coming
       (q, subst (λ (x : Provider). Removes o x q) seen removes, refl)
       (record { records = refl; journal = refl; doubt = refl; append = refl; faults = refl; barred = refl })
       refl refl
       (runs_on w job k o coming.comes f.running f.is)
-      (place_is v.jobs.items number ∙ f.at)
+      (place_is v.jobs.items number ∙ f.at) f.there
       (jobs ∙ set_same v.jobs.items f.place f.running f.there)
       (subst (λ (l : List Provider). AreHanded l new) (sym ps_is)
       (handed_on ps w new k q stands.devices.providers provider_there refl (λ j. refl)))
       keeps flight fed
+      (record {
+        wants = comes.wants;
+        number_is = refl;
+        hand = refl;
+        kind = refl;
+        profile = refl;
+        place_is = refl;
+      })

@@ -39,7 +39,7 @@ module _ (d : Devices) (w : State) (ps : List Provider) (providers : ℕ → Pro
       stands_on v v w replaced d.holds d.faults d.providers ps S
       (record { records = refl; journal = refl; doubt = refl; append = refl; faults = refl; barred = refl })
       handed (core_replaced v.core S.core)
-      (record { setup = refl; master = refl; shape = refl }) refl S.jobs
+      (record { setup = refl; master = refl; shape = refl }) refl S.jobs S.streams
 
   -- so does a vault that is not held
   pub vault_replaced : (v : Vault) → Stands v d w → AreHanded ps replaced

@@ -1,8 +1,7 @@
 -- A job ends by its step.
-use Rattle.std.proofs.Common.{◌≡◌, ℕ, zero, suc, ◌==◌, cond, List, [], ◌∷◌, Option, Some, None, refl, sym, ap, subst, ◌∙◌}
+use Rattle.std.proofs.Common.{◌≡◌, ℕ, zero, suc, List, [], ◌∷◌, Option, Some, None, refl, sym, ap, subst, ◌∙◌}
 use Rattle.std.specs.Prelude.{slice_get, slice_set}
 use Rattle.std.specs.List.{remove}
-use Rattle.std.specs.Option.{option_map}
 use Rattle.algebra_laws.proofs.Lists.{get-set_there}
 use Rattle.device_defs.specs.Cells.{Cells}
 use Rattle.device_defs.specs.Providers.{Provider}
@@ -31,21 +30,11 @@ use Rattle.vault.specs.Outcomes.{machine_answer}
 use Rattle.vault.specs.Running.{place_in, heard_of, KeepsAll, IsFed, IsStopped}
 use Rattle.vault.specs.Desks.{DeskStands, DeskMakesStep}
 use Rattle.vault.specs.Tasks.{IsTask, IsRunning, AreRunning}
-use Rattle.vault.proofs.JobPlaces.{at_number, place_is, taken_out}
+use Rattle.vault.proofs.JobPlaces.{at_number, at_set, place_is, taken_out}
 use Rattle.vault.proofs.Ways.{happens_by, IsQuiet, stands_on, at_place, entry_kept, same_beyond}
+use Rattle.vault.proofs.Hands.{hands_without}
 
 -- ---- the job in its list
-
--- another job of the same number at a place
-at_set : (rs : List Running) (k p : ℕ) (r r' : Running) → slice_get rs p ≡ Some r → r'.number ≡ r.number →
-    at_number (slice_set rs p r') k ≡ at_number rs k
-at_set [] k p r r' there same = refl
-at_set (x ∷ rs) k zero r r' there same =
-    let number : r'.number ≡ x.number = same
-    ∙ (let e : Some x ≡ Some r = there in let f : x ≡ r = cc in ap (λ (y : Running). y.number) (sym f)) in
-    ap (λ (n : ℕ). cond (n == k) (Some 0) (option_map suc (at_number rs k))) number
-at_set (x ∷ rs) k (suc p) r r' there same =
-    ap (λ (o : Option ℕ). cond (x.number == k) (Some 0) (option_map suc o)) (at_set rs k p r r' there same)
 
 -- it has the same place
 pub place_set : (rs : List Running) (k p : ℕ) (r r' : Running) → place_in rs k ≡ Some p
@@ -64,6 +53,7 @@ heard_is s r j running = by_task r.task running.task
   where
     by_task : (t : Task) → IsTask s j (actions_left s j) t → heard_of t ≡ heard_by (Some j)
     by_task (task.Put t) is = ap (heard_by_kind j) (sym is.kind)
+    by_task (task.Stream t) is = ap (heard_by_kind j) (sym is.kind)
     by_task (task.Get t) is = is.heard ∙ ap (heard_by_kind j) (sym is.kind)
     by_task task.Drop is = ap (heard_by_kind j) (sym is.kind)
     by_task (task.Audit t) is = is.heard ∙ ap (heard_by_kind j) (sym is.kind)
@@ -82,10 +72,11 @@ pub record IsAside (v v' : Desk) (place : ℕ) (r r' : Running) : Type 0 where
 
 -- what is left of the jobs, and what the turn tells
 pub record Leaves (v2 : Desk) (w : State) (number : ℕ) (reply : Reply) (answer : Answer) (t : Turn)
-    (core : CoreView) : Type 0 where
+    (core : CoreView) (before : List Running) (place : ℕ) : Type 0 where
   pub heard : List Entry
   pub turn_is : t ≡ turn.Done (record { answer = answer; heard = heard })
   pub heard_is : heard ≡ heard_by (job_of w.jobs number)
+  pub removed : v2.jobs.items ≡ remove before place
   pub jobs : AreRunning (setup_in w) v2.jobs.items (without_job w.jobs number)
   pub fed : IsFed core number reply v2.core
 
@@ -103,7 +94,8 @@ module _ (v v1 : Desk) (d : Devices) (w : State) (number place : ℕ) (action : 
 
   -- a job that was stopped leaves the vault with what it heard, and the machine's other jobs
   pub is_left : (v2 : Desk) (reply : Reply) (answer : Answer) (t : Turn) →
-      IsStopped v1 number reply answer t v2 → Leaves v2 w number reply answer t v.core
+      IsStopped v1 number reply answer t v2 →
+      Leaves v2 w number reply answer t v.core v.jobs.items place
   is_left v2 reply answer t stopped =
       let same : stopped.place ≡ place =
       (let e : Some stopped.place ≡ Some place = sym stopped.found ∙ at_aside in cc) in
@@ -113,14 +105,16 @@ module _ (v v1 : Desk) (d : Devices) (w : State) (number place : ℕ) (action : 
       (let e : Some stopped.running ≡ Some r' = sym stopped.there ∙ ap (slice_get v1.jobs.items) same
       ∙ there' in cc) in
       let running = at_place v d w number place action r stands next at there in
+      let removed : v2.jobs.items ≡ remove v.jobs.items place =
+      stopped.jobs ∙ (λ i. remove (aside.jobs i) (same i)) ∙ removed_same v.jobs.items place r' in
       record {
         heard = heard_of stopped.running.task;
         turn_is = stopped.turn_is;
         heard_is = ap (λ (x : Running). heard_of x.task) one ∙ aside.heard
             ∙ heard_is (setup_in w) r next.job running ∙ ap heard_by (sym next.runs);
+        removed = removed;
         jobs =
-            subst (λ (l : List Running). AreRunning (setup_in w) l (without_job w.jobs number))
-            (sym (stopped.jobs ∙ (λ i. remove (aside.jobs i) (same i)) ∙ removed_same v.jobs.items place r'))
+            subst (λ (l : List Running). AreRunning (setup_in w) l (without_job w.jobs number)) (sym removed)
             (taken_out (setup_in w) v.jobs.items w.jobs 0 w.next_job number place stands.core.sound.numbered
             stands.jobs at_first);
         fed = subst (λ (c : CoreView). IsFed c number reply v2.core) aside.core stopped.fed;
@@ -146,7 +140,7 @@ ends_by v v1 v2 w new holds faults moment number place ps ps' action r r' reply 
     reply answer t stopped in
     let happens = happens_by w new moment number action
     (Ended (machine_answer answer)) stands.core.is_open stands.core.none_alone next acts in
-    let core = left.fed w new (Ended (machine_answer answer)) moment stands.core happens
+    let core = left.fed.step w new (Ended (machine_answer answer)) moment stands.core happens
     (record {
       tells = tells;
       entry = λ a is mine. entry_kept v.core w number stands.core a
@@ -165,7 +159,10 @@ ends_by v v1 v2 w new holds faults moment number place ps ps' action r r' reply 
       state = new;
       happens = happens;
       stands = stands_on v v2 w new holds faults ps ps' stands quiet handed core keeps
-          (stopped.flight ∙ flight) are;
+          (stopped.flight ∙ flight) are
+          (hands_without (setup_in w) v.core v2.core v.jobs.items w.jobs stands.streams new core
+          left.fed.streams number place r (sym (place_is v.jobs.items number) ∙ at) there v2.jobs.items
+          left.removed jobs);
       heard = left.heard_is;
       beyond = λ ended. same_beyond new holds faults ps ps';
       torn = λ e. absurd (whole (same_answer (machine_answer answer) answers.DiskFault e));

@@ -35,12 +35,17 @@ use Rattle.vault.specs.Running.{place_in, heard_of, KeepsAll, IsFed, IsStopped}
 use Rattle.vault.specs.Desks.{DeskStands, Comes, DeskMakesStep}
 use Rattle.vault.specs.Storing.{stored_block, KeepsTask, IsStorer}
 use Rattle.provider_model.specs.Seen.{StoresAs}
-use Rattle.stripe_bench.specs.Bench.{IsBench}
+use Rattle.stripe_bench.specs.Bench.{IsBench, turned}
 use Rattle.vault.specs.Tasks.{fetched_in, AreOfSetup, Serves, IsAtHand, IsInWork, IsRepair, IsTask, IsRunning}
 use Rattle.vault.proofs.Kits.{turned_is, bench_after, bench_count, first_count, own_after, serves_after, at_hand_after}
 use Rattle.vault.proofs.Allowed.{IsAllowed, next_allowed}
 use Rattle.vault.proofs.Stops.{IsAside, ends_by}
 use Rattle.vault.proofs.Ways.{actions_same, at_place, is_handed, handed_on, goes_on}
+use Rattle.vault_core.specs.View.{told_in, wanted_at}
+use Rattle.vault.specs.AtHand.{hand_of, HasAtHand}
+use Rattle.vault.proofs.Hands.{task_at, waits_not}
+use Rattle.vault.proofs.JobPlaces.{place_is}
+use Rattle.vault.proofs.StoredStripes.{stripe_stored}
 
 -- ---- the order of stores
 
@@ -96,6 +101,8 @@ module _ (w : State) (job : Job) (k o s : ℕ) (next : next_action w job ≡ Som
           IsStorer t k
       by_task (task.Put t) is =
           subst (λ (m : ℕ). k < m) (sym (bench_count (setup_in w) job.profile t.bench is.bench)) within
+      by_task (task.Stream t) is =
+          subst (λ (m : ℕ). k < m) (sym (bench_count (setup_in w) job.profile t.bench is.bench)) within
       by_task (task.Get t) is = absurd (not_allowed (GetJob is.name) is.kind)
       by_task task.Drop is = absurd (not_allowed (DropJob is.name) is.kind)
       by_task (task.Audit t) is = absurd (not_allowed AuditJob is.kind)
@@ -115,28 +122,36 @@ module _ (w : State) (job : Job) (k o s : ℕ) (next : next_action w job ≡ Som
       (sym order.1) at
 
   -- it stores the block that the machine says
-  pub block_is : (r : Running) → IsRunning (setup_in w) r job →
+  pub block_is : (r : Running) → IsRunning (setup_in w) r job → (told : Option ℕ) →
+      wanted_at (setup_in w) job.place told ≡ None → HasAtHand (setup_in w) told (hand_of r.task) job →
       stored_block r.task o k s ≡ block_to_store w job job.kind k o s
-  block_is r running = by_task r.task (listed r running)
+  block_is r running told wants has = by_task r.task (listed r running) has
     where
       by_task : (t : Task) →
           IsTask (setup_in w) job (Store k o s ∷ drop (job.place + 1) (actions_of (setup_in w) job)) t →
+          HasAtHand (setup_in w) told (hand_of t) job →
           stored_block t o k s ≡ block_to_store w job job.kind k o s
-      by_task (task.Put t) is =
+      by_task (task.Put t) is has =
           ap (λ (x : Object). column_of_symbols x (symbols_in x t.bytes s) k s)
           (turned_is (setup_in w) job.profile t.bench o is.bench)
           ∙ ap (λ (kind : Kind). block_to_store w job kind k o s) (sym is.kind)
-      by_task (task.Get t) is = absurd (not_allowed (GetJob is.name) is.kind)
-      by_task task.Drop is = absurd (not_allowed (DropJob is.name) is.kind)
-      by_task (task.Audit t) is = absurd (not_allowed AuditJob is.kind)
-      by_task (task.Repair t) is =
+      by_task (task.Stream t) is has =
+          let x = turned_is (setup_in w) job.profile t.bench o is.bench in
+          let hand = stripe_stored w job is.name is.bytes k o s is.kind next told t.at_hand wants has in
+          ap (λ (rows : List ℕ). column_of_symbols (turned t.bench o) rows k s) (is.rows s hand)
+          ∙ ap (λ (y : Object). column_of_symbols y (symbols_in y is.bytes s) k s) x
+          ∙ ap (λ (kind : Kind). block_to_store w job kind k o s) (sym is.kind)
+      by_task (task.Get t) is has = absurd (not_allowed (GetJob is.name) is.kind)
+      by_task task.Drop is has = absurd (not_allowed (DropJob is.name) is.kind)
+      by_task (task.Audit t) is has = absurd (not_allowed AuditJob is.kind)
+      by_task (task.Repair t) is has =
           (λ i. column_of_symbols ((turned_is (setup_in w)
           (pinned_profile (setup_in w).profile job.pinned o) t.bench o (at_hand is.phase t.bench
           is.order is.bench)) i)
           (rows_are (setup_in w).n k o s (drop (job.place + 1) (actions_of (setup_in w) job)) is.phase
           t.blocks t.bench.rows.items job.given is.order is.in_work i) k s)
           ∙ ap (λ (kind : Kind). block_to_store w job kind k o s) (sym is.kind)
-      by_task task.Upgrade is = absurd (not_allowed UpgradeJob is)
+      by_task task.Upgrade is has = absurd (not_allowed UpgradeJob is)
 
   -- the job goes on
   pub runs_on : (r r' : Running) → IsRunning (setup_in w) r job → r'.number ≡ r.number →
@@ -193,40 +208,25 @@ module _ (w : State) (job : Job) (k o s : ℕ) (next : next_action w job ≡ Som
         kind = is.kind ∙ ap (PutJob is.name) (sym keeps.0);
         bench = bench_after (setup_in w) job.profile t.bench u.bench o is.bench keeps.1;
       }
+      by_task (task.Stream t) (task.Stream u) is keeps = record {
+        name = is.name;
+        bytes = is.bytes;
+        kind = is.kind;
+        bench = bench_after (setup_in w) job.profile t.bench u.bench o is.bench keeps.2;
+        rows = λ x hand.
+            ap (λ (rows : Vec Symbol Global). rows.items) keeps.1 ∙ is.rows x (sym keeps.0 ∙ hand)
+            ∙ ap (λ (y : Object). symbols_in y is.bytes x) (sym keeps.2);
+      }
       by_task (task.Repair t) (task.Repair u) is keeps = repaired t u is keeps
-      by_task (task.Put t) (task.Get u) is keeps = absurd keeps
-      by_task (task.Put t) task.Drop is keeps = absurd keeps
-      by_task (task.Put t) task.Upgrade is keeps = absurd keeps
-      by_task (task.Put t) (task.Audit u) is keeps = absurd keeps
-      by_task (task.Put t) (task.Repair u) is keeps = absurd keeps
-      by_task (task.Repair t) (task.Get u) is keeps = absurd keeps
-      by_task (task.Repair t) (task.Put u) is keeps = absurd keeps
-      by_task (task.Repair t) task.Drop is keeps = absurd keeps
-      by_task (task.Repair t) task.Upgrade is keeps = absurd keeps
-      by_task (task.Repair t) (task.Audit u) is keeps = absurd keeps
-      by_task (task.Get t) u is keeps = absurd keeps
-      by_task task.Drop u is keeps = absurd keeps
-      by_task (task.Audit t) u is keeps = absurd keeps
-      by_task task.Upgrade u is keeps = absurd keeps
+      by_task t u is keeps = absurd keeps
 
--- what a job that stores heard is nothing, before and after
-heard_same : (t u : Task) (o : ℕ) → KeepsTask t u o → heard_of u ≡ heard_of t
-heard_same (task.Put t) (task.Put u) o keeps = refl
-heard_same (task.Repair t) (task.Repair u) o keeps = refl
-heard_same (task.Put t) (task.Get u) o keeps = absurd keeps
-heard_same (task.Put t) task.Drop o keeps = absurd keeps
-heard_same (task.Put t) task.Upgrade o keeps = absurd keeps
-heard_same (task.Put t) (task.Audit u) o keeps = absurd keeps
-heard_same (task.Put t) (task.Repair u) o keeps = absurd keeps
-heard_same (task.Repair t) (task.Get u) o keeps = absurd keeps
-heard_same (task.Repair t) (task.Put u) o keeps = absurd keeps
-heard_same (task.Repair t) task.Drop o keeps = absurd keeps
-heard_same (task.Repair t) task.Upgrade o keeps = absurd keeps
-heard_same (task.Repair t) (task.Audit u) o keeps = absurd keeps
-heard_same (task.Get t) u o keeps = absurd keeps
-heard_same task.Drop u o keeps = absurd keeps
-heard_same (task.Audit t) u o keeps = absurd keeps
-heard_same task.Upgrade u o keeps = absurd keeps
+-- what a job that stores heard is nothing, before and after, and what it has at hand stays
+store_keeps : (t u : Task) (o : ℕ) → KeepsTask t u o
+    → (heard_of u ≡ heard_of t) × (hand_of u ≡ hand_of t)
+store_keeps (task.Put t) (task.Put u) o keeps = (refl, refl)
+store_keeps (task.Stream t) (task.Stream u) o keeps = (refl, ap (λ (h : Option ℕ). Some h) keeps.0)
+store_keeps (task.Repair t) (task.Repair u) o keeps = (refl, refl)
+store_keeps t u o keeps = absurd keeps
 
 module _ (v : Desk) (w : State) (holds : Option Cells) (faults moment number k o s : ℕ) (ps : List Provider)
     (stands : DeskStands v (devices holds faults ps) w) (comes : Comes v.core number (Store k o s)) where
@@ -246,6 +246,10 @@ module _ (v : Desk) (w : State) (holds : Option Cells) (faults moment number k o
     pub storer_there : IsStorer r.task k
     storer_there = is_storer w coming.job k o s coming.comes r runs
 
+    has : HasAtHand (setup_in w) (told_in v.core.jobs number) (hand_of r.task) coming.job
+    has = stands.streams number r.task coming.job
+        (task_at v.jobs.items number place r (sym (place_is v.jobs.items number) ∙ at) there) coming.runs
+
     module _ (r' : Running) (same_number : r'.number ≡ r.number) (keeps : KeepsTask r.task r'.task o)
         (ps' : List Provider) (p q : Provider) (p_is : slice_get ps k ≡ Some p)
         (ps_is : ps' ≡ slice_set ps k q) where
@@ -264,17 +268,26 @@ module _ (v : Desk) (w : State) (holds : Option Cells) (faults moment number k o
           let call : Stores o s (block_to_store w coming.job coming.job.kind k o s) (w.providers k) q =
           subst (λ (x : Provider). Stores o s (block_to_store w coming.job coming.job.kind k o s) x q) seen
           (subst (λ (b : List ℕ). Stores o s b p q)
-          (block_is w coming.job k o s coming.comes r runs) stores) in
-          goes_on v v' w new holds faults moment number place ps ps' (Store k o s) r'
+          (block_is w coming.job k o s coming.comes r runs (told_in v.core.jobs number)
+          (waits_not v.core w number coming.job stands.core coming.runs comes.wants) has) stores) in
+          goes_on v v' w new holds faults moment number place ps ps' (Store k o s) r r'
           (advanced coming.job) stands coming
           (q, call, refl)
           (record { records = refl; journal = refl; doubt = refl; append = refl; faults = refl; barred = refl })
           refl refl
           (runs_on w coming.job k o s coming.comes r r' runs same_number keeps)
-          at jobs
+          at there jobs
           (subst (λ (l : List Provider). AreHanded l new) (sym ps_is)
           (handed_on ps w new k q stands.devices.providers provider_there refl (λ j. refl)))
           keeps_all flight fed
+          (record {
+            wants = comes.wants;
+            number_is = same_number;
+            hand = (store_keeps r.task r'.task o keeps).1;
+            kind = refl;
+            profile = refl;
+            place_is = refl;
+          })
 
       module _ (v1 v2 : Desk) (result : Turn) (core : v1.core ≡ v.core)
           (jobs : v1.jobs.items ≡ slice_set v.jobs.items place r') (keeps_all : KeepsAll v v1)
@@ -284,7 +297,7 @@ module _ (v : Desk) (w : State) (holds : Option Cells) (faults moment number k o
           core = core;
           jobs = jobs;
           number = same_number;
-          heard = heard_same r.task r'.task o keeps;
+          heard = (store_keeps r.task r'.task o keeps).0;
           keeps = keeps_all;
         }
 

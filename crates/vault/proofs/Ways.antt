@@ -1,5 +1,5 @@
 -- What every step of a job has in common.
-use Rattle.std.proofs.Common.{◌≡◌, ℕ, zero, suc, ◌<◌, ◌≤◌, ◌==◌, Bool, true, List, [], ◌∷◌, length, Option, Some, None, refl, sym, ap, subst, ◌∙◌, inl, inr, arith}
+use Rattle.std.proofs.Common.{◌≡◌, ℕ, zero, suc, ◌<◌, ◌≤◌, ◌==◌, Bool, true, List, [], ◌∷◌, length, Option, Some, None, refl, sym, ap, subst, ◌∙◌, inl, inr, arith, ◌+◌}
 use Rattle.std.specs.Prelude.{slice_get, slice_set}
 use Rattle.std.proofs.Common.{length-set}
 use Rattle.std.proofs.lemmas.Bool.{cases_eq, eq-eqb, ne_eqb}
@@ -9,19 +9,19 @@ use Rattle.device_defs.specs.Providers.{Provider}
 use Rattle.record_defs.specs.Records.{Setup, Record}
 use Rattle.record_defs.specs.Table.{setup_of}
 use Rattle.record_defs.specs.Journal.{StandsOrIsEmpty, text_size}
-use Rattle.machine_defs.specs.Actions.{Action, actions_of, actions_by}
+use Rattle.machine_defs.specs.Actions.{Action, actions_of, actions_by, actions_left}
 use Rattle.machine_defs.specs.Events.{Outcome, Step, More}
-use Rattle.machine_defs.specs.Jobs.{Kind, PutJob, GetJob, DropJob, AuditJob, RepairJob, UpgradeJob, Given, Job, with_job}
+use Rattle.machine_defs.specs.Jobs.{Kind, PutJob, GetJob, DropJob, AuditJob, RepairJob, UpgradeJob, Given, Job, with_job, job_of}
 use Rattle.machine_defs.specs.Machine.{Happens}
 use Rattle.machine_defs.specs.Setups.{setup_or_none}
 use Rattle.machine_defs.specs.States.{State, Append, Alone, setup_in, with_provider}
-use Rattle.machine_defs.specs.Steps.{Acts, ActsOrWaits, StepsOn, StepsJob, StepsOne, StepsOpen, Steps}
+use Rattle.machine_defs.specs.Steps.{Acts, ActsOrWaits, StepsOn, StepsJob, StepsOne, StepsOpen, Steps, next_action}
 use Rattle.machine_defs.proofs.JobLists.{cond_true, cond_false, number_of}
 use Rattle.state_laws.proofs.Records.{AreAppended}
 use Rattle.vault_core.specs.Carried.{CoreIs, ComesNext}
 use Rattle.vault_core.proofs.InFlight.{flight-entry}
 use Rattle.vault_core.specs.Coming.{entry_in}
-use Rattle.vault_core.specs.View.{CoreView}
+use Rattle.vault_core.specs.View.{CoreView, told_in, wants_in}
 use Rattle.opening_defs.specs.Opened.{AreHanded}
 use Rattle.vault_open.specs.Devices.{Devices, devices}
 use Rattle.vault.specs.Devices.{IsSameBeyond, records_in_flight}
@@ -40,8 +40,11 @@ use Rattle.vault.specs.Desks.{DeskStands, IsFlight, IsShaped, DeskMakesStep}
 use Rattle.vault.specs.Tasks.{IsRunning, AreRunning}
 use Rattle.vault_open.proofs.FirstVersion.{FirstStands, first-images, images-first}
 use Rattle.vault.proofs.Unpacked.{unpacked-core}
-use Rattle.vault.proofs.JobPlaces.{Found, found, place_is, put_back}
+use Rattle.vault.proofs.JobPlaces.{Found, found, place_is, put_back, at_set}
 use Rattle.journal_core.proofs.BeyondLemmas.{goes_still}
+use Rattle.vault.specs.AtHand.{hand_of, HasAtHand, AreAtHand, KeepsStreams}
+use Rattle.vault.proofs.Allowed.{IsAllowed, next_allowed}
+use Rattle.vault.proofs.Hands.{waits_not, hand_on, no_hand, hands_with}
 
 -- what comes of the next action of a job is a step of the machine
 pub happens_by : (w new : State) (moment number : ℕ) (action : Action) (outcome : Outcome) →
@@ -144,8 +147,9 @@ shaped_on v v' keeps is = record {
 pub stands_on : (v v' : Desk) (w new : State) (holds : Option Cells) (faults : ℕ) (ps ps' : List Provider) →
     DeskStands v (devices holds faults ps) w → IsQuiet w new → AreHanded ps' new
     → CoreIs v'.core new → KeepsAll v v' → v'.flight ≡ v.flight →
-    AreRunning (setup_in w) v'.jobs.items new.jobs → DeskStands v' (devices holds faults ps') new
-stands_on v v' w new holds faults ps ps' stands quiet handed core keeps flight jobs =
+    AreRunning (setup_in w) v'.jobs.items new.jobs →
+    AreAtHand (setup_in w) v'.core.jobs v'.jobs.items new.jobs → DeskStands v' (devices holds faults ps') new
+stands_on v v' w new holds faults ps ps' stands quiet handed core keeps flight jobs streams =
     let appended : AreAppended new.journal = subst AreAppended (sym quiet.journal) stands.appended in
     record {
       devices = record {
@@ -162,6 +166,8 @@ stands_on v v' w new holds faults ps ps' stands quiet handed core keeps flight j
       shaped = shaped_on v v' keeps stands.shaped;
       jobs = subst (λ (s : Setup). AreRunning s v'.jobs.items new.jobs)
           (sym (setup_same w new quiet.records)) jobs;
+      streams = subst (λ (s : Setup). AreAtHand s v'.core.jobs v'.jobs.items new.jobs)
+          (sym (setup_same w new quiet.records)) streams;
       flight = λ free.
           subst (λ (f : Option Flight). IsFlight f new.append new.records holds) (sym flight)
           (subst (λ (a : Option Append). IsFlight v.flight a new.records holds) (sym quiet.append)
@@ -183,21 +189,61 @@ pub same_beyond : (w : State) (holds : Option Cells) (faults : ℕ) (ps ps' : Li
 same_beyond w holds faults ps ps' =
     goes_still (text_size (records_in_flight w.records w.append)) holds holds refl
 
+-- what the step of a job leaves of the stripe that it has at hand
+pub record KeepsHand (c : CoreView) (number : ℕ) (old r : Running) (before job : Job) : Type 0 where
+  pub wants : wants_in c number ≡ None
+  pub number_is : r.number ≡ old.number
+  pub hand : hand_of r.task ≡ hand_of old.task
+  pub kind : job.kind ≡ before.kind
+  pub profile : job.profile ≡ before.profile
+  pub place_is : job.place ≡ before.place + 1
+
+-- a job goes on with what it has at hand, and all others with what they have
+pub hands_goes : (v v' : Desk) (w new : State) (number place : ℕ) (old r : Running) (before job : Job) →
+    AreAtHand (setup_in w) v.core.jobs v.jobs.items w.jobs → CoreIs v.core w → CoreIs v'.core new →
+    KeepsStreams v.core v'.core → job_of w.jobs number ≡ Some before → job.number ≡ number
+    → place_in v.jobs.items number ≡ Some place → slice_get v.jobs.items place ≡ Some old
+    → new.jobs ≡ with_job w.jobs job → KeepsHand v.core number old r before job
+    → AreAtHand (setup_in w) v'.core.jobs (slice_set v.jobs.items place r) new.jobs
+hands_goes v v' w new number place old r before job streams core core' keeps runs mine at there jobs h =
+    let at' = sym (place_is v.jobs.items number) ∙ at in
+    hands_with (setup_in w) v.core v'.core v.jobs.items w.jobs streams new core' keeps number place old r
+    before job at' there h.number_is runs mine
+    (λ has. subst (λ (x : Option (Option ℕ)). HasAtHand (setup_in w) (told_in v.core.jobs number) x job)
+    (sym h.hand)
+    (hand_on (setup_in w) before job h.place_is h.kind h.profile (told_in v.core.jobs number)
+    (hand_of old.task) (waits_not v.core w number before core runs h.wants) has))
+    (at_set v.jobs.items number place old r there h.number_is) jobs
+
+-- a job that cannot be a put has no stripe at hand, before and after
+pub hands_alike : (w : State) (job next : Job) (action : Action) (r r' : Running) →
+    next_action w job ≡ Some action
+    → ((n : ℕ) (name bytes : List ℕ) → IsAllowed n (PutJob name bytes) action → ⊥) → next.kind ≡ job.kind
+    → IsRunning (setup_in w) r job → IsRunning (setup_in w) r' next → hand_of r'.task ≡ hand_of r.task
+hands_alike w job next action r r' comes never kind is is' =
+    no_hand (setup_in w) next (actions_left (setup_in w) next) r'.task
+    (λ name bytes e. no_put name bytes (sym kind ∙ e)) is'.task
+    ∙ sym (no_hand (setup_in w) job (actions_left (setup_in w) job) r.task no_put is.task)
+  where
+    no_put : (name bytes : List ℕ) → job.kind ≡ PutJob name bytes → ⊥
+    no_put name bytes e = never (setup_in w).n name bytes
+        (subst (λ (kind : Kind). IsAllowed (setup_in w).n kind action) e (next_allowed w job action comes))
+
 -- a job goes on, and another state is left of it alone, and of the providers
 goes_told : (v v' : Desk) (w new : State) (holds : Option Cells) (faults moment number place : ℕ)
-    (ps ps' : List Provider) (action : Action) (r : Running) (j : Job) (answer : Reply)
+    (ps ps' : List Provider) (action : Action) (old r : Running) (j : Job) (answer : Reply)
     → DeskStands v (devices holds faults ps) w → (next : ComesNext w number action None) →
     Acts w next.job action More new → IsQuiet w new → new.jobs ≡ with_job w.jobs j
     → j.number ≡ next.job.number → IsRunning (setup_in w) r j → place_in v.jobs.items number ≡ Some place →
-    v'.jobs.items ≡ slice_set v.jobs.items place r
+    slice_get v.jobs.items place ≡ Some old → v'.jobs.items ≡ slice_set v.jobs.items place r
     → AreHanded ps' new → KeepsAll v v' → v'.flight ≡ v.flight → IsFed v.core number answer v'.core →
-    Tells number answer More new
+    Tells number answer More new → KeepsHand v.core number old r next.job j
     → DeskMakesStep w moment number turn.More v' (devices holds faults ps) (devices holds faults ps')
-goes_told v v' w new holds faults moment number place ps ps' action r j answer stands next acts quiet jobs numbered running at jobs' handed keeps flight fed tells =
+goes_told v v' w new holds faults moment number place ps ps' action old r j answer stands next acts quiet jobs numbered running at there jobs' handed keeps flight fed tells hand =
     let happens = happens_by w new moment number action More stands.core.is_open stands.core.none_alone next
     acts in
     let mine : j.number ≡ number = numbered ∙ number_of w.jobs number next.job next.runs in
-    let core = fed w new More moment stands.core happens
+    let core = fed.step w new More moment stands.core happens
     (record {
       tells = tells;
       entry = λ a is mine. entry_kept v.core w number stands.core a
@@ -211,7 +257,10 @@ goes_told v v' w new holds faults moment number place ps ps' action r j answer s
     record {
       state = new;
       happens = happens;
-      stands = stands_on v v' w new holds faults ps ps' stands quiet handed core keeps flight are;
+      stands = stands_on v v' w new holds faults ps ps' stands quiet handed core keeps flight are
+          (subst (λ (rs : List Running). AreAtHand (setup_in w) v'.core.jobs rs new.jobs) (sym jobs')
+          (hands_goes v v' w new number place old r next.job j stands.streams stands.core core fed.streams
+          next.runs mine at there jobs hand));
       heard = tt;
       beyond = λ ended. same_beyond new holds faults ps ps';
       torn = λ e. cc;
@@ -219,16 +268,17 @@ goes_told v v' w new holds faults moment number place ps ps' action r j answer s
 
 -- the same, where all that came of it is that it was done
 pub goes_on : (v v' : Desk) (w new : State) (holds : Option Cells) (faults moment number place : ℕ)
-    (ps ps' : List Provider) (action : Action) (r : Running) (j : Job)
+    (ps ps' : List Provider) (action : Action) (old r : Running) (j : Job)
     → DeskStands v (devices holds faults ps) w → (next : ComesNext w number action None) →
     Acts w next.job action More new → IsQuiet w new → new.jobs ≡ with_job w.jobs j
     → j.number ≡ next.job.number → IsRunning (setup_in w) r j → place_in v.jobs.items number ≡ Some place →
-    v'.jobs.items ≡ slice_set v.jobs.items place r
+    slice_get v.jobs.items place ≡ Some old → v'.jobs.items ≡ slice_set v.jobs.items place r
     → AreHanded ps' new → KeepsAll v v' → v'.flight ≡ v.flight → IsFed v.core number reply.Done v'.core
+    → KeepsHand v.core number old r next.job j
     → DeskMakesStep w moment number turn.More v' (devices holds faults ps) (devices holds faults ps')
-goes_on v v' w new holds faults moment number place ps ps' action r j stands next acts quiet jobs numbered running at jobs' handed keeps flight fed =
-    goes_told v v' w new holds faults moment number place ps ps' action r j reply.Done stands next acts quiet
-    jobs numbered running at jobs' handed keeps flight fed tt
+goes_on v v' w new holds faults moment number place ps ps' action old r j stands next acts quiet jobs numbered running at there jobs' handed keeps flight fed hand =
+    goes_told v v' w new holds faults moment number place ps ps' action old r j reply.Done stands next acts
+    quiet jobs numbered running at there jobs' handed keeps flight fed tt hand
 
 -- ---- what a job works with
 

@@ -44,7 +44,7 @@ use Rattle.vault.proofs.Unpacked.{worked-own}
 use Rattle.vault.proofs.Allowed.{IsAllowed, next_allowed}
 use Rattle.vault.proofs.Kits.{turned_is, bench_after, bench_count, first_count, own_after, serves_after}
 use Rattle.vault.proofs.Stops.{ends_by}
-use Rattle.vault.proofs.Ways.{actions_same, at_place, handed_same, goes_on}
+use Rattle.vault.proofs.Ways.{actions_same, at_place, handed_same, goes_on, hands_alike}
 use Rattle.vault.proofs.Worked.{all_fetched, order_opened, enough_present, enough_symbols, last_is}
 use Rattle.stripe_bench.proofs.Gifts.{worked_is, worked_other}
 
@@ -111,6 +111,7 @@ module _ (w : State) (job : Job) (o s : ℕ) (next : next_action w job ≡ Some 
     where
       by_task : (t : Task) → IsTask (setup_in w) job (Work o s ∷ tail) t → CanWork t
       by_task (task.Put t) is = absurd (not_allowed (PutJob is.name t.bytes) is.kind)
+      by_task (task.Stream t) is = absurd (not_allowed (PutJob is.name is.bytes) is.kind)
       by_task (task.Get t) is =
           let has = get_fetched t is in
           let n = bench_count (setup_in w) is.file.profile t.bench is.bench in (
@@ -201,20 +202,7 @@ module _ (w : State) (job : Job) (o s : ℕ) (next : next_action w job ≡ Some 
           u.bench.rows.items) (repair_turned t is)
           (subst (λ (l : List SeenBlock). GivesSymbols (turned t.bench o) s l u.bench.rows.items)
           (repair_blocks t is) opens)
-      by_task (task.Get t) (task.Put u) is opens = absurd opens
-      by_task (task.Get t) task.Drop is opens = absurd opens
-      by_task (task.Get t) task.Upgrade is opens = absurd opens
-      by_task (task.Get t) (task.Audit u) is opens = absurd opens
-      by_task (task.Get t) (task.Repair u) is opens = absurd opens
-      by_task (task.Repair t) (task.Put u) is opens = absurd opens
-      by_task (task.Repair t) task.Drop is opens = absurd opens
-      by_task (task.Repair t) task.Upgrade is opens = absurd opens
-      by_task (task.Repair t) (task.Audit u) is opens = absurd opens
-      by_task (task.Repair t) (task.Get u) is opens = absurd opens
-      by_task (task.Put t) u is opens = absurd opens
-      by_task task.Drop u is opens = absurd opens
-      by_task (task.Audit t) u is opens = absurd opens
-      by_task task.Upgrade u is opens = absurd opens
+      by_task t u is opens = absurd opens
 
   -- a row that is lost is the one that the machine's work loses
   pub loses : (r : Running) (row : ℕ) → IsRunning (setup_in w) r job → LosesWork r.task o s row →
@@ -231,10 +219,7 @@ module _ (w : State) (job : Job) (o s : ℕ) (next : next_action w job ≡ Some 
           subst (λ (x : Object). LosesRow x s (blocks_given job.given (setup_in w).n o s) row)
           (repair_turned t is)
           (subst (λ (l : List SeenBlock). LosesRow (turned t.bench o) s l row) (repair_blocks t is) lost)
-      by_task (task.Put t) is lost = absurd lost
-      by_task task.Drop is lost = absurd lost
-      by_task (task.Audit t) is lost = absurd lost
-      by_task task.Upgrade is lost = absurd lost
+      by_task t is lost = absurd lost
 
   -- ---- what a job works with, after
 
@@ -364,40 +349,14 @@ module _ (w : State) (job : Job) (o s : ℕ) (next : next_action w job ≡ Some 
       by_task (task.Get t) (task.Get u) is size takes = get_after u.bench.rows.items t u is takes refl size
       by_task (task.Repair t) (task.Repair u) is size takes =
           repair_after u.bench.rows.items t u is takes refl
-      by_task (task.Get t) (task.Put u) is size takes = absurd takes
-      by_task (task.Get t) task.Drop is size takes = absurd takes
-      by_task (task.Get t) task.Upgrade is size takes = absurd takes
-      by_task (task.Get t) (task.Audit u) is size takes = absurd takes
-      by_task (task.Get t) (task.Repair u) is size takes = absurd takes
-      by_task (task.Repair t) (task.Put u) is size takes = absurd takes
-      by_task (task.Repair t) task.Drop is size takes = absurd takes
-      by_task (task.Repair t) task.Upgrade is size takes = absurd takes
-      by_task (task.Repair t) (task.Audit u) is size takes = absurd takes
-      by_task (task.Repair t) (task.Get u) is size takes = absurd takes
-      by_task (task.Put t) u is size takes = absurd takes
-      by_task task.Drop u is size takes = absurd takes
-      by_task (task.Audit t) u is size takes = absurd takes
-      by_task task.Upgrade u is size takes = absurd takes
+      by_task t u is size takes = absurd takes
 
 -- what a job heard is as before
 heard_same : (t u : Task) → KeepsHeard t u → heard_of u ≡ heard_of t
 heard_same (task.Get t) (task.Get u) keeps =
     ap (λ (f : Fetches). fetched_entries f.job f.fetches.items (blocks_in f.blocks)) keeps
 heard_same (task.Repair t) (task.Repair u) keeps = refl
-heard_same (task.Get t) (task.Put u) keeps = absurd keeps
-heard_same (task.Get t) task.Drop keeps = absurd keeps
-heard_same (task.Get t) task.Upgrade keeps = absurd keeps
-heard_same (task.Get t) (task.Audit u) keeps = absurd keeps
-heard_same (task.Get t) (task.Repair u) keeps = absurd keeps
-heard_same (task.Repair t) (task.Get u) keeps = absurd keeps
-heard_same (task.Repair t) (task.Put u) keeps = absurd keeps
-heard_same (task.Repair t) task.Drop keeps = absurd keeps
-heard_same (task.Repair t) task.Upgrade keeps = absurd keeps
-heard_same (task.Repair t) (task.Audit u) keeps = absurd keeps
-heard_same (task.Put t) u keeps = absurd keeps
-heard_same task.Drop u keeps = absurd keeps
-heard_same (task.Audit t) u keeps = absurd keeps
-heard_same task.Upgrade u keeps = absurd keeps
+heard_same t u keeps = absurd keeps
 
 module _ (v : Desk) (w : State) (d : Devices) (moment number o s : ℕ) (stands : DeskStands v d w)
     (comes : Comes v.core number (Work o s)) where
@@ -424,15 +383,24 @@ module _ (v : Desk) (w : State) (d : Devices) (moment number o s : ℕ) (stands 
           subst (λ (y : Result Unit RowLost). WorksAs r.task r'.task o s y) is works in
           let rows = rows_of w coming.job o s coming.comes r'.task in
           let new : State = going_on w (advanced_with coming.job (Worked o s rows)) in
-          goes_on v v' w new d.holds d.faults moment number place d.providers d.providers (Work o s) r'
+          let on = runs_on w coming.job o s coming.comes r r' runs same_number done.0 done.1 in
+          goes_on v v' w new d.holds d.faults moment number place d.providers d.providers (Work o s) r r'
           (advanced_with coming.job (Worked o s rows)) stands coming
           (rows, gives w coming.job o s coming.comes r r'.task runs done.0, refl)
           (record { records = refl; journal = refl; doubt = refl; append = refl; faults = refl; barred = refl })
           refl refl
-          (runs_on w coming.job o s coming.comes r r' runs same_number done.0 done.1)
-          at jobs
+          on at there jobs
           (handed_same d.providers w new stands.devices.providers refl (λ j. refl))
           keeps_all flight fed
+          (record {
+            wants = comes.wants;
+            number_is = same_number;
+            hand = hands_alike w coming.job (advanced_with coming.job (Worked o s rows)) (Work o s) r r'
+                coming.comes (λ n name bytes no. no) refl runs on;
+            kind = refl;
+            profile = refl;
+            place_is = refl;
+          })
 
       -- a row that is lost ends the job
       pub lost_step : (v1 v2 : Desk) (turn : Turn) (row : ℕ) (result : Result Unit RowLost) (lost : RowLost) →

@@ -5,24 +5,26 @@
 --                                    that of the machine is, and the disk is as after its moves so far
 --   DeskStands v d w              == the desk and the devices stand for a state in which a vault is open, and
 --                                    no record of the journal is a packed one
---   IsAtWork v                    == the desk stands for some state, over some devices of which the disk
---                                    tells nothing: what its parts owe each other, whatever devices it was
---                                    lent
+--   EndsIn place rest kind        == the file of a put has these bytes behind its first ones, as far as it may
+--   HasEnds v w rest              == so does that of each open stream, behind the stripes given so far
+--   IsAtWork v                    == whatever its streams are still given, the desk stands for some state,
+--                                    over some devices of which the disk tells nothing: what its parts owe
+--                                    each other, whatever devices it was lent
 --   DeskCarries v told            == the disk carries the desk: the text, of the core's length, of records
 --                                    that fold to its table, but for what the moves of an append in flight
 --                                    have done; a disk that tells nothing carries every desk
---   Comes c job action            == what comes next for a job, by its core
+--   Comes c job action            == what comes next for a job, by its core; it waits for no stripe
 --   DeskMakesStep, DeskMakesBegin == a step and a begin are events of the machine
-use Rattle.std.specs.Prelude.{◌≡◌, ◌≢◌, ℕ, false, IsTrue, List, Option, Some, None, Result, IfSome}
+use Rattle.std.specs.Prelude.{◌≡◌, ◌≢◌, ℕ, ◌-◌, ◌*◌, ◌++◌, false, IsTrue, List, length, take, Option, Some, None, Result, IfSome}
 use Rattle.std.specs.List.{list_all}
 use Rattle.device_defs.specs.Cells.{Cells}
 use Rattle.device_defs.specs.Providers.{Provider}
-use Rattle.record_defs.specs.Records.{Record, is_appended}
+use Rattle.record_defs.specs.Records.{Record, is_appended, largest_file}
 use Rattle.record_defs.specs.Journal.{before_gate, text_size}
 use Rattle.machine_defs.specs.Actions.{Action}
-use Rattle.machine_defs.specs.Jobs.{Kind, job_of}
+use Rattle.machine_defs.specs.Jobs.{Kind, PutJob, Job, job_of}
 use Rattle.machine_defs.specs.Answers as answers
-use Rattle.machine_defs.specs.Events.{Step, Ended}
+use Rattle.machine_defs.specs.Events.{Step, Ended, AreBytes}
 use Rattle.machine_defs.specs.Heard.{heard_by}
 use Rattle.machine_defs.specs.Begins.{BeginsAt}
 use Rattle.machine_defs.specs.States.{State, setup_in}
@@ -32,9 +34,10 @@ use Rattle.record_codec.specs.Entries.{with_master}
 use Rattle.journal_core.specs.Appends.{Appends, moves_of}
 use Rattle.journal_core.specs.Moves.{IsClosed}
 use Rattle.vault_table.specs.Values.{IsFoldOf}
-use Rattle.vault_core.specs.View.{CoreView}
+use Rattle.vault_core.specs.View.{CoreView, told_in, wants_in}
 use Rattle.vault_core.specs.Coming.{Acts, next_in}
 use Rattle.vault_core.specs.Carried.{CoreIs, ComesNext}
+use Rattle.vault_core.specs.Streams.{stripe_size}
 use Rattle.vault_core.specs.declared.wish.BeginFault.{BeginFault}
 use Rattle.vault.specs.declared.flight.Flight.{Flight}
 use Rattle.vault.specs.declared.desk.Desk.{Desk}
@@ -43,6 +46,7 @@ use Rattle.vault_open.specs.Devices.{Devices, devices, AreDevices}
 use Rattle.vault.specs.Devices.{IsSameBeyond, IsSamePast}
 use Rattle.vault.specs.Outcomes.{outcome_of, begin_outcome, IfEnded}
 use Rattle.vault.specs.Tasks.{AreRunning}
+use Rattle.vault.specs.AtHand.{AreAtHand}
 
 -- the shape is that of the setup
 pub record IsShaped (v : Desk) : Type 0 where
@@ -65,12 +69,29 @@ pub record DeskStands (v : Desk) (d : Devices) (w : State) : Type 0 where
   pub setup : setup_in w ≡ with_master v.setup v.master.0
   pub shaped : IsShaped v
   pub jobs : AreRunning (setup_in w) v.jobs.items w.jobs
+  pub streams : AreAtHand (setup_in w) v.core.jobs v.jobs.items w.jobs
   pub flight : w.is_barred ≡ false → IsFlight v.flight w.append w.records d.holds
 
--- the desk stands for some state, over some devices of which the disk tells nothing
+-- the file of a put has these bytes behind its first ones, as far as it may
+abbrev pub EndsIn : ℕ → List ℕ → Kind → Type 0
+EndsIn place rest (PutJob name bytes) =
+    (before : List ℕ) × (bytes ≡ before ++ take (largest_file - place) rest) × (length before ≡ place)
+EndsIn place rest kind = ⊥
+
+-- so does the file of each open stream, behind the stripes given so far
+abbrev pub HasEnds : Desk → State → (ℕ → List ℕ) → Type 0
+HasEnds v w rest =
+    (number stripes : ℕ) (job : Job) → told_in v.core.jobs number ≡ Some stripes
+    → job_of w.jobs number ≡ Some job
+    → EndsIn (stripes * stripe_size (setup_in w) job.profile) (rest number) job.kind
+
+-- whatever its streams are still given, the desk stands for some state, over some devices of which the disk
+-- tells nothing
 abbrev pub IsAtWork : Desk → Type 0
 IsAtWork v =
-    ∥ ((w : State) × (faults : ℕ) × (ps : List Provider) × DeskStands v (devices None faults ps) w) ∥₁
+    (rest : ℕ → List ℕ) → ((number : ℕ) → AreBytes (rest number))
+    → ∥ ((w : State) × (faults : ℕ) × (ps : List Provider) × DeskStands v (devices None faults ps) w
+    × HasEnds v w rest) ∥₁
 
 -- the records of a text that a disk holds, with the append that is made behind them
 abbrev pub CarriesText : Option Flight → List Record → Option Cells → Type 0
@@ -103,5 +124,6 @@ pub record DeskMakesStep (w : State) (moment job : ℕ) (turn : Turn) (v : Desk)
 
 -- what comes next for a job, by its core
 pub record Comes (c : CoreView) (job : ℕ) (action : Action) : Type 0 where
+  pub wants : wants_in c job ≡ None
   pub value : next_in c job ≡ Acts action
   pub machine : (w : State) → CoreIs c w → ComesNext w job action None

@@ -13,6 +13,7 @@ use Rattle.vault.specs.declared.turn.Answer.TheVariants as answer
 -- what a job answers that made all its actions
 abbrev pub answer_at_end : Task → ℕ → ℕ → Counts → Answer
 answer_at_end (task.Put t) number undecided counts = answer.Put
+answer_at_end (task.Stream t) number undecided counts = answer.Put
 answer_at_end (task.Get t) number undecided counts = answer.Got (take t.length t.bytes.items)
 answer_at_end task.Drop number undecided counts = answer.Dropped
 answer_at_end (task.Audit t) number undecided counts = answer.Audited number undecided counts

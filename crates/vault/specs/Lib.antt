@@ -5,10 +5,12 @@ pub mod Heard
 pub mod Orders
 pub mod Rounds
 pub mod Tasks
+pub mod AtHand
 pub mod Fetching
 pub mod Storing
 pub mod Opening
 pub mod Seen
+pub mod Streams
 pub mod Flights
 pub mod Running
 pub mod Desks

@@ -27,6 +27,7 @@ use Rattle.vault.specs.declared.turn.Turn.{Turn}
 use Rattle.vault.specs.declared.turn.Turn.TheVariants as turn
 use Rattle.vault.specs.declared.desk.Desk.{Desk}
 use Rattle.stripe_bench.specs.Blocks.{blocks_in}
+use Rattle.vault.specs.AtHand.{KeepsStreams}
 use Rattle.vault.specs.Heard.{fetched_entries, answered_entries}
 
 -- the place of the job of a number
@@ -44,10 +45,10 @@ heard_of (task.Audit t) = answered_entries t.heard.job t.heard.asks.items t.hear
 heard_of t = []
 
 -- the core was given a reply
-abbrev pub IsFed : CoreView → ℕ → Reply → CoreView → Type 0
-IsFed old job reply new =
-    (w n : State) (outcome : Outcome) (moment : ℕ) → CoreIs old w → Happens 8 moment w (Step job) outcome n
-    → IsReplyTo old job reply outcome n → CoreIs new n
+pub record IsFed (old : CoreView) (job : ℕ) (reply : Reply) (new : CoreView) : Type 0 where
+  pub step : (w n : State) (outcome : Outcome) (moment : ℕ) → CoreIs old w
+      → Happens 8 moment w (Step job) outcome n → IsReplyTo old job reply outcome n → CoreIs new n
+  pub streams : KeepsStreams old new
 
 -- nothing but the core, the running jobs and the append in flight may have changed
 pub record KeepsAll (old new : Desk) : Type 0 where

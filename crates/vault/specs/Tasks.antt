@@ -9,15 +9,16 @@
 --   OneHas P xs                        == one of these has it
 --   Serves s profile benches           == one of them is that of such an object at this profile
 --   IsAtHand s pinned phase bench      == the bench is that of the object in work, by the profile of its file
---   IsPutTask, IsGet, IsDrop, IsAudit, IsRepair, IsUpgrade s task job rest
+--   IsPutTask, IsStream, IsGet, IsDrop, IsAudit, IsRepair, IsUpgrade s task job rest
 --                                      == what a job of this kind works with
 --   IsTask s job rest task             == one of these
 --   AreRunning s running jobs          == the running jobs, in order, with what they work with
 use Rattle.std.specs.Prelude.{◌≡◌, ◌⊎◌, ℕ, ◌+◌, ◌*◌, ◌<◌, ◌≤◌, Bool, List, [], ◌∷◌, ◌++◌, length, replicate, Option, vec_len, vec_capacity}
 use Rattle.std.specs.List.{flat_map}
+use Rattle.std.specs.Option.{ForSome}
 use Rattle.algebra_laws.specs.Lists.{Each}
 use Rattle.code_defs.specs.Points.{upto}
-use Rattle.column_defs.specs.Objects.{bytes_of_symbols, stripe_symbols}
+use Rattle.column_defs.specs.Objects.{bytes_of_symbols, stripe_symbols, symbols_in}
 use Rattle.column_defs.specs.Verdicts.{Sums}
 use Rattle.record_defs.specs.Records.{Setup}
 use Rattle.record_codec.specs.Entries.{counted, IsPadded}
@@ -30,6 +31,7 @@ use Rattle.machine_defs.specs.Heard.{entries_of}
 use Rattle.stripe_bench.specs.declared.blocks.Blocks.{Blocks}
 use Rattle.stripe_bench.specs.declared.bench.Bench.{Bench}
 use Rattle.vault.specs.declared.tasks.PutTask.{PutTask}
+use Rattle.vault.specs.declared.tasks.StreamTask.{StreamTask}
 use Rattle.vault.specs.declared.tasks.GetTask.{GetTask}
 use Rattle.vault.specs.declared.tasks.AuditTask.{AuditTask}
 use Rattle.vault.specs.declared.tasks.RepairTask.{RepairTask}
@@ -97,6 +99,14 @@ pub record IsPutTask (s : Setup) (t : PutTask) (job : Job) : Type 0 where
   pub name : List ℕ
   pub kind : job.kind ≡ PutJob name t.bytes
   pub bench : IsBench s job.profile t.bench
+
+-- a stream has the symbols of the stripe at hand, out of its file
+pub record IsStream (s : Setup) (t : StreamTask) (job : Job) : Type 0 where
+  pub name : List ℕ
+  pub bytes : List ℕ
+  pub kind : job.kind ≡ PutJob name bytes
+  pub bench : IsBench s job.profile t.bench
+  pub rows : ForSome t.at_hand (λ stripe. t.bench.rows.items ≡ symbols_in (bench_object t.bench) bytes stripe)
 
 -- a get has what it heard and what it opened so far, and room for the rest
 pub record IsGet (s : Setup) (t : GetTask) (job : Job) (rest : List Action) : Type 0 where
@@ -193,6 +203,7 @@ pub record IsRepair (s : Setup) (t : RepairTask) (job : Job) (rest : List Action
 -- what a job works with
 abbrev pub IsTask : Setup → Job → List Action → Task → Type 0
 IsTask s job rest (task.Put t) = IsPutTask s t job
+IsTask s job rest (task.Stream t) = IsStream s t job
 IsTask s job rest (task.Get t) = IsGet s t job rest
 IsTask s job rest task.Drop = IsDrop job
 IsTask s job rest (task.Audit t) = IsAudit s t job rest

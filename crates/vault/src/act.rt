@@ -5,6 +5,7 @@ ghost use Rattle.record_defs.specs.Records.{Record as Entry};
 ghost use Rattle.record_defs.specs.Spellings.{spelling};
 ghost use Rattle.vault.specs.Calls.{moves_before_next, MovesCells};
 ghost use Rattle.stripe_bench.specs.Calls.{CalledOnce};
+ghost use Rattle.vault.specs.AtHand.{KeepsStreams};
 ghost use Rattle.vault.specs.Desks.{DeskStands, IsAtWork, Comes, DeskMakesStep};
 ghost use Rattle.vault.specs.Devices.{devices_seen, devices_by};
 ghost use Rattle.vault.specs.Outcomes.{IfEnded, IsNoAction, HasPaddedCounts};
@@ -53,6 +54,7 @@ impl Desk {
         ensures one_provider_call { (j : ℕ) → called_provider (Acts (seen_action action)) ≡ Some j
             → CalledOnce P.calls j providers.old providers.new }
         ensures acted { IsNoAction result → ⊥ }
+        ensures streams { KeepsStreams self.old.core self.new.core }
     {
         match action {
             Action::WriteBody | Action::SyncBody | Action::WriteGate | Action::SyncGate => {

@@ -1,22 +1,24 @@
-ghost use Rattle.std.specs.Prelude.{◌≡◌, ◌∷◌, ◌<◌, ◌-◌, ◌^◌, ◌||◌, None, Some, not, nat_le, length, List, ℕ, IfOk, IfErr, OnOk, OnErr, IsTrue};
-ghost use Rattle.record_defs.specs.Records.{is_name};
+ghost use Rattle.std.specs.Prelude.{◌≡◌, ◌∷◌, ◌<◌, ◌≤◌, ◌-◌, ◌^◌, ◌||◌, None, Some, not, nat_le, length, List, ℕ, IfOk, IfErr, OnOk, OnErr, IsTrue};
+ghost use Rattle.record_defs.specs.Records.{is_name, largest_file};
 ghost use Rattle.machine_defs.specs.Actions.{actions_left};
 ghost use Rattle.machine_defs.specs.Begins.{refusal_of_begin, beginning};
 ghost use Rattle.machine_defs.specs.Sights.{sight_of, is_shut};
 ghost use Rattle.machine_defs.specs.Events.{AreBytes, IsSpelledKind};
-ghost use Rattle.machine_defs.specs.Jobs.{Kind};
+ghost use Rattle.machine_defs.specs.Jobs.{Kind, PutJob};
 ghost use Rattle.machine_defs.specs.Refusals as refusal;
 ghost use Rattle.machine_defs.specs.Refusals.{Cause, first_refusal};
 ghost use Rattle.machine_defs.specs.States.{State, setup_in};
 ghost use Rattle.vault_core.specs.Carried.{CoreIs, IsKindOf, refusal_of};
 ghost use Rattle.vault_core.specs.Wished.{profile_named, IsShort};
 ghost use Rattle.vault_open.specs.Devices.{Devices};
+ghost use Rattle.vault.specs.AtHand.{hand_of, KeepsStreams};
 ghost use Rattle.vault.specs.Running.{IsSameDesk};
 ghost use Rattle.vault.specs.Desks.{DeskStands, DeskMakesBegin};
-ghost use Rattle.vault.specs.Tasks.{IsTask};
+ghost use Rattle.vault.specs.Tasks.{IsTask, IsStream};
+ghost use Rattle.vault_core.specs.View.{told_in};
 
 use crate::desk::Desk;
-use crate::tasks::{Running, Task};
+use crate::tasks::{Running, StreamTask, Task};
 use record_codec::Name;
 use vault_core::{BeginFault, Wish};
 
@@ -46,11 +48,53 @@ impl Desk {
         }
     }
 
+    /// Takes a stream in with what it works with, where its begin is accepted. Condition: a number is left for
+    /// the job.
+    pub(crate) fn admit_stream(
+        &mut self,
+        name: Name,
+        profile: Option<u8>,
+        task: StreamTask,
+    ) -> Result<u32, BeginFault>
+        requires number { self.old.core.next_job < 2 ^ 32 - 1 }
+        requires none_at_hand { task.at_hand ≡ None }
+        ensures machine { (w : State) (d : Devices) (moment : ℕ) (bytes : List ℕ) → DeskStands self.old d w
+            → IsSpelledKind (PutJob name bytes) → length bytes ≤ largest_file
+            → (refusal_of_begin 8 w (PutJob name bytes) profile ≡ None
+            → IsStream (setup_in w) task (beginning w moment (PutJob name bytes) profile))
+            → DeskMakesBegin w moment (PutJob name bytes) profile result self.new d }
+        ensures unchanged { OnErr result (IsSameDesk self.old self.new) }
+        ensures number { IfOk result (λ job. job ≡ self.old.core.next_job) }
+        ensures open { IfOk result (λ job. told_in self.new.core.jobs job ≡ Some 0) }
+        ensures others { (other : ℕ) → (other ≡ self.old.core.next_job → ⊥)
+            → told_in self.new.core.jobs other ≡ told_in self.old.core.jobs other }
+        ensures setup { self.new.core.setup ≡ self.old.core.setup }
+    {
+        if self.jobs.reserve(1).is_err() {
+            drop(task);
+            return Err(BeginFault::Memory);
+        }
+        match self.core.begin_stream(name, profile) {
+            Ok(number) => {
+                self.jobs.push_reserved(Running {
+                    number,
+                    task: Task::Stream(task),
+                });
+                Ok(number)
+            }
+            Err(why) => {
+                drop(task);
+                Err(why)
+            }
+        }
+    }
+
     /// Takes a job in with what it works with, where its begin is accepted. Conditions: a number is left for
-    /// the job, and a put has at most 2^22 bytes.
+    /// the job, a put has at most 2^22 bytes, and the job is no stream.
     pub(crate) fn admit(&mut self, wish: Wish, task: Task) -> Result<u32, BeginFault>
         requires number { self.old.core.next_job < 2 ^ 32 - 1 }
         requires size { IsShort wish }
+        requires none_at_hand { hand_of task ≡ None }
         ensures machine { (w : State) (d : Devices) (moment : ℕ) (kind : Kind) → DeskStands self.old d w
             → IsKindOf wish kind → IsSpelledKind kind
             → (refusal_of_begin 8 w kind (profile_named wish) ≡ None
@@ -58,6 +102,7 @@ impl Desk {
             (actions_left (setup_in w) (beginning w moment kind (profile_named wish))) task)
             → DeskMakesBegin w moment kind (profile_named wish) result self.new d }
         ensures unchanged { OnErr result (IsSameDesk self.old self.new) }
+        ensures streams { OnOk result (KeepsStreams self.old.core self.new.core) }
     {
         if self.jobs.reserve(1).is_err() {
             drop(task);

@@ -12,6 +12,7 @@ ghost use Rattle.vault_core.specs.declared.pinned.Pinned.{Pinned as PinnedValue}
 ghost use Rattle.vault_open.specs.Devices.{devices};
 ghost use Rattle.vault.specs.Asking.{pin_among, pin_in, profile_or, IsQuestion, challenge_put, Asked, MayAsk, TellsAsk, IsAuditing, MayPut};
 ghost use Rattle.stripe_bench.specs.Calls.{sight, CalledOnce};
+ghost use Rattle.vault.specs.AtHand.{KeepsStreams};
 ghost use Rattle.vault.specs.Desks.{DeskStands, IsAtWork, Comes, DeskMakesStep};
 ghost use Rattle.vault.specs.Running.{RunsIn};
 ghost use Rattle.vault.specs.declared.turn.Turn.TheVariants as turn;
@@ -183,9 +184,12 @@ impl Task {
     {
         match self {
             Task::Audit(audit) => audit.ask(master, question, provider, from, work),
-            Task::Put(_) | Task::Get(_) | Task::Drop | Task::Repair(_) | Task::Upgrade => {
-                unreachable!()
-            }
+            Task::Put(_)
+            | Task::Stream(_)
+            | Task::Get(_)
+            | Task::Drop
+            | Task::Repair(_)
+            | Task::Upgrade => unreachable!(),
         }
     }
 
@@ -202,9 +206,12 @@ impl Task {
                 undecided: audit.undecided,
                 counts: audit.counts,
             },
-            Task::Put(_) | Task::Get(_) | Task::Drop | Task::Repair(_) | Task::Upgrade => {
-                unreachable!()
-            }
+            Task::Put(_)
+            | Task::Stream(_)
+            | Task::Get(_)
+            | Task::Drop
+            | Task::Repair(_)
+            | Task::Upgrade => unreachable!(),
         }
     }
 }
@@ -278,6 +285,7 @@ impl Desk {
         ensures left { core_left self.new.core job < core_left self.old.core job }
         ensures more { result ≡ turn.More }
         ensures called { CalledOnce P.calls provider providers.old providers.new }
+        ensures streams { KeepsStreams self.old.core self.new.core }
     {
         let question = self.question(job, object, round);
         let place = self.place_of(job);

@@ -4,6 +4,7 @@ ghost use Rattle.machine_defs.specs.States.{State};
 ghost use Rattle.vault_core.specs.declared.wish.BeginFault.TheVariants as fault;
 ghost use Rattle.vault_open.specs.Devices.{Devices};
 ghost use Rattle.vault.specs.Seen.{held_by, next_job_of, IsUnchanged};
+ghost use Rattle.vault.specs.Streams.{KeepsStreamless};
 ghost use Rattle.vault.specs.Stands.{Stands, MakesBegin};
 
 use crate::vault::Vault;
@@ -23,6 +24,7 @@ impl Vault {
         ensures machine { (w : State) (d : Devices) (moment : ℕ) → Stands self.old d w
             → MakesBegin w moment (PutJob name.now bytes) profile result self.new d }
         ensures unchanged { OnErr result (IsUnchanged self.old self.new) }
+        ensures streams { KeepsStreamless self.old self.new }
         ensures busy { is_some (held_by self.old) ≡ true → result ≡ Err fault.Busy }
     {
         self.unheld()?;
@@ -35,6 +37,7 @@ impl Vault {
         ensures machine { (w : State) (d : Devices) (moment : ℕ) → Stands self.old d w
             → MakesBegin w moment (GetJob name.now) None result self.new d }
         ensures unchanged { OnErr result (IsUnchanged self.old self.new) }
+        ensures streams { KeepsStreamless self.old self.new }
         ensures busy { is_some (held_by self.old) ≡ true → result ≡ Err fault.Busy }
     {
         self.unheld()?;
@@ -47,6 +50,7 @@ impl Vault {
         ensures machine { (w : State) (d : Devices) (moment : ℕ) → Stands self.old d w
             → MakesBegin w moment (DropJob name.now) None result self.new d }
         ensures unchanged { OnErr result (IsUnchanged self.old self.new) }
+        ensures streams { KeepsStreamless self.old self.new }
         ensures busy { is_some (held_by self.old) ≡ true → result ≡ Err fault.Busy }
     {
         self.unheld()?;
@@ -59,6 +63,7 @@ impl Vault {
         ensures machine { (w : State) (d : Devices) (moment : ℕ) → Stands self.old d w
             → MakesBegin w moment AuditJob None result self.new d }
         ensures unchanged { OnErr result (IsUnchanged self.old self.new) }
+        ensures streams { KeepsStreamless self.old self.new }
         ensures busy { is_some (held_by self.old) ≡ true → result ≡ Err fault.Busy }
     {
         self.unheld()?;
@@ -72,6 +77,7 @@ impl Vault {
         ensures machine { (w : State) (d : Devices) (moment : ℕ) → Stands self.old d w
             → MakesBegin w moment RepairJob None result self.new d }
         ensures unchanged { OnErr result (IsUnchanged self.old self.new) }
+        ensures streams { KeepsStreamless self.old self.new }
         ensures busy { is_some (held_by self.old) ≡ true → result ≡ Err fault.Busy }
     {
         self.unheld()?;
@@ -84,6 +90,7 @@ impl Vault {
         ensures machine { (w : State) (d : Devices) (moment : ℕ) → Stands self.old d w
             → MakesBegin w moment UpgradeJob None result self.new d }
         ensures unchanged { OnErr result (IsUnchanged self.old self.new) }
+        ensures streams { KeepsStreamless self.old self.new }
         ensures busy { is_some (held_by self.old) ≡ true → result ≡ Err fault.Busy }
     {
         self.unheld()?;

@@ -1,12 +1,13 @@
-ghost use Rattle.std.specs.Prelude.{◌≡◌, ◌<◌, ℕ, [], Some, IsSome};
+ghost use Rattle.std.specs.Prelude.{◌≡◌, ◌<◌, ℕ, [], None, Some, IsSome};
 ghost use Rattle.machine_defs.specs.Actions.{End};
 ghost use Rattle.machine_defs.specs.States.{State};
 ghost use Rattle.std.specs.Option.{option_map};
 ghost use Rattle.column_defs.specs.Verdicts.{Sums};
 ghost use Rattle.record_codec.specs.Entries.{counted, IsPadded};
 ghost use Rattle.vault_core.specs.Coming.{TakesReply, core_left};
-ghost use Rattle.vault_core.specs.View.{job_in, CoreJob};
+ghost use Rattle.vault_core.specs.View.{job_in, wants_in, CoreJob};
 ghost use Rattle.vault_open.specs.Devices.{Devices};
+ghost use Rattle.vault.specs.AtHand.{KeepsStreams};
 ghost use Rattle.vault.specs.Desks.{DeskStands, IsAtWork, Comes, DeskMakesStep};
 ghost use Rattle.vault.specs.Ending.{answer_at_end};
 ghost use Rattle.vault.specs.Outcomes.{IfEnded, IsNoAction, HasPaddedCounts};
@@ -116,6 +117,10 @@ impl Task {
                 drop(put);
                 quiet(Answer::Put)
             }
+            Task::Stream(stream) => {
+                drop(stream);
+                quiet(Answer::Put)
+            }
             Task::Get(get) => get.into_end(),
             Task::Drop => quiet(Answer::Dropped),
             Task::Audit(audit) => Ended {
@@ -180,6 +185,7 @@ impl Desk {
         ensures left { result ≡ turn.More → core_left self.new.core job < core_left self.old.core job }
         ensures padded { IfEnded result (λ ended. HasPaddedCounts ended.answer) }
         ensures acted { IsNoAction result → ⊥ }
+        ensures streams { KeepsStreams self.old.core self.new.core }
     {
         let place = self.place_of(job);
         let number = self.subject_of(job);
@@ -192,6 +198,7 @@ impl Desk {
     /// Ends a job with this answer, for which the core is given this reply.
     pub fn stop(&mut self, job: u32, reply: Reply, answer: Answer) -> Turn
         requires reply { TakesReply self.old.core job reply }
+        requires given { wants_in self.old.core job ≡ None }
         requires there { IsSome (place_in self.old.jobs.items job) }
         ensures stopped { IsStopped self.old job reply answer result self.new }
         ensures acted { IsNoAction result → ⊥ }

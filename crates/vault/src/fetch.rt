@@ -10,6 +10,7 @@ ghost use Rattle.vault_open.specs.Devices.{devices};
 ghost use Rattle.stripe_bench.specs.Blocks.{given_of};
 ghost use Rattle.vault.specs.Benches.{TurnsTo};
 ghost use Rattle.stripe_bench.specs.Calls.{sight, CalledOnce};
+ghost use Rattle.vault.specs.AtHand.{KeepsStreams};
 ghost use Rattle.vault.specs.Desks.{DeskStands, IsAtWork, Comes, DeskMakesStep};
 ghost use Rattle.vault.specs.Fetching.{TakesFetch, HasRoomFor, GrowsFetches, HasRoomForFetch, fetch_size};
 ghost use Rattle.vault.specs.declared.turn.Turn.TheVariants as turn;
@@ -45,7 +46,12 @@ impl Task {
         }
         match self {
             Task::Repair(repair) => repair.take_up(profile),
-            Task::Put(_) | Task::Get(_) | Task::Drop | Task::Audit(_) | Task::Upgrade => {}
+            Task::Put(_)
+            | Task::Stream(_)
+            | Task::Get(_)
+            | Task::Drop
+            | Task::Audit(_)
+            | Task::Upgrade => {}
         }
     }
 
@@ -60,7 +66,9 @@ impl Task {
         match self {
             Task::Get(get) => get.fetched.fetch(from, fetch),
             Task::Repair(repair) => repair.blocks.fetch(from, fetch.object, fetch.stripe),
-            Task::Put(_) | Task::Drop | Task::Audit(_) | Task::Upgrade => unreachable!(),
+            Task::Put(_) | Task::Stream(_) | Task::Drop | Task::Audit(_) | Task::Upgrade => {
+                unreachable!()
+            }
         }
     }
 }
@@ -88,6 +96,7 @@ impl Desk {
         ensures left { core_left self.new.core job < core_left self.old.core job }
         ensures more { result ≡ turn.More }
         ensures called { CalledOnce P.calls provider providers.old providers.new }
+        ensures streams { KeepsStreams self.old.core self.new.core }
     {
         let profile = self.profile_in(job, object);
         let place = self.place_of(job);

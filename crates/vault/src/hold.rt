@@ -8,6 +8,7 @@ ghost use Rattle.vault_core.specs.declared.wish.BeginFault.TheVariants as fault;
 ghost use Rattle.vault_open.specs.Devices.{Devices};
 ghost use Rattle.vault.specs.Seen.{held_by, next_job_of, provider_count, IsUnchanged};
 ghost use Rattle.vault.specs.Stands.{Stands, StandsBeside, HoldsOver};
+ghost use Rattle.vault.specs.Streams.{KeepsStreamless};
 
 use crate::vault::Vault;
 use hail_field::Memory;
@@ -48,6 +49,7 @@ impl Vault {
         ensures held { IfOk result (λ number. held_by self.new ≡ Some number) }
         ensures busy { is_some (held_by self.old) ≡ true → result ≡ Err fault.Busy }
         ensures unchanged { OnErr result (IsUnchanged self.old self.new) }
+        ensures streams { KeepsStreamless self.old self.new }
     {
         self.unheld()?;
         if let Some(fault) = self.desk.core.barred() {
@@ -67,6 +69,7 @@ impl Vault {
             → Stands self.new d w }
         ensures held { held_by self.new ≡ None }
         ensures none { held_by self.old ≡ None → self.new ≡ self.old }
+        ensures streams { KeepsStreamless self.old self.new }
     {
         self.held = None;
     }

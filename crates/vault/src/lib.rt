@@ -26,6 +26,7 @@ mod remove;
 mod start;
 mod step;
 mod store;
+mod stream;
 mod tasks;
 mod turn;
 mod vault;

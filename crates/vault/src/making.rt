@@ -1,5 +1,5 @@
 //! How a desk begins its jobs: what each works with is reserved here.
-ghost use Rattle.std.specs.Prelude.{◌≡◌, ◌<◌, ◌-◌, ◌^◌, ℕ, List, None, OnErr};
+ghost use Rattle.std.specs.Prelude.{◌≡◌, ◌<◌, ◌-◌, ◌^◌, ℕ, List, None, OnOk, OnErr};
 ghost use Rattle.record_codec.specs.Entries.{with_master};
 ghost use Rattle.machine_defs.specs.Begins.{chosen};
 ghost use Rattle.machine_defs.specs.Jobs.{PutJob, GetJob, DropJob, AuditJob, RepairJob, UpgradeJob};
@@ -7,6 +7,7 @@ ghost use Rattle.machine_defs.specs.States.{State};
 ghost use Rattle.vault_open.specs.Devices.{Devices};
 ghost use Rattle.vault.specs.Benches.{names_unknown};
 ghost use Rattle.vault.specs.Desks.{DeskStands, DeskMakesBegin};
+ghost use Rattle.vault.specs.AtHand.{KeepsStreams};
 ghost use Rattle.vault.specs.Running.{IsSameDesk};
 
 use crate::benches::{LARGEST_FILE, bytes_are_bytes};
@@ -23,7 +24,7 @@ const PROFILES: u8 = 5;
 const MOST_FILES: usize = 1024;
 
 /// A put names a profile that there is not.
-fn is_unknown(profile: Option<u8>) -> bool
+pub(crate) fn is_unknown(profile: Option<u8>) -> bool
     ensures { result ≡ names_unknown profile }
 {
     match profile {
@@ -33,7 +34,7 @@ fn is_unknown(profile: Option<u8>) -> bool
 }
 
 /// The profile of a put: the one that it names, or else the setup's.
-fn profile_of_put(profile: Option<u8>, setup: &Setup) -> u8
+pub(crate) fn profile_of_put(profile: Option<u8>, setup: &Setup) -> u8
     ensures { (key : List ℕ) → result ≡ chosen (with_master setup.now key) profile }
 {
     match profile {
@@ -54,6 +55,7 @@ impl Desk {
         ensures machine { (w : State) (d : Devices) (moment : ℕ) → DeskStands self.old d w
             → DeskMakesBegin w moment (PutJob name.now bytes) profile result self.new d }
         ensures unchanged { OnErr result (IsSameDesk self.old self.new) }
+        ensures streams { OnOk result (KeepsStreams self.old.core self.new.core) }
     {
         let name = self.checked_name(name)?;
         bytes_are_bytes(bytes.as_slice());
@@ -85,6 +87,7 @@ impl Desk {
         ensures machine { (w : State) (d : Devices) (moment : ℕ) → DeskStands self.old d w
             → DeskMakesBegin w moment (GetJob name.now) None result self.new d }
         ensures unchanged { OnErr result (IsSameDesk self.old self.new) }
+        ensures streams { OnOk result (KeepsStreams self.old.core self.new.core) }
     {
         let name = self.checked_name(name)?;
         let Some(file) = self.core.table().find(&name) else {
@@ -104,6 +107,7 @@ impl Desk {
         ensures machine { (w : State) (d : Devices) (moment : ℕ) → DeskStands self.old d w
             → DeskMakesBegin w moment (DropJob name.now) None result self.new d }
         ensures unchanged { OnErr result (IsSameDesk self.old self.new) }
+        ensures streams { OnOk result (KeepsStreams self.old.core self.new.core) }
     {
         let name = self.checked_name(name)?;
         self.admit(Wish::Drop { name }, Task::Drop)
@@ -115,6 +119,7 @@ impl Desk {
         ensures machine { (w : State) (d : Devices) (moment : ℕ) → DeskStands self.old d w
             → DeskMakesBegin w moment AuditJob None result self.new d }
         ensures unchanged { OnErr result (IsSameDesk self.old self.new) }
+        ensures streams { OnOk result (KeepsStreams self.old.core self.new.core) }
     {
         let files = self.core.table().count().min(MOST_FILES);
         let n = self.setup.n;
@@ -131,6 +136,7 @@ impl Desk {
         ensures machine { (w : State) (d : Devices) (moment : ℕ) → DeskStands self.old d w
             → DeskMakesBegin w moment RepairJob None result self.new d }
         ensures unchanged { OnErr result (IsSameDesk self.old self.new) }
+        ensures streams { OnOk result (KeepsStreams self.old.core self.new.core) }
     {
         let task = self.repair_task()?;
         self.admit(Wish::Repair, Task::Repair(task))
@@ -142,6 +148,7 @@ impl Desk {
         ensures machine { (w : State) (d : Devices) (moment : ℕ) → DeskStands self.old d w
             → DeskMakesBegin w moment UpgradeJob None result self.new d }
         ensures unchanged { OnErr result (IsSameDesk self.old self.new) }
+        ensures streams { OnOk result (KeepsStreams self.old.core self.new.core) }
     {
         self.admit(Wish::Upgrade, Task::Upgrade)
     }

@@ -9,6 +9,7 @@ ghost use Rattle.machine_defs.specs.States.{State};
 ghost use Rattle.vault_open.specs.Devices.{devices};
 ghost use Rattle.vault_core.specs.Coming.{core_left, entry_in, next_in};
 ghost use Rattle.vault.specs.Calls.{moves_before_next, MovesCells};
+ghost use Rattle.vault.specs.AtHand.{KeepsStreams};
 ghost use Rattle.vault.specs.Desks.{DeskStands, IsAtWork, Comes, DeskMakesStep};
 ghost use Rattle.vault.specs.Devices.{cells_by};
 ghost use Rattle.vault.specs.Movers.{ComesMove, IsUnbegun, IsMover};
@@ -69,6 +70,7 @@ impl Desk {
         ensures padded { IfEnded result (λ ended. HasPaddedCounts ended.answer) }
         ensures acted { IsNoAction result → ⊥ }
         ensures called { D.calls disk.new ≡ one_more (D.calls disk.old) }
+        ensures streams { KeepsStreams self.old.core self.new.core }
     {
         match self.take_flight(job).turn(disk) {
             Moved::On(flight) => {

@@ -8,6 +8,7 @@ ghost use Rattle.stripe_bench.specs.Calls.{sight, CalledOnce};
 ghost use Rattle.vault_open.specs.Devices.{devices};
 ghost use Rattle.provider_model.specs.Seen.{provider_seen};
 ghost use Rattle.vault_core.specs.Coming.{core_left};
+ghost use Rattle.vault.specs.AtHand.{KeepsStreams};
 ghost use Rattle.vault.specs.Desks.{DeskStands, Comes, DeskMakesStep};
 ghost use Rattle.vault.specs.declared.turn.Turn.TheVariants as turn;
 
@@ -46,6 +47,7 @@ impl Desk {
         ensures left { core_left self.new.core job < core_left self.old.core job }
         ensures more { result ≡ turn.More }
         ensures called { CalledOnce P.calls provider providers.old providers.new }
+        ensures streams { KeepsStreams self.old.core self.new.core }
     {
         let index = provider as usize;
         remove_from(&mut providers[index], object);

@@ -12,6 +12,7 @@ ghost use Rattle.opening_defs.specs.Journals.{journal_read, IsRead, IsResynced};
 ghost use Rattle.vault_open.specs.Causes.{IsStartFault, LiesInJournal};
 ghost use Rattle.vault.specs.Seen.{next_job_of};
 ghost use Rattle.vault.specs.Stands.{Stands, Carries};
+ghost use Rattle.vault.specs.Streams.{IsStreamless};
 ghost use Rattle.opening_defs.specs.Opened.{IsJustOpened};
 
 use crate::fresh::open_fresh;
@@ -29,6 +30,7 @@ impl Vault {
             → Stands v (devices (D.holds disk.new) (D.faults disk.new) providers) w)) }
         ensures carries { IfOk result (λ v. Carries v (D.holds disk.new)) }
         ensures number { IfOk result (λ v. next_job_of v ≡ first) }
+        ensures streams { IfOk result (λ v. IsStreamless v) }
         ensures refused { IfErr result
             (λ why. IfSome (D.holds disk.old) (λ cells. IsStartFault (journal_read cells) why)) }
         ensures synced { OnOk result (D.holds disk.new ≡ option_map synced (D.holds disk.old)) }

@@ -10,6 +10,7 @@ ghost use Rattle.vault.specs.Outcomes.{IfEnded, IsNoAction, HasPaddedCounts};
 ghost use Rattle.vault.specs.declared.turn.Turn.TheVariants as turn;
 ghost use Rattle.vault.specs.Seen.{provider_count, coming_of, vault_entry, closed_gate_of, left_of, IsUnchanged};
 ghost use Rattle.vault.specs.Stands.{Stands, MakesStep};
+ghost use Rattle.vault.specs.Streams.{wants_of, KeepsStreamless, KeepsTold};
 ghost use Rattle.vault_core.specs.Coming.{IsNoJob, calls_disk, called_provider};
 
 use crate::turn::Turn;
@@ -20,15 +21,16 @@ use vault_core::Next;
 
 impl Vault {
     /// Makes the next action of a job, with its one call of a device, if it has one. Conditions: the setup's
-    /// `n` providers at least, of which only these are used; and the disk is the one that the vault was
-    /// opened over.
+    /// `n` providers at least, of which only these are used; the disk is the one that the vault was opened
+    /// over; and the job is no stream that waits for a stripe.
     pub fn step<D: Disk, P: Provider>(
         &mut self,
         job: u32,
         disk: &mut D,
         providers: &mut [P],
     ) -> Turn
-        requires { provider_count self.old ≤ length providers.old }
+        requires handed { provider_count self.old ≤ length providers.old }
+        requires given { wants_of self.old job ≡ None }
         ensures machine { (w : State) (moment : ℕ)
             → Stands self.old (devices_seen D.Disk P.Provider disk.old providers.old) w
             → MakesStep w moment job result self.new
@@ -53,6 +55,8 @@ impl Vault {
             → CalledOnce P.calls j providers.old providers.new }
         ensures waits { IsNoAction result
             → IsUnchanged self.old self.new × (disk.new ≡ disk.old) × (providers.new ≡ providers.old) }
+        ensures streams { KeepsStreamless self.old self.new }
+        ensures told { (number : ℕ) → KeepsTold self.old self.new number }
         ensures no_job { (result ≡ turn.NoSuchJob) ↔ (coming_of self.old job ≡ IsNoJob) }
     {
         match self.desk.core.next(job) {

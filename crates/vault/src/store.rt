@@ -8,6 +8,7 @@ ghost use Rattle.provider_model.specs.Seen.{StoresAs, provider_seen};
 ghost use Rattle.vault_core.specs.Coming.{core_left};
 ghost use Rattle.vault_open.specs.Devices.{devices};
 ghost use Rattle.stripe_bench.specs.Calls.{sight, CalledOnce};
+ghost use Rattle.vault.specs.AtHand.{KeepsStreams};
 ghost use Rattle.vault.specs.Desks.{DeskStands, IsAtWork, Comes, DeskMakesStep};
 ghost use Rattle.vault.specs.Outcomes.{IfEnded, IsNoAction, HasPaddedCounts};
 ghost use Rattle.stripe_bench.specs.Bench.{turned};
@@ -65,7 +66,7 @@ impl PutTask {
 }
 
 impl Task {
-    /// Stores a block of a put or a repair.
+    /// Stores a block of a put, a stream or a repair.
     fn store<P: Provider>(
         &mut self,
         to: &mut P,
@@ -81,6 +82,7 @@ impl Task {
     {
         match self {
             Task::Put(put) => put.store(to, provider, object, stripe),
+            Task::Stream(stream) => stream.bench.store(to, provider, object, stripe),
             Task::Repair(repair) => repair.bench.store(to, provider, object, stripe),
             Task::Get(_) | Task::Drop | Task::Audit(_) | Task::Upgrade => unreachable!(),
         }
@@ -88,7 +90,8 @@ impl Task {
 }
 
 impl Desk {
-    /// Stores a block of a put's file, or of a stripe that a repair opened. A store that fails ends the job.
+    /// Stores a block of a put's file, or of the stripe that a stream was given or a repair opened. A store
+    /// that fails ends the job.
     pub fn store<P: Provider>(
         &mut self,
         job: u32,
@@ -111,6 +114,7 @@ impl Desk {
         ensures padded { IfEnded result (λ ended. HasPaddedCounts ended.answer) }
         ensures acted { IsNoAction result → ⊥ }
         ensures called { CalledOnce P.calls provider providers.old providers.new }
+        ensures streams { KeepsStreams self.old.core self.new.core }
     {
         let place = self.place_of(job);
         let index = provider as usize;

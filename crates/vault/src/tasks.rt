@@ -18,6 +18,14 @@ pub struct PutTask {
         ≡ symbols_in (shaped_object bench.keys.master.0 bench.keys.file) bytes stripe) },
 }
 
+/// What a stream works with, a put that is given its file stripe by stripe: the stripe whose symbols are at
+/// hand, in the bench.
+#[derive(Drop)]
+pub struct StreamTask {
+    pub bench: Bench,
+    pub at_hand: Option<u32>,
+}
+
 /// What a get works with: what its fetches gave, and the bytes that were opened so far, of a file of this
 /// length.
 #[derive(Drop)]
@@ -49,6 +57,7 @@ pub struct RepairTask {
 #[derive(Drop)]
 pub enum Task {
     Put(PutTask),
+    Stream(StreamTask),
     Get(GetTask),
     Drop,
     Audit(AuditTask),

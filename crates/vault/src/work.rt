@@ -4,6 +4,7 @@ ghost use Rattle.machine_defs.specs.Actions.{Work};
 ghost use Rattle.machine_defs.specs.States.{State};
 ghost use Rattle.vault_open.specs.Devices.{Devices};
 ghost use Rattle.vault_core.specs.Coming.{core_left};
+ghost use Rattle.vault.specs.AtHand.{KeepsStreams};
 ghost use Rattle.vault.specs.Desks.{DeskStands, IsAtWork, Comes, DeskMakesStep};
 ghost use Rattle.vault.specs.Opening.{WorksAs, CanWork};
 ghost use Rattle.vault.specs.Outcomes.{IfEnded, IsNoAction, HasPaddedCounts};
@@ -80,7 +81,9 @@ impl Task {
         match self {
             Task::Get(get) => get.work(codec, object, stripe),
             Task::Repair(repair) => repair.work(codec, object, stripe),
-            Task::Put(_) | Task::Drop | Task::Audit(_) | Task::Upgrade => unreachable!(),
+            Task::Put(_) | Task::Stream(_) | Task::Drop | Task::Audit(_) | Task::Upgrade => {
+                unreachable!()
+            }
         }
     }
 }
@@ -95,6 +98,7 @@ impl Desk {
         ensures left { result ≡ turn.More → core_left self.new.core job < core_left self.old.core job }
         ensures padded { IfEnded result (λ ended. HasPaddedCounts ended.answer) }
         ensures acted { IsNoAction result → ⊥ }
+        ensures streams { KeepsStreams self.old.core self.new.core }
     {
         let place = self.place_of(job);
         let task = &mut self.jobs[place].task;

@@ -174,9 +174,17 @@ fn drawn(core: &mut Core) -> Option<u32> {
     Some(core.draw())
 }
 
+/// What comes next for a job; none where it is a stream that waits for a stripe.
+fn coming(core: &Core, job: u32) -> Option<Next> {
+    match core.wants(job) {
+        Some(_) => None,
+        None => Some(core.next(job)),
+    }
+}
+
 /// Makes the next action of a job, if it has one now that is not the last ask of an audit.
 fn make(core: &mut Core, job: u32) -> bool {
-    if core.is_last_ask(job) {
+    if core.wants(job).is_some() || core.is_last_ask(job) {
         return false;
     }
     match core.next(job) {
@@ -200,8 +208,8 @@ fn makes(core: &mut Core, job: u32, count: u32) -> bool {
 
 /// Whether a job waits for the append of this other one.
 fn waits(core: &Core, job: u32, other: u32) -> bool {
-    match core.next(job) {
-        Next::Waiting { holder } => holder == other,
+    match coming(core, job) {
+        Some(Next::Waiting { holder }) => holder == other,
         _ => false,
     }
 }
@@ -221,8 +229,8 @@ fn goes(core: &mut Core, act: Act) -> bool {
         Act::Makes(job, count) => makes(core, job, count),
         Act::Rests(job) => !make(core, job),
         Act::Waits(job, other) => waits(core, job, other),
-        Act::SyncsBody(job) => matches!(core.next(job), Next::Act(Action::SyncBody)),
-        Act::Unknown(job) => matches!(core.next(job), Next::NoSuchJob),
+        Act::SyncsBody(job) => matches!(coming(core, job), Some(Next::Act(Action::SyncBody))),
+        Act::Unknown(job) => matches!(coming(core, job), Some(Next::NoSuchJob)),
         Act::Full(count) => core.running() == count && core.barred() == Some(BeginFault::Busy),
     }
 }

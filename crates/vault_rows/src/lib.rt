@@ -24,4 +24,6 @@ mod stopping;
 #[cfg(test)]
 mod store;
 #[cfg(test)]
+mod streaming;
+#[cfg(test)]
 mod versions;

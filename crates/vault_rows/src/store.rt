@@ -140,14 +140,14 @@ fn hold_of(vault: &mut Vault) -> Result<u32, BeginFault> {
     vault.hold()
 }
 
-/// Makes a step of a job, where there are providers enough.
+/// Makes a step of a job, where there are providers enough and it waits for no stripe.
 fn step_of<D: Disk, P: Provider>(
     vault: &mut Vault,
     job: u32,
     disk: &mut D,
     providers: &mut [P],
 ) -> Seen {
-    if providers.len() < usize::from(vault.setup().n) {
+    if providers.len() < usize::from(vault.setup().n) || vault.wants(job).is_some() {
         return Seen::Closed;
     }
     seen_turn(&vault.step(job, disk, providers))

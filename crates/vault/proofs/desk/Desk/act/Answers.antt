@@ -351,3 +351,24 @@ returns-in-End-clause-others g c = λ j k called other. refl
 
 pub returns-in-End-clause-one_provider_call : goal.returns-in-End-clause-one_provider_call
 returns-in-End-clause-one_provider_call g c = λ j called. absurd (no_provider _ _ j c.in-End.is refl called)
+
+pub returns-in-WriteBody-clause-streams : goal.returns-in-WriteBody-clause-streams
+returns-in-WriteBody-clause-streams g c = c.move_append.ensures.streams
+
+pub returns-in-Store-clause-streams : goal.returns-in-Store-clause-streams
+returns-in-Store-clause-streams g c = c.store.ensures.streams
+
+pub returns-in-Fetch-clause-streams : goal.returns-in-Fetch-clause-streams
+returns-in-Fetch-clause-streams g c = c.fetch.ensures.streams
+
+pub returns-in-Ask-clause-streams : goal.returns-in-Ask-clause-streams
+returns-in-Ask-clause-streams g c = c.ask.ensures.streams
+
+pub returns-in-Work-clause-streams : goal.returns-in-Work-clause-streams
+returns-in-Work-clause-streams g c = c.work.ensures.streams
+
+pub returns-in-Remove-clause-streams : goal.returns-in-Remove-clause-streams
+returns-in-Remove-clause-streams g c = c.remove.ensures.streams
+
+pub returns-in-End-clause-streams : goal.returns-in-End-clause-streams
+returns-in-End-clause-streams g c = c.end.ensures.streams

@@ -1,4 +1,4 @@
-use Rattle.std.proofs.Common.{None, refl, ap, arith, ◌∙◌}
+use Rattle.std.proofs.Common.{None, refl, ap, arith, ◌∙◌, []}
 use Rattle.std.specs.Option.{option_map}
 use Rattle.std.proofs.Math.Logic.{∥∥₁_map}
 use Rattle.std.proofs.lemmas.List.{map-set, length-set}
@@ -19,7 +19,7 @@ question-question-requires-clause-runs g c = runs_next c.args.self.now.core c.ar
 
 pub question-question-requires-clause-there : goal.question-question-requires-clause-there
 question-question-requires-clause-there g c =
-    ∥∥₁_map c.requires.at_work
+    ∥∥₁_map (c.requires.at_work (λ number. []) (λ number. refl))
     (λ x. put_there c.args.self.now x.0 None x.1 0 c.args.job _ _ _ x.2 x.3 c.requires.next)
 
 pub place_of-place-requires : goal.place_of-place-requires
@@ -40,8 +40,8 @@ ask-requires-clause-there g c =
 pub reply-reply-requires : goal.reply-reply-requires
 reply-reply-requires g c = (let made = c.ask.ensures.asked in audits_on _ _ _ _ _ made.0 made.1)
 
-pub feed-requires : goal.feed-requires
-feed-requires g c =
+pub feed-requires-clause-reply : goal.feed-requires-clause-reply
+feed-requires-clause-reply g c =
     let v = c.args.self.now in
     let place = c.place_of-place.result in
     let running = c.index_mut.result.now in
@@ -78,7 +78,10 @@ returns-clause-machine g c = λ w moment holds faults is_told stands.
     refl
     (record { setup = refl; master = refl; shape = refl })
     refl
-    c.feed.ensures.step
+    (record {
+      step = c.feed.ensures.step;
+      streams = record { setup = c.feed.ensures.setup; none = c.feed.ensures.streams; told = c.feed.ensures.told };
+    })
 
 pub index_mut-requires : goal.index_mut-requires
 index_mut-requires g c =
@@ -101,3 +104,9 @@ pub returns-clause-called : goal.returns-clause-called
 returns-clause-called g c =
     called_at g.P.Provider.calls c.args.providers.now c.args.provider c.index-providers-index.result
     c.ask.new.from c.requires.there c.ask.ensures.called
+
+pub feed-requires-clause-given : goal.feed-requires-clause-given
+feed-requires-clause-given g c = c.requires.next.wants
+
+pub returns-clause-streams : goal.returns-clause-streams
+returns-clause-streams g c = record { setup = c.feed.ensures.setup; none = c.feed.ensures.streams; told = c.feed.ensures.told }

@@ -33,13 +33,22 @@ returns-clause-machine c = λ w moment d stands.
           (record { answer = c.into_end.ensures.answer i; heard = c.into_end.ensures.heard i });
       jobs = c.remove-running.ensures.items;
       flight = refl;
-      fed = c.feed.ensures.step;
+      fed = record {
+        step = c.feed.ensures.step;
+        streams = record { setup = c.feed.ensures.setup; none = c.feed.ensures.streams; told = c.feed.ensures.told };
+      };
       keeps = record { setup = refl; master = refl; shape = refl };
     })
 
-pub feed-requires : goal.feed-requires
-feed-requires c = replies c.args.self.now.core c.args.job _ _ c.requires.next.value tt
+pub feed-requires-clause-reply : goal.feed-requires-clause-reply
+feed-requires-clause-reply c = replies c.args.self.now.core c.args.job _ _ c.requires.next.value tt
 
 pub remove-running-requires : goal.remove-running-requires
 remove-running-requires c =
     omega (arith, place_within c.args.self.now.jobs.items c.args.job _ c.place_of-place.ensures)
+
+pub feed-requires-clause-given : goal.feed-requires-clause-given
+feed-requires-clause-given c = c.requires.next.wants
+
+pub returns-clause-streams : goal.returns-clause-streams
+returns-clause-streams c = record { setup = c.feed.ensures.setup; none = c.feed.ensures.streams; told = c.feed.ensures.told }

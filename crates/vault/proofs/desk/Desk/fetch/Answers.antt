@@ -51,7 +51,10 @@ returns-clause-machine g c = λ w moment holds faults is_told stands.
     refl
     (record { setup = refl; master = refl; shape = refl })
     refl
-    c.feed.ensures.step
+    (record {
+      step = c.feed.ensures.step;
+      streams = record { setup = c.feed.ensures.setup; none = c.feed.ensures.streams; told = c.feed.ensures.told };
+    })
 
 pub index_mut-requires : goal.index_mut-requires
 index_mut-requires g c =
@@ -60,8 +63,8 @@ index_mut-requires g c =
 pub bounds-providers-index : goal.bounds-providers-index
 bounds-providers-index g c = c.requires.there
 
-pub feed-requires : goal.feed-requires
-feed-requires g c = replies c.args.self.now.core c.args.job _ _ c.requires.next.value tt
+pub feed-requires-clause-reply : goal.feed-requires-clause-reply
+feed-requires-clause-reply g c = replies c.args.self.now.core c.args.job _ _ c.requires.next.value tt
 
 pub returns-clause-count : goal.returns-clause-count
 returns-clause-count g c = length-set c.args.providers.now c.args.provider c.fetch.new.from
@@ -77,3 +80,9 @@ pub returns-clause-called : goal.returns-clause-called
 returns-clause-called g c =
     called_at g.P.Provider.calls c.args.providers.now c.args.provider c.index-providers-index.result
     c.fetch.new.from c.requires.there c.fetch.ensures.called
+
+pub feed-requires-clause-given : goal.feed-requires-clause-given
+feed-requires-clause-given g c = c.requires.next.wants
+
+pub returns-clause-streams : goal.returns-clause-streams
+returns-clause-streams g c = record { setup = c.feed.ensures.setup; none = c.feed.ensures.streams; told = c.feed.ensures.told }

@@ -1,4 +1,4 @@
-use Rattle.std.proofs.Common.{◌<◌, ◌-◌, ◌++◌, ◌∷◌, [], refl, sym, ap, subst}
+use Rattle.std.proofs.Common.{◌<◌, ◌-◌, ◌++◌, ◌∷◌, [], refl, sym, ap, subst, ◌≡◌, None}
 use Rattle.std.specs.Prelude.{IsSome}
 use Rattle.record_defs.specs.Spellings.{spelling}
 use Rattle.vault_core.specs.Coming.{core_left}
@@ -13,6 +13,8 @@ use Rattle.vault.proofs.AppendMoves.{append_goes_on, append_done, append_failed,
 use Rattle.vault.proofs.MovedCells.{append_of, cells_on, cells_torn, cells_stopped}
 use Rattle.vault.proofs.Replies.{move_replies, goes_not_on, padded_end}
 use Rattle.vault.proofs.desk.Desk.move_append.Goals as goal
+use Rattle.vault_core.specs.View.{wants_in}
+use Rattle.vault.specs.AtHand.{KeepsStreams}
 
 pub stop-requires-clause-there : goal.stop-requires-clause-there
 stop-requires-clause-there g c =
@@ -40,7 +42,10 @@ returns-in-On-clause-machine g c = λ w moment providers is_told stands.
       shape = keeps.shape;
     })
     (fed_away c.args.self.now c.take_flight.new.self c.args.job reply.Done _ c.take_flight.ensures.rest
-    c.feed.ensures.step)
+    (record {
+      step = c.feed.ensures.step;
+      streams = record { setup = c.feed.ensures.setup; none = c.feed.ensures.streams; told = c.feed.ensures.told };
+    }))
 
 pub returns-in-Done-clause-machine : goal.returns-in-Done-clause-machine
 returns-in-Done-clause-machine g c = λ w moment providers is_told stands.
@@ -59,7 +64,10 @@ returns-in-Done-clause-machine g c = λ w moment providers is_told stands.
       shape = keeps.shape;
     })
     (fed_away c.args.self.now c.take_flight.new.self c.args.job reply.Done _ c.take_flight.ensures.rest
-    c.feed-in-Done.ensures.step)
+    (record {
+      step = c.feed-in-Done.ensures.step;
+      streams = record { setup = c.feed-in-Done.ensures.setup; none = c.feed-in-Done.ensures.streams; told = c.feed-in-Done.ensures.told };
+    }))
 
 pub returns-in-Failed-clause-machine : goal.returns-in-Failed-clause-machine
 returns-in-Failed-clause-machine g c = λ w moment providers is_told stands.
@@ -119,13 +127,13 @@ returns-in-Memory-clause-cells g c = λ w entry providers stands given.
     (g.D.Disk.holds c.args.disk.now) (g.D.Disk.holds c.turn.new.disk) c.stop-in-Memory.ensures.stopped
     c.in-Memory.ensures.cells
 
-pub feed-requires : goal.feed-requires
-feed-requires g c =
+pub feed-requires-clause-reply : goal.feed-requires-clause-reply
+feed-requires-clause-reply g c =
     (move_replies c.args.self.now c.take_flight.new.self c.args.job c.take_flight.ensures.rest
     c.requires.next).done
 
-pub feed-requires-in-Done : goal.feed-requires-in-Done
-feed-requires-in-Done g c =
+pub feed-requires-in-Done-clause-reply : goal.feed-requires-in-Done-clause-reply
+feed-requires-in-Done-clause-reply g c =
     (move_replies c.args.self.now c.take_flight.new.self c.args.job c.take_flight.ensures.rest
     c.requires.next).done
 
@@ -203,3 +211,43 @@ returns-in-Memory-clause-padded g c = padded_end _ _ _ _ _ _ c.stop-in-Memory.en
 
 pub returns-in-Memory-clause-acted : goal.returns-in-Memory-clause-acted
 returns-in-Memory-clause-acted g c = c.stop-in-Memory.ensures.acted
+
+pub feed-requires-clause-given : goal.feed-requires-clause-given
+feed-requires-clause-given g c =
+    subst (λ (v : Desk). wants_in v.core c.args.job ≡ None) (sym c.take_flight.ensures.rest)
+    c.requires.next.comes.wants
+
+pub feed-requires-in-Done-clause-given : goal.feed-requires-in-Done-clause-given
+feed-requires-in-Done-clause-given g c =
+    subst (λ (v : Desk). wants_in v.core c.args.job ≡ None) (sym c.take_flight.ensures.rest)
+    c.requires.next.comes.wants
+
+pub stop-requires-clause-given : goal.stop-requires-clause-given
+stop-requires-clause-given g c =
+    subst (λ (v : Desk). wants_in v.core c.args.job ≡ None) (sym c.take_flight.ensures.rest)
+    c.requires.next.comes.wants
+
+pub stop-requires-in-Memory-clause-given : goal.stop-requires-in-Memory-clause-given
+stop-requires-in-Memory-clause-given g c =
+    subst (λ (v : Desk). wants_in v.core c.args.job ≡ None) (sym c.take_flight.ensures.rest)
+    c.requires.next.comes.wants
+
+pub returns-in-On-clause-streams : goal.returns-in-On-clause-streams
+returns-in-On-clause-streams g c =
+    subst (λ (v : Desk). KeepsStreams v.core c.feed.new.self) c.take_flight.ensures.rest
+    (record { setup = c.feed.ensures.setup; none = c.feed.ensures.streams; told = c.feed.ensures.told })
+
+pub returns-in-Done-clause-streams : goal.returns-in-Done-clause-streams
+returns-in-Done-clause-streams g c =
+    subst (λ (v : Desk). KeepsStreams v.core c.feed-in-Done.new.self) c.take_flight.ensures.rest
+    (record { setup = c.feed-in-Done.ensures.setup; none = c.feed-in-Done.ensures.streams; told = c.feed-in-Done.ensures.told })
+
+pub returns-in-Failed-clause-streams : goal.returns-in-Failed-clause-streams
+returns-in-Failed-clause-streams g c =
+    subst (λ (v : Desk). KeepsStreams v.core c.stop.new.self.core) c.take_flight.ensures.rest
+    c.stop.ensures.stopped.fed.streams
+
+pub returns-in-Memory-clause-streams : goal.returns-in-Memory-clause-streams
+returns-in-Memory-clause-streams g c =
+    subst (λ (v : Desk). KeepsStreams v.core c.stop-in-Memory.new.self.core) c.take_flight.ensures.rest
+    c.stop-in-Memory.ensures.stopped.fed.streams

@@ -23,13 +23,16 @@ returns-clause-machine g c = λ w moment holds faults is_told stands.
     refl
     (record { setup = refl; master = refl; shape = refl })
     refl
-    c.feed.ensures.step
+    (record {
+      step = c.feed.ensures.step;
+      streams = record { setup = c.feed.ensures.setup; none = c.feed.ensures.streams; told = c.feed.ensures.told };
+    })
 
 pub bounds-providers-index : goal.bounds-providers-index
 bounds-providers-index g c = c.requires.there
 
-pub feed-requires : goal.feed-requires
-feed-requires g c = replies c.args.self.now.core c.args.job _ _ c.requires.next.value tt
+pub feed-requires-clause-reply : goal.feed-requires-clause-reply
+feed-requires-clause-reply g c = replies c.args.self.now.core c.args.job _ _ c.requires.next.value tt
 
 pub returns-clause-count : goal.returns-clause-count
 returns-clause-count g c = length-set c.args.providers.now c.args.provider c.remove_from.new.from
@@ -45,3 +48,9 @@ pub returns-clause-called : goal.returns-clause-called
 returns-clause-called g c =
     called_at g.P.Provider.calls c.args.providers.now c.args.provider c.index-providers-index.result
     c.remove_from.new.from c.requires.there c.remove_from.ensures.called
+
+pub feed-requires-clause-given : goal.feed-requires-clause-given
+feed-requires-clause-given g c = c.requires.next.wants
+
+pub returns-clause-streams : goal.returns-clause-streams
+returns-clause-streams g c = record { setup = c.feed.ensures.setup; none = c.feed.ensures.streams; told = c.feed.ensures.told }

@@ -20,7 +20,10 @@ returns-clause-stopped c =
       turn_is = λ i. turn.Done (record { answer = c.args.answer; heard = c.into_heard-heard.ensures i });
       jobs = c.remove-running.ensures.items;
       flight = refl;
-      fed = c.feed.ensures.step;
+      fed = record {
+        step = c.feed.ensures.step;
+        streams = record { setup = c.feed.ensures.setup; none = c.feed.ensures.streams; told = c.feed.ensures.told };
+      };
       keeps = record { setup = refl; master = refl; shape = refl };
     }
 

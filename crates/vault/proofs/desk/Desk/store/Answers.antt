@@ -64,7 +64,10 @@ returns-in-Ok-clause-machine g c = λ w moment holds faults is_told stands.
     c.requires.there))
     (map-set seen c.args.providers.now c.args.provider c.store.new.to)
     _ (stores_by is_told _ _ _ _ _ (was_stored _ _ _ _ _ _ _ c.in-Ok.is c.store.ensures.stored)) refl
-    (record { setup = refl; master = refl; shape = refl }) refl c.feed.ensures.step
+    (record { setup = refl; master = refl; shape = refl }) refl (record {
+      step = c.feed.ensures.step;
+      streams = record { setup = c.feed.ensures.setup; none = c.feed.ensures.streams; told = c.feed.ensures.told };
+    })
 
 pub returns-in-Err-Failed-clause-machine : goal.returns-in-Err-Failed-clause-machine
 returns-in-Err-Failed-clause-machine g c = λ w moment holds faults is_told stands.
@@ -113,8 +116,8 @@ index_mut-requires g c =
 pub bounds-providers-index : goal.bounds-providers-index
 bounds-providers-index g c = c.requires.there
 
-pub feed-requires : goal.feed-requires
-feed-requires g c = replies c.args.self.now.core c.args.job _ _ c.requires.next.value tt
+pub feed-requires-clause-reply : goal.feed-requires-clause-reply
+feed-requires-clause-reply g c = replies c.args.self.now.core c.args.job _ _ c.requires.next.value tt
 
 pub stop-requires-clause-reply : goal.stop-requires-clause-reply
 stop-requires-clause-reply g c = replies c.args.self.now.core c.args.job _ _ c.requires.next.value tt
@@ -186,3 +189,21 @@ returns-in-Err-Memory-clause-padded g c = padded_end _ _ _ _ _ _ c.stop-in-Err-M
 
 pub returns-in-Err-Memory-clause-acted : goal.returns-in-Err-Memory-clause-acted
 returns-in-Err-Memory-clause-acted g c = c.stop-in-Err-Memory.ensures.acted
+
+pub feed-requires-clause-given : goal.feed-requires-clause-given
+feed-requires-clause-given g c = c.requires.next.wants
+
+pub stop-requires-clause-given : goal.stop-requires-clause-given
+stop-requires-clause-given g c = c.requires.next.wants
+
+pub stop-requires-in-Err-Memory-clause-given : goal.stop-requires-in-Err-Memory-clause-given
+stop-requires-in-Err-Memory-clause-given g c = c.requires.next.wants
+
+pub returns-in-Ok-clause-streams : goal.returns-in-Ok-clause-streams
+returns-in-Ok-clause-streams g c = record { setup = c.feed.ensures.setup; none = c.feed.ensures.streams; told = c.feed.ensures.told }
+
+pub returns-in-Err-Failed-clause-streams : goal.returns-in-Err-Failed-clause-streams
+returns-in-Err-Failed-clause-streams g c = c.stop.ensures.stopped.fed.streams
+
+pub returns-in-Err-Memory-clause-streams : goal.returns-in-Err-Memory-clause-streams
+returns-in-Err-Memory-clause-streams g c = c.stop-in-Err-Memory.ensures.stopped.fed.streams

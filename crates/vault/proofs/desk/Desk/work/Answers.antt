@@ -42,7 +42,10 @@ returns-in-Ok-clause-machine c = λ w moment d stands.
     c.index_mut.result.now at there
     (record { number = c.index_mut.result.now.number; task = c.work.new.self }) refl
     _ _ _ c.in-Ok.is c.work.ensures refl
-    (record { setup = refl; master = refl; shape = refl }) refl c.feed.ensures.step
+    (record { setup = refl; master = refl; shape = refl }) refl (record {
+      step = c.feed.ensures.step;
+      streams = record { setup = c.feed.ensures.setup; none = c.feed.ensures.streams; told = c.feed.ensures.told };
+    })
 
 pub returns-in-Err-clause-machine : goal.returns-in-Err-clause-machine
 returns-in-Err-clause-machine c = λ w moment d stands.
@@ -59,8 +62,8 @@ pub index_mut-requires : goal.index_mut-requires
 index_mut-requires c =
     omega (arith, place_within c.args.self.now.jobs.items c.args.job _ c.place_of-place.ensures)
 
-pub feed-requires : goal.feed-requires
-feed-requires c = replies c.args.self.now.core c.args.job _ _ c.requires.next.value tt
+pub feed-requires-clause-reply : goal.feed-requires-clause-reply
+feed-requires-clause-reply c = replies c.args.self.now.core c.args.job _ _ c.requires.next.value tt
 
 pub stop-requires-clause-reply : goal.stop-requires-clause-reply
 stop-requires-clause-reply c = replies c.args.self.now.core c.args.job _ _ c.requires.next.value tt
@@ -76,3 +79,15 @@ returns-in-Err-clause-padded c = padded_end _ _ _ _ _ _ c.stop.ensures.stopped t
 
 pub returns-in-Err-clause-acted : goal.returns-in-Err-clause-acted
 returns-in-Err-clause-acted c = c.stop.ensures.acted
+
+pub feed-requires-clause-given : goal.feed-requires-clause-given
+feed-requires-clause-given c = c.requires.next.wants
+
+pub stop-requires-clause-given : goal.stop-requires-clause-given
+stop-requires-clause-given c = c.requires.next.wants
+
+pub returns-in-Ok-clause-streams : goal.returns-in-Ok-clause-streams
+returns-in-Ok-clause-streams c = record { setup = c.feed.ensures.setup; none = c.feed.ensures.streams; told = c.feed.ensures.told }
+
+pub returns-in-Err-clause-streams : goal.returns-in-Err-clause-streams
+returns-in-Err-clause-streams c = c.stop.ensures.stopped.fed.streams

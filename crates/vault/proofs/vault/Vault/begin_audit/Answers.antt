@@ -1,6 +1,6 @@
 use Rattle.std.proofs.Common.{None}
 use Rattle.machine_defs.specs.Jobs.{AuditJob}
-use Rattle.vault.proofs.AtWork.{begun_works}
+use Rattle.vault.proofs.AtWork.{begun_works, begin_keeps}
 use Rattle.vault.proofs.Free.{not_free, begin_made}
 use Rattle.vault.proofs.vault.Vault.begin_audit.Goals as goal
 
@@ -17,5 +17,12 @@ pub invariant_of-self : goal.invariant_of-self
 invariant_of-self c =
     record {
       at_work = begun_works c.args.self.now.desk c.begin_audit.new.self AuditJob None c.begin_audit.result
+          (begin_keeps c.args.self.now.desk c.begin_audit.new.self c.begin_audit.result
+          c.begin_audit.ensures.unchanged c.begin_audit.ensures.streams)
           c.begin_audit.ensures.machine c.args.self.now.at_work;
     }
+
+pub returns-clause-streams : goal.returns-clause-streams
+returns-clause-streams c =
+    (begin_keeps c.args.self.now.desk c.begin_audit.new.self c.begin_audit.result
+    c.begin_audit.ensures.unchanged c.begin_audit.ensures.streams).none

@@ -1,6 +1,6 @@
 use Rattle.std.proofs.Common.{None}
 use Rattle.machine_defs.specs.Jobs.{GetJob}
-use Rattle.vault.proofs.AtWork.{begun_works}
+use Rattle.vault.proofs.AtWork.{begun_works, begin_keeps}
 use Rattle.vault.proofs.Free.{not_free, begin_made}
 use Rattle.vault.proofs.vault.Vault.begin_get.Goals as goal
 
@@ -17,5 +17,12 @@ pub invariant_of-self : goal.invariant_of-self
 invariant_of-self c =
     record {
       at_work = begun_works c.args.self.now.desk c.begin_get.new.self (GetJob c.args.name.now) None
-          c.begin_get.result c.begin_get.ensures.machine c.args.self.now.at_work;
+          c.begin_get.result (begin_keeps c.args.self.now.desk c.begin_get.new.self c.begin_get.result
+          c.begin_get.ensures.unchanged c.begin_get.ensures.streams)
+          c.begin_get.ensures.machine c.args.self.now.at_work;
     }
+
+pub returns-clause-streams : goal.returns-clause-streams
+returns-clause-streams c =
+    (begin_keeps c.args.self.now.desk c.begin_get.new.self c.begin_get.result
+    c.begin_get.ensures.unchanged c.begin_get.ensures.streams).none

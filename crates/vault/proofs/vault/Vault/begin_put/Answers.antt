@@ -1,5 +1,5 @@
 use Rattle.machine_defs.specs.Jobs.{PutJob}
-use Rattle.vault.proofs.AtWork.{begun_works}
+use Rattle.vault.proofs.AtWork.{begun_works, begin_keeps}
 use Rattle.vault.proofs.Free.{not_free, begin_made}
 use Rattle.vault.proofs.vault.Vault.begin_put.Goals as goal
 
@@ -16,5 +16,12 @@ pub invariant_of-self : goal.invariant_of-self
 invariant_of-self c =
     record {
       at_work = begun_works c.args.self.now.desk c.begin_put.new.self (PutJob c.args.name.now c.args.bytes) c.args.profile
-          c.begin_put.result c.begin_put.ensures.machine c.args.self.now.at_work;
+          c.begin_put.result (begin_keeps c.args.self.now.desk c.begin_put.new.self c.begin_put.result
+          c.begin_put.ensures.unchanged c.begin_put.ensures.streams)
+          c.begin_put.ensures.machine c.args.self.now.at_work;
     }
+
+pub returns-clause-streams : goal.returns-clause-streams
+returns-clause-streams c =
+    (begin_keeps c.args.self.now.desk c.begin_put.new.self c.begin_put.result
+    c.begin_put.ensures.unchanged c.begin_put.ensures.streams).none

@@ -1,10 +1,11 @@
-use Rattle.std.proofs.Common.{◌<◌, ◌≤◌, ◌∙◌, length, refl, arith}
+use Rattle.std.proofs.Common.{◌<◌, ◌≤◌, ◌∙◌, length, refl, arith, sym, subst}
 use Rattle.std.proofs.lemmas.Slice.Zip.{AllZip-long}
 use Rattle.vault_core.specs.Carried.{IsJobOf}
 use Rattle.vault.specs.declared.desk.Desk.{Desk}
 use Rattle.vault.proofs.Free.{not_free, none_run}
 use Rattle.vault.proofs.Alone.{barred_alone, unbarred, busy_alone, free_alone, drawn_stands, drawn_works}
 use Rattle.vault.proofs.vault.Vault.hold.Goals as goal
+use Rattle.vault_core.specs.View.{CoreView, IsStreamless}
 
 pub returns-in_err-unheld-clause-holds : goal.returns-in_err-unheld-clause-holds
 returns-in_err-unheld-clause-holds c = λ w d stands.
@@ -54,3 +55,7 @@ returns-clause-holds c = λ w d stands.
         unbarred = free;
       },
     )
+
+pub returns-clause-streams : goal.returns-clause-streams
+returns-clause-streams c = λ none.
+    subst (λ (core : CoreView). IsStreamless core) (sym c.draw-number.ensures.drawn) none

@@ -1,9 +1,10 @@
-use Rattle.std.proofs.Common.{◌≡◌, Ok, Err, refl, ap, arith}
+use Rattle.std.proofs.Common.{◌≡◌, Ok, Err, refl, ap, arith, sym, subst}
 use Rattle.record_defs.proofs.Standing.{text_size-least}
-use Rattle.vault_core.specs.View.{CoreView}
+use Rattle.vault_core.specs.View.{CoreView, IsStreamless}
 use Rattle.vault_open.specs.declared.fault.StartFault.{StartFault}
 use Rattle.vault.proofs.Opened.{carries, stands, fresh_works}
 use Rattle.vault.proofs.vault.Vault.start.Goals as goal
+use Rattle.std.proofs.lemmas.List.Elements.{All-nil}
 
 pub open_fresh-requires-clause-least : goal.open_fresh-requires-clause-least
 open_fresh-requires-clause-least g c =
@@ -59,3 +60,7 @@ returns-clause-cause g c = record {
   never_falls = c.in_ok-store.ensures.cause.never_falls;
   rose = λ e. absurd (not_refused _ _ e);
 }
+
+pub returns-clause-streams : goal.returns-clause-streams
+returns-clause-streams g c =
+    subst (λ (core : CoreView). IsStreamless core) (sym c.in_ok-desk.ensures.ok.core) (All-nil _)

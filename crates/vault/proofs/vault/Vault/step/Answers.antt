@@ -13,17 +13,17 @@ use Rattle.vault.proofs.Called.{calls-none, called-none, acts-none}
 use Rattle.vault.proofs.Idle.{step-waits, step-unknown, step-barred}
 use Rattle.vault.proofs.Replies.{goes-on-not}
 use Rattle.vault.proofs.vault.Vault.step.Goals as goal
+use Rattle.vault.proofs.Hands.{keeps_same}
 
 pub invariant_of-self : goal.invariant_of-self
 invariant_of-self g c =
     let seen = sight false g.P.Provider in
     record {
       at_work = works_on c.args.self.now.desk c.act.new.self
-          (g.D.Disk.faults c.args.disk.now) (g.D.Disk.faults c.act.new.disk)
-          (map seen c.args.providers.now) (map seen c.act.new.providers)
-          (omega (arith, c.requires, length-map c.args.providers.now seen))
-          (λ w stands. (let made = c.act.ensures.machine w 0 false stands in (made.state, made.stands)))
-          c.args.self.now.at_work;
+          (g.D.Disk.faults c.args.disk.now) (g.D.Disk.faults c.act.new.disk) c.args.job
+          (map seen c.args.providers.now) (map seen c.act.new.providers) c.act.result
+          (omega (arith, c.requires.handed, length-map c.args.providers.now seen)) c.act.ensures.streams
+          (λ w stands. c.act.ensures.machine w 0 false stands) c.args.self.now.at_work;
     }
 
 pub returns-in-Act-clause-machine : goal.returns-in-Act-clause-machine
@@ -35,7 +35,7 @@ pub act-requires-clause-there : goal.act-requires-clause-there
 act-requires-clause-there g c = λ j called.
     omega (
       arith,
-      c.requires,
+      c.requires.handed,
       c.in-Act.ensures.within j (ap called_provider (sym c.in-Act.ensures.value) ∙ called),
       providers_fit c.args.self.now.desk c.args.self.now.at_work,
     )
@@ -229,3 +229,37 @@ returns-in-MustReopen-clause-machine g c = λ w moment stands.
     step_made w moment c.args.job _ c.args.self.now _ _ stands.free
     (step-barred c.args.self.now.desk w _ moment c.args.job stands.desk
     (c.in-MustReopen.ensures.machine w stands.desk.core))
+
+pub next-requires : goal.next-requires
+next-requires g c = c.requires.given
+
+pub act-requires-clause-next : goal.act-requires-clause-next
+act-requires-clause-next g c = record {
+  wants = c.requires.given;
+  value = sym c.in-Act.ensures.value;
+  machine = c.in-Act.ensures.machine;
+}
+
+pub returns-in-Act-clause-streams : goal.returns-in-Act-clause-streams
+returns-in-Act-clause-streams g c = c.act.ensures.streams.none
+
+pub returns-in-Act-clause-told : goal.returns-in-Act-clause-told
+returns-in-Act-clause-told g c = λ number j is. c.act.ensures.streams.told number j is
+
+pub returns-in-Waiting-clause-streams : goal.returns-in-Waiting-clause-streams
+returns-in-Waiting-clause-streams g c = λ none. none
+
+pub returns-in-Waiting-clause-told : goal.returns-in-Waiting-clause-told
+returns-in-Waiting-clause-told g c = λ number j is. (keeps_same c.args.self.now.desk.core).told number j is
+
+pub returns-in-NoSuchJob-clause-streams : goal.returns-in-NoSuchJob-clause-streams
+returns-in-NoSuchJob-clause-streams g c = λ none. none
+
+pub returns-in-NoSuchJob-clause-told : goal.returns-in-NoSuchJob-clause-told
+returns-in-NoSuchJob-clause-told g c = λ number j is. (keeps_same c.args.self.now.desk.core).told number j is
+
+pub returns-in-MustReopen-clause-streams : goal.returns-in-MustReopen-clause-streams
+returns-in-MustReopen-clause-streams g c = λ none. none
+
+pub returns-in-MustReopen-clause-told : goal.returns-in-MustReopen-clause-told
+returns-in-MustReopen-clause-told g c = λ number j is. (keeps_same c.args.self.now.desk.core).told number j is

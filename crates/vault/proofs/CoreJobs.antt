@@ -1,0 +1,67 @@
+-- The jobs of a core beside those of the machine.
+use Rattle.std.proofs.Common.{◌≡◌, ℕ, ◌*◌, ◌==◌, List, [], ◌∷◌, map, Option, Some, None, refl, sym, ap, subst, ◌∙◌, inl, inr}
+use Rattle.std.specs.List.{AllZip}
+use Rattle.std.proofs.lemmas.Bool.{cases_Bool}
+use Rattle.record_defs.specs.Records.{Setup}
+use Rattle.machine_defs.specs.Actions.{Plan}
+use Rattle.machine_defs.specs.Jobs.{Kind, AuditJob, aim_of, Job, job_of}
+use Rattle.machine_defs.proofs.JobLists.{cond_true, cond_false, same_value}
+use Rattle.vault_core.specs.Carried.{IsJobOf, HasTold, IsPutFrom, seen_plan, shown, pin_of}
+use Rattle.vault_core.specs.Streams.{stripe_size}
+use Rattle.vault_core.specs.declared.pinned.Pinned.{Pinned as PinnedFile}
+use Rattle.vault_core.specs.View.{CoreJob, job_in}
+
+-- a job of the machine has its job in the core
+pub record CoreOf (s : Setup) (cs : List CoreJob) (k : ℕ) (j : Job) : Type 0 where
+  pub job : CoreJob
+  pub runs : job_in cs k ≡ Some job
+  pub is : IsJobOf s job j
+
+-- a job of the machine has its job in the core
+pub core_of : (s : Setup) (cs : List CoreJob) (js : List Job) (k : ℕ) (j : Job) → AllZip (IsJobOf s) cs js →
+    job_of js k ≡ Some j → CoreOf s cs k j
+core_of s [] [] k j are runs = (let e : None ≡ Some j = runs in cc)
+core_of s [] (x ∷ js) k j are runs = absurd are
+core_of s (c ∷ cs) [] k j are runs = absurd are
+core_of s (c ∷ cs) (x ∷ js) k j are runs = elim (cases_Bool (x.number == k)) [
+  | inl t ↦ (
+      let same : x ≡ j = same_value _ x j (cond_true _ (Some x) (job_of js k) t) runs in
+      record {
+        job = c;
+        runs = cond_true (c.number == k) (Some c) (job_in cs k) (ap (λ (n : ℕ). n == k) are.0.number ∙ t);
+        is = subst (λ (y : Job). IsJobOf s c y) same are.0;
+      })
+  | inr f ↦ (
+      let more = core_of s cs js k j are.1 (sym (cond_false _ (Some x) (job_of js k) f) ∙ runs) in
+      record {
+        job = more.job;
+        runs = cond_false (c.number == k) (Some c) (job_in cs k) (ap (λ (n : ℕ). n == k) are.0.number ∙ f)
+            ∙ more.runs;
+        is = more.is;
+      })
+]
+
+-- ---- a plan, as a core sees it
+
+pub shown_profile : (told : Option ℕ) (j : Job) → (shown told (seen_plan j)).profile ≡ j.profile
+shown_profile None j = refl
+shown_profile (Some stripes) j = refl
+
+pub shown_subject : (told : Option ℕ) (j : Job) → (shown told (seen_plan j)).subject ≡ j.subject
+shown_subject None j = refl
+shown_subject (Some stripes) j = refl
+
+pub shown_pins : (told : Option ℕ) (j : Job) → (shown told (seen_plan j)).pins ≡ map pin_of j.pinned
+shown_pins None j = refl
+shown_pins (Some stripes) j = refl
+
+-- the profile of a job of a core
+pub profile_same : (s : Setup) (c : CoreJob) (j : Job) → IsJobOf s c j → c.plan.profile ≡ j.profile
+profile_same s c j is = ap (λ (p : Plan PinnedFile). p.profile) is.plan ∙ shown_profile c.told j
+
+-- an audit is no open stream
+pub audit_untold : (s : Setup) (told : Option ℕ) (j : Job) → j.kind ≡ AuditJob → HasTold s told j
+    → told ≡ None
+audit_untold s None j is has = refl
+audit_untold s (Some stripes) j is has =
+    absurd (subst (λ (kind : Kind). IsPutFrom (stripes * stripe_size s j.profile) (aim_of kind)) is has)

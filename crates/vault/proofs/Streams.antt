@@ -1,0 +1,283 @@
+-- Streams of a vault: which wait, how they begin, and how they are given up.
+use mathlib.Core.Bool.{Bool-set}
+use Rattle.std.proofs.Common.{◌≡◌, ℕ, zero, suc, ◌+◌, ◌*◌, ◌≤◌, ◌==◌, Bool, true, false, List, [], ◌∷◌, length, take, Option, Some, None, Result, Ok, Err, refl, sym, ap, subst, ◌∙◌, inl, inr, arith}
+use Rattle.std.specs.Prelude.{◌&&◌, IsSome, is_some, slice_get, IfOk, OnErr}
+use Rattle.std.specs.List.{All, list_all, remove}
+use Rattle.std.proofs.lemmas.Bool.{cases_Bool, cases_eq, false≢true}
+use Rattle.std.proofs.lemmas.List.Elements.{All-head, All-tail}
+use Rattle.std.proofs.Math.Logic.{∥∥₁_map}
+use Rattle.std.proofs.Math.Nat.{ℕ_set}
+use Rattle.device_defs.specs.Providers.{Provider}
+use Rattle.record_codec.specs.Entries.{with_master}
+use Rattle.record_defs.specs.Records.{Setup, is_byte, largest_file}
+use Rattle.machine_defs.specs.Begins.{beginning, chosen, BeginsAt}
+use Rattle.machine_defs.specs.Events.{AreBytes}
+use Rattle.machine_defs.specs.Jobs.{PutJob, Job, job_of, without_job}
+use Rattle.machine_defs.specs.States.{State, setup_in, ended}
+use Rattle.machine_defs.proofs.JobLists.{cond_true, cond_false, number_of, found_more, found_without}
+use Rattle.state_laws.proofs.JobLists.{numbered-below}
+use Rattle.stripe_bench.specs.Bench.{IsBench}
+use Rattle.vault_core.specs.Carried.{CoreIs}
+use Rattle.vault_core.specs.Streams.{stripe_size}
+use Rattle.vault_core.specs.View.{CoreJob, CoreView, job_in, told_by, told_in, wanted_at, wanted_by, wants_in}
+use Rattle.vault_core.proofs.Pairs.{pair_some}
+use Rattle.vault_core.specs.declared.wish.BeginFault.{BeginFault}
+use Rattle.vault_open.specs.Devices.{Devices, devices}
+use Rattle.vault.specs.declared.desk.Desk.{Desk}
+use Rattle.vault.specs.declared.tasks.Running.{Running}
+use Rattle.vault.specs.declared.tasks.StreamTask.{StreamTask}
+use Rattle.vault.specs.AtHand.{IsStreaming, piece_size}
+use Rattle.vault.specs.Benches.{IsBenchFor}
+use Rattle.vault.specs.Desks.{DeskStands, DeskMakesBegin, EndsIn, HasEnds, IsAtWork}
+use Rattle.vault.specs.Outcomes.{begin_outcome}
+use Rattle.vault.specs.Running.{place_in, IsSameDesk, KeepsAll}
+use Rattle.vault.specs.Streams.{stripe_by}
+use Rattle.vault.specs.Tasks.{IsStream, IsRunning, AreRunning}
+use Rattle.vault.proofs.AtWork.{by_work}
+use Rattle.vault.proofs.BenchLemmas.{bench-is}
+use Rattle.vault.proofs.GivenStripes.{waits_runs, waiting, streaming, bench_bytes}
+use Rattle.vault.proofs.Hands.{hands_without, task_at}
+use Rattle.vault.proofs.JobPlaces.{found, place_is, taken_out}
+use Rattle.vault.proofs.Props.{streaming_prop}
+use Rattle.vault.proofs.Ways.{handed_same, setup_same, stands_on}
+
+none_some : {X Y : Type 0} (x : X) → None ≡ Some x → Y
+none_some x e = absurd (let f : ⊥ = cc in f)
+
+-- ---- which wait
+
+-- where no stream is open, none waits
+pub none_waits : (s : Setup) (cs : List CoreJob) (k : ℕ) → All (λ (j : CoreJob). j.told ≡ None) cs
+    → wanted_by s (job_in cs k) ≡ None
+none_waits s [] k none = refl
+none_waits s (c ∷ cs) k none = elim (cases_Bool (c.number == k)) [
+  | inl t ↦ ap (wanted_by s) (cond_true (c.number == k) (Some c) (job_in cs k) t)
+      ∙ ap (wanted_at s c.place) (All-head (λ (j : CoreJob). j.told ≡ None) c cs none)
+  | inr f ↦ ap (wanted_by s) (cond_false (c.number == k) (Some c) (job_in cs k) f)
+      ∙ none_waits s cs k (All-tail (λ (j : CoreJob). j.told ≡ None) c cs none)
+]
+
+-- ---- the begin of a stream
+
+-- what it works with
+pub stream-task : (v : Desk) (d : Devices) (w : State) (moment : ℕ) (name bytes : List ℕ) (own : Option ℕ)
+    (t : StreamTask) (size profile : ℕ) → DeskStands v d w → IsBenchFor v 0 size profile t.bench
+    → ((key : List ℕ) → profile ≡ chosen (with_master v.setup key) own) → t.at_hand ≡ None
+    → IsStream (setup_in w) t (beginning w moment (PutJob name bytes) own)
+stream-task v d w moment name bytes own t size profile stands bench is none = record {
+  name = name;
+  bytes = bytes;
+  kind = refl;
+  bench = subst (λ (p : ℕ). IsBench (setup_in w) p t.bench)
+      (is v.master.0 ∙ ap (λ (s : Setup). chosen s own) (sym stands.setup))
+      (bench-is v (setup_in w) 0 size profile t.bench stands.shaped stands.setup bench);
+  rows = λ x hand. none_some x (sym none ∙ hand);
+}
+
+both : (a b c : Bool) → (a && b) ≡ true → (b ≡ true → c ≡ true) → (a && c) ≡ true
+both true b c is so = so is
+both false b c is so = absurd (false≢true is)
+
+-- bytes that are cut off are bytes
+bytes_cut : (n : ℕ) (xs : List ℕ) → AreBytes xs → AreBytes (take n xs)
+bytes_cut zero xs is = refl
+bytes_cut (suc n) [] is = refl
+bytes_cut (suc n) (x ∷ xs) is =
+    both (is_byte x) (list_all is_byte xs) (list_all is_byte (take n xs)) is (λ rest. bytes_cut n xs rest)
+
+length_cut : (n : ℕ) (xs : List ℕ) → length (take n xs) ≤ n
+length_cut zero xs = omega arith
+length_cut (suc n) [] = omega arith
+length_cut (suc n) (x ∷ xs) = (let l = length_cut n xs in omega (arith, l))
+
+-- what a begin of a stream leaves
+pub record OpensStream (old new : Desk) (result : Result ℕ BeginFault) : Type 0 where
+  pub unchanged : OnErr result (IsSameDesk old new)
+  pub number : IfOk result (λ job. job ≡ old.core.next_job)
+  pub opened : IfOk result (λ job. told_in new.core.jobs job ≡ Some 0)
+  pub others : (m : ℕ) → (m ≡ old.core.next_job → ⊥) → told_in new.core.jobs m ≡ told_in old.core.jobs m
+  pub setup : new.core.setup ≡ old.core.setup
+
+-- the files of the streams end with what they still get
+stream_ends : (old new : Desk) (result : Result ℕ BeginFault) (name bytes : List ℕ) (own : Option ℕ)
+    (w state : State) (moment : ℕ) (rest : ℕ → List ℕ) → OpensStream old new result → CoreIs old.core w
+    → CoreIs new.core state
+    → BeginsAt 8 moment w (PutJob name bytes) own (begin_outcome result) state
+    → bytes ≡ take largest_file (rest old.core.next_job) → HasEnds old w rest → HasEnds new state rest
+stream_ends old new (Ok job) name bytes own w state moment rest opens core core' begins is ends m stripes j told runs =
+    let same : setup_in w ≡ setup_in state = sym core.setup ∙ sym opens.setup ∙ core'.setup in
+    elim (found_more w.jobs (beginning w moment (PutJob name bytes) own) m j
+    (ap (λ (x : State). job_of x.jobs m) (sym begins.3) ∙ runs)) [
+      | inl h ↦ (
+          let mine : m ≡ old.core.next_job = h.0 ∙ sym core.next_job in
+          let none : 0 ≡ stripes =
+          (let e : Some 0 ≡ Some stripes =
+          sym opens.opened ∙ ap (told_in new.core.jobs) (opens.number ∙ sym mine) ∙ told in cc) in
+          let zero_is : 0 ≡ 0 * stripe_size (setup_in state) j.profile = omega arith in
+          subst (λ (x : Job). EndsIn (stripes * stripe_size (setup_in state) j.profile) (rest m) x.kind)
+          (sym h.1)
+          (subst (λ (k : ℕ). EndsIn k (rest m) (PutJob name bytes))
+          (zero_is ∙ ap (λ (k : ℕ). k * stripe_size (setup_in state) j.profile) none) (
+            [],
+            is ∙ ap (λ (k : ℕ). take largest_file (rest k)) (sym mine),
+            refl,
+          )))
+      | inr h ↦ (
+          let below = numbered-below 0 w.jobs w.next_job m j core.sound.numbered h in
+          let next = core.next_job in
+          let other : m ≡ old.core.next_job → ⊥ = (λ e. omega (arith, below, next, e)) in
+          subst (λ (s : Setup). EndsIn (stripes * stripe_size s j.profile) (rest m) j.kind) same
+          (ends m stripes j (sym (opens.others m other) ∙ told) h))
+    ]
+stream_ends old new (Err why) name bytes own w state moment rest opens core core' begins is ends m stripes j told runs =
+    let same : setup_in w ≡ setup_in state = sym core.setup ∙ sym opens.setup ∙ core'.setup in
+    subst (λ (s : Setup). EndsIn (stripes * stripe_size s j.profile) (rest m) j.kind) same
+    (ends m stripes j (ap (λ (c : CoreView). told_in c.jobs m) (sym opens.unchanged.core) ∙ told)
+    (ap (λ (x : State). job_of x.jobs m) (sym begins.2) ∙ runs))
+
+-- so the desk is at work
+pub stream_works : (old new : Desk) (name : List ℕ) (own : Option ℕ) (result : Result ℕ BeginFault)
+    → OpensStream old new result
+    → ((w : State) (d : Devices) (moment : ℕ) (bytes : List ℕ) → DeskStands old d w → AreBytes bytes
+    → length bytes ≤ largest_file → DeskMakesBegin w moment (PutJob name bytes) own result new d)
+    → IsAtWork old → IsAtWork new
+stream_works old new name own result opens makes at = λ rest are.
+    ∥∥₁_map (at rest are) (λ x.
+    let bytes = take largest_file (rest old.core.next_job) in
+    let m = makes x.0 (devices None x.1 x.2) 0 bytes x.3
+    (bytes_cut largest_file (rest old.core.next_job) (are old.core.next_job))
+    (length_cut largest_file (rest old.core.next_job)) in (
+      m.state,
+      x.1,
+      x.2,
+      m.stands,
+      stream_ends old new result name bytes own x.0 m.state 0 rest opens x.3.core m.stands.core m.begins refl
+          x.4,
+    ))
+
+-- ---- a stream that waits
+
+some_of : (o : Option ℕ) → is_some o ≡ true → (x : ℕ) × (o ≡ Some x)
+some_of None e = absurd (false≢true e)
+some_of (Some x) e = (x, refl)
+
+-- its place is there
+pub place_waits : (v : Desk) (number : ℕ) → is_some (wants_in v.core number) ≡ true → IsAtWork v
+    → IsSome (place_in v.jobs.items number)
+place_waits v number wants =
+    by_work (Bool-set _ _) v (λ w faults ps S.
+    let x = some_of (wants_in v.core number) wants in
+    let runs = waits_runs v (devices None faults ps) w number x.0 S x.1 in
+    let f = found (setup_in w) v.jobs.items w.jobs number runs.0 S.jobs runs.1 in
+    ap is_some (place_is v.jobs.items number ∙ f.at))
+
+module _ (v : Desk) (number stripe place : ℕ) (r : Running) (wants : wants_in v.core number ≡ Some stripe)
+    (at : place_in v.jobs.items number ≡ Some place) (there : slice_get v.jobs.items place ≡ Some r) where
+  module _ (w : State) (faults : ℕ) (ps : List Provider) (S : DeskStands v (devices None faults ps) w) where
+    streams_here : IsStreaming r.task
+    streams_here =
+        let runs = waits_runs v (devices None faults ps) w number stripe S wants in
+        let wait = waiting v (devices None faults ps) w number stripe runs.0 S runs.1 wants in
+        streaming (setup_in w) (told_in v.core.jobs number) stripe r.task runs.0 wait.told
+        (S.streams number r.task runs.0
+        (task_at v.jobs.items number place r (sym (place_is v.jobs.items number) ∙ at) there) runs.1)
+
+    size_here : piece_size r.task ≡ stripe_by v.core.setup (job_in v.core.jobs number)
+    size_here =
+        let runs = waits_runs v (devices None faults ps) w number stripe S wants in
+        let wait = waiting v (devices None faults ps) w number stripe runs.0 S runs.1 wants in
+        let f = found (setup_in w) v.jobs.items w.jobs number runs.0 S.jobs runs.1 in
+        let here : f.place ≡ place =
+        (let e : Some f.place ≡ Some place = sym f.at ∙ sym (place_is v.jobs.items number) ∙ at in cc) in
+        let one : f.running ≡ r =
+        (let e : Some f.running ≡ Some r = sym f.there ∙ ap (slice_get v.jobs.items) here ∙ there in cc) in
+        bench_bytes (setup_in w) runs.0 r.task streams_here
+        (subst (λ (x : Running). IsRunning (setup_in w) x runs.0) one f.is).task
+        ∙ sym wait.size
+
+  -- its task is that of a stream, whose stripes have the size that the core knows
+  pub streams_there : IsAtWork v → IsStreaming r.task
+  streams_there = by_work (streaming_prop r.task) v streams_here
+
+  pub size_there : IsAtWork v → piece_size r.task ≡ stripe_by v.core.setup (job_in v.core.jobs number)
+  size_there = by_work (ℕ_set _ _) v size_here
+
+  -- how long the file is with a piece
+  pub total_with : IsAtWork v → (size total count : ℕ) → size ≡ piece_size r.task
+      → total ≡ stripe * size + count
+      → total ≡ stripe * stripe_by v.core.setup (job_in v.core.jobs number) + count
+  total_with work size total count size_is total_is =
+      total_is ∙ ap (λ (x : ℕ). stripe * x + count) (size_is ∙ size_there work)
+
+-- ---- the end of a stream that is given up
+
+-- what the desk did
+pub record IsAbandoned (v v' : Desk) (number : ℕ) : Type 0 where
+  pub wants : is_some (wants_in v.core number) ≡ true
+  pub place : ℕ
+  pub old : Running
+  pub at : place_in v.jobs.items number ≡ Some place
+  pub there : slice_get v.jobs.items place ≡ Some old
+  pub jobs : v'.jobs.items ≡ remove v.jobs.items place
+  pub keeps : KeepsAll v v'
+  pub flight : v'.flight ≡ v.flight
+  pub stands : (w : State) (j : Job) → CoreIs v.core w → job_of w.jobs number ≡ Some j
+      → CoreIs v'.core (ended w j)
+  pub gone : job_in v'.core.jobs number ≡ None
+  pub others : (m : ℕ) → (m ≡ number → ⊥) → job_in v'.core.jobs m ≡ job_in v.core.jobs m
+
+module _ (v v' : Desk) (number : ℕ) (g : IsAbandoned v v' number) where
+  -- all other jobs run on as they were
+  others_told : (m : ℕ) (j : CoreJob) → job_in v'.core.jobs m ≡ Some j → j.told ≡ told_in v.core.jobs m
+  others_told m j is = elim (cases_eq m number) [
+    | inl e ↦ none_some j (sym (ap (job_in v'.core.jobs) e ∙ g.gone) ∙ is)
+    | inr n ↦ ap told_by (sym is ∙ g.others m n)
+  ]
+
+  pub abandoned_stands : (w : State) (d : Devices) (j : Job) → DeskStands v d w → job_of w.jobs number ≡ Some j
+      → DeskStands v' d (ended w j)
+  abandoned_stands w d j S runs =
+      let s = setup_in w in
+      let core = g.stands w j S.core runs in
+      let mine : j.number ≡ number = number_of w.jobs number j runs in
+      let at = sym (place_is v.jobs.items number) ∙ g.at in
+      let jobs : (ended w j).jobs ≡ without_job w.jobs number = ap (without_job w.jobs) mine in
+      stands_on v v' w (ended w j) d.holds d.faults d.providers d.providers S
+      (record { records = refl; journal = refl; doubt = refl; append = refl; faults = refl; barred = refl })
+      (handed_same d.providers w (ended w j) S.devices.providers refl (λ k. refl)) core g.keeps g.flight
+      (subst (λ (js : List Job). AreRunning s v'.jobs.items js) (sym jobs)
+      (subst (λ (rs : List Running). AreRunning s rs (without_job w.jobs number)) (sym g.jobs)
+      (taken_out s v.jobs.items w.jobs 0 w.next_job number g.place S.core.sound.numbered S.jobs at)))
+      (hands_without s v.core v'.core v.jobs.items w.jobs S.streams (ended w j) core
+      (record {
+        setup = core.setup ∙ setup_same w (ended w j) refl ∙ sym S.core.setup;
+        none = λ none. absurd (false≢true
+            (sym (ap is_some (none_waits v.core.setup v.core.jobs number none)) ∙ g.wants));
+        told = others_told;
+      }) number g.place g.old at g.there v'.jobs.items g.jobs jobs)
+
+  -- so the desk is at work
+  pub abandoned_works : IsAtWork v → IsAtWork v'
+  abandoned_works at = λ rest are.
+      ∥∥₁_map (at rest are) (λ x.
+      let d = devices None x.1 x.2 in
+      let runs = by_job x.0 x.3.core (job_in v.core.jobs number) refl g.wants in
+      let S = abandoned_stands x.0 d runs.0 x.3 runs.1 in (
+        ended x.0 runs.0,
+        x.1,
+        x.2,
+        S,
+        λ m stripes j told jobs.
+            let h = found_without x.0.jobs number m j
+            (ap (λ (n : ℕ). job_of (without_job x.0.jobs n) m)
+            (sym (number_of x.0.jobs number runs.0 runs.1)) ∙ jobs) in
+            subst (λ (s : Setup). EndsIn (stripes * stripe_size s j.profile) (rest m) j.kind)
+            (sym (setup_same x.0 (ended x.0 runs.0) refl))
+            (x.4 m stripes j (ap told_by (sym (g.others m h.0)) ∙ told) h.1),
+      ))
+    where
+      by_job : (w : State) → CoreIs v.core w → (o : Option CoreJob) → job_in v.core.jobs number ≡ o
+          → is_some (wanted_by v.core.setup o) ≡ true → (j : Job) × (job_of w.jobs number ≡ Some j)
+      by_job w core None is e = absurd (false≢true e)
+      by_job w core (Some c) is e =
+          let p = pair_some v.core.setup v.core.jobs w.jobs number c core.jobs is in (p.job, p.runs)

@@ -1,0 +1,18 @@
+use Rattle.std.proofs.Common.{ℕ, Option, sym, ap, subst}
+use Rattle.std.specs.Prelude.{is_some}
+use Rattle.vault.specs.Streams.{stripe_of, IsPiece}
+use Rattle.vault.proofs.vault.Vault.may_give.Goals as goal
+
+pub may_give-requires-clause-at_work : goal.may_give-requires-clause-at_work
+may_give-requires-clause-at_work c = c.args.self.now.at_work
+
+pub may_give-requires-clause-wants : goal.may_give-requires-clause-wants
+may_give-requires-clause-wants c = sym c.in-Some.ensures
+
+pub returns-in-Some-clause-wants : goal.returns-in-Some-clause-wants
+returns-in-Some-clause-wants c = λ yes. ap is_some (sym c.in-Some.ensures)
+
+pub returns-in-Some-clause-piece : goal.returns-in-Some-clause-piece
+returns-in-Some-clause-piece c = λ yes.
+    subst (λ (o : Option ℕ). IsPiece (stripe_of c.args.self.now c.args.job) o c.args.count c.args.last)
+    c.in-Some.ensures (c.may_give.ensures yes)

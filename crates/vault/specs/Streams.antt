@@ -1,0 +1,83 @@
+-- Streams: puts that are given their files stripe by stripe, as a caller of a vault sees them.
+--
+--   wants_of v job              == the stripe that an open stream waits for; None for every other job
+--   told_of v job               == how many stripes an open stream was given; None for every other job
+--   KeepsTold old new job       == a job that still runs was given as many stripes as before
+--   IsStreamless v              == no stream is open
+--   KeepsStreamless old new     == where none was open, none is
+--   stripe_of v job             == how many bytes a stripe of a running job's file has; 0 where it does not run
+--   IsPiece size wanted count last
+--                               == a stream that waits for this stripe may be given so many bytes: a whole
+--                                  stripe, or its last ones, at most a stripe and none perhaps; the file has
+--                                  at most 2^22 bytes with them
+--   HasPiece size wanted piece last bytes
+--                               == these bytes have this piece behind the stripes before, and no more where
+--                                  it is the last
+--   FitsPiece size wanted piece last job
+--                               == so has the file of a put of the machine
+use Rattle.std.specs.Prelude.{◌≡◌, ℕ, ◌+◌, ◌*◌, ◌≤◌, Bool, true, false, List, [], ◌++◌, length, Option, None, Some}
+use Rattle.record_defs.specs.Records.{Setup, largest_file}
+use Rattle.machine_defs.specs.Jobs.{Kind, PutJob, Job}
+use Rattle.vault_core.specs.Streams.{stripe_size}
+use Rattle.vault_core.specs.View as core
+use Rattle.vault_core.specs.View.{CoreJob}
+use Rattle.vault.specs.declared.vault.Vault.{Vault}
+
+-- the stripe that an open stream waits for
+abbrev pub wants_of : Vault → ℕ → Option ℕ
+wants_of v job = core.wants_in v.desk.core job
+
+-- how many stripes an open stream was given
+abbrev pub told_of : Vault → ℕ → Option ℕ
+told_of v job = core.told_in v.desk.core.jobs job
+
+-- a job that still runs was given as many stripes as before
+abbrev pub KeepsTold : Vault → Vault → ℕ → Type 0
+KeepsTold old new job =
+    (j : CoreJob) → core.job_in new.desk.core.jobs job ≡ Some j → j.told ≡ told_of old job
+
+-- no stream is open
+abbrev pub IsStreamless : Vault → Type 0
+IsStreamless v = core.IsStreamless v.desk.core
+
+-- where none was open, none is
+abbrev pub KeepsStreamless : Vault → Vault → Type 0
+KeepsStreamless old new = IsStreamless old → IsStreamless new
+
+-- how many bytes a stripe of a job's file has, if it runs
+abbrev pub stripe_by : Setup → Option CoreJob → ℕ
+stripe_by s None = 0
+stripe_by s (Some job) = stripe_size s job.plan.profile
+
+-- the same of the job of a number
+abbrev pub stripe_of : Vault → ℕ → ℕ
+stripe_of v job = stripe_by v.desk.core.setup (core.job_in v.desk.core.jobs job)
+
+-- a stream that waits for a stripe may be given so many bytes
+abbrev pub IsPiece : ℕ → Option ℕ → ℕ → Bool → Type 0
+IsPiece size None count last = ⊥
+IsPiece size (Some stripe) count false = (count ≡ size) × (stripe * size + count ≤ largest_file)
+IsPiece size (Some stripe) count true = (count ≤ size) × (stripe * size + count ≤ largest_file)
+
+-- these bytes have this piece behind the stripes before it
+pub record HasPieceAt (place : ℕ) (piece : List ℕ) (last : Bool) (bytes : List ℕ) : Type 0 where
+  pub before : List ℕ
+  pub rest : List ℕ
+  pub parts : bytes ≡ before ++ (piece ++ rest)
+  pub place_is : length before ≡ place
+  pub end : last ≡ true → rest ≡ []
+
+-- these bytes have this piece where the stream waits for its stripe
+abbrev pub HasPiece : ℕ → Option ℕ → List ℕ → Bool → List ℕ → Type 0
+HasPiece size None piece last bytes = ⊥
+HasPiece size (Some stripe) piece last bytes = HasPieceAt (stripe * size) piece last bytes
+
+-- so has the file of a put
+abbrev pub FitsKind : ℕ → Option ℕ → List ℕ → Bool → Kind → Type 0
+FitsKind size wanted piece last (PutJob name bytes) = HasPiece size wanted piece last bytes
+FitsKind size wanted piece last kind = ⊥
+
+-- so has the file of a put of the machine, if it runs
+abbrev pub FitsPiece : ℕ → Option ℕ → List ℕ → Bool → Option Job → Type 0
+FitsPiece size wanted piece last None = ⊥
+FitsPiece size wanted piece last (Some job) = FitsKind size wanted piece last job.kind
