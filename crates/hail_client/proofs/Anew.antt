@@ -29,6 +29,7 @@ use Rattle.vault_open.specs.Devices.{devices}
 use Rattle.opening_defs.specs.Journals.{IsRead, IsResynced, MayBeLeft}
 use Rattle.vault.specs.Seen.{provider_count}
 use Rattle.vault.specs.Stands.{Stands}
+use Rattle.vault.specs.Streams.{IsStreamless}
 use Rattle.hail_client.specs.declared.client.Client.{Client}
 use Rattle.hail_client.specs.declared.fault.ReopenFault.{ReopenFault}
 use Rattle.hail_client.specs.declared.fault.ReopenFault.TheVariants as reopen_fault
@@ -233,10 +234,10 @@ module _ (told : Option Cells) (rs : List Record) (is_read : IsRead told rs) (v 
             (g, never, refl),
           )
 
-      opened-anew : provider_count v ≤ length ps →
-          IsMadeAnew moment next Reopen events.Opened (with_vault v next)
+      opened-anew : provider_count v ≤ length ps → (streamless : IsStreamless v) →
+          IsMadeAnew moment next Reopen events.Opened (with_vault v streamless next)
           (devices old f ps) (devices holds g ps)
-      opened-anew enough = record {
+      opened-anew enough streamless = record {
         before = start;
         stands_before = stands-over rs rest next f ps old (untold-images old start old_is);
         makes = record {
@@ -290,16 +291,16 @@ module _ (c left : Client) (left_is : left ≡ without_vault (client_next_job c)
 
     -- a reopening with enough providers opens, as an event of some closed state
     pub enough-are : (v : Vault) → WasOpened v old new g left.next_job → provider_count v ≤ length ps →
-        IsMadeAnew moment (client_next_job c) Reopen events.Opened
-        (with_vault v left.next_job) (devices old f ps) (devices new g ps)
-    enough-are v was enough =
+        (streamless : IsStreamless v) → IsMadeAnew moment (client_next_job c) Reopen events.Opened
+        (with_vault v streamless left.next_job) (devices old f ps) (devices new g ps)
+    enough-are v was enough streamless =
         (let all : WasOpened v old new g (client_next_job c) =
         subst (λ (x : Client). WasOpened v old new g x.next_job) left_is was in
         subst (λ (x : Client). IsMadeAnew moment (client_next_job c) Reopen events.Opened
-        (with_vault v x.next_job) (devices old f ps) (devices new g ps))
+        (with_vault v streamless x.next_job) (devices old f ps) (devices new g ps))
         (sym left_is)
         (opened-anew old all.0 all.1 v new g (client_next_job c) all.2 f ps moment old (is_some-none old none)
-        (untold-goes IsResynced old new none goes) never enough))
+        (untold-goes IsResynced old new none goes) never enough streamless))
 
     -- a client that holds no vault stands, with its devices, for some closed state
     pub left-standing : IsStanding left (devices new g ps)
@@ -309,9 +310,9 @@ module _ (c left : Client) (left_is : left ≡ without_vault (client_next_job c)
 
   -- a vault over enough providers stands for each state just opened over what was read, and there is one
   pub opens-over : (v : Vault) (handed : ℕ) → WasOpened v old new g left.next_job →
-      provider_count v ≤ handed →
-      OpensOver old (client_next_job c) handed (with_vault v left.next_job) new g
-  opens-over v handed was enough =
+      provider_count v ≤ handed → (streamless : IsStreamless v) →
+      OpensOver old (client_next_job c) handed (with_vault v streamless left.next_job) new g
+  opens-over v handed was enough streamless =
       (let all : WasOpened v old new g (client_next_job c) =
       subst (λ (x : Client). WasOpened v old new g x.next_job) left_is was in
       record {

@@ -32,6 +32,7 @@ use Rattle.opening_defs.specs.Journals.{journal_read, IsRead, IsResynced}
 use Rattle.vault_open.specs.Causes.{IsStartFault, LiesInJournal}
 use Rattle.vault.specs.Seen.{provider_count}
 use Rattle.vault.specs.Stands.{Stands}
+use Rattle.vault.specs.Streams.{IsStreamless}
 use Rattle.state_laws.proofs.Written.{unpacked-end}
 use Rattle.vault_open.proofs.FirstVersion.{Shows, ShowsFirst, shows-first, unpacked-shown}
 use Rattle.hail_client.specs.Client.{with_vault, without_vault}
@@ -267,10 +268,10 @@ module _ (w : State) (moment next : ℕ) (old : Cells) (f0 f1 : ℕ) (ps : List 
         refl refl (λ j. refl) refl refl)
 
     -- a start with enough providers is a reopening that the machine makes
-    pub opened-event : provider_count v ≤ length ps →
-        MakesEvent w moment Reopen events.Opened (with_vault v next)
+    pub opened-event : provider_count v ≤ length ps → (streamless : IsStreamless v) →
+        MakesEvent w moment Reopen events.Opened (with_vault v streamless next)
         (devices new f1 ps)
-    opened-event enough =
+    opened-event enough streamless =
         (let count = are.providers.count in
         let many : (setup_in (settled w rs)).n ≤ length ps = (let e = uses-as in omega (arith, enough, e)) in
         let many_handed : (setup_in (settled w rs)).n ≤ w.handed = omega (arith, many, count) in

@@ -20,6 +20,7 @@ use Rattle.opening_defs.specs.Journals.{journal_read, IsRead, IsResynced}
 use Rattle.vault_open.specs.Causes.{IsStartFault, LiesInJournal}
 use Rattle.vault.specs.Seen.{provider_count}
 use Rattle.vault.specs.Stands.{Stands}
+use Rattle.vault.specs.Streams.{IsStreamless}
 use Rattle.opening_defs.specs.Opened.{IsJustOpened}
 use Rattle.hail_client.specs.declared.client.Client.{Client}
 use Rattle.hail_client.specs.declared.fault.ReopenFault.{ReopenFault}
@@ -81,16 +82,17 @@ module _ (w : State) (moment : ℕ) (c left : Client) where
   pub opened-event : (old new : Option Cells) (f g : ℕ) (ps : List Provider) (v : Vault) → IsSome old →
       left ≡ without_vault (client_next_job c) → WasOpened v old new g left.next_job →
       new ≡ option_map synced old →
-      f ≤ g → provider_count v ≤ length ps → ClientStands c (devices old f ps) w →
-      MakesEvent w moment Reopen Opened (with_vault v left.next_job)
+      f ≤ g → provider_count v ≤ length ps → (streamless : IsStreamless v) → ClientStands c (devices old f ps) w →
+      MakesEvent w moment Reopen Opened (with_vault v streamless left.next_job)
       (devices new g ps)
-  opened-event None new f g ps v told left_is opened is never enough S = absurd (false≢true told)
-  opened-event (Some old) new f g ps v told left_is opened is never enough S =
+  opened-event None new f g ps v told left_is opened is never enough streamless S = absurd (false≢true told)
+  opened-event (Some old) new f g ps v told left_is opened is never enough streamless S =
       (let all : WasOpened v (Some old) new g (client_next_job c) =
       subst (λ (x : Client). WasOpened v (Some old) new g x.next_job) left_is opened in
       subst (λ (x : Client). MakesEvent w moment Reopen Opened
-      (with_vault v x.next_job) (devices new g ps)) (sym left_is)
+      (with_vault v streamless x.next_job) (devices new g ps)) (sym left_is)
       (reopened.opened-event w moment (client_next_job c) old f g ps
       (sound-of c.vault c.scrub c.next_job (devices (Some old) f ps) w S)
       (devices-of c.vault c.scrub c.next_job (devices (Some old) f ps) w S)
-      (next-of c.vault c.scrub c.next_job (devices (Some old) f ps) w S) never new all.0 all.1 is v all.2 enough))
+      (next-of c.vault c.scrub c.next_job (devices (Some old) f ps) w S) never new all.0 all.1 is v all.2 enough
+      streamless))

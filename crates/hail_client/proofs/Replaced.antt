@@ -9,16 +9,15 @@ use Rattle.record_defs.specs.Records.{Setup}
 use Rattle.device_defs.specs.ProviderCalls.{Replaces}
 use Rattle.machine_defs.specs.Events.{Event, Outcome, IsSpelled, NothingHeld}
 use Rattle.machine_defs.specs.Alone.{unalone}
-use Rattle.machine_defs.specs.States.{State, setup_in, with_provider}
+use Rattle.machine_defs.specs.States.{State, with_provider}
 use Rattle.machine_defs.specs.Replacements.{ReplacesAt, ReplacesIf}
 use Rattle.machine_defs.specs.Machine.{Happens}
 use Rattle.state_laws.proofs.Events.{devices-sound}
 use Rattle.vault.specs.declared.vault.Vault.{Vault}
 use Rattle.opening_defs.specs.Opened.{AreHanded}
 use Rattle.vault_open.specs.Devices.{devices}
-use Rattle.vault.specs.declared.desk.Desk.{Desk}
-use Rattle.vault.specs.Desks.{DeskStands}
 use Rattle.hail_scrub.specs.Stands.{ScrubIs}
+use Rattle.vault.proofs.Replaced.{vault_replaced, held_replaced}
 use Rattle.vault.proofs.Ways.{handed_on, setup_same}
 use Rattle.hail_client.specs.declared.client.Client.{Client}
 use Rattle.hail_client.specs.declared.scrub.ScrubJob.{ScrubJob}
@@ -62,52 +61,15 @@ abbrev pub after : State → (ℕ → Provider) → State
 after w providers = record w { providers = providers }
 
 module _ (holds : Option Cells) (faults : ℕ) (ps qs : List Provider) where
-  -- a desk stands for the state with other providers that are handed in
-  pub desk-after : (v : Desk) (w : State) (providers : ℕ → Provider) → DeskStands v (devices holds faults ps) w →
-      AreHanded qs (after w providers) → DeskStands v (devices holds faults qs) (after w providers)
-  unfolding setup_in
-  desk-after v w providers S handed =
-      let new = after w providers in
-      let same : setup_in new ≡ setup_in w = setup_same w new refl in
-      record {
-        devices = record {
-          images = same-images holds w new refl refl refl refl S.devices.images;
-          faults = S.devices.faults;
-          providers = handed;
-        };
-        core = record {
-          sound = devices-sound 8 w providers w.disk_faults S.core.sound;
-          is_open = S.core.is_open;
-          none_alone = S.core.none_alone;
-          table = S.core.table;
-          setup = S.core.setup ∙ sym same;
-          end = S.core.end;
-          jobs = S.core.jobs;
-          next_job = S.core.next_job;
-          append = S.core.append;
-          barred = S.core.barred;
-        };
-        appended = S.appended;
-        setup = same ∙ S.setup;
-        shaped = S.shaped;
-        jobs = S.jobs;
-        flight = S.flight;
-      }
-
   module _ (w : State) (providers : ℕ → Provider) where
-    -- so does a vault beside a scrub
+    -- a vault beside a scrub stands for the state with other providers that are handed in
     held-after : (v : Vault) (job : ScrubJob) → StandsHeld v job (devices holds faults ps) w →
         AreHanded qs (after w providers) → StandsHeld v job (devices holds faults qs) (after w providers)
     held-after v job S handed = record {
       scrub = S.scrub;
       number_is = S.number_is;
-      beside = record {
-        held = S.beside.held;
-        desk = desk-after v.desk (unalone w) providers S.beside.desk
-            (record { count = handed.count; each = handed.each });
-        idle = S.beside.idle;
-        unbarred = S.beside.unbarred;
-      };
+      beside = held_replaced (devices holds faults ps) (unalone w) qs providers v S.scrub.number S.beside
+          (record { count = handed.count; each = handed.each });
       stands = record {
         alone = S.stands.alone;
         handed = handed;
@@ -117,11 +79,12 @@ module _ (holds : Option Cells) (faults : ℕ) (ps qs : List Provider) where
       sound = devices-sound 8 w providers w.disk_faults S.sound;
     }
 
+    -- so does a client
     stands-after : (o : Option Vault) (s : Option ScrubJob) (next : ℕ) →
         StandsBy o s next (devices holds faults ps) w → AreHanded qs (after w providers) →
         StandsBy o s next (devices holds faults qs) (after w providers)
     stands-after (Some v) None next S handed =
-        record { free = S.free; desk = desk-after v.desk w providers S.desk handed }
+        vault_replaced (devices holds faults ps) w qs providers v S handed
     stands-after (Some v) (Some job) next S handed = held-after v job S handed
     stands-after None s next S handed = record {
       devices = record {

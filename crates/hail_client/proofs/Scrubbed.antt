@@ -32,9 +32,9 @@ use Rattle.hail_scrub.specs.Stands.{ScrubIs, ScrubStands, MakesScrubStep, scrub_
 use Rattle.hail_scrub.specs.Views.{ScrubView, scrub_left, next_to_do, called_by}
 use Rattle.vault.specs.declared.turn.Turn.TheVariants as vault_turn
 use Rattle.vault.specs.declared.vault.Vault.{Vault}
-use Rattle.vault.specs.Desks.{DeskStands}
 use Rattle.vault.specs.Seen.{coming_of, provider_count}
 use Rattle.vault.specs.Stands.{Stands, StandsBeside}
+use Rattle.vault.proofs.Replaced.{held_replaced}
 use Rattle.vault_core.specs.Coming.{Acts, IsNoJob, calls_disk, called_provider}
 use Rattle.vault_open.specs.Devices.{Devices, devices}
 use Rattle.hail_client.specs.AtWork.{IsScrub, IsBesideVault, IsAtWork}
@@ -45,7 +45,7 @@ use Rattle.hail_client.specs.Client.{scrub_coming, coming_by, client_coming}
 use Rattle.hail_client.specs.Start.{provider_or_empty}
 use Rattle.hail_client.specs.Stands.{StandsHeld, ClientStands, ClientMakesStep}
 use Rattle.hail_client.proofs.Fresh.{each-at}
-use Rattle.hail_client.proofs.Replaced.{after, desk-after}
+use Rattle.hail_client.proofs.Replaced.{after}
 use Rattle.hail_client.proofs.Standing.{stands-of, parts-of}
 
 -- ---- the actions of a scrub
@@ -261,19 +261,11 @@ module _ (v : Vault) (job : ScrubJob) (holds : Option Cells) (faults : ℕ) (ps 
   sound fits = events-sound 8 0 w S.sound (omega arith, omega arith) (Step job.number)
       (scrub_outcome (setup_in w).n t) state fits (happens 0)
 
-  desk : DeskStands v.desk (devices holds faults qs) (unalone state)
-  desk = subst (DeskStands v.desk (devices holds faults qs)) (sym beside_is)
-      (desk-after holds faults ps qs v.desk (unalone w) state.providers S.beside.desk
+  beside : StandsBeside v (devices holds faults qs) (unalone state) S.scrub.number
+  beside = subst (λ (u : State). StandsBeside v (devices holds faults qs) u S.scrub.number) (sym beside_is)
+      (held_replaced (devices holds faults ps) (unalone w) qs state.providers v S.scrub.number S.beside
       (handed_same qs state (after (unalone w) state.providers) made.handed
       (ap (λ (u : State). u.handed) (sym beside_is)) (λ k. refl)))
-
-  beside : StandsBeside v (devices holds faults qs) (unalone state) S.scrub.number
-  beside = record {
-    held = S.beside.held;
-    desk = desk;
-    idle = ap (λ (u : State). u.jobs) beside_is ∙ S.beside.idle;
-    unbarred = ap (λ (u : State). u.is_barred) beside_is ∙ S.beside.unbarred;
-  }
 
   -- the vault has the machine's number of providers
   count-is : v.desk.setup.n ≡ (setup_in w).n

@@ -1,7 +1,7 @@
 -- How a client begins a scrub.
 use Rattle.std.proofs.Common.{◌≡◌, ℕ, ◌+◌, ◌<◌, ◌≤◌, ◌||◌, Bool, true, false, [], Option, Some, None, Result, Ok, Err, refl, ap, sym, subst, ◌∙◌, inl, inr, arith}
 use Rattle.std.specs.Prelude.{is_some, nat_lt, length}
-use Rattle.std.proofs.Math.Logic.{∥∥₁_map}
+use Rattle.std.proofs.Math.Logic.{∥∥₁_prop}
 use Rattle.machine_defs.specs.Alone.{alone_refusal, new_scrub, BeginsScrub}
 use Rattle.machine_defs.specs.Events.{BeginScrub, Begun, Refused, Closed}
 use Rattle.machine_defs.specs.Machine.{Happens}
@@ -23,6 +23,7 @@ use Rattle.vault_open.specs.Devices.{Devices, devices}
 use Rattle.vault.specs.declared.vault.Vault.{Vault}
 use Rattle.vault.specs.Seen.{held_by, provider_count, IsUnchanged}
 use Rattle.vault.specs.Stands.{Stands, StandsBeside, HoldsOver}
+use Rattle.vault.proofs.AtWork.{by_work}
 use Rattle.hail_client.specs.AtWork.{IsAtWork}
 use Rattle.hail_client.specs.declared.client.Client.{Client}
 use Rattle.hail_client.specs.declared.scrub.ScrubJob.{ScrubJob}
@@ -161,16 +162,15 @@ module _ (v next : Vault) (number : ℕ) (scrub : ScrubView)
   pub scrub-works : held_by next ≡ Some number → 0 < scrub_left scrub → scrub.providers ≤ provider_count v →
       ∥ IsAtWork (Some next) (Some job) ∥₁
   scrub-works held_is going fits =
-      ∥∥₁_map v.at_work (λ x.
-      let w : State = x.0 in
-      let d = devices None x.1 x.2 in
-      let S : Stands v d w = record { free = was-free v.held number busy; desk = x.3 } in
+      by_work ∥∥₁_prop v.desk (λ w faults ps desk.
+      let d = devices None faults ps in
+      let S : Stands v d w = record { free = was-free v.held number busy; desk = desk } in
       let h = holds w d S in
-      record {
+      ∣ record {
         held = held_is;
         going = going;
         fits = subst (λ (n : ℕ). scrub.providers ≤ n)
             (ap (λ (s : Setup). s.n) (sym S.desk.setup ∙ sym (setup_same w (record w { next_job = w.next_job + 1 }) refl)
             ∙ h.2.desk.setup)) fits;
         scrub = record { state = w; scrub = new_scrub w 0; is = begun w d 0 S };
-      })
+      } ∣₁) v.at_work

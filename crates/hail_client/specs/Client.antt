@@ -11,7 +11,8 @@
 --   client_entry c job   == the record that its append writes, by the open vault; none beside a scrub
 --   client_closed_gate c == the offset of the closed gate behind the records in effect; 0 where no vault is
 --                           open
---   with_vault v next    == a client with this vault open and no scrub
+--   with_vault v streamless next
+--                        == a client with this vault open, of which no stream is, and no scrub
 --   without_vault next   == a client with no vault open, whose next job has this number
 --   IsSame old new       == nothing changed but spare room of the open vault
 use Rattle.std.specs.Prelude.{◌≡◌, ℕ, ◌==◌, Bool, Option, Some, None, is_some, if◌then◌else◌}
@@ -23,6 +24,7 @@ use Rattle.hail_scrub.specs.Views.{scrub_left, next_to_do}
 use Rattle.vault.specs.declared.vault.Vault.{Vault}
 use Rattle.vault.specs.Seen.{provider_count, IsUnchanged}
 use Rattle.vault.specs.Seen as seen
+use Rattle.vault.specs.Streams.{IsStreamless}
 use Rattle.vault_table.specs.Values.{Kept}
 use Rattle.hail_client.specs.declared.client.Client.{Client}
 use Rattle.hail_client.specs.declared.scrub.ScrubJob.{ScrubJob}
@@ -96,13 +98,20 @@ is_open c = is_some c.vault
 abbrev pub names_of : Client → Option Kept
 names_of c = option_map seen.table_of c.vault
 
--- a client with this vault open and no scrub
-abbrev pub with_vault : Vault → ℕ → Client
-with_vault v next = record { vault = Some v; scrub = None; next_job = next; at_work = ∣ tt ∣₁ }
+-- a client with this vault open, of which no stream is, and no scrub
+abbrev pub with_vault : (v : Vault) → IsStreamless v → ℕ → Client
+with_vault v streamless next = record {
+  vault = Some v;
+  scrub = None;
+  next_job = next;
+  at_work = ∣ tt ∣₁;
+  streamless = ∣ streamless ∣₁;
+}
 
 -- a client with no vault open
 abbrev pub without_vault : ℕ → Client
-without_vault next = record { vault = None; scrub = None; next_job = next; at_work = ∣ tt ∣₁ }
+without_vault next =
+    record { vault = None; scrub = None; next_job = next; at_work = ∣ tt ∣₁; streamless = ∣ tt ∣₁ }
 
 -- no vault came or went, and nothing of an open one changed but spare room
 abbrev pub IsSameVault : Option Vault → Option Vault → Type 0

@@ -1,3 +1,5 @@
+ghost use Rattle.std.specs.Prelude.{IfSome};
+ghost use Rattle.vault.specs.Streams.{IsStreamless};
 ghost use Rattle.hail_client.specs.AtWork.{IsAtWork};
 
 use crate::scrub::ScrubJob;
@@ -15,6 +17,7 @@ pub struct Client {
     pub(crate) scrub: Option<ScrubJob>,
     pub(crate) next_job: u32,
     ghost at_work: { ∥ IsAtWork vault scrub ∥₁ },
+    ghost streamless: { ∥ IfSome vault IsStreamless ∥₁ },
 }
 
 impl Client {

@@ -17,6 +17,7 @@ ghost use Rattle.vault_open.specs.declared.fault.StartFault.{StartFault as Start
 ghost use Rattle.vault_open.specs.declared.fault.StartFault.TheVariants as start_fault;
 ghost use Rattle.hail_client.specs.declared.fault.ReopenFault.TheVariants as reopen_fault;
 ghost use Rattle.vault_open.specs.Inits.{init_outcome};
+ghost use Rattle.vault.specs.Streams.{IsStreamless};
 ghost use Rattle.hail_client.specs.Client.{is_open, client_next_job, with_vault, without_vault};
 ghost use Rattle.hail_client.specs.Outcomes.{reopen_outcome, UnlessBadJournal};
 ghost use Rattle.hail_client.specs.Stands.{ClientStands, MakesEvent, IsMadeAnew, IsStanding, OpensOver};
@@ -149,9 +150,11 @@ impl Client {
         }
     }
 
-    /// Has this vault for its own, and no other, and no scrub.
+    /// Has this vault for its own, and no other, and no scrub. Condition: no stream of it is open.
     fn hold(&mut self, vault: Vault)
-        ensures held { self.new ≡ with_vault vault self.old.next_job }
+        requires { IsStreamless vault }
+        ensures held { (streamless : IsStreamless vault)
+            → self.new ≡ with_vault vault streamless self.old.next_job }
     {
         self.scrub = None;
         if let Some(older) = self.vault.replace(vault) {

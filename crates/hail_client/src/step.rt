@@ -22,6 +22,7 @@ use disk_model::Disk;
 use hail_scrub::ScrubTurn;
 use provider_model::Provider;
 use vault::Turn;
+use vault::laws::only_streams_wait;
 
 impl Client {
     /// Makes the next action of a job, or of the scrub whose number it is, with its one call of a device, if
@@ -93,7 +94,10 @@ impl Client {
                         }
                     }
                 }
-                None => Some(ClientTurn::Job(vault.step(job, disk, providers))),
+                None => {
+                    only_streams_wait();
+                    Some(ClientTurn::Job(vault.step(job, disk, providers)))
+                }
             },
             None => None,
         }

@@ -1,6 +1,6 @@
 use Rattle.std.proofs.Common.{refl, subst}
 use Rattle.machine_defs.specs.Events.{AreBytes}
-use Rattle.hail_client.proofs.Beside.{begun-at}
+use Rattle.hail_client.proofs.Beside.{begun-at, streamless-on}
 use Rattle.hail_client.proofs.Made.{put-of, put-closed}
 use Rattle.hail_client.proofs.client.Client.begin_put.Goals as goal
 
@@ -20,4 +20,6 @@ pub invariant_of-self : goal.invariant_of-self
 invariant_of-self c = record {
   at_work = begun-at _ c.begin_put.new.self c.args.self.now.vault c.args.self.now.scrub c.begin_put.result
       c.in-Some.is c.begin_put.ensures.busy c.begin_put.ensures.unchanged c.args.self.now.at_work;
+  streamless = streamless-on _ c.begin_put.new.self c.args.self.now.vault c.in-Some.is c.begin_put.ensures.streams
+      c.args.self.now.streamless;
 }

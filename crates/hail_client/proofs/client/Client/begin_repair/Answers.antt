@@ -1,6 +1,6 @@
 use Rattle.std.proofs.Common.{refl}
 use Rattle.machine_defs.specs.Jobs.{RepairJob}
-use Rattle.hail_client.proofs.Beside.{begun-at}
+use Rattle.hail_client.proofs.Beside.{begun-at, streamless-on}
 use Rattle.hail_client.proofs.Made.{begin-of}
 use Rattle.hail_client.proofs.client.Client.begin_repair.Goals as goal
 
@@ -13,4 +13,6 @@ pub invariant_of-self : goal.invariant_of-self
 invariant_of-self c = record {
   at_work = begun-at _ c.begin_repair.new.self c.args.self.now.vault c.args.self.now.scrub c.begin_repair.result c.in-Some.is
       c.begin_repair.ensures.busy c.begin_repair.ensures.unchanged c.args.self.now.at_work;
+  streamless = streamless-on _ c.begin_repair.new.self c.args.self.now.vault c.in-Some.is c.begin_repair.ensures.streams
+      c.args.self.now.streamless;
 }

@@ -1,6 +1,8 @@
-use Rattle.std.proofs.Common.{Err, ap, arith}
+use Rattle.std.proofs.Common.{Err, ap, ◌∙◌, arith}
 use Rattle.record_codec.specs.declared.setup.Setup.{Setup}
 use Rattle.vault_open.specs.declared.fault.StartFault.{StartFault}
+use Rattle.hail_client.specs.declared.client.Client.{Client}
+use Rattle.hail_client.specs.Client.{is_open, client_next_job}
 use Rattle.hail_client.proofs.Reopening.{refused-event, few-event, opened-event}
 use Rattle.hail_client.proofs.Anew.{by-told, refused-anew, few-are, enough-are, left-standing, opens-over}
 use Rattle.hail_client.proofs.client.Client.reopen.Goals as goal
@@ -27,14 +29,15 @@ returns-then-handed-from-clause-machine g c = λ w providers moment told handed 
 
 pub returns-clause-machine : goal.returns-clause-machine
 returns-clause-machine g c = λ w providers moment told handed stands.
-    rw c.hold.ensures.held (
+    rw (c.hold.ensures.held c.in_ok-vault.ensures.streams) (
     opened-event w moment c.args.self.now c.give_up.new.self (g.D.Disk.holds c.args.disk.now)
     (g.D.Disk.holds c.start.new.disk) (g.D.Disk.faults c.args.disk.now)
     (g.D.Disk.faults c.start.new.disk) providers
     c.in_ok-vault.vault told c.give_up.ensures.closed c.in_ok-vault.ensures.opened
     c.in_ok-vault.ensures.synced c.in_ok-vault.ensures.cause.never_falls
     (let a = c.if-handed-from.false in let b = c.from.ensures in
-    let n = ap (λ (s : Setup). s.n) c.setup.ensures in omega (arith, a, b, n, handed)) stands)
+    let n = ap (λ (s : Setup). s.n) c.setup.ensures in omega (arith, a, b, n, handed)) c.in_ok-vault.ensures.streams
+    stands)
 
 pub returns-in_err-vault-clause-anew : goal.returns-in_err-vault-clause-anew
 returns-in_err-vault-clause-anew g c = λ providers moment none handed.
@@ -73,13 +76,14 @@ returns-then-handed-from-clause-standing g c = λ providers handed S.
 
 pub returns-clause-anew : goal.returns-clause-anew
 returns-clause-anew g c = λ providers moment none handed.
-    rw c.hold.ensures.held (
+    rw (c.hold.ensures.held c.in_ok-vault.ensures.streams) (
     enough-are c.args.self.now c.give_up.new.self c.give_up.ensures.closed (g.D.Disk.holds c.args.disk.now)
     (g.D.Disk.holds c.start.new.disk) (g.D.Disk.faults c.args.disk.now) (g.D.Disk.faults c.start.new.disk)
     moment providers none c.in_ok-vault.ensures.disk c.in_ok-vault.ensures.cause.never_falls
     c.in_ok-vault.vault c.in_ok-vault.ensures.opened
     (let a = c.if-handed-from.false in let b = c.from.ensures in
-    let n = ap (λ (s : Setup). s.n) c.setup.ensures in omega (arith, a, b, n, handed)))
+    let n = ap (λ (s : Setup). s.n) c.setup.ensures in omega (arith, a, b, n, handed))
+    c.in_ok-vault.ensures.streams)
 
 pub returns-clause-standing : goal.returns-clause-standing
 returns-clause-standing g c = λ providers handed S.
@@ -91,9 +95,19 @@ returns-clause-standing g c = λ providers handed S.
 
 pub returns-clause-opened : goal.returns-clause-opened
 returns-clause-opened g c =
-    rw c.hold.ensures.held (
+    rw (c.hold.ensures.held c.in_ok-vault.ensures.streams) (
     opens-over c.args.self.now c.give_up.new.self c.give_up.ensures.closed (g.D.Disk.holds c.args.disk.now)
     (g.D.Disk.holds c.start.new.disk) (g.D.Disk.faults c.args.disk.now) (g.D.Disk.faults c.start.new.disk)
     c.in_ok-vault.vault c.args.handed c.in_ok-vault.ensures.opened
     (let a = c.if-handed-from.false in let b = c.from.ensures in
-    let n = ap (λ (s : Setup). s.n) c.setup.ensures in omega (arith, a, b, n)))
+    let n = ap (λ (s : Setup). s.n) c.setup.ensures in omega (arith, a, b, n))
+    c.in_ok-vault.ensures.streams)
+
+pub returns-clause-opens : goal.returns-clause-opens
+returns-clause-opens g c = ap is_open (c.hold.ensures.held c.in_ok-vault.ensures.streams)
+
+pub returns-clause-next_job : goal.returns-clause-next_job
+returns-clause-next_job g c =
+    ap client_next_job (c.hold.ensures.held c.in_ok-vault.ensures.streams)
+    ∙ c.in_ok-vault.ensures.number
+    ∙ ap (λ (x : Client). x.next_job) c.give_up.ensures.closed

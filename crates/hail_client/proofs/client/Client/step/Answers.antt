@@ -3,6 +3,7 @@ use Rattle.std.proofs.Math.Logic.{∥∥₁_map}
 use Rattle.provider_model.specs.Seen.{provider_seen}
 use Rattle.record_codec.specs.declared.setup.Setup.{Setup}
 use Rattle.vault_core.specs.Coming.{called_provider}
+use Rattle.hail_client.proofs.Beside.{streamless-on, none-wait, free-works}
 use Rattle.hail_client.proofs.Made.{step-of, heard-of}
 use Rattle.hail_client.proofs.Scrubbed.{IsNext, next-at, beside-at, beside-on, vault-coming, no-disk, calls-one, has-next, goes-on, ends}
 use Rattle.hail_client.proofs.client.Client.step.Given as given
@@ -17,6 +18,8 @@ invariant_of-self-in-More g c = record {
       (map (provider_seen g.P.Provider) c.args.providers.now)
       (map (provider_seen g.P.Provider) c.step.new.providers) c.in-More.ensures.over c.step.ensures.providers
       (λ w m S. c.in-More.ensures.machine w m true S));
+  streamless = streamless-on c.in-Some.vault c.in-Some.vault c.args.self.now.vault c.in-Some.is (λ x. x)
+      c.args.self.now.streamless;
 }
 
 next-more : (g : given.Over) (c : goal.After-self-in-More-1 g) → IsNext c.in-Some-scrub.running.scrub
@@ -62,6 +65,13 @@ returns-in-More-clause-gone g c = (
       c.in-Some-scrub.is c.if-running-job.false (next-more g c) e,
 )
 
+pub invariant_of-self-in-Done : goal.invariant_of-self-in-Done
+invariant_of-self-in-Done g c = record {
+  at_work = ∣ tt ∣₁;
+  streamless = streamless-on c.in-Some.vault c.release.new.self c.args.self.now.vault c.in-Some.is
+      c.release.ensures.streams c.args.self.now.streamless;
+}
+
 next-done : (g : given.Over) (c : goal.After-self-in-Done-1 g) → IsNext c.in-Some-scrub.running.scrub
 next-done g c = next-at c.in-Some.vault c.in-Some-scrub.running c.step.new.self
     (map (provider_seen g.P.Provider) c.args.providers.now)
@@ -104,6 +114,18 @@ returns-in-Done-clause-gone g c = (
   λ e. has-next c.args.self.now c.in-Some.vault c.in-Some-scrub.running c.args.job c.in-Some.is
       c.in-Some-scrub.is c.if-running-job.false (next-done g c) e,
 )
+
+pub step-requires-in-None-scrub-clause-given : goal.step-requires-in-None-scrub-clause-given
+step-requires-in-None-scrub-clause-given g c =
+    none-wait c.in-Some.vault c.args.self.now.vault c.args.job c.in-Some.is
+    (c.only_streams_wait.ensures c.in-Some.vault c.args.job) c.args.self.now.streamless
+
+pub invariant_of-self-in-None-scrub : goal.invariant_of-self-in-None-scrub
+invariant_of-self-in-None-scrub g c = record {
+  at_work = free-works c.step-in-None-scrub.new.self c.args.self.now.scrub c.in-None-scrub.is;
+  streamless = streamless-on c.in-Some.vault c.step-in-None-scrub.new.self c.args.self.now.vault c.in-Some.is
+      c.step-in-None-scrub.ensures.streams c.args.self.now.streamless;
+}
 
 pub returns-in-None-scrub-clause-machine : goal.returns-in-None-scrub-clause-machine
 returns-in-None-scrub-clause-machine g c =
