@@ -26,7 +26,7 @@ use Rattle.opening_defs.proofs.Resyncs.{resynced-equal}
 use Rattle.command_laws.specs.Ends.{IsKnown}
 use Rattle.command_laws.specs.After.{IsSure, Follows, is_refusal}
 use Rattle.command_laws.proofs.Known.{EndStatus, status-ended}
-use Rattle.command_laws.proofs.JobEnds.{unstarted-refused}
+use Rattle.command_laws.proofs.JobEnds.{unstarted-refused, given-status}
 use Rattle.command_laws.proofs.Images.{init-kept, refused-keeps}
 use Rattle.command_laws.proofs.Knowing.{known-good}
 
@@ -137,10 +137,15 @@ put-told : (name : List ℕ) (old new : Seen) (end : Ending) {own : Option ℕ} 
 put-told name old new end (AnswersPut.unstarted u same) refuses = unstarted-told old new end u
 put-told name old new end (AnswersPut.source_fault records opened known rose synced taken r) refuses =
     as-told 14 0 old new end r
+put-told name old new end (AnswersPut.given_up records bytes opened known none stops runs left) refuses =
+    absurd (elim (given-status _ bytes old new end stops) [
+      | inl e ↦ other-status end.status 14 e refl refuses
+      | inr e ↦ other-status end.status 16 e refl refuses
+    ])
 put-told name old new end (AnswersPut.bad_profile records opened unknown synced same r) refuses =
     as-told 20 0 old new end r
 put-told name old new end (AnswersPut.no_memory taken r) refuses = as-told 70 0 old new end r
-put-told name old new end (AnswersPut.begun records bytes opened known read A) refuses =
+put-told name old new end (AnswersPut.begun records bytes opened known read few A whole) refuses =
     job-told (PutJob name bytes) records old new end A refuses
 
 alone-told : (kind : Kind) (old new : Seen) (end : Ending) → AnswersAlone kind old new end →

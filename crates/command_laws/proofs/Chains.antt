@@ -307,6 +307,7 @@ audit-then records undecided counts c d =
       own = audit_records records undecided counts;
       are_own = (undecided, counts, refl);
       count = 2;
+      whole = λ l. tt;
       after_is = refl;
     })
 

@@ -4,7 +4,6 @@ use Rattle.std.specs.Prelude.{is_some, IfSome}
 use Rattle.std.specs.Option.{option_map}
 use Rattle.std.proofs.lemmas.Bool.{and_from, false≢true}
 use Rattle.std.proofs.lemmas.Bool.Decides.{nat_tests}
-use Rattle.std.proofs.lemmas.List.{append-nil}
 use Rattle.hex.proofs.HexLemmas.{decode_of-ok}
 use Rattle.algebra_laws.proofs.Options.{is_some-option_map}
 use Rattle.device_defs.specs.Cells.{Cells, reads, firm}
@@ -29,27 +28,28 @@ use Rattle.command_defs.specs.Keys.{IsKeyForm}
 use Rattle.command_defs.specs.Seen.{Seen, Ending, IsRefused, IsSynced, ReadsUpTo}
 use Rattle.opening_defs.specs.Journals.{journal_read, IsSetUpOn}
 use Rattle.command_defs.specs.Opens.{IsOpened, Unstarted, setup_in_effect}
-use Rattle.command_defs.specs.Refusals.{status_of}
+use Rattle.command_defs.specs.Refusals.{status_of, refusal_over}
 use Rattle.command_defs.specs.Lines.{audit_lines}
 use Rattle.command_defs.specs.Inits.{setup_with, AnswersInit}
 use Rattle.command_defs.specs.Gets.{GetLeaves}
 use Rattle.command_defs.specs.Jobs.{AnswersJob, SamePast, past, with_next, IsTold}
+use Rattle.command_defs.specs.GivenUp.{put_stripe, after_begin, StopsReading, PartRuns, PartLeft}
 use Rattle.command_defs.specs.Scrubs.{ScrubsAlone, AnswersScrub}
 use Rattle.command_defs.specs.Commands.{AnswersPut, AnswersAlone, AnswersList, Answers}
 use Rattle.state_laws.proofs.Records.{is_some-at}
 use Rattle.command_defs.proofs.Keys.{IsKeyForm-once}
 use Rattle.lone_laws.specs.Walked.{MayName}
 use Rattle.command_laws.specs.Ends.{IsDone, IsKnown, profile_named, RunsKind, DiskHas, opens_store, after_put, after_drop, after_audit, after_repair, after_upgrade}
-use Rattle.command_laws.specs.Kept.{IsAfter, after_start}
+use Rattle.command_laws.specs.Kept.{IsAfter}
 use Rattle.command_laws.specs.After.{IsSure, Follows, IsThen}
 use Rattle.command_laws.proofs.Known.{known-once, alone-known, unstarted-known, refused-not}
-use Rattle.command_laws.proofs.JobEnds.{put-done, drop-done, audit-done, repair-done, upgrade-done}
+use Rattle.command_laws.proofs.JobEnds.{put-done, drop-done, audit-done, repair-done, upgrade-done, read-all, given-status, given-kind, images-stand, cut-not, unstarted-cut, job-cut, short-never}
 use Rattle.command_laws.proofs.GetEnds.{ran_left}
 use Rattle.command_laws.proofs.InitEnds.{form-all, init-done, list-done}
 use Rattle.command_laws.proofs.Images.{known-images}
 use Rattle.command_laws.proofs.Failed.{images-same, put-fails, repair-fails, repair-loses}
 use Rattle.command_laws.proofs.ScrubRuns.{scrub-handed}
-use Rattle.command_laws.proofs.Knowing.{IsGood, sure-good, known-good, LeavesGood, HasBytes, ran-good, spelled-kind}
+use Rattle.command_laws.proofs.Knowing.{IsGood, sure-good, known-good, LeavesGood, HasBytes, ran-good, part-good, spelled-kind}
 use Rattle.command_laws.proofs.Afterwards.{sure-refused, sure-next}
 
 -- ---- statuses of a job that came to its end by itself
@@ -153,7 +153,14 @@ put-over name records old new end K (AnswersPut.bad_profile other opened unknown
     (λ e. omega (arith, e)) (λ e. omega (arith, e)) over)
 put-over name records old new end K (AnswersPut.no_memory taken r) over =
     absurd (over-memory end.status r.status_is over)
-put-over name records old new end K (AnswersPut.begun other bytes opened known read A) over =
+put-over name records old new end K (AnswersPut.given_up other bytes opened known none stops runs left) over =
+    absurd (elim (given-status _ bytes old new end stops) [
+      | inl e ↦ over-not end.status 14 e (λ k. omega (arith, k)) (λ k. omega (arith, k))
+          (λ k. omega (arith, k)) (λ k. omega (arith, k)) over
+      | inr e ↦ over-not end.status 16 e (λ k. omega (arith, k)) (λ k. omega (arith, k))
+          (λ k. omega (arith, k)) (λ k. omega (arith, k)) over
+    ])
+put-over name records old new end K (AnswersPut.begun other bytes opened known read few A whole) over =
     subst (λ rs. Left rs old new) (known-once old records other K opened.read)
     (left-over (PutJob name bytes) other old new end opened read.are_bytes
     (MayName.put name bytes refl) A over)
@@ -169,11 +176,8 @@ sure-left records after old new K L has =
 -- what was read of a source that is then at its end is all that it held
 pub whole-read : (most : ℕ) (old new : Option (List ℕ)) (bytes seen : List ℕ) → old ≡ Some bytes →
     ReadsUpTo most old new seen → IfSome new (λ left. left ≡ []) → seen ≡ bytes
-whole-read most old None bytes seen is R whole = absurd (let e : Some bytes ≡ None = sym is ∙ R.front in cc)
-whole-read most old (Some left) bytes seen is R whole =
-    (let e : Some bytes ≡ Some (seen ++ left) = sym is ∙ R.front in
-    let f : bytes ≡ seen ++ left = cc in
-    sym (f ∙ (ap (λ l. seen ++ l) whole ∙ append-nil seen)))
+whole-read most old new bytes seen is R whole =
+    read-all old new bytes seen is (record { are_bytes = R.are_bytes; front = R.front }) whole
 
 -- ---- each command that is done
 
@@ -276,13 +280,58 @@ get-sure name records old new end A over K = elim (alone-known (GetJob name) old
 pub failed-put-sure : (name : List ℕ) {own : Option ℕ} (records : List Record) (old new : Seen)
     (end : Ending) →
     AnswersPut name own old new end → end.status ≡ 13 → IsKnown old records →
-    IsSure new (after_start records name)
+    IsSure new (after_begin records name)
 failed-put-sure name records old new end A failed K =
     (let P = put-fails name old new end A failed in
     let same = known-once old records P.records K P.opened.read in
-    sure-left records (after_start records name) old new K
+    sure-left records (after_begin records name) old new K
     (put-over name records old new end K A (inr (inr failed)))
-    (subst (λ rs. DiskHas (after_start rs name) new) same P.disk))
+    (subst (λ rs. DiskHas (after_begin rs name) new) same P.disk))
+
+-- a put that was given up leaves what is good
+given-left : (name bytes : List ℕ) (own : Option ℕ) (records : List Record) (old new : Seen) (end : Ending) →
+    IsOpened old records → refusal_over records (PutJob name bytes) own ≡ None →
+    StopsReading (put_stripe records own) bytes old new end → PartRuns records name bytes own old new →
+    PartLeft records name bytes own old new → Left records old new
+given-left name bytes own records old new end R none stops runs left = (
+  part-good records name bytes own old new R
+      (spelled-kind records (PutJob name bytes) own
+      (given-kind name bytes own records old new end none stops).0 none) (MayName.put name bytes refl) runs,
+  sym (is_some-option_map (past (after_begin records name)) new.disk)
+      ∙ (ap is_some left.past_text ∙ is_some-option_map (past (after_begin records name)) old.disk),
+)
+
+-- after a put whose source failed, or was too long, the store is sure, with the put's first record alone;
+-- unless it failed before the begin
+pub cut-put-sure : (name : List ℕ) (own : Option ℕ) (records : List Record) (old new : Seen) (end : Ending) →
+    AnswersPut name own old new end → (end.status ≡ 14) ⊎ (end.status ≡ 16) → IsKnown old records →
+    ((end.status ≡ 14) × IsRefused 14 0 old new end) ⊎ IsSure new (after_begin records name)
+cut-put-sure name own records old new end (AnswersPut.unstarted u same) cut K =
+    absurd (unstarted-cut old new end u cut)
+cut-put-sure name own records old new end (AnswersPut.bad_profile other opened unknown synced same r) cut K =
+    absurd (cut-not end.status 20 r.status_is (λ e. omega (arith, e)) (λ e. omega (arith, e)) cut)
+cut-put-sure name own records old new end (AnswersPut.source_fault other opened known rose synced taken r) cut K =
+    inl (r.status_is, r)
+cut-put-sure name own records old new end (AnswersPut.no_memory taken r) cut K =
+    absurd (cut-not end.status 70 r.status_is (λ e. omega (arith, e)) (λ e. omega (arith, e)) cut)
+cut-put-sure name own records old new end (AnswersPut.begun other bytes opened known read few A whole) cut K =
+    absurd (job-cut (PutJob name bytes) own other old new end (short-never other name bytes own few) A cut)
+cut-put-sure name own records old new end (AnswersPut.given_up other bytes opened known none stops runs left) cut K =
+    inr (let same = known-once old records other K opened.read in
+    sure-left records (after_begin records name) old new K
+    (subst (λ rs. Left rs old new) same
+    (given-left name bytes own other old new end opened none stops runs left))
+    (subst (λ rs. DiskHas (after_begin rs name) new) same (images-stand new.disk _ _ left.images)))
+
+-- so it is after one whose source was too long
+pub long-put-sure : (name : List ℕ) (own : Option ℕ) (records : List Record) (old new : Seen) (end : Ending) →
+    AnswersPut name own old new end → end.status ≡ 16 → IsKnown old records →
+    IsSure new (after_begin records name)
+long-put-sure name own records old new end A long K =
+    elim (cut-put-sure name own records old new end A (inr long) K) [
+      | inl (short, r) ↦ absurd (let e : 14 ≡ 16 = sym short ∙ long in omega (arith, e))
+      | inr sure ↦ sure
+    ]
 
 -- after a repair that failed at a store or a lost row the store is sure, with the same records
 pub failed-repair-sure : (records : List Record) (old new : Seen) (end : Ending) →
@@ -443,7 +492,10 @@ put-comes name records old new end K (AnswersPut.source_fault other opened known
 put-comes name records old new end K (AnswersPut.bad_profile other opened unknown synced same r) =
     inl (20, 0, r)
 put-comes name records old new end K (AnswersPut.no_memory taken r) = inl (70, 0, r)
-put-comes name records old new end K (AnswersPut.begun other bytes opened known read A) =
+put-comes name records old new end K (AnswersPut.given_up other bytes opened known none stops runs left) =
+    inr (subst (λ rs. Left rs old new) (known-once old records other K opened.read)
+    (given-left name bytes _ other old new end opened none stops runs left))
+put-comes name records old new end K (AnswersPut.begun other bytes opened known read few A whole) =
     subst (λ rs. Comes rs old new end) (known-once old records other K opened.read)
     (job-comes (PutJob name bytes) other old new end opened read.are_bytes (MayName.put name bytes refl) A)
 
@@ -489,7 +541,8 @@ Told command records old new image =
 image-told : (command : Command) (records : List Record) (old new : Seen) (image : List ℕ)
     (rs : List Record) → IsGood (setup_in_effect records) image rs →
     StandsFor image records
-    ⊎ ((kind : Kind) × RunsKind command old new kind × IsAfter records kind (profile_named command) image) →
+    ⊎ ((kind : Kind) × RunsKind command old new kind
+    × IsAfter records kind (profile_named command) old new image) →
     Told command records old new image
 image-told command records old new image rs G (inl stands) =
     (rs, G, inl (one_meaning image rs records G.stands stands))
@@ -502,6 +555,7 @@ image-told command records old new image rs G (inr (kind, is, after)) = (
     own = after.own;
     are_own = after.are_own;
     count = after.count;
+    whole = after.whole;
     after_is = one_meaning image rs _ G.stands after.stands;
   }),
 )

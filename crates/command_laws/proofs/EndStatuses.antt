@@ -21,6 +21,7 @@ use Rattle.command_defs.specs.Commands.{AnswersPut, AnswersAlone, AnswersList, A
 use Rattle.command_laws.specs.After.{is_ending}
 use Rattle.command_laws.proofs.Known.{EndStatus, status-ended}
 use Rattle.command_laws.proofs.RowCauses.{none-at}
+use Rattle.command_laws.proofs.JobEnds.{given-status}
 
 -- ---- the statuses of commands
 
@@ -86,7 +87,9 @@ put-ending name old new end (AnswersPut.source_fault records opened known rose s
 put-ending name old new end (AnswersPut.bad_profile records opened unknown synced same r) =
     ap is_ending r.status_is
 put-ending name old new end (AnswersPut.no_memory taken r) = ap is_ending r.status_is
-put-ending name old new end (AnswersPut.begun records bytes opened known read A) =
+put-ending name old new end (AnswersPut.given_up records bytes opened known none stops runs left) =
+    elim (given-status _ bytes old new end stops) [ inl e ↦ ap is_ending e | inr e ↦ ap is_ending e ]
+put-ending name old new end (AnswersPut.begun records bytes opened known read few A whole) =
     job-ending (PutJob name bytes) records old new end A
 
 alone-ending : (kind : Kind) (old new : Seen) (end : Ending) → AnswersAlone kind old new end →

@@ -1,6 +1,7 @@
 -- What a store that failed and a lost row leave, and that nothing is fetched by the other commands.
-use Rattle.std.proofs.Common.{◌≡◌, ◌≢◌, ℕ, ◌+◌, ◌<◌, ◌⊎◌, true, List, [], ◌∷◌, Option, None, Some, refl, ap, sym, subst, ◌∙◌, inl, inr, arith}
+use Rattle.std.proofs.Common.{◌≡◌, ◌≢◌, ℕ, ◌<◌, ◌≤◌, ◌⊎◌, true, List, [], ◌∷◌, length, Option, None, Some, refl, ap, sym, subst, ◌∙◌, inl, inr, arith}
 use Rattle.std.specs.Prelude.{IsSomeAnd}
+use Rattle.std.proofs.lemmas.Bool.{cases_lt}
 use Rattle.algebra_laws.proofs.Numbers.{not_two}
 use Rattle.column_defs.specs.Verdicts.{is_flagged}
 use Rattle.device_defs.specs.Cells.{Cells}
@@ -16,7 +17,7 @@ use Rattle.machine_defs.specs.Answers.{Answer}
 use Rattle.machine_defs.specs.Refusals.{Refusal}
 use Rattle.command_defs.specs.Forms.{Command, Numbers, RowOf, InitWith, PutUnder, PutAt, GetOf, DropOf, ListAll, AuditAll, RepairDue, UpgradeJournal, ScrubAll}
 use Rattle.command_defs.specs.Sinking.{WritesLine}
-use Rattle.command_defs.specs.Seen.{Seen, Ending, ReadsUpTo, provider_at, sinking}
+use Rattle.command_defs.specs.Seen.{Seen, Ending, ReadsFront, provider_at, sinking}
 use Rattle.command_defs.specs.Opens.{IsOpened, Unstarted, setup_in_effect}
 use Rattle.command_defs.specs.Refusals.{status_of}
 use Rattle.command_defs.specs.Ran.{Ran}
@@ -32,7 +33,7 @@ use Rattle.command_laws.specs.Kept.{SameFetches, stores_blocks, opens_rows, Fail
 use Rattle.command_laws.proofs.Known.{refused-not}
 use Rattle.command_laws.proofs.GetEnds.{ran_left}
 use Rattle.command_laws.proofs.RowCauses.{none-at}
-use Rattle.command_laws.proofs.JobEnds.{images-have, refused-same, unstarted-same, left-same}
+use Rattle.command_laws.proofs.JobEnds.{images-have, refused-same, unstarted-same, left-same, given-not}
 
 -- ---- nothing is fetched
 
@@ -50,11 +51,16 @@ put-fetches name old new end (AnswersPut.source_fault records opened known rose 
 put-fetches name old new end (AnswersPut.bad_profile records opened unknown after same r) =
     refused-same fetches_of 20 0 old new end r
 put-fetches name old new end (AnswersPut.no_memory taken r) = refused-same fetches_of 70 0 old new end r
-put-fetches name old new end (AnswersPut.begun records bytes opened known read (AnswersJob.refused why is after r)) =
+put-fetches name old new end (AnswersPut.given_up records bytes opened known none stops runs left) =
+    λ j. elim (cases_lt j (setup_in_effect records).n) [
+      | inl l ↦ left.fetches j l
+      | inr l ↦ ap fetches_of (left.others j l)
+    ]
+put-fetches name old new end (AnswersPut.begun records bytes opened known read few (AnswersJob.refused why is after r) whole) =
     refused-same fetches_of _ 0 old new end r
-put-fetches name old new end (AnswersPut.begun records bytes opened known read (AnswersJob.no_memory after r)) =
+put-fetches name old new end (AnswersPut.begun records bytes opened known read few (AnswersJob.no_memory after r) whole) =
     refused-same fetches_of 70 0 old new end r
-put-fetches name old new end (AnswersPut.begun records bytes opened known read (AnswersJob.ended how none runs left by)) =
+put-fetches name old new end (AnswersPut.begun records bytes opened known read few (AnswersJob.ended how none runs left by) whole) =
     left-same fetches_of records (PutJob name bytes) how old new end.heard left left.leaves.by_kind.1
 
 -- a drop fetches nothing
@@ -179,16 +185,17 @@ EndsWith records kind how old new end =
 -- ---- puts
 
 put-by : (name bytes : List ℕ) (records : List Record) (old new : Seen) (end : Ending) {own : Option ℕ} →
-    IsOpened old records → ReadsUpTo (largest_file + 1) old.source new.source bytes →
+    IsOpened old records → ReadsFront old.source new.source bytes → length bytes ≤ largest_file →
     (how : Answer) (left : LeftAlone records (PutJob name bytes) own how old new end.heard) →
     PutLeaves (ran_left records (PutJob name bytes) how old new end.heard left) own name bytes how →
     EndsWith records (PutJob name bytes) how old new end → end.status ≡ 13 → FailsToPut name own old new end
-put-by name bytes records old new end opened read (answer.ProviderFault j) left L by is = record {
+put-by name bytes records old new end opened read few (answer.ProviderFault j) left L by is = record {
   records = records;
   bytes = bytes;
   opened = opened;
   are_bytes = read.are_bytes;
   read = read;
+  few = few;
   provider = subst (λ k. k < (setup_in_effect records).n) (sym by.place) L.0;
   rose = subst (λ k. Rose (provider_at old.providers k).store_faults
       (provider_at new.providers k).store_faults) (sym by.place) L.1;
@@ -198,13 +205,13 @@ put-by name bytes records old new end opened read (answer.ProviderFault j) left 
   due = refl;
   stored = L.3;
 }
-put-by name bytes records old new end opened read answer.Put left L by is =
+put-by name bytes records old new end opened read few answer.Put left L by is =
     absurd (written-own 13 _ old new end by.written is (inl refl))
-put-by name bytes records old new end opened read answer.DiskFault left L by is =
+put-by name bytes records old new end opened read few answer.DiskFault left L by is =
     absurd (not_two end.status 12 13 by.status_is is (λ e. omega (arith, e)))
-put-by name bytes records old new end opened read answer.Memory left L by is =
+put-by name bytes records old new end opened read few answer.Memory left L by is =
     absurd (memory-own 13 end.status by.status_is is (inl refl))
-put-by name bytes records old new end opened read how left L by is = absurd L
+put-by name bytes records old new end opened read few how left L by is = absurd L
 
 -- a put of which a store failed used its number, and changed neither the files nor what is due
 pub put-fails : (name : List ℕ) (old new : Seen) (end : Ending) {own : Option ℕ} →
@@ -218,12 +225,14 @@ put-fails name old new end (AnswersPut.bad_profile records opened unknown after 
     absurd (not_two end.status 20 13 r.status_is is (λ e. omega (arith, e)))
 put-fails name old new end (AnswersPut.no_memory taken r) is =
     absurd (memory-own 13 end.status r.status_is is (inl refl))
-put-fails name old new end (AnswersPut.begun records bytes opened known read (AnswersJob.refused why applies after r)) is =
+put-fails name old new end (AnswersPut.given_up records bytes opened known none stops runs left) is =
+    absurd (given-not _ bytes old new end 13 stops (λ e. omega (arith, e)) (λ e. omega (arith, e)) is)
+put-fails name old new end (AnswersPut.begun records bytes opened known read few (AnswersJob.refused why applies after r) whole) is =
     absurd (refused-own 13 why end.status r.status_is is (inl refl))
-put-fails name old new end (AnswersPut.begun records bytes opened known read (AnswersJob.no_memory after r)) is =
+put-fails name old new end (AnswersPut.begun records bytes opened known read few (AnswersJob.no_memory after r) whole) is =
     absurd (memory-own 13 end.status r.status_is is (inl refl))
-put-fails name old new end (AnswersPut.begun records bytes opened known read (AnswersJob.ended how none runs left by)) is =
-    put-by name bytes records old new end opened read how left left.leaves.by_kind.0 by is
+put-fails name old new end (AnswersPut.begun records bytes opened known read few (AnswersJob.ended how none runs left by) whole) is =
+    put-by name bytes records old new end opened read few how left left.leaves.by_kind.0 by is
 
 -- ---- gets
 
@@ -487,7 +496,9 @@ put-4 name old new end (AnswersPut.source_fault records opened known rose after 
 put-4 name old new end (AnswersPut.bad_profile records opened unknown after same r) is =
     not_two end.status 20 4 r.status_is is (λ e. omega (arith, e))
 put-4 name old new end (AnswersPut.no_memory taken r) is = memory-own 4 end.status r.status_is is (inr refl)
-put-4 name old new end (AnswersPut.begun records bytes opened known read A) is =
+put-4 name old new end (AnswersPut.given_up records bytes opened known none stops runs left) is =
+    given-not _ bytes old new end 4 stops (λ e. omega (arith, e)) (λ e. omega (arith, e)) is
+put-4 name old new end (AnswersPut.begun records bytes opened known read few A whole) is =
     job-4 (PutJob name bytes) records old new end A is
 
 list-own : (m : ℕ) (old new : Seen) (end : Ending) → AnswersList old new end → end.status ≡ m → IsOwn m → ⊥

@@ -25,6 +25,7 @@ use Rattle.command_defs.specs.Puts.{put_done, put_records, PutIsCut, PutLeaves}
 use Rattle.command_defs.specs.Drops.{DropLeaves}
 use Rattle.command_defs.specs.Repairs.{IfFlagged}
 use Rattle.command_defs.specs.Jobs.{AnswersJob, LeftAlone}
+use Rattle.command_defs.specs.GivenUp.{PartLeft}
 use Rattle.command_defs.specs.Commands.{AnswersPut, AnswersAlone, Answers}
 use Rattle.state_laws.proofs.Records.{sound-accepted}
 use Rattle.command_laws.specs.Ends.{IsDone, IsKnown, SameHolds, put_of, after_put, after_repair, IsRepaired}
@@ -36,6 +37,7 @@ use Rattle.command_laws.proofs.GetEnds.{ran_left}
 use Rattle.command_laws.proofs.JobEnds.{unstarted-refused, get-holds, list-holds, audit-holds, repair-done, upgrade-holds, done-case}
 use Rattle.command_laws.proofs.Anew.{repair-right}
 use Rattle.command_laws.proofs.FilesStay.{bad-few}
+use Rattle.command_laws.proofs.Images.{take-none}
 
 -- ---- what is held of one object
 
@@ -84,10 +86,6 @@ has-same name bytes records after spoilt old new H file setup same = record {
 }
 
 -- ---- the records after a command
-
-take-none : (count : ℕ) → ◌≡◌ {A = List Record} (take count []) []
-take-none zero = refl
-take-none (suc count) = refl
 
 -- the first few of two records, and of one
 first-two : (P : List Record → Type 0) (a b : Record) (rs : List Record) → P rs → P (a ∷ rs) →
@@ -157,10 +155,10 @@ put-grown : (name other : List ℕ) (own : Option ℕ) (records after : List Rec
     other ≢ name → HasGrown (put_of other own) records old new after → Stays name records after
 put-grown name other None records after old new differ G =
     put-grown-by name other G.of_command.0 None records after differ G.own G.count G.after_is
-    (subst (λ kd. AreAppended records kd None G.own) G.of_command.2 G.are_own)
+    (subst (λ kd. AreAppended records kd None G.own) G.of_command.4 G.are_own)
 put-grown name other (Some p) records after old new differ G =
     put-grown-by name other G.of_command.0 (Some p) records after differ G.own G.count G.after_is
-    (subst (λ kd. AreAppended records kd (Some p) G.own) G.of_command.2 G.are_own)
+    (subst (λ kd. AreAppended records kd (Some p) G.own) G.of_command.4 G.are_own)
 
 upgrade-grown : (name : List ℕ) (records after : List Record) (old new : Seen) →
     HasGrown UpgradeJournal records old new after → Stays name records after
@@ -269,6 +267,18 @@ module _ (name other : List ℕ) (records : List Record) (file : File) (sound : 
   its own = object_of (profiled (setup_in_effect records) (chosen (setup_in_effect records) own))
       (next_id records)
 
+  -- what is stored under the next number, with nothing taken away, leaves the file
+  all-keeps : (bytes : List ℕ) (own : Option ℕ) (j : ℕ) (a b : Held) →
+      StoredOn (its own) bytes None ⊥ j a b → SameOf file.id a b
+  all-keeps bytes own j a b S stripe = S.others file.id stripe
+      (record { stored = λ e. absurd (not-next e); removed = tt })
+
+  -- so does a put that was given up
+  given-keeps : (bytes : List ℕ) (own : Option ℕ) (old new : Seen) →
+      PartLeft records other bytes own old new → KeepsObject records file.id old new
+  given-keeps bytes own old new left = λ j below. same-goes file.id _ (all-keeps bytes own j)
+      (provider_at old.providers j).held (provider_at new.providers j).held (left.stored j below)
+
   put-keeps : (bytes : List ℕ) (own : Option ℕ) (how : Answer) (old new : Seen) (end : Ending)
       (left : LeftAlone records (PutJob other bytes) own how old new end.heard) →
       PutLeaves (ran_left records (PutJob other bytes) how old new end.heard left) own other bytes how →
@@ -281,17 +291,11 @@ module _ (name other : List ℕ) (records : List Record) (file : File) (sound : 
       stored rose j a b S stripe =
           S.others file.id stripe (record { stored = λ e. absurd (not-next e); removed = not-older })
 
-      all : (j : ℕ) (a b : Held) →
-          StoredOn (its own) bytes None ⊥ j a b →
-          SameOf file.id a b
-      all j a b S stripe = S.others file.id stripe
-          (record { stored = λ e. absurd (not-next e); removed = tt })
-
       cut : PutIsCut (ran_left records (PutJob other bytes) how old new end.heard left) own other bytes →
           KeepsObject records file.id old new
       cut (PutIsCut.at_start after doubt held) = λ j below. same-told file.id
           (provider_at old.providers j).held (provider_at new.providers j).held (held j below)
-      cut (PutIsCut.at_done after doubt stored) = λ j below. same-goes file.id _ (all j)
+      cut (PutIsCut.at_done after doubt stored) = λ j below. same-goes file.id _ (all-keeps bytes own j)
           (provider_at old.providers j).held (provider_at new.providers j).held (stored j below)
 
       partly : (j : ℕ) (a b : Held) →
@@ -360,7 +364,11 @@ put-command name other bytes own records spoilt old new end differ K H (AnswersP
     refused-keeps 20 0 records H.file.id old new end r
 put-command name other bytes own records spoilt old new end differ K H (AnswersPut.no_memory taken r) =
     refused-keeps 70 0 records H.file.id old new end r
-put-command name other bytes own records spoilt old new end differ K H (AnswersPut.begun rs seen opened known read A) =
+put-command name other bytes own records spoilt old new end differ K H (AnswersPut.given_up rs seen opened known none stops runs left) =
+    given-keeps name other records H.file (sound-accepted records K.opened.read.accepted) H.in_effect differ
+    seen own old new (subst (λ l. PartLeft l other seen own old new) (known-once old records rs K opened.read)
+    left)
+put-command name other bytes own records spoilt old new end differ K H (AnswersPut.begun rs seen opened known read few A whole) =
     put-job name other records H.file (sound-accepted records K.opened.read.accepted) H.in_effect differ seen
     old new end (subst (λ l. AnswersJob (PutJob other seen) own l old new end)
     (known-once old records rs K opened.read) A)

@@ -3,6 +3,8 @@ use Rattle.std.proofs.Common.{◌≡◌, ℕ, ◌+◌, ◌<◌, ◌≤◌, ◌�
 use Rattle.std.specs.Prelude.{is_some, IfSome, IsTrue}
 use Rattle.std.specs.Option.{option_map}
 use Rattle.std.proofs.lemmas.Bool.{cases_Bool, false≢true}
+use Rattle.std.proofs.lemmas.List.{append-nil}
+use Rattle.algebra_laws.proofs.Options.{is_some-option_map}
 use Rattle.device_defs.specs.Cells.{Cells, reads}
 use Rattle.device_defs.specs.Disks.{synced}
 use Rattle.device_defs.specs.Faults.{Rose}
@@ -19,6 +21,7 @@ use Rattle.record_defs.specs.Table.{setup_of, files_of}
 use Rattle.record_defs.specs.Areas as areas
 use Rattle.record_defs.specs.Packed.{packed}
 use Rattle.record_defs.proofs.Standing.{stands-take}
+use Rattle.machine_defs.specs.Answers as answer
 use Rattle.machine_defs.specs.Answers.{Answer}
 use Rattle.machine_defs.specs.Events.{Event, BeginScrub, Step, Reopen, Names, Continue, Outcome, Refused, Opened, More, Begun, Ended, Listed, Continued, AreBytes, IsSpelled, IsSpelledKind}
 use Rattle.machine_defs.specs.Jobs.{Kind, PutJob, GetJob, DropJob, AuditJob, RepairJob, UpgradeJob}
@@ -37,23 +40,27 @@ use Rattle.state_laws.proofs.Events.{events-sound}
 use Rattle.state_laws.proofs.Records.{is_some-at, AreInGrammar, AreAppended, all-appended, grammar-rest, none-set_up}
 use Rattle.state_laws.proofs.Packs.{packed-not-appended}
 use Rattle.command_defs.specs.Forms.{Command, RowOf, InitWith, PutUnder, PutAt, GetOf, DropOf, ListAll, AuditAll, RepairDue, UpgradeJournal, ScrubAll}
-use Rattle.command_defs.specs.Seen.{Seen, Ending, NoCountFalls, IsRefused, IsSynced, ReadsUpTo}
+use Rattle.command_defs.specs.Seen.{Seen, Ending, NoCountFalls, IsRefused, IsSynced, ReadsFront}
 use Rattle.opening_defs.specs.Journals.{journal_read, IsRead, IsBadStart, IsResynced}
 use Rattle.command_defs.specs.Opens.{IsOpened, Unstarted, setup_in_effect}
 use Rattle.opening_defs.specs.Opened.{AreHanded, IsOpenedOver}
 use Rattle.lone_laws.specs.Walked.{MayName}
 use Rattle.command_defs.specs.JobRuns.{AreSteps, GoesOnTo}
-use Rattle.command_defs.specs.Jobs.{AnswersJob, EndsByAnswer, RunsAlone, RanAlone}
+use Rattle.command_defs.specs.Puts.{PutLeaves}
+use Rattle.command_defs.specs.GivenUp.{put_stripe, after_begin, StopsReading, PartRan, PartRuns, PartLeft}
+use Rattle.command_defs.specs.Jobs.{AnswersJob, EndsByAnswer, RunsAlone, RanAlone, past}
 use Rattle.command_defs.specs.Lines.{text_of, scrub_text}
 use Rattle.command_defs.specs.Refusals.{is_unknown, refusal_over, status_of}
 use Rattle.command_defs.specs.Scrubs.{RanScrub, ScrubsAlone, AnswersScrub}
-use Rattle.command_defs.specs.Commands.{AnswersPut, AnswersAlone, ListsFiles, AnswersList, Answers}
-use Rattle.command_laws.specs.Ends.{profile_named, RunsKind, opens_store}
+use Rattle.command_defs.specs.Commands.{MayBeWhole, AnswersPut, AnswersAlone, ListsFiles, AnswersList, Answers}
+use Rattle.command_laws.specs.Ends.{profile_named, RunsKind, ReadsWhole, opens_store}
 use Rattle.command_laws.specs.Pieces.{IsStore, IsSpelledCommand, IsCall, begin_of, moment, unopened_status}
 use Rattle.opening_defs.proofs.Readings.{read-once, read-set_up, read-good as read-never-bad, fresh-good}
 use Rattle.job_laws.proofs.Telling.{over-opened}
+use Rattle.command_laws.proofs.GetEnds.{ran_left}
+use Rattle.command_laws.proofs.JobEnds.{given-status, given-front}
 use Rattle.command_laws.proofs.Images.{refused-keeps}
-use Rattle.command_laws.proofs.LastStates.{last-state}
+use Rattle.command_laws.proofs.LastStates.{last-state, part-state}
 use Rattle.state_laws.proofs.Written.{unpacked-end}
 use Rattle.command_laws.proofs.Knowing.{IsGood, read-good, none-up, StandsInState}
 use Rattle.command_laws.proofs.DoneStores.{tells-past}
@@ -153,6 +160,33 @@ each-kept : (a b : Option Cells) (P : List ℕ → Type 0) → IfSome a (λ cell
 each-kept None b P kept tells h = absurd (false≢true tells)
 each-kept (Some a) None P kept tells h = tt
 each-kept (Some a) (Some b) P kept tells h = λ image is. h image (kept image is)
+
+-- ---- what a put has read
+
+-- a put that is stored is one of its whole source
+abbrev PutsWhole : (kind : Kind) (own : Option ℕ) (rs : List Record) (old new : Seen) (end : Ending) →
+    AnswersJob kind own rs old new end → Type 0
+PutsWhole kind own rs old new end (AnswersJob.refused why is sync r) = Unit {0}
+PutsWhole kind own rs old new end (AnswersJob.no_memory sync r) = Unit {0}
+PutsWhole kind own rs old new end (AnswersJob.ended how begins runs left by) =
+    how ≡ answer.Put → ReadsWhole kind old new
+
+puts-all : (kind : Kind) (own : Option ℕ) (rs : List Record) (old new : Seen) (end : Ending) →
+    ReadsWhole kind old new → (A : AnswersJob kind own rs old new end) → PutsWhole kind own rs old new end A
+puts-all kind own rs old new end whole (AnswersJob.refused why is sync r) = tt
+puts-all kind own rs old new end whole (AnswersJob.no_memory sync r) = tt
+puts-all kind own rs old new end whole (AnswersJob.ended how begins runs left by) = λ e. whole
+
+puts-whole : (name bytes : List ℕ) (own : Option ℕ) (rs : List Record) (old new : Seen) (end : Ending) →
+    ReadsFront old.source new.source bytes → (A : AnswersJob (PutJob name bytes) own rs old new end) →
+    (MayBeWhole name bytes own rs A → IfSome new.source (λ left. left ≡ [])) →
+    PutsWhole (PutJob name bytes) own rs old new end A
+puts-whole name bytes own rs old new end read (AnswersJob.refused why is sync r) whole = tt
+puts-whole name bytes own rs old new end read (AnswersJob.no_memory sync r) whole = tt
+puts-whole name bytes own rs old new end read (AnswersJob.ended how begins runs left by) whole =
+    λ put. (let L : PutLeaves (ran_left rs (PutJob name bytes) how old new end.heard left) own name bytes
+    answer.Put = subst (PutLeaves (ran_left rs (PutJob name bytes) how old new end.heard left) own name bytes)
+    put left.leaves.by_kind.0 in (read, whole (inl L.0.after)))
 
 -- ---- a store that a run left
 
@@ -454,7 +488,10 @@ module _ (start : State) (ms : List Moment) (R : IsRun 8 start ms) (old : Seen)
       unset-put name (AnswersPut.source_fault other O known rose sync taken r) =
           absurd (none-read other O.read)
       unset-put name (AnswersPut.no_memory taken r) = memory-on 0 r
-      unset-put name (AnswersPut.begun other bytes O known read A) = absurd (none-read other O.read)
+      unset-put name (AnswersPut.begun other bytes O known read few A whole) =
+          absurd (none-read other O.read)
+      unset-put name (AnswersPut.given_up other bytes O known begins stops runs left) =
+          absurd (none-read other O.read)
 
     -- ---- records with a setup are read
 
@@ -677,10 +714,11 @@ module _ (start : State) (ms : List Moment) (R : IsRun 8 start ms) (old : Seen)
                   (record { journal = refl; area = refl; unswitched = refl }) ∙ e)
               by_cause (inr e) = inr e
 
-          ended-on : (how : Answer) → IsSpelledKind kind → RunsAlone rs kind own how old new end.heard →
+          ended-on : (how : Answer) → IsSpelledKind kind → (how ≡ answer.Put → ReadsWhole kind old new) →
+              RunsAlone rs kind own how old new end.heard →
               EndsByAnswer (text_of (setup_in_effect rs).tolerance kind how) how old new end → GoesOn
           unfolding setup_in
-          ended-on how spelled A by =
+          ended-on how spelled whole A by =
               (let v : State = opened_at A.faults in
               let two : Moment = moment Reopen Opened v in
               let n : ℕ = length (two ∷ later ∷ ms) in
@@ -713,7 +751,7 @@ module _ (start : State) (ms : List Moment) (R : IsRun 8 start ms) (old : Seen)
                 stepped,
               ) in (
                 four ∷ (g.steps ++ three ∷ two ∷ later ∷ []),
-                IsCall.ended kind (continued w) v c ran.last g.steps how is_job
+                IsCall.ended kind (continued w) v c ran.last g.steps how is_job whole
                     (steps-go c (n + 1) g.steps g.are_steps)
                     (ap (λ o. four ∷ (g.steps ++ moment (begin_of kind o) (Begun 1) c ∷ two ∷ later ∷ []))
                     (sym named)) by g.heard_is,
@@ -730,24 +768,78 @@ module _ (start : State) (ms : List Moment) (R : IsRun 8 start ms) (old : Seen)
               ))
 
           -- the words of a begin are bytes, also where it is refused
-          job-on : IsSpelledKind kind → AnswersJob kind own rs old new end → GoesOn
-          job-on spelled (AnswersJob.refused why is sync r) =
+          job-on : IsSpelledKind kind → (A : AnswersJob kind own rs old new end) →
+              PutsWhole kind own rs old new end A → GoesOn
+          job-on spelled (AnswersJob.refused why is sync r) whole =
               refused-on (status_of why) 0 why spelled (inl is) r.status_is sync r
-          job-on spelled (AnswersJob.no_memory sync r) =
+          job-on spelled (AnswersJob.no_memory sync r) whole =
               refused-on 70 0 refusal.Memory spelled (inr refl) r.status_is sync r
-          job-on spelled (AnswersJob.ended how begins runs left by) = ended-on how spelled runs by
+          job-on spelled (AnswersJob.ended how begins runs left by) whole = ended-on how spelled whole runs by
+
+        -- a put that was given up has made some steps and no end
+        given-on : (name bytes : List ℕ) (own : Option ℕ) → RunsKind command old new (PutJob name bytes) →
+            profile_named command ≡ own → ((p : ℕ) → own ≡ Some p → p < 256) →
+            IsSpelledKind (PutJob name bytes) → StopsReading (put_stripe rs own) bytes old new end →
+            PartRuns rs name bytes own old new → PartLeft rs name bytes own old new → GoesOn
+        given-on name bytes own is_job named byte spelled stops A left =
+            (let v : State = opened_at A.faults in
+            let two : Moment = moment Reopen Opened v in
+            let n : ℕ = length (two ∷ later ∷ ms) in
+            let V : IsOpenedOver v rs A.faults old.providers = over A.faults A.before enough in
+            let ran : PartRan rs name bytes own old new A.faults v n = A.ran v n V in
+            let L = part-state v ran.last n (PutJob name bytes) own _
+            (over-opened v old rs A.faults (record { read = is-read; enough = enough }) V) spelled
+            (MayName.put name bytes refl) ran.runs in
+            let c : State = ran.runs.begun in
+            let steps : List Moment = ran.runs.steps in
+            let job_is : ran.runs.job ≡ 1 = ran.runs.begins.2 in
+            let three : Moment = moment (begin_of (PutJob name bytes) own) (Begun 1) c in
+            let begun : IsRun 8 start (three ∷ two ∷ later ∷ ms) = (
+              begin-spelled (PutJob name bytes) own spelled byte,
+              begin-happens (PutJob name bytes) own (MayName.put name bytes refl) n v (Begun 1) c
+                  (subst (λ j. BeginsAt 8 n v (PutJob name bytes) own (Begun j) c) job_is ran.runs.begins),
+              run-opened A.faults A.before enough,
+            ) in
+            let are : AreSteps c (n + 1) 1 steps =
+            subst (λ j. AreSteps c (n + 1) j steps) job_is ran.runs.are_steps in
+            let at : n + 1 ≡ length (three ∷ two ∷ later ∷ ms) = omega arith in
+            let stepped : IsRun 8 start (steps ++ three ∷ two ∷ later ∷ ms) =
+            steps-run start c (three ∷ two ∷ later ∷ ms) steps refl
+            (subst (λ k. AreSteps c k 1 steps) at are) begun in
+            let own_moments : List Moment = steps ++ three ∷ two ∷ later ∷ [] in
+            let whole_is : own_moments ++ ms ≡ steps ++ three ∷ two ∷ later ∷ ms =
+            append_assoc steps (three ∷ two ∷ later ∷ []) ms in
+            let last_is : ran.last ≡ now start (own_moments ++ ms) = ran.runs.last
+            ∙ (sym (now-more start steps (three ∷ two ∷ later ∷ ms)) ∙ ap (now start) (sym whole_is)) in (
+              own_moments,
+              IsCall.given_up name bytes (continued w) v c steps is_job (steps-go c (n + 1) steps are)
+                  (ap (λ o. steps ++ moment (begin_of (PutJob name bytes) o) (Begun 1) c ∷ two ∷ later ∷ [])
+                  (sym named)) (given-status _ bytes old new end stops) stops.heard,
+              subst (IsRun 8 start) (sym whole_is) stepped,
+              subst (λ s. IsStore s new) last_is (record {
+                sound = L.sound;
+                tells = sym (is_some-option_map (past (after_begin rs name)) new.disk)
+                    ∙ (ap is_some left.past_text
+                    ∙ (is_some-option_map (past (after_begin rs name)) old.disk ∙ S.tells));
+                images = ran.images;
+                faults_are = ran.faults_are;
+                handed = ran.handed;
+              }),
+            ))
 
       enough-of : (other : List Record) → IsOpened old other → (setup_in_effect rs).n ≤ length old.providers
       enough-of other O =
           subst (λ l. (setup_in_effect l).n ≤ length old.providers) (once other O.read) O.enough
 
-      alone-on : (kind : Kind) → RunsKind command old new kind → profile_named command ≡ None →
+      alone-on : (kind : Kind) → ReadsWhole kind old new → RunsKind command old new kind →
+          profile_named command ≡ None →
           IsSpelledKind kind → AnswersAlone kind old new end → GoesOn
-      alone-on kind is named spelled (AnswersAlone.unstarted u) = unstarted-on u
-      alone-on kind is named spelled (AnswersAlone.begun other O A) =
+      alone-on kind whole is named spelled (AnswersAlone.unstarted u) = unstarted-on u
+      alone-on kind whole is named spelled (AnswersAlone.begun other O A) =
+          (let B = subst (λ l. AnswersJob kind None l old new end) (once other O.read) A in
           job-on (enough-of other O) kind None is named (MayName.none refl)
-          (λ p e. absurd (let f : None ≡ Some p = e in cc)) spelled
-          (subst (λ l. AnswersJob kind None l old new end) (once other O.read) A)
+          (λ p e. absurd (let f : None ≡ Some p = e in cc)) spelled B
+          (puts-all kind None rs old new end whole B))
 
       list-on : command ≡ ListAll → AnswersList old new end → GoesOn
       list-on is (AnswersList.unstarted u) = unstarted-on u
@@ -764,7 +856,8 @@ module _ (start : State) (ms : List Moment) (R : IsRun 8 start ms) (old : Seen)
           (subst (λ l. ScrubsAlone l how old new) (once other O.read) runs) by
 
       put-on : (name : List ℕ) (own : Option ℕ) →
-          ((bytes : List ℕ) → ReadsUpTo (largest_file + 1) old.source new.source bytes →
+          ((bytes rest : List ℕ) → ReadsFront old.source new.source (bytes ++ rest) →
+          length bytes ≤ largest_file →
           RunsKind command old new (PutJob name bytes)) → profile_named command ≡ own → AreBytes name →
           ((p : ℕ) → own ≡ Some p → p < 256) → AnswersPut name own old new end → GoesOn
       put-on name own is named spelled byte (AnswersPut.unstarted u same) = unstarted-on u
@@ -773,16 +866,27 @@ module _ (start : State) (ms : List Moment) (R : IsRun 8 start ms) (old : Seen)
       put-on name own is named spelled byte (AnswersPut.source_fault other O known rose sync taken r) =
           opened-on (enough-of other O) 14 0 (inl r.status_is) sync r
       put-on name own is named spelled byte (AnswersPut.no_memory taken r) = memory-on 0 r
-      put-on name own is named spelled byte (AnswersPut.begun other bytes O known read A) =
-          job-on (enough-of other O) (PutJob name bytes) own (is bytes read) named
-          (MayName.put name bytes refl) byte (spelled, read.are_bytes)
-          (subst (λ l. AnswersJob (PutJob name bytes) own l old new end) (once other O.read) A)
+      put-on name own is named spelled byte (AnswersPut.begun other bytes O known read few A whole) =
+          (let B = subst (λ l. (A : AnswersJob (PutJob name bytes) own l old new end)
+          × PutsWhole (PutJob name bytes) own l old new end A) (once other O.read)
+          (A, puts-whole name bytes own other old new end read A whole) in
+          job-on (enough-of other O) (PutJob name bytes) own
+          (is bytes [] (subst (ReadsFront old.source new.source) (sym (append-nil bytes)) read) few) named
+          (MayName.put name bytes refl) byte (spelled, read.are_bytes) B.0 B.1)
+      put-on name own is named spelled byte (AnswersPut.given_up other bytes O known begins stops runs left) =
+          (let G = given-front name bytes own other old new end begins stops in
+          let same = once other O.read in
+          given-on (enough-of other O) name bytes own (is bytes G.0 G.2 G.3) named byte (spelled, G.1)
+          (subst (λ l. StopsReading (put_stripe l own) bytes old new end) same stops)
+          (subst (λ l. PartRuns l name bytes own old new) same runs)
+          (subst (λ l. PartLeft l name bytes own old new) same left))
 
     -- a job alone, whether a store is set up or not
-    alone-by : MaySettle w (reads told.0) → (kind : Kind) → RunsKind command old new kind →
-        profile_named command ≡ None → IsSpelledKind kind → AnswersAlone kind old new end → GoesOn
-    alone-by (MaySettle.some rs F) kind is named spelled A = alone-on rs F kind is named spelled A
-    alone-by (MaySettle.none N) kind is named spelled A = unset-alone N kind A
+    alone-by : MaySettle w (reads told.0) → (kind : Kind) → ReadsWhole kind old new →
+        RunsKind command old new kind → profile_named command ≡ None → IsSpelledKind kind →
+        AnswersAlone kind old new end → GoesOn
+    alone-by (MaySettle.some rs F) kind whole is named spelled A = alone-on rs F kind whole is named spelled A
+    alone-by (MaySettle.none N) kind whole is named spelled A = unset-alone N kind A
 
     list-by : MaySettle w (reads told.0) → command ≡ ListAll → AnswersList old new end → GoesOn
     list-by (MaySettle.some rs F) is A = list-on rs F is A
@@ -793,7 +897,8 @@ module _ (start : State) (ms : List Moment) (R : IsRun 8 start ms) (old : Seen)
     scrub-by (MaySettle.none N) is A = unset-scrub N A
 
     put-by : MaySettle w (reads told.0) → (name : List ℕ) (own : Option ℕ) →
-        ((bytes : List ℕ) → ReadsUpTo (largest_file + 1) old.source new.source bytes →
+        ((bytes rest : List ℕ) → ReadsFront old.source new.source (bytes ++ rest) →
+        length bytes ≤ largest_file →
         RunsKind command old new (PutJob name bytes)) → profile_named command ≡ own → AreBytes name →
         ((p : ℕ) → own ≡ Some p → p < 256) → AnswersPut name own old new end → GoesOn
     put-by (MaySettle.some rs F) name own is named spelled byte A =
@@ -807,20 +912,22 @@ module _ (start : State) (ms : List Moment) (R : IsRun 8 start ms) (old : Seen)
   command-on (RowOf n l b seen) new end counts opens spelled A = absurd (false≢true opens)
   command-on (InitWith numbers) new end counts opens spelled A = absurd (false≢true opens)
   command-on (PutUnder name) new end counts opens spelled A =
-      put-by (PutUnder name) new end counts found name None (λ bytes read. (bytes, read, refl)) refl spelled
+      put-by (PutUnder name) new end counts found name None
+      (λ bytes rest read few. (bytes, rest, read, few, refl)) refl spelled
       (λ p e. absurd (let f : None ≡ Some p = e in cc)) A
   command-on (PutAt name profile) new end counts opens spelled A =
-      put-by (PutAt name profile) new end counts found name (Some profile) (λ bytes read. (bytes, read, refl))
+      put-by (PutAt name profile) new end counts found name (Some profile)
+      (λ bytes rest read few. (bytes, rest, read, few, refl))
       refl spelled.0 (λ p e. subst (λ n. n < 256) (same_value (Some profile) profile p refl e) spelled.1) A
   command-on (GetOf name) new end counts opens spelled A =
-      alone-by (GetOf name) new end counts found (GetJob name) refl refl spelled A.0
+      alone-by (GetOf name) new end counts found (GetJob name) tt refl refl spelled A.0
   command-on (DropOf name) new end counts opens spelled A =
-      alone-by (DropOf name) new end counts found (DropJob name) refl refl spelled A.0
+      alone-by (DropOf name) new end counts found (DropJob name) tt refl refl spelled A.0
   command-on ListAll new end counts opens spelled A = list-by ListAll new end counts found refl A.0
   command-on AuditAll new end counts opens spelled A =
-      alone-by AuditAll new end counts found AuditJob refl refl tt A.0
+      alone-by AuditAll new end counts found AuditJob tt refl refl tt A.0
   command-on RepairDue new end counts opens spelled A =
-      alone-by RepairDue new end counts found RepairJob refl refl tt A.0
+      alone-by RepairDue new end counts found RepairJob tt refl refl tt A.0
   command-on UpgradeJournal new end counts opens spelled A =
-      alone-by UpgradeJournal new end counts found UpgradeJob refl refl tt A.0
+      alone-by UpgradeJournal new end counts found UpgradeJob tt refl refl tt A.0
   command-on ScrubAll new end counts opens spelled A = scrub-by ScrubAll new end counts found refl A.0

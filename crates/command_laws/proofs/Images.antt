@@ -1,5 +1,5 @@
 -- What the images of the disk stand for after a command.
-use Rattle.std.proofs.Common.{◌≡◌, ◌≢◌, ℕ, suc, ◌+◌, ◌⊎◌, true, false, List, [], ◌∷◌, ◌++◌, length, take, reverse, Option, None, Some, refl, ap, sym, subst, ◌∙◌, inl, inr, arith}
+use Rattle.std.proofs.Common.{◌≡◌, ◌≢◌, ℕ, zero, suc, ◌+◌, ◌<◌, ◌⊎◌, true, false, List, [], ◌∷◌, ◌++◌, length, take, reverse, Option, None, Some, refl, ap, sym, subst, ◌∙◌, inl, inr, arith}
 use Rattle.std.specs.Prelude.{IfSome, IsSomeAnd, is_some}
 use Rattle.std.specs.Option.{option_map}
 use Rattle.std.proofs.Math.Seq.{take-append_seam, take-append-add, take-length}
@@ -22,20 +22,21 @@ use Rattle.machine_defs.specs.Answers.{Answer}
 use Rattle.command_defs.specs.Forms.{Command, Numbers, RowOf, InitWith, PutUnder, PutAt, GetOf, DropOf, ListAll, AuditAll, RepairDue, UpgradeJournal, ScrubAll}
 use Rattle.opening_defs.specs.Journals.{IsResynced, IsFree, IsSetUpOn, MayBeLeft}
 use Rattle.opening_defs.proofs.Resyncs.{image-resynced}
-use Rattle.command_defs.specs.Seen.{Seen, Ending, IsRefused, KeepsDisk}
+use Rattle.command_defs.specs.Seen.{Seen, Ending, IsRefused, KeepsDisk, ReadsFront}
 use Rattle.command_defs.specs.Opens.{IsOpened, Unstarted}
 use Rattle.command_defs.specs.Ran.{Ran, IsWhole, IsCut, IsCutInDoubt}
-use Rattle.command_defs.specs.Puts.{put_done, put_records, PutIsCut}
+use Rattle.command_defs.specs.Puts.{put_done, put_records, MayHaveEnd, PutIsCut}
+use Rattle.command_defs.specs.GivenUp.{after_begin}
 use Rattle.command_defs.specs.Audits.{audit_records, AuditIsCut}
 use Rattle.command_defs.specs.Jobs.{AnswersJob, LeavesBy}
 use Rattle.command_defs.specs.Inits.{setup_with, AnswersInit, InitsDisk}
 use Rattle.command_defs.specs.Scrubs.{AnswersScrub}
-use Rattle.command_defs.specs.Commands.{AnswersPut, AnswersAlone, AnswersList, Answers}
-use Rattle.command_laws.specs.Ends.{IsKnown, put_of, profile_named, RunsKind, opens_store}
+use Rattle.command_defs.specs.Commands.{MayBeWhole, AnswersPut, AnswersAlone, AnswersList, Answers}
+use Rattle.command_laws.specs.Ends.{IsKnown, put_of, profile_named, RunsKind, ReadsWhole, opens_store}
 use Rattle.command_laws.specs.Kept.{KeepsImages, AreAppended, IsAfter, LeavesImages, InitImages}
 use Rattle.command_laws.proofs.Known.{known-once}
 use Rattle.command_laws.proofs.GetEnds.{ran_left}
-use Rattle.command_laws.proofs.JobEnds.{unstarted-refused, named-by, put-kind}
+use Rattle.command_laws.proofs.JobEnds.{unstarted-refused, named-by, put-kind, given-kind, images-stand}
 
 -- ---- images of a disk that was synced
 
@@ -215,55 +216,147 @@ none-behind : (a b : List Record) → a ++ b ≡ [] → b ≡ []
 none-behind [] b e = e
 none-behind (r ∷ a) b e = absurd (let f : r ∷ (a ++ b) ≡ [] = e in cc)
 
-image-after : (x : Ran) (kind : Kind) (profile : Option ℕ) → x.records ≢ [] → Wrote x kind profile →
-    (image : List ℕ) →
+-- nothing can be taken of nothing
+pub take-none : (count : ℕ) → ◌≡◌ {A = List Record} (take count []) []
+take-none zero = refl
+take-none (suc count) = refl
+
+-- a put has read its whole source where its last record is in effect or in doubt
+abbrev ReadsAll : Ran → Kind → Option ℕ → Seen → Seen → Type 0
+ReadsAll x (PutJob name bytes) profile old new =
+    MayHaveEnd x.records x.after x.doubt name (length bytes) profile → ReadsWhole (PutJob name bytes) old new
+ReadsAll x kind profile old new = Unit {0}
+
+-- a job that is no put
+abbrev pub ReadsNone : Kind → Type 0
+ReadsNone (PutJob name bytes) = ⊥
+ReadsNone kind = Unit {0}
+
+-- so it is where both of its records came in
+all-came : (x : Ran) (kind : Kind) (profile : Option ℕ) (old new : Seen) → ReadsAll x kind profile old new →
+    (own : List Record) → AreAppended x.records kind profile own → (count : ℕ) →
+    x.after ≡ reverse (take count own) ++ x.records → 1 < count → ReadsWhole kind old new
+all-came x (PutJob name bytes) profile old new all own are zero after l = absurd (omega (arith, l))
+all-came x (PutJob name bytes) profile old new all own are (suc zero) after l = absurd (omega (arith, l))
+all-came x (PutJob name bytes) profile old new all own are (suc (suc count)) after l =
+    all (inl (after ∙ ap (λ rs. reverse (take (suc (suc count)) rs) ++ x.records) are
+    ∙ ap (λ rs. reverse (PutStart (next_id x.records) name
+    ∷ put_done x.records (length bytes) profile ∷ rs) ++ x.records) (take-none count)))
+all-came x (GetJob name) profile old new all own are count after l = tt
+all-came x (DropJob name) profile old new all own are count after l = tt
+all-came x AuditJob profile old new all own are count after l = tt
+all-came x RepairJob profile old new all own are count after l = tt
+all-came x UpgradeJob profile old new all own are count after l = tt
+
+-- and where the first came in, and the other is in doubt
+all-doubted : (x : Ran) (kind : Kind) (profile : Option ℕ) (old new : Seen) →
+    ReadsAll x kind profile old new →
+    (own : List Record) → AreAppended x.records kind profile own → (count : ℕ) → (next : Record) →
+    x.doubt ≡ Some next → next ∷ x.after ≡ reverse (take (suc count) own) ++ x.records → 1 < suc count →
+    ReadsWhole kind old new
+all-doubted x (PutJob name bytes) profile old new all own are zero next is more l = absurd (omega (arith, l))
+all-doubted x (PutJob name bytes) profile old new all own are (suc count) next is more l =
+    all (inr (is ∙ ap Some (head-same next x.after _ _
+    (more ∙ ap (λ rs. reverse (take (suc (suc count)) rs) ++ x.records) are
+    ∙ ap (λ rs. reverse (PutStart (next_id x.records) name
+    ∷ put_done x.records (length bytes) profile ∷ rs) ++ x.records) (take-none count)))))
+  where
+    head-same : (a : Record) (more : List Record) (b : Record) (rest : List Record) →
+        a ∷ more ≡ b ∷ rest → a ≡ b
+    head-same a more b rest e = cc
+all-doubted x (GetJob name) profile old new all own are count next is more l = tt
+all-doubted x (DropJob name) profile old new all own are count next is more l = tt
+all-doubted x AuditJob profile old new all own are count next is more l = tt
+all-doubted x RepairJob profile old new all own are count next is more l = tt
+all-doubted x UpgradeJob profile old new all own are count next is more l = tt
+
+image-after : (x : Ran) (kind : Kind) (profile : Option ℕ) (old new : Seen) → x.records ≢ [] →
+    ReadsAll x kind profile old new → Wrote x kind profile → (image : List ℕ) →
     StandsOrIsEmpty image x.after ⊎ IsSomeAnd x.doubt (λ entry. StandsFor image (entry ∷ x.after)) →
-    IsAfter x.records kind profile image
-image-after x kind profile some W image (inl (inl stands)) =
-    record { own = W.0; are_own = W.1; count = W.2.count; stands = subst (StandsFor image) W.2.after stands }
-image-after x kind profile some W image (inl (inr empty)) =
+    IsAfter x.records kind profile old new image
+image-after x kind profile old new some all W image (inl (inl stands)) = record {
+  own = W.0;
+  are_own = W.1;
+  count = W.2.count;
+  whole = all-came x kind profile old new all W.0 W.1 W.2.count W.2.after;
+  stands = subst (StandsFor image) W.2.after stands;
+}
+image-after x kind profile old new some all W image (inl (inr empty)) =
     absurd (some (none-behind (reverse (take W.2.count W.0)) x.records (sym W.2.after ∙ empty.0)))
-image-after x kind profile some W image (inr entry) = elim W.2.doubt [
+image-after x kind profile old new some all W image (inr entry) = elim W.2.doubt [
   | inl sure ↦ absurd (subst (λ d. IsSomeAnd d (λ e. StandsFor image (e ∷ x.after))) sure entry)
   | inr (next, is, more) ↦ record {
     own = W.0;
     are_own = W.1;
     count = suc W.2.count;
+    whole = all-doubted x kind profile old new all W.0 W.1 W.2.count next is more;
     stands = subst (StandsFor image) more
         (subst (λ d. IsSomeAnd d (λ e. StandsFor image (e ∷ x.after))) is entry);
   }
 ]
 
-images-after : (x : Ran) (kind : Kind) (profile : Option ℕ) → x.records ≢ [] → Wrote x kind profile →
-    (told : Option Cells) →
+images-after : (x : Ran) (kind : Kind) (profile : Option ℕ) (old new : Seen) → x.records ≢ [] →
+    ReadsAll x kind profile old new → Wrote x kind profile → (told : Option Cells) →
     EachImage told (λ image. StandsOrIsEmpty image x.after ⊎
     IsSomeAnd x.doubt (λ entry. StandsFor image (entry ∷ x.after))) →
-    EachImage told (IsAfter x.records kind profile)
-images-after x kind profile some W None h = tt
-images-after x kind profile some W (Some cells) h =
-    λ image is. image-after x kind profile some W image (h image is)
+    EachImage told (IsAfter x.records kind profile old new)
+images-after x kind profile old new some all W None h = tt
+images-after x kind profile old new some all W (Some cells) h =
+    λ image is. image-after x kind profile old new some all W image (h image is)
 
 -- ---- commands that look at a store
 
+-- the job of a put has read its whole source where its last record is in effect or in doubt
+abbrev WholeBy : (kind : Kind) (profile : Option ℕ) (records : List Record) (old new : Seen) (end : Ending) →
+    AnswersJob kind profile records old new end → Type 0
+WholeBy kind profile records old new end (AnswersJob.refused why is after r) = Unit {0}
+WholeBy kind profile records old new end (AnswersJob.no_memory after r) = Unit {0}
+WholeBy kind profile records old new end (AnswersJob.ended how none runs left by) =
+    ReadsAll (ran_left records kind how old new end.heard left) kind profile old new
+
 job-images : (kind : Kind) (profile : Option ℕ) (records : List Record) (old new : Seen) (end : Ending) →
-    IsOpened old records → AnswersJob kind profile records old new end →
-    KeepsImages old new ⊎ EachImage new.disk (IsAfter records kind profile)
-job-images kind profile records old new end opened (AnswersJob.refused why is after r) =
+    IsOpened old records → (A : AnswersJob kind profile records old new end) →
+    WholeBy kind profile records old new end A →
+    KeepsImages old new ⊎ EachImage new.disk (IsAfter records kind profile old new)
+job-images kind profile records old new end opened (AnswersJob.refused why is after r) all =
     inl (refused-keeps _ 0 old new end r)
-job-images kind profile records old new end opened (AnswersJob.no_memory after r) =
+job-images kind profile records old new end opened (AnswersJob.no_memory after r) all =
     inl (refused-keeps 70 0 old new end r)
-job-images kind profile records old new end opened (AnswersJob.ended how none runs left by) =
-    inr (images-after (ran_left records kind how old new end.heard left) kind profile opened.read.some
-    (wrote-by (ran_left records kind how old new end.heard left) kind profile how left.leaves.by_kind)
+job-images kind profile records old new end opened (AnswersJob.ended how none runs left by) all =
+    inr (images-after (ran_left records kind how old new end.heard left) kind profile old new opened.read.some
+    all (wrote-by (ran_left records kind how old new end.heard left) kind profile how left.leaves.by_kind)
     new.disk left.images)
 
 of-job : (command : Command) (kind : Kind) (profile : Option ℕ) (records : List Record) (old new : Seen) →
     profile_named command ≡ profile → IsOpened old records → RunsKind command old new kind →
-    KeepsImages old new ⊎ EachImage new.disk (IsAfter records kind profile) → LeavesImages command old new
+    KeepsImages old new ⊎ EachImage new.disk (IsAfter records kind profile old new) →
+    LeavesImages command old new
 of-job command kind profile records old new named opened is (inl kept) = LeavesImages.kept kept
 of-job command kind profile records old new named opened is (inr images) =
     LeavesImages.ran records kind opened is
-    (subst (λ p. EachImage new.disk (IsAfter records kind p)) (sym named) images)
+    (subst (λ p. EachImage new.disk (IsAfter records kind p old new)) (sym named) images)
+
+put-whole : (name bytes : List ℕ) (own : Option ℕ) (records : List Record) (old new : Seen) (end : Ending) →
+    ReadsFront old.source new.source bytes → (A : AnswersJob (PutJob name bytes) own records old new end) →
+    (MayBeWhole name bytes own records A → IfSome new.source (λ left. left ≡ [])) →
+    WholeBy (PutJob name bytes) own records old new end A
+put-whole name bytes own records old new end read (AnswersJob.refused why is after r) whole = tt
+put-whole name bytes own records old new end read (AnswersJob.no_memory after r) whole = tt
+put-whole name bytes own records old new end read (AnswersJob.ended how none runs left by) whole =
+    λ may. (read, whole may)
+
+-- no other job reads a source
+alone-whole : (kind : Kind) (records : List Record) (old new : Seen) (end : Ending) → ReadsNone kind →
+    (A : AnswersJob kind None records old new end) → WholeBy kind None records old new end A
+alone-whole kind records old new end none (AnswersJob.refused why is after r) = tt
+alone-whole kind records old new end none (AnswersJob.no_memory after r) = tt
+alone-whole (GetJob name) records old new end none (AnswersJob.ended how begins runs left by) = tt
+alone-whole (DropJob name) records old new end none (AnswersJob.ended how begins runs left by) = tt
+alone-whole AuditJob records old new end none (AnswersJob.ended how begins runs left by) = tt
+alone-whole RepairJob records old new end none (AnswersJob.ended how begins runs left by) = tt
+alone-whole UpgradeJob records old new end none (AnswersJob.ended how begins runs left by) = tt
+alone-whole (PutJob name bytes) records old new end none (AnswersJob.ended how begins runs left by) =
+    absurd none
 
 put-images : (name : List ℕ) (own : Option ℕ) (old new : Seen) (end : Ending) →
     AnswersPut name own old new end → LeavesImages (put_of name own) old new
@@ -275,18 +368,36 @@ put-images name own old new end (AnswersPut.source_fault records opened known ro
     LeavesImages.kept (refused-keeps 14 0 old new end r)
 put-images name own old new end (AnswersPut.no_memory taken r) =
     LeavesImages.kept (refused-keeps 70 0 old new end r)
-put-images name own old new end (AnswersPut.begun records bytes opened known read A) =
+put-images name own old new end (AnswersPut.begun records bytes opened known read few A whole) =
     of-job (put_of name own) (PutJob name bytes) own records old new (named-by name own) opened
-    (put-kind name bytes own old new read) (job-images (PutJob name bytes) own records old new end opened A)
+    (put-kind name bytes own old new read few)
+    (job-images (PutJob name bytes) own records old new end opened A
+    (put-whole name bytes own records old new end read A whole))
+put-images name own old new end (AnswersPut.given_up records bytes opened known none stops runs left) =
+    of-job (put_of name own) (PutJob name bytes) own records old new (named-by name own) opened
+    (given-kind name bytes own records old new end none stops).1
+    (inr (images-begun new.disk (images-stand new.disk _ _ left.images)))
+  where
+    images-begun : (told : Option Cells) →
+        EachImage told (λ image. StandsFor image (after_begin records name)) →
+        EachImage told (IsAfter records (PutJob name bytes) own old new)
+    images-begun None h = tt
+    images-begun (Some cells) h = λ image of. record {
+      own = put_records records name (length bytes) own;
+      are_own = refl;
+      count = 1;
+      whole = λ l. absurd (omega (arith, l));
+      stands = h image of;
+    }
 
 alone-images : (command : Command) (kind : Kind) (old new : Seen) (end : Ending) →
-    profile_named command ≡ None → RunsKind command old new kind → AnswersAlone kind old new end →
-    LeavesImages command old new
-alone-images command kind old new end named is (AnswersAlone.unstarted u) =
+    profile_named command ≡ None → RunsKind command old new kind → ReadsNone kind →
+    AnswersAlone kind old new end → LeavesImages command old new
+alone-images command kind old new end named is none (AnswersAlone.unstarted u) =
     LeavesImages.kept (unstarted-keeps old new end u)
-alone-images command kind old new end named is (AnswersAlone.begun records opened A) =
+alone-images command kind old new end named is none (AnswersAlone.begun records opened A) =
     of-job command kind None records old new named opened is
-    (job-images kind None records old new end opened A)
+    (job-images kind None records old new end opened A (alone-whole kind records old new end none A))
 
 list-images : (old new : Seen) (end : Ending) → AnswersList old new end → KeepsImages old new
 list-images old new end (AnswersList.unstarted u) = unstarted-keeps old new end u
@@ -325,21 +436,22 @@ store-images (InitWith numbers) old new end A opens = absurd (false≢true opens
 store-images (PutUnder name) old new end A opens = put-images name None old new end A
 store-images (PutAt name profile) old new end A opens = put-images name (Some profile) old new end A
 store-images (GetOf name) old new end A opens =
-    alone-images (GetOf name) (GetJob name) old new end refl refl A.0
+    alone-images (GetOf name) (GetJob name) old new end refl refl tt A.0
 store-images (DropOf name) old new end A opens =
-    alone-images (DropOf name) (DropJob name) old new end refl refl A.0
+    alone-images (DropOf name) (DropJob name) old new end refl refl tt A.0
 store-images ListAll old new end A opens = LeavesImages.kept (list-images old new end A.0)
-store-images AuditAll old new end A opens = alone-images AuditAll AuditJob old new end refl refl A.0
-store-images RepairDue old new end A opens = alone-images RepairDue RepairJob old new end refl refl A.0
+store-images AuditAll old new end A opens = alone-images AuditAll AuditJob old new end refl refl tt A.0
+store-images RepairDue old new end A opens = alone-images RepairDue RepairJob old new end refl refl tt A.0
 store-images UpgradeJournal old new end A opens =
-    alone-images UpgradeJournal UpgradeJob old new end refl refl A.0
+    alone-images UpgradeJournal UpgradeJob old new end refl refl tt A.0
 store-images ScrubAll old new end A opens = LeavesImages.kept (scrub-images old new end A.0)
 
 -- what each image stands for, where each stood for the records before
 abbrev StandsAfter : Command → List Record → Seen → Seen → List ℕ → Type 0
 StandsAfter command records old new image =
     StandsFor image records
-    ⊎ ((kind : Kind) × RunsKind command old new kind × IsAfter records kind (profile_named command) image)
+    ⊎ ((kind : Kind) × RunsKind command old new kind
+    × IsAfter records kind (profile_named command) old new image)
 
 kept-stand : (command : Command) (records : List Record) (old new : Seen) (before after : Option Cells) →
     IfSome before (λ cells. EachImage after (IsImage cells)) → before ≢ None →
@@ -352,7 +464,7 @@ kept-stand command records old new (Some cells) (Some now) kept tells stand =
 
 ran-stand : (command : Command) (records : List Record) (kind : Kind) (old new : Seen) →
     RunsKind command old new kind → (after : Option Cells) →
-    EachImage after (IsAfter records kind (profile_named command)) →
+    EachImage after (IsAfter records kind (profile_named command) old new) →
     EachImage after (StandsAfter command records old new)
 ran-stand command records kind old new is None h = tt
 ran-stand command records kind old new is (Some cells) h = λ image of. inr (kind, is, h image of)
@@ -371,7 +483,7 @@ known-images command records old new end A opens K stand = go (store-images comm
     go (LeavesImages.kept kept) = kept-stand command records old new old.disk new.disk kept tells stand
     go (LeavesImages.ran other kind opened is images) =
         ran-stand command records kind old new is new.disk
-        (subst (λ rs. EachImage new.disk (IsAfter rs kind (profile_named command)))
+        (subst (λ rs. EachImage new.disk (IsAfter rs kind (profile_named command) old new))
         (known-once old records other K opened.read) images)
 
 -- ---- init

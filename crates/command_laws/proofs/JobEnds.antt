@@ -1,20 +1,22 @@
 -- How puts, drops, audits and repairs end, and what they have done where they are done.
-use Rattle.std.proofs.Common.{◌≡◌, ◌≢◌, ℕ, ◌+◌, ◌<◌, ◌≤◌, ◌==◌, ◌⊎◌, Bool, true, false, cond, List, [], ◌∷◌, ◌++◌, length, Option, None, Some, refl, ap, sym, subst, ◌∙◌, inl, inr, arith, length-append, not, ◌&&◌}
-use Rattle.std.specs.Prelude.{IsSomeAnd, IsTrue, is_some, nat_lt}
-use Rattle.std.proofs.lemmas.Bool.{cases_Bool, cases_lt, eq-eqb, lt-ltb, false≢true}
-use Rattle.std.proofs.lemmas.List.{append-nil}
+use Rattle.std.proofs.Common.{◌≡◌, ◌≢◌, ℕ, ◌+◌, ◌*◌, ◌<◌, ◌≤◌, ◌==◌, ◌⊎◌, Bool, true, false, cond, List, [], ◌∷◌, ◌++◌, length, drop, Option, None, Some, refl, ap, sym, subst, ◌∙◌, inl, inr, arith, length-append, not, ◌&&◌}
+use Rattle.std.specs.Prelude.{IsSomeAnd, IfSome, IsTrue, is_some, nat_lt}
+use Rattle.std.proofs.lemmas.Bool.{cases_Bool, cases_lt, eq-eqb, false≢true}
+use Rattle.std.proofs.lemmas.List.{append-nil, take-append-drop}
 use Rattle.device_defs.specs.Cells.{Cells}
 use Rattle.device_defs.specs.Faults.{Rose}
 use Rattle.device_defs.specs.Images.{EachImage}
+use Rattle.device_defs.specs.Told.{then_told}
 use Rattle.device_defs.specs.Providers.{Held, Provider}
 use Rattle.device_defs.proofs.Lasting.{rose-before}
-use Rattle.record_defs.specs.Records.{Setup, Record, PutStart, PutDone, PutDoneIn, is_name, largest_file}
+use Rattle.record_defs.specs.Records.{Setup, Record, PutStart, PutDone, PutDoneIn, is_byte, is_name, largest_file}
 use Rattle.record_defs.specs.Journal.{StandsFor, StandsOrIsEmpty}
 use Rattle.record_defs.specs.Table.{File, Due, version_of, next_id, next_audit, file_of, due_of, started_as, is_start_of, is_same_name, file_as, profile_in, setup_of}
 use Rattle.record_defs.proofs.FilesLaws.{same-refl}
 use Rattle.machine_defs.specs.Jobs.{Kind, PutJob, GetJob, DropJob, AuditJob, RepairJob, UpgradeJob}
 use Rattle.machine_defs.specs.Answers as answer
 use Rattle.machine_defs.specs.Answers.{Answer}
+use Rattle.machine_defs.specs.Events.{AreBytes}
 use Rattle.machine_defs.specs.Heard.{Entry}
 use Rattle.machine_defs.specs.Setups.{setup_or_none}
 use Rattle.machine_defs.specs.Begins.{chosen}
@@ -23,24 +25,25 @@ use Rattle.machine_defs.specs.Refusals as refusal
 use Rattle.machine_defs.specs.Refusals.{Refusal}
 use Rattle.machine_defs.proofs.JobLists.{cond_true, cond_false, same_value}
 use Rattle.command_defs.specs.Forms.{Command, DropOf, AuditAll, UpgradeJournal}
-use Rattle.command_defs.specs.Seen.{Seen, Ending, IsRefused, ReadsUpTo, provider_at}
+use Rattle.command_defs.specs.Seen.{Seen, Ending, IsRefused, ReadsUpTo, ReadsFront, provider_at}
 use Rattle.command_defs.specs.Opens.{IsOpened, Unstarted, setup_in_effect}
 use Rattle.command_defs.specs.Refusals.{is_unknown, is_crowded_by, is_full_for, refusal_over, status_of}
 use Rattle.command_defs.specs.Lines.{text_of, stored_line, dropped_line, audit_lines, repaired_line, upgraded_line}
 use Rattle.command_defs.specs.Ran.{Ran, SameHeld}
-use Rattle.command_defs.specs.Puts.{put_done, PutLeaves}
+use Rattle.command_defs.specs.Puts.{put_done, MayHaveEnd, PutLeaves}
+use Rattle.command_defs.specs.GivenUp.{put_stripe, StopsReading, PartLeft}
 use Rattle.command_defs.specs.Drops.{DropLeaves}
 use Rattle.command_defs.specs.Audits.{AuditGives, HearsRounds, CountsHeard}
 use Rattle.command_defs.specs.Repairs.{RepairGives}
 use Rattle.command_defs.specs.Upgrades.{UpgradeLeaves}
 use Rattle.command_defs.specs.Jobs.{AnswersJob, EndsByAnswer, LeftAlone, IsTold}
-use Rattle.command_defs.specs.Commands.{AnswersPut, AnswersAlone, AnswersList, Answers}
+use Rattle.command_defs.specs.Commands.{MayBeWhole, AnswersPut, AnswersAlone, AnswersList, Answers}
 use Rattle.job_laws.specs.Failing.{bad_seen}
-use Rattle.command_laws.specs.Ends.{IsDone, IsKnown, GivesUnlessMemory, EndsInOrder, RunsKind, SameHolds, put_of, profile_named, put_refusal, after_put, IsWholePut, IsDropped, IsAudited, IsRepaired, IsUpgraded}
+use Rattle.command_laws.specs.Ends.{IsDone, IsKnown, GivesUnlessMemory, EndsInOrder, GivesUpPut, RunsKind, SameHolds, put_of, profile_named, put_refusal, after_put, IsWholePut, IsDropped, IsAudited, IsRepaired, IsUpgraded}
 use Rattle.state_laws.proofs.Records.{version-either}
 use Rattle.job_laws.proofs.Complete.{put-end, drop-end, audit-end, upgrade-end}
 use Rattle.job_laws.proofs.Mended.{repair-end}
-use Rattle.command_laws.proofs.Known.{none-written, told-refusal, written-well, known-once, unstarted-known, alone-known, refused-not, refused-only, refused-always, own-status}
+use Rattle.command_laws.proofs.Known.{EndStatus, status-ended, none-written, told-refusal, written-well, known-once, unstarted-known, alone-known, refused-not, refused-only, refused-always, own-status}
 use Rattle.command_laws.proofs.GetEnds.{shape-at, ran_left}
 
 -- ---- what is common
@@ -219,32 +222,74 @@ put-in_effect records name bytes own begins = by-version (version-either records
         ∙ cond_true (is_start_of name
         (started_as (PutStart (next_id records) name ∷ records) (next_id records))) _ _ started
 
+-- a front that leaves nothing is all up to any bound above it
+reads-whole : (old new : Option (List ℕ)) (bytes : List ℕ) → ReadsFront old new bytes →
+    length bytes ≤ largest_file → IfSome new (λ left. left ≡ []) → ReadsUpTo (largest_file + 1) old new bytes
+reads-whole old new bytes R few whole = record {
+  are_bytes = R.are_bytes;
+  front = R.front;
+  few = omega (arith, few);
+  end = λ l. whole;
+}
+
 put-by : (name bytes : List ℕ) (own : Option ℕ) (records : List Record) (old new : Seen) (end : Ending) →
-    IsOpened old records → ReadsUpTo (largest_file + 1) old.source new.source bytes →
+    IsOpened old records → ReadsFront old.source new.source bytes → length bytes ≤ largest_file →
     refusal_over records (PutJob name bytes) own ≡ None →
     (how : Answer) (left : LeftAlone records (PutJob name bytes) own how old new end.heard) →
+    (MayHaveEnd records left.after left.doubt name (length bytes) own →
+    IfSome new.source (λ rest. rest ≡ [])) →
     PutLeaves (ran_left records (PutJob name bytes) how old new end.heard left) own name bytes how →
     EndsWith records (PutJob name bytes) how old new end → IsDone end → IsWholePut name own old new end
-put-by name bytes own records old new end opened read begins answer.Put left L by done = record {
+put-by name bytes own records old new end opened read few begins answer.Put left whole L by done = record {
   records = records;
   bytes = bytes;
   opened = opened;
   are_bytes = read.are_bytes;
-  read = read;
-  whole = read.end (let small = (put-begins records name bytes own begins).1 in
-      omega (arith, small));
+  read = reads-whole old.source new.source bytes read few (whole (inl L.0.after));
+  whole = whole (inl L.0.after);
   told = by;
   disk = images-have new.disk left.after left.doubt _ _ L.0.after L.0.sure left.images;
   in_effect = put-in_effect records name bytes own begins;
   stored = L.1;
 }
-put-by name bytes own records old new end opened read begins (answer.ProviderFault j) left L by done =
+put-by name bytes own records old new end opened read few begins (answer.ProviderFault j) left whole L by done =
     absurd (not-done end.status 13 by.status_is (λ e. omega (arith, e)) (λ e. omega (arith, e)) done)
-put-by name bytes own records old new end opened read begins answer.DiskFault left L by done =
+put-by name bytes own records old new end opened read few begins answer.DiskFault left whole L by done =
     absurd (not-done end.status 12 by.status_is (λ e. omega (arith, e)) (λ e. omega (arith, e)) done)
-put-by name bytes own records old new end opened read begins answer.Memory left L by done =
+put-by name bytes own records old new end opened read few begins answer.Memory left whole L by done =
     absurd (not-done end.status 70 by.status_is (λ e. omega (arith, e)) (λ e. omega (arith, e)) done)
-put-by name bytes own records old new end opened read begins how left L by done = absurd L
+put-by name bytes own records old new end opened read few begins how left whole L by done = absurd L
+
+-- ---- a put that is given up
+
+-- it ends with one status or the other
+pub given-status : (size : ℕ) (bytes : List ℕ) (old new : Seen) (end : Ending) →
+    StopsReading size bytes old new end → (end.status ≡ 14) ⊎ (end.status ≡ 16)
+given-status size bytes old new end S = elim S.cause [ inl c ↦ inl c.0 | inr c ↦ inr c.0 ]
+
+-- so with no other
+pub given-not : (size : ℕ) (bytes : List ℕ) (old new : Seen) (end : Ending) (n : ℕ) →
+    StopsReading size bytes old new end → n ≢ 14 → n ≢ 16 → end.status ≡ n → ⊥
+given-not size bytes old new end n S first second is = elim (given-status size bytes old new end S) [
+  | inl e ↦ first (sym is ∙ e)
+  | inr e ↦ second (sym is ∙ e)
+]
+
+-- what was read of a source that tells is no more than it holds
+pub front-short : (old new : Option (List ℕ)) (bytes seen : List ℕ) → old ≡ Some bytes →
+    old ≡ then_told seen new → length seen ≤ length bytes
+front-short old None bytes seen is front = absurd (let e : Some bytes ≡ None = sym is ∙ front in cc)
+front-short old (Some left) bytes seen is front =
+    (let e : Some bytes ≡ Some (seen ++ left) = sym is ∙ front in
+    let f : bytes ≡ seen ++ left = cc in
+    let size = ap length f in let sum = length-append seen left in
+    omega (arith, size, sum))
+
+-- where no count of the source rose its source is too long
+pub given-long : (size : ℕ) (bytes : List ℕ) (old new : Seen) (end : Ending)
+    (S : StopsReading size bytes old new end) → (Rose old.source_faults new.source_faults → ⊥) →
+    (end.status ≡ 16) × (length S.read ≡ largest_file + 1)
+given-long size bytes old new end S source = elim S.cause [ inl c ↦ absurd (source c.2) | inr c ↦ c ]
 
 -- a done put stored its whole source on every provider, and it is in effect
 pub put-done : (name : List ℕ) (own : Option ℕ) (old new : Seen) (end : Ending) →
@@ -256,46 +301,116 @@ put-done name own old new end (AnswersPut.bad_profile records opened unknown syn
     absurd (not-done end.status 20 r.status_is (λ e. omega (arith, e)) (λ e. omega (arith, e)) done)
 put-done name own old new end (AnswersPut.no_memory taken r) done =
     absurd (not-done end.status 70 r.status_is (λ e. omega (arith, e)) (λ e. omega (arith, e)) done)
-put-done name own old new end (AnswersPut.begun records bytes opened known read (AnswersJob.refused why is synced r)) done =
+put-done name own old new end (AnswersPut.given_up records bytes opened known none stops runs left) done =
+    absurd (elim done [
+      | inl zero ↦ given-not _ bytes old new end 0 stops (λ e. omega (arith, e)) (λ e. omega (arith, e)) zero
+      | inr sink ↦ given-not _ bytes old new end 15 stops (λ e. omega (arith, e)) (λ e. omega (arith, e)) sink
+    ])
+put-done name own old new end (AnswersPut.begun records bytes opened known read few (AnswersJob.refused why is synced r) whole) done =
     absurd (refused-done why end.status r.status_is done)
-put-done name own old new end (AnswersPut.begun records bytes opened known read (AnswersJob.no_memory synced r)) done =
+put-done name own old new end (AnswersPut.begun records bytes opened known read few (AnswersJob.no_memory synced r) whole) done =
     absurd (not-done end.status 70 r.status_is (λ e. omega (arith, e)) (λ e. omega (arith, e)) done)
-put-done name own old new end (AnswersPut.begun records bytes opened known read (AnswersJob.ended how none runs left by)) done =
-    put-by name bytes own records old new end opened read none how left left.leaves.by_kind.0 by done
+put-done name own old new end (AnswersPut.begun records bytes opened known read few (AnswersJob.ended how none runs left by) whole) done =
+    put-by name bytes own records old new end opened read few none how left whole left.leaves.by_kind.0 by
+    done
 
--- what is read of a source that is no longer than a file may be is all of it
-read-all : (old new : Option (List ℕ)) (bytes seen : List ℕ) → old ≡ Some bytes →
-    length bytes ≤ largest_file → ReadsUpTo (largest_file + 1) old new seen → seen ≡ bytes
-read-all old None bytes seen is small R = absurd (let e : Some bytes ≡ None = sym is ∙ R.front in cc)
-read-all old (Some left) bytes seen is small R =
+-- what was read of a source that tells, and that is then at its end, is all that it held
+pub read-all : (old new : Option (List ℕ)) (bytes seen : List ℕ) → old ≡ Some bytes →
+    ReadsFront old new seen → IfSome new (λ left. left ≡ []) → seen ≡ bytes
+read-all old None bytes seen is R whole = absurd (let e : Some bytes ≡ None = sym is ∙ R.front in cc)
+read-all old (Some left) bytes seen is R whole =
     (let e : Some bytes ≡ Some (seen ++ left) = sym is ∙ R.front in
     let f : bytes ≡ seen ++ left = cc in
-    let size = ap length f in let sum = length-append seen left in
-    let none : left ≡ [] = R.end (omega (arith, size, sum, small)) in
-    sym (f ∙ (ap (λ l. seen ++ l) none ∙ append-nil seen)))
+    sym (f ∙ (ap (λ l. seen ++ l) whole ∙ append-nil seen)))
 
-put-job-well : (name bytes : List ℕ) (own : Option ℕ) (records : List Record) (old new : Seen)
+-- a job of a put that meets no fault is done, or finds no memory, where the length told is this one
+put-job-well : (name bytes : List ℕ) (size : ℕ) (own : Option ℕ) (records : List Record) (old new : Seen)
     (end : Ending) →
     refusal_over records (PutJob name bytes) own ≡ None → (Rose old.disk_faults new.disk_faults → ⊥) →
     ((j : ℕ) → j < (setup_in_effect records).n →
     Rose (provider_at old.providers j).store_faults (provider_at new.providers j).store_faults → ⊥) →
     (Rose old.sink_faults new.sink_faults → ⊥) →
-    AnswersJob (PutJob name bytes) own records old new end →
-    GivesUnlessMemory (stored_line name (length bytes)) old new end
-put-job-well name bytes own records old new end begins disk stores sink (AnswersJob.refused why is synced r) =
+    (A : AnswersJob (PutJob name bytes) own records old new end) →
+    (MayBeWhole name bytes own records A → length bytes ≡ size) →
+    GivesUnlessMemory (stored_line name size) old new end
+put-job-well name bytes size own records old new end begins disk stores sink (AnswersJob.refused why is synced r) all =
     absurd (let e : None ≡ Some why = sym begins ∙ is in cc)
-put-job-well name bytes own records old new end begins disk stores sink (AnswersJob.no_memory synced r) =
-    memory-well (stored_line name (length bytes)) old new end r
-put-job-well name bytes own records old new end begins disk stores sink (AnswersJob.ended how none runs left by) =
+put-job-well name bytes size own records old new end begins disk stores sink (AnswersJob.no_memory synced r) all =
+    memory-well (stored_line name size) old new end r
+put-job-well name bytes size own records old new end begins disk stores sink (AnswersJob.ended how none runs left by) all =
     elim (put-end (ran_left records (PutJob name bytes) how old new end.heard left) own name bytes how
     left.leaves.by_kind.0 (calm-disk records (PutJob name bytes) how old new end.heard left disk) stores) [
       | inl same ↦ (let told : EndsWith records (PutJob name bytes) answer.Put old new end =
           subst (λ h. EndsWith records (PutJob name bytes) h old new end) same by in
-          written-well (stored_line name (length bytes)) old new end told.written sink)
+          let L : PutLeaves (ran_left records (PutJob name bytes) how old new end.heard left) own name bytes
+          answer.Put = subst (PutLeaves (ran_left records (PutJob name bytes) how old new end.heard left) own
+          name bytes) same left.leaves.by_kind.0 in
+          subst (λ n. GivesUnlessMemory (stored_line name n) old new end) (all (inl L.0.after))
+          (written-well (stored_line name (length bytes)) old new end told.written sink))
       | inr same ↦ (let told : EndsWith records (PutJob name bytes) answer.Memory old new end =
           subst (λ h. EndsWith records (PutJob name bytes) h old new end) same by in
-          inr (told.status_is, none-written (stored_line name (length bytes)) old.sink new.sink told.sink))
+          inr (told.status_is, none-written (stored_line name size) old.sink new.sink told.sink))
     ]
+
+-- ---- the refusals of a put do not look at its bytes
+
+no-lt : (a b : ℕ) → b ≤ a → nat_lt a b ≡ false
+no-lt a b l = grind (arith, l)
+
+-- why a put is refused whose file is not too long
+abbrev short_refusal : List Record → List ℕ → Option ℕ → Option Refusal
+short_refusal records name own = cond (not (is_name name)) (Some refusal.BadName)
+    (cond (is_unknown own) (Some refusal.BadProfile)
+    (cond (is_some own && version_of records == 1) (Some refusal.OldVersion)
+    (cond (is_crowded_by records name) (Some refusal.TooManyFiles)
+    (cond (is_full_for records (PutJob name [])) (Some refusal.JournalFull) None))))
+
+short-is : (records : List Record) (name bytes : List ℕ) (own : Option ℕ) → length bytes ≤ largest_file →
+    refusal_over records (PutJob name bytes) own ≡ short_refusal records name own
+short-is records name bytes own few =
+    ap (λ b. cond (not (is_name name)) (Some refusal.BadName)
+    (cond (is_unknown own) (Some refusal.BadProfile)
+    (cond b (Some refusal.TooLong)
+    (cond (is_some own && version_of records == 1) (Some refusal.OldVersion)
+    (cond (is_crowded_by records name) (Some refusal.TooManyFiles)
+    (cond (is_full_for records (PutJob name [])) (Some refusal.JournalFull) None))))))
+    (no-lt largest_file (length bytes) few)
+
+-- two files that are not too long are refused alike
+pub same-refusal : (records : List Record) (name a b : List ℕ) (own : Option ℕ) → length a ≤ largest_file →
+    length b ≤ largest_file →
+    refusal_over records (PutJob name a) own ≡ refusal_over records (PutJob name b) own
+same-refusal records name a b own la lb =
+    short-is records name a own la ∙ sym (short-is records name b own lb)
+
+never-long : (a b c d e : Bool) → cond a (Some refusal.BadName) (cond b (Some refusal.BadProfile)
+    (cond c (Some refusal.OldVersion) (cond d (Some refusal.TooManyFiles)
+    (cond e (Some refusal.JournalFull) None)))) ≡ Some refusal.TooLong → ⊥
+never-long true b c d e h = cc
+never-long false true c d e h = cc
+never-long false false true d e h = cc
+never-long false false false true e h = cc
+never-long false false false false true h = cc
+never-long false false false false false h = cc
+
+-- none of these is refused for its length
+pub short-never : (records : List Record) (name bytes : List ℕ) (own : Option ℕ) →
+    length bytes ≤ largest_file → refusal_over records (PutJob name bytes) own ≡ Some refusal.TooLong → ⊥
+short-never records name bytes own few is =
+    never-long _ _ _ _ _ (sym (short-is records name bytes own few) ∙ is)
+
+-- what no file is refused for that is not too long, no put is refused for
+pub known-refusal : (records : List Record) (name bytes : List ℕ) (own : Option ℕ) → is_unknown own ≡ false →
+    length bytes ≤ largest_file →
+    put_refusal records name own ≡ refusal_over records (PutJob name bytes) own
+known-refusal records name bytes own known few =
+    cond_false (is_unknown own) (Some refusal.BadProfile) (refusal_over records (PutJob name []) own) known
+    ∙ same-refusal records name [] bytes own (omega arith) few
+
+unknown-refusal : (records : List Record) (name : List ℕ) (own : Option ℕ) → is_unknown own ≡ true →
+    put_refusal records name own ≡ Some refusal.BadProfile
+unknown-refusal records name own unknown =
+    cond_true (is_unknown own) (Some refusal.BadProfile) (refusal_over records (PutJob name []) own) unknown
 
 -- a put that is not refused and meets no fault is done, or finds no memory
 pub put-well : (name bytes : List ℕ) (own : Option ℕ) (records : List Record) (old new : Seen)
@@ -317,119 +432,201 @@ put-well name bytes own records old new end (AnswersPut.bad_profile other opened
     absurd (false≢true (sym (put-begins records name bytes own begins).0 ∙ unknown))
 put-well name bytes own records old new end (AnswersPut.no_memory taken r) K is begins disk stores source sink =
     memory-well (stored_line name (length bytes)) old new end r
-put-well name bytes own records old new end (AnswersPut.begun other seen opened known read A) K is begins disk stores source sink =
+put-well name bytes own records old new end (AnswersPut.begun other seen opened known read few A whole) K is begins disk stores source sink =
     (let same = known-once old records other K opened.read in
-    let all = read-all old.source new.source bytes seen is (put-begins records name bytes own begins).1
-    read in
-    put-job-well name bytes own records old new end begins disk stores sink
-    (subst (λ b. AnswersJob (PutJob name b) own records old new end) all
-    (subst (λ rs. AnswersJob (PutJob name seen) own rs old new end) same A)))
+    put-job-well name seen (length bytes) own other old new end
+    (same-refusal other name seen bytes own few (put-begins records name bytes own begins).1
+    ∙ (ap (λ rs. refusal_over rs (PutJob name bytes) own) same ∙ begins))
+    disk (λ j l. stores j (subst (λ rs. j < (setup_in_effect rs).n) same l)) sink A
+    (λ may. ap length (read-all old.source new.source bytes seen is read (whole may))))
+put-well name bytes own records old new end (AnswersPut.given_up other seen opened known none stops runs left) K is begins disk stores source sink =
+    absurd (let long = (given-long _ seen old new end stops source).1 in
+    let short = front-short old.source new.source bytes stops.read is stops.front in
+    let few = (put-begins records name bytes own begins).1 in
+    omega (arith, long, short, few))
 
--- ---- the refusals of a put, by all that its source holds
+-- ---- a put ends with the status of a refusal exactly where that one applies
 
-third-on : (b c d : Bool) (x y z : Refusal) (rest : Option Refusal) → d ≡ true →
-    cond b (Some x) (cond c (Some y) (cond d (Some z) rest)) ≡ cond b (Some x) (cond c (Some y) (Some z))
-third-on true c d x y z rest h = refl
-third-on false true d x y z rest h = refl
-third-on false false d x y z rest h = cond_true d (Some z) rest h
-
-too-long : (records : List Record) (name a b : List ℕ) (own : Option ℕ) → largest_file < length a →
-    largest_file < length b →
-    refusal_over records (PutJob name a) own ≡ refusal_over records (PutJob name b) own
-too-long records name a b own la lb = cut a la ∙ sym (cut b lb)
-  where
-    cut : (c : List ℕ) → largest_file < length c → refusal_over records (PutJob name c) own
-        ≡ cond (not (is_name name)) (Some refusal.BadName)
-        (cond (is_unknown own) (Some refusal.BadProfile) (Some refusal.TooLong))
-    cut c l = third-on (not (is_name name)) (is_unknown own) (nat_lt largest_file (length c))
-        refusal.BadName refusal.BadProfile refusal.TooLong
-        (cond (is_some own && version_of records == 1) (Some refusal.OldVersion)
-        (cond (is_crowded_by records name) (Some refusal.TooManyFiles)
-        (cond (is_full_for records (PutJob name c)) (Some refusal.JournalFull) None)))
-        (lt-ltb largest_file (length c) l)
-
--- what is read of a longer source is too long as well
-read-long : (old new : Option (List ℕ)) (bytes seen : List ℕ) → old ≡ Some bytes →
-    largest_file < length bytes → ReadsUpTo (largest_file + 1) old new seen → largest_file < length seen
-read-long old None bytes seen is long R = absurd (let e : Some bytes ≡ None = sym is ∙ R.front in cc)
-read-long old (Some left) bytes seen is long R = elim (cases_lt largest_file (length seen)) [
-  | inl l ↦ l
-  | inr l ↦ absurd (let e : Some bytes ≡ Some (seen ++ left) = sym is ∙ R.front in
-      let f : bytes ≡ seen ++ left = cc in
-      let none : left ≡ [] = R.end (omega (arith, l)) in
-      let size : length bytes ≡ length seen = ap length (f ∙ (ap (λ k. seen ++ k) none ∙ append-nil seen)) in
-      omega (arith, size, l, long))
-]
-
-read-same : (records : List Record) (name : List ℕ) (own : Option ℕ) (old new : Option (List ℕ))
-    (bytes seen : List ℕ) →
-    old ≡ Some bytes → ReadsUpTo (largest_file + 1) old new seen →
-    refusal_over records (PutJob name seen) own ≡ refusal_over records (PutJob name bytes) own
-read-same records name own old new bytes seen is R = elim (cases_lt largest_file (length bytes)) [
-  | inl l ↦ too-long records name seen bytes own (read-long old new bytes seen is l R) l
-  | inr l ↦ ap (λ b. refusal_over records (PutJob name b) own) (read-all old new bytes seen is l R)
-]
-
--- a put that is not refused for its profile is refused as its job
-known-refusal : (records : List Record) (name bytes : List ℕ) (own : Option ℕ) → is_unknown own ≡ false →
-    put_refusal records name bytes own ≡ refusal_over records (PutJob name bytes) own
-known-refusal records name bytes own known =
-    cond_false (is_unknown own) (Some refusal.BadProfile) (refusal_over records (PutJob name bytes) own) known
-
-unknown-refusal : (records : List Record) (name bytes : List ℕ) (own : Option ℕ) → is_unknown own ≡ true →
-    put_refusal records name bytes own ≡ Some refusal.BadProfile
-unknown-refusal records name bytes own unknown =
-    cond_true (is_unknown own) (Some refusal.BadProfile)
-    (refusal_over records (PutJob name bytes) own) unknown
+-- a put that began is not refused, whatever its source
+pub given-taken : (records : List Record) (name bytes : List ℕ) (own : Option ℕ) → is_unknown own ≡ false →
+    refusal_over records (PutJob name bytes) own ≡ None → put_refusal records name own ≡ None
+given-taken records name bytes own known none =
+    known-refusal records name bytes own known (put-begins records name bytes own none).1 ∙ none
 
 -- a put ends with the status of a refusal only where that one is the first that applies
-pub put-only : (name bytes : List ℕ) (own : Option ℕ) (records : List Record) (old new : Seen) (end : Ending)
-    (why : Refusal) → AnswersPut name own old new end → IsKnown old records → old.source ≡ Some bytes →
-    status_of why ≢ 70 → end.status ≡ status_of why → put_refusal records name bytes own ≡ Some why
-put-only name bytes own records old new end why (AnswersPut.unstarted u same) K is tells e =
+pub put-only : (name : List ℕ) (own : Option ℕ) (records : List Record) (old new : Seen) (end : Ending)
+    (why : Refusal) → AnswersPut name own old new end → IsKnown old records →
+    status_of why ≢ 70 → status_of why ≢ 16 → end.status ≡ status_of why →
+    put_refusal records name own ≡ Some why
+put-only name own records old new end why (AnswersPut.unstarted u same) K tells short e =
     elim (unstarted-known old new end records K u) [
       | inl (rose, r) ↦ absurd (own-status end why 12 refl r.status_is tells e)
       | inr r ↦ absurd (own-status end why 70 refl r.status_is tells e)
     ]
-put-only name bytes own records old new end why (AnswersPut.bad_profile other opened unknown synced same r) K is tells e =
-    unknown-refusal records name bytes own unknown
+put-only name own records old new end why (AnswersPut.bad_profile other opened unknown synced same r) K tells short e =
+    unknown-refusal records name own unknown
     ∙ told-refusal end refusal.BadProfile why (λ f. omega (arith, f)) r.status_is tells e
-put-only name bytes own records old new end why (AnswersPut.source_fault other opened known rose synced taken r) K is tells e =
+put-only name own records old new end why (AnswersPut.source_fault other opened known rose synced taken r) K tells short e =
     absurd (own-status end why 14 refl r.status_is tells e)
-put-only name bytes own records old new end why (AnswersPut.no_memory taken r) K is tells e =
+put-only name own records old new end why (AnswersPut.no_memory taken r) K tells short e =
     absurd (own-status end why 70 refl r.status_is tells e)
-put-only name bytes own records old new end why (AnswersPut.begun other seen opened known read A) K is tells e =
-    known-refusal records name bytes own known
-    ∙ (sym (read-same records name own old.source new.source bytes seen is read)
+put-only name own records old new end why (AnswersPut.begun other seen opened known read few A whole) K tells short e =
+    known-refusal records name seen own known few
     ∙ refused-only (PutJob name seen) own records old new end why
     (subst (λ rs. AnswersJob (PutJob name seen) own rs old new end)
-    (known-once old records other K opened.read) A) tells e)
+    (known-once old records other K opened.read) A) tells e
+put-only name own records old new end why (AnswersPut.given_up other seen opened known none stops runs left) K tells short e =
+    elim (given-status _ seen old new end stops) [
+      | inl is ↦ absurd (own-status end why 14 refl is tells e)
+      | inr is ↦ absurd (short (sym e ∙ is))
+    ]
 
 -- a put for which a refusal is the first that applies is refused so, or finds no memory
-pub put-always : (name bytes : List ℕ) (own : Option ℕ) (records : List Record) (old new : Seen)
+pub put-always : (name : List ℕ) (own : Option ℕ) (records : List Record) (old new : Seen)
     (end : Ending) (why : Refusal) → AnswersPut name own old new end → IsKnown old records →
-    old.source ≡ Some bytes → (Rose old.disk_faults new.disk_faults → ⊥) →
-    (Rose old.source_faults new.source_faults → ⊥) → put_refusal records name bytes own ≡ Some why →
+    (Rose old.disk_faults new.disk_faults → ⊥) →
+    (Rose old.source_faults new.source_faults → ⊥) → put_refusal records name own ≡ Some why →
     IsRefused (status_of why) 0 old new end ⊎ IsRefused 70 0 old new end
-put-always name bytes own records old new end why (AnswersPut.unstarted u same) K is disk source applies =
+put-always name own records old new end why (AnswersPut.unstarted u same) K disk source applies =
     elim (unstarted-known old new end records K u) [
       | inl (rose, r) ↦ absurd (disk rose)
       | inr r ↦ inr r
     ]
-put-always name bytes own records old new end why (AnswersPut.bad_profile other opened unknown synced same r) K is disk source applies =
+put-always name own records old new end why (AnswersPut.bad_profile other opened unknown synced same r) K disk source applies =
     inl (subst (λ w. IsRefused (status_of w) 0 old new end)
-    (same_value (put_refusal records name bytes own) refusal.BadProfile why
-    (unknown-refusal records name bytes own unknown) applies) r)
-put-always name bytes own records old new end why (AnswersPut.source_fault other opened known rose synced taken r) K is disk source applies =
+    (same_value (put_refusal records name own) refusal.BadProfile why
+    (unknown-refusal records name own unknown) applies) r)
+put-always name own records old new end why (AnswersPut.source_fault other opened known rose synced taken r) K disk source applies =
     absurd (source rose)
-put-always name bytes own records old new end why (AnswersPut.no_memory taken r) K is disk source applies =
+put-always name own records old new end why (AnswersPut.no_memory taken r) K disk source applies =
     inr r
-put-always name bytes own records old new end why (AnswersPut.begun other seen opened known read A) K is disk source applies =
+put-always name own records old new end why (AnswersPut.begun other seen opened known read few A whole) K disk source applies =
     refused-always (PutJob name seen) own records old new end why
     (subst (λ rs. AnswersJob (PutJob name seen) own rs old new end)
     (known-once old records other K opened.read) A)
-    (read-same records name own old.source new.source bytes seen is read
-    ∙ (sym (known-refusal records name bytes own known) ∙ applies))
+    (sym (known-refusal records name seen own known few) ∙ applies)
+put-always name own records old new end why (AnswersPut.given_up other seen opened known none stops runs left) K disk source applies =
+    absurd (let e : None ≡ Some why = sym (given-taken other name seen own known none)
+    ∙ (ap (λ rs. put_refusal rs name own) (known-once old records other K opened.read) ∙ applies) in cc)
+
+-- ---- a source that failed, or that is too long
+
+-- a status that is neither is not of such a put
+pub cut-not : (status n : ℕ) → status ≡ n → n ≢ 14 → n ≢ 16 → (status ≡ 14) ⊎ (status ≡ 16) → ⊥
+cut-not status n is first second (inl e) = first (sym is ∙ e)
+cut-not status n is first second (inr e) = second (sym is ∙ e)
+
+-- no command ends so that did not start
+pub unstarted-cut : (old new : Seen) (end : Ending) → Unstarted old new end →
+    (end.status ≡ 14) ⊎ (end.status ≡ 16) → ⊥
+unstarted-cut old new end (Unstarted.disk_fault rose r) =
+    cut-not end.status 12 r.status_is (λ e. omega (arith, e)) (λ e. omega (arith, e))
+unstarted-cut old new end (Unstarted.not_set_up is sync r) =
+    cut-not end.status 9 r.status_is (λ e. omega (arith, e)) (λ e. omega (arith, e))
+unstarted-cut old new end (Unstarted.bad_journal at is r) =
+    cut-not end.status 8 r.status_is (λ e. omega (arith, e)) (λ e. omega (arith, e))
+unstarted-cut old new end (Unstarted.too_few_providers records read few synced r) =
+    cut-not end.status 22 r.status_is (λ e. omega (arith, e)) (λ e. omega (arith, e))
+unstarted-cut old new end (Unstarted.no_memory r) =
+    cut-not end.status 70 r.status_is (λ e. omega (arith, e)) (λ e. omega (arith, e))
+
+-- nor does a job that began
+pub ended-cut : (status : ℕ) → EndStatus status → (status ≡ 14) ⊎ (status ≡ 16) → ⊥
+ended-cut status (EndStatus.by_done e) =
+    cut-not status 0 e (λ k. omega (arith, k)) (λ k. omega (arith, k))
+ended-cut status (EndStatus.by_lost e) =
+    cut-not status 4 e (λ k. omega (arith, k)) (λ k. omega (arith, k))
+ended-cut status (EndStatus.by_disk e) =
+    cut-not status 12 e (λ k. omega (arith, k)) (λ k. omega (arith, k))
+ended-cut status (EndStatus.by_provider e) =
+    cut-not status 13 e (λ k. omega (arith, k)) (λ k. omega (arith, k))
+ended-cut status (EndStatus.by_sink e) =
+    cut-not status 15 e (λ k. omega (arith, k)) (λ k. omega (arith, k))
+ended-cut status (EndStatus.by_memory e) =
+    cut-not status 70 e (λ k. omega (arith, k)) (λ k. omega (arith, k))
+
+-- nor one that is refused for no length
+pub job-cut : (kind : Kind) (own : Option ℕ) (records : List Record) (old new : Seen) (end : Ending) →
+    (refusal_over records kind own ≡ Some refusal.TooLong → ⊥) → AnswersJob kind own records old new end →
+    (end.status ≡ 14) ⊎ (end.status ≡ 16) → ⊥
+job-cut kind own records old new end short (AnswersJob.refused why is synced r) (inl e) =
+    refused-not why 14 refl (λ k. omega (arith, k)) (sym r.status_is ∙ e)
+job-cut kind own records old new end short (AnswersJob.refused why is synced r) (inr e) =
+    short (refused-only kind own records old new end refusal.TooLong (AnswersJob.refused why is synced r)
+    (λ k. omega (arith, k)) e)
+job-cut kind own records old new end short (AnswersJob.no_memory synced r) cut =
+    cut-not end.status 70 r.status_is (λ e. omega (arith, e)) (λ e. omega (arith, e)) cut
+job-cut kind own records old new end short (AnswersJob.ended how none runs left by) cut =
+    ended-cut end.status (status-ended _ how old new end by) cut
+
+-- over a known store a put that ends with 16 is not refused, and its source has more bytes than a file may
+-- have
+pub put-long : (name bytes : List ℕ) (own : Option ℕ) (records : List Record) (old new : Seen)
+    (end : Ending) → AnswersPut name own old new end → IsKnown old records → old.source ≡ Some bytes →
+    end.status ≡ 16 → (put_refusal records name own ≡ None) × (largest_file < length bytes)
+put-long name bytes own records old new end (AnswersPut.unstarted u same) K is e =
+    absurd (unstarted-cut old new end u (inr e))
+put-long name bytes own records old new end (AnswersPut.bad_profile other opened unknown synced same r) K is e =
+    absurd (cut-not end.status 20 r.status_is (λ k. omega (arith, k)) (λ k. omega (arith, k)) (inr e))
+put-long name bytes own records old new end (AnswersPut.source_fault other opened known rose synced taken r) K is e =
+    absurd (let f : 14 ≡ 16 = sym r.status_is ∙ e in omega (arith, f))
+put-long name bytes own records old new end (AnswersPut.no_memory taken r) K is e =
+    absurd (cut-not end.status 70 r.status_is (λ k. omega (arith, k)) (λ k. omega (arith, k)) (inr e))
+put-long name bytes own records old new end (AnswersPut.begun other seen opened known read few A whole) K is e =
+    absurd (job-cut (PutJob name seen) own other old new end (short-never other name seen own few) A (inr e))
+put-long name bytes own records old new end (AnswersPut.given_up other seen opened known none stops runs left) K is e = (
+  ap (λ rs. put_refusal rs name own) (sym (known-once old records other K opened.read))
+      ∙ given-taken other name seen own known none,
+  elim stops.cause [
+    | inl c ↦ absurd (let f : 14 ≡ 16 = sym c.0 ∙ e in omega (arith, f))
+    | inr c ↦ (let long = c.1 in
+        let short = front-short old.source new.source bytes stops.read is stops.front in
+        omega (arith, long, short))
+  ],
+)
+
+-- a put of such a source that is not refused and meets no fault ends so, or finds no memory
+pub long-put : (name bytes : List ℕ) (own : Option ℕ) (records : List Record) (old new : Seen)
+    (end : Ending) → AnswersPut name own old new end → IsKnown old records → old.source ≡ Some bytes →
+    largest_file < length bytes → put_refusal records name own ≡ None →
+    (Rose old.disk_faults new.disk_faults → ⊥) →
+    ((j : ℕ) → j < (setup_in_effect records).n →
+    Rose (provider_at old.providers j).store_faults (provider_at new.providers j).store_faults → ⊥) →
+    (Rose old.source_faults new.source_faults → ⊥) → (end.status ≡ 16) ⊎ (end.status ≡ 70)
+long-put name bytes own records old new end (AnswersPut.unstarted u same) K is long taken disk stores source =
+    elim (unstarted-known old new end records K u) [
+      | inl (rose, r) ↦ absurd (disk rose)
+      | inr r ↦ inr r.status_is
+    ]
+long-put name bytes own records old new end (AnswersPut.bad_profile other opened unknown synced same r) K is long taken disk stores source =
+    absurd (let e : None ≡ Some refusal.BadProfile = sym taken ∙ unknown-refusal records name own unknown in
+    cc)
+long-put name bytes own records old new end (AnswersPut.source_fault other opened known rose synced read r) K is long taken disk stores source =
+    absurd (source rose)
+long-put name bytes own records old new end (AnswersPut.no_memory read r) K is long taken disk stores source =
+    inr r.status_is
+long-put name bytes own records old new end (AnswersPut.given_up other seen opened known none stops runs left) K is long taken disk stores source =
+    inl (given-long _ seen old new end stops source).0
+long-put name bytes own records old new end (AnswersPut.begun other seen opened known read few (AnswersJob.refused why cause synced r) whole) K is long taken disk stores source =
+    absurd (let e : None ≡ Some why = sym taken
+    ∙ (ap (λ rs. put_refusal rs name own) (sym (known-once old records other K opened.read))
+    ∙ (known-refusal other name seen own known few ∙ cause)) in cc)
+long-put name bytes own records old new end (AnswersPut.begun other seen opened known read few (AnswersJob.no_memory synced r) whole) K is long taken disk stores source =
+    inr r.status_is
+long-put name bytes own records old new end (AnswersPut.begun other seen opened known read few (AnswersJob.ended how none runs left by) whole) K is long taken disk stores source =
+    elim (put-end (ran_left other (PutJob name seen) how old new end.heard left) own name seen how
+    left.leaves.by_kind.0 (calm-disk other (PutJob name seen) how old new end.heard left disk)
+    (λ j l. stores j
+    (subst (λ rs. j < (setup_in_effect rs).n) (known-once old records other K opened.read) l))) [
+      | inl same ↦ absurd (let L : PutLeaves (ran_left other (PutJob name seen) how old new end.heard left) own
+          name seen answer.Put = subst (PutLeaves (ran_left other (PutJob name seen) how old new end.heard
+          left) own name seen) same left.leaves.by_kind.0 in
+          let all : length seen ≡ length bytes =
+          ap length (read-all old.source new.source bytes seen is read (whole (inl L.0.after))) in
+          omega (arith, all, few, long))
+      | inr same ↦ inr (let told : EndsWith other (PutJob name seen) answer.Memory old new end =
+          subst (λ h. EndsWith other (PutJob name seen) h old new end) same by in told.status_is)
+    ]
 
 -- ---- drops
 
@@ -738,12 +935,87 @@ pub put-answers : (name : List ℕ) (own : Option ℕ) (old new : Seen) (end : E
 put-answers name None old new end A = A
 put-answers name (Some p) old new end A = A
 
--- a put runs the job of what it read
-pub put-kind : (name bytes : List ℕ) (own : Option ℕ) (old new : Seen) →
-    ReadsUpTo (largest_file + 1) old.source new.source bytes →
+-- a put runs the job of a first part of what it read
+pub front-kind : (name bytes rest : List ℕ) (own : Option ℕ) (old new : Seen) →
+    ReadsFront old.source new.source (bytes ++ rest) → length bytes ≤ largest_file →
     RunsKind (put_of name own) old new (PutJob name bytes)
-put-kind name bytes None old new read = (bytes, read, refl)
-put-kind name bytes (Some p) old new read = (bytes, read, refl)
+front-kind name bytes rest None old new read few = (bytes, rest, read, few, refl)
+front-kind name bytes rest (Some p) old new read few = (bytes, rest, read, few, refl)
+
+-- so it is where that is all of it
+pub put-kind : (name bytes : List ℕ) (own : Option ℕ) (old new : Seen) →
+    ReadsFront old.source new.source bytes → length bytes ≤ largest_file →
+    RunsKind (put_of name own) old new (PutJob name bytes)
+put-kind name bytes own old new read few = front-kind name bytes [] own old new
+    (subst (ReadsFront old.source new.source) (sym (append-nil bytes)) read) few
+
+-- ---- what a put leaves that is given up
+
+-- images of a disk that may be empty stand for records that are some
+pub images-stand : (told : Option Cells) (first : Record) (rest : List Record) →
+    EachImage told (λ image. StandsOrIsEmpty image (first ∷ rest)) →
+    EachImage told (λ image. StandsFor image (first ∷ rest))
+images-stand None first rest h = tt
+images-stand (Some cells) first rest h = λ image of. elim (h image of) [
+  | inl stands ↦ stands
+  | inr none ↦ absurd (let e : first ∷ rest ≡ [] = none.0 in cc)
+]
+
+-- it used its number, stored whole stripes, and changed neither the files nor what is due
+pub given-gives : (name bytes : List ℕ) (own : Option ℕ) (records : List Record) (old new : Seen)
+    (end : Ending) → IsOpened old records → is_unknown own ≡ false →
+    refusal_over records (PutJob name bytes) own ≡ None →
+    StopsReading (put_stripe records own) bytes old new end → PartLeft records name bytes own old new →
+    GivesUpPut name own old new end
+given-gives name bytes own records old new end opened known none stops left = record {
+  records = records;
+  bytes = bytes;
+  opened = opened;
+  taken = given-taken records name bytes own known none;
+  stops = stops;
+  disk = images-stand new.disk _ _ left.images;
+  files = λ other. refl;
+  due = refl;
+  stored = left.stored;
+  others = left.others;
+}
+
+-- its bytes are a first part of what it read
+pub given-front : (name bytes : List ℕ) (own : Option ℕ) (records : List Record) (old new : Seen)
+    (end : Ending) → refusal_over records (PutJob name bytes) own ≡ None →
+    StopsReading (put_stripe records own) bytes old new end → (rest : List ℕ) × AreBytes bytes
+    × ReadsFront old.source new.source (bytes ++ rest) × (length bytes ≤ largest_file)
+given-front name bytes own records old new end none stops = (
+  rest,
+  all-front bytes rest (subst AreBytes parts stops.are_bytes),
+  record {
+    are_bytes = subst AreBytes parts stops.are_bytes;
+    front = stops.front ∙ ap (λ bs. then_told bs new.source) parts;
+  },
+  (put-begins records name bytes own none).1,
+)
+  where
+    rest : List ℕ
+    rest = drop (stops.stripes * put_stripe records own) stops.read
+
+    parts : stops.read ≡ bytes ++ rest
+    parts = sym (take-append-drop (stops.stripes * put_stripe records own) stops.read)
+        ∙ ap (λ bs. bs ++ rest) (sym stops.bytes_are)
+
+    all-front : (a b : List ℕ) → AreBytes (a ++ b) → AreBytes a
+    all-front [] b h = refl
+    all-front (x ∷ a) b h = (let here : is_byte x ≡ true = grind (arith, h) in
+        let more : AreBytes (a ++ b) = grind (arith, h) in
+        let back = all-front a b more in grind (arith, here, back))
+
+-- so is the job that it runs
+pub given-kind : (name bytes : List ℕ) (own : Option ℕ) (records : List Record) (old new : Seen)
+    (end : Ending) → refusal_over records (PutJob name bytes) own ≡ None →
+    StopsReading (put_stripe records own) bytes old new end → AreBytes bytes
+    × RunsKind (put_of name own) old new (PutJob name bytes)
+given-kind name bytes own records old new end none stops =
+    (let G = given-front name bytes own records old new end none stops in
+    (G.1, front-kind name bytes G.0 own old new G.2 G.3))
 
 -- a put with no fault ends in order, over any disk
 pub put-order : (name : List ℕ) (own : Option ℕ) (old new : Seen) (end : Ending) →
@@ -760,16 +1032,19 @@ put-order name own old new end (AnswersPut.source_fault other opened known rose 
     absurd (source rose)
 put-order name own old new end (AnswersPut.no_memory taken r) disk stores source sink =
     EndsInOrder.no_memory r.status_is
-put-order name own old new end (AnswersPut.begun records bytes opened known read (AnswersJob.refused why is synced r)) disk stores source sink =
-    EndsInOrder.refused records (PutJob name bytes) why opened (put-kind name bytes own old new read)
+put-order name own old new end (AnswersPut.given_up records bytes opened known none stops runs left) disk stores source sink =
+    EndsInOrder.too_long name own refl (given-long _ bytes old new end stops source).0
+    (given-gives name bytes own records old new end opened known none stops left)
+put-order name own old new end (AnswersPut.begun records bytes opened known read few (AnswersJob.refused why is synced r) whole) disk stores source sink =
+    EndsInOrder.refused records (PutJob name bytes) why opened (put-kind name bytes own old new read few)
     (ap (refusal_over records (PutJob name bytes)) (named-by name own) ∙ is) r
-put-order name own old new end (AnswersPut.begun records bytes opened known read (AnswersJob.no_memory synced r)) disk stores source sink =
+put-order name own old new end (AnswersPut.begun records bytes opened known read few (AnswersJob.no_memory synced r) whole) disk stores source sink =
     EndsInOrder.no_memory r.status_is
-put-order name own old new end (AnswersPut.begun records bytes opened known read (AnswersJob.ended how none runs left by)) disk stores source sink =
+put-order name own old new end (AnswersPut.begun records bytes opened known read few (AnswersJob.ended how none runs left by) whole) disk stores source sink =
     in-order (put_of name own) old new end
     (zero-or-memory _ old new end
-    (put-job-well name bytes own records old new end none disk (λ j l. stores j) sink
-    (AnswersJob.ended how none runs left by)))
+    (put-job-well name bytes (length bytes) own records old new end none disk (λ j l. stores j) sink
+    (AnswersJob.ended how none runs left by) (λ may. refl)))
 
 -- a drop with no fault ends in order, over any disk
 pub drop-order : (name : List ℕ) (old new : Seen) (end : Ending) → AnswersAlone (DropJob name) old new end →

@@ -26,12 +26,13 @@ use Rattle.opening_defs.specs.Journals.{journal_read, IsRead}
 use Rattle.command_defs.specs.Opens.{IsOpened, setup_in_effect}
 use Rattle.command_defs.specs.Refusals.{refusal_over}
 use Rattle.command_defs.specs.Jobs.{RunsAlone}
+use Rattle.command_defs.specs.GivenUp.{PartRuns}
 use Rattle.state_laws.proofs.Records.{setup-more}
 use Rattle.lone_laws.specs.Walked.{MayName}
 use Rattle.command_laws.specs.Ends.{IsKnown, DiskHas}
 use Rattle.command_laws.specs.After.{IsSure}
 use Rattle.job_laws.proofs.Telling.{over-opened, opened_state, state-over}
-use Rattle.command_laws.proofs.LastStates.{IsLast, last-state}
+use Rattle.command_laws.proofs.LastStates.{IsLast, last-state, part-state}
 use Rattle.state_laws.specs.Sound.{IsWholeJournal}
 use Rattle.state_laws.proofs.Written.{unpacked-end}
 
@@ -209,6 +210,22 @@ ran-good records kind how old new heard R spelled named A =
     let ran = A.ran w 1 over in
     let L = last-state w ran.last 1 kind _ how heard (over-opened w old records A.faults R over) spelled named
     ran.runs in (
+      images-good w ran.last new.disk L ran.images,
+      (let a = L.handed in let b = ran.handed.count in let c = over.handed.count in let e = R.enough in
+          omega (arith, a, b, c, e)),
+    ))
+
+-- so does a put that was given up
+pub part-good : (records : List Record) (name bytes : List ℕ) (own : Option ℕ) (old new : Seen) →
+    IsOpened old records → IsSpelledKind (PutJob name bytes) → MayName (PutJob name bytes) own →
+    PartRuns records name bytes own old new → LeavesGood records old new
+unfolding setup_in
+part-good records name bytes own old new R spelled named A =
+    (let w : State = opened_state records A.faults old.providers in
+    let over = state-over records A.faults old.providers R.read.accepted in
+    let ran = A.ran w 1 over in
+    let L = part-state w ran.last 1 (PutJob name bytes) own _ (over-opened w old records A.faults R over)
+    spelled named ran.runs in (
       images-good w ran.last new.disk L ran.images,
       (let a = L.handed in let b = ran.handed.count in let c = over.handed.count in let e = R.enough in
           omega (arith, a, b, c, e)),

@@ -181,7 +181,8 @@ pub data EndStatus (n : ℕ) : Type 0 where
   by_sink : n ≡ 15 → EndStatus n
   by_memory : n ≡ 70 → EndStatus n
 
-status-written : (text : List ℕ) (old new : Seen) (end : Ending) →
+-- what a line is told with
+pub status-written : (text : List ℕ) (old new : Seen) (end : Ending) →
     WritesLine text end.status (sinking old new) → EndStatus end.status
 status-written text old new end (inl w) = EndStatus.by_done w.0
 status-written text old new end (inr (inl w)) = EndStatus.by_sink w.1

@@ -1,5 +1,5 @@
 -- The state in which a job ended is sound, and has the setup and the providers that it began with.
-use Rattle.std.proofs.Common.{◌≡◌, ℕ, ◌+◌, true, List, length, Option, Some, refl, ap, subst, ◌∙◌, arith}
+use Rattle.std.proofs.Common.{◌≡◌, ℕ, ◌+◌, true, List, length, Option, Some, refl, ap, sym, subst, ◌∙◌, arith}
 use Rattle.std.specs.Prelude.{is_some}
 use Rattle.record_defs.specs.Table.{setup_of}
 use Rattle.machine_defs.specs.Jobs.{Kind, Job}
@@ -14,14 +14,14 @@ use Rattle.machine_defs.specs.Begins.{chosen, beginning}
 use Rattle.machine_defs.specs.Appends.{Moves}
 use Rattle.machine_defs.specs.Steps.{Acts}
 use Rattle.machine_defs.specs.Runs.{now}
-use Rattle.command_defs.specs.JobRuns.{GoesOnTo, RunsJob}
+use Rattle.command_defs.specs.JobRuns.{AreSteps, GoesOnTo, RunsJob, RunsPart}
 use Rattle.state_laws.specs.Sound.{IsWholeJournal, IsSound}
 use Rattle.state_laws.proofs.Events.{events-sound}
 use Rattle.opening_defs.specs.Opened.{IsOpenAtRest}
 use Rattle.lone_laws.specs.Walked.{MayName, WalkedAt}
 use Rattle.lone_laws.proofs.Walk.{walk-begin, walk-last}
 use Rattle.job_laws.proofs.Runs.{walk-steps}
-use Rattle.job_laws.proofs.Whole.{runs-whole}
+use Rattle.job_laws.proofs.Whole.{begun-whole, steps-whole, runs-whole}
 
 -- the last state of a job that ran alone
 pub record IsLast (start new : State) : Type 0 where
@@ -68,6 +68,27 @@ last-of start w kind job new W sound whole stay = record {
   handed = stay.1 ∙ W.handed;
   whole = whole;
 }
+
+-- the state in which a put was given up is sound, with the setup and the providers of its begin
+pub part-state : (start new : State) (moment : ℕ) (kind : Kind) (own : Option ℕ) (count : ℕ) →
+    IsOpenAtRest start 1 → IsSpelledKind kind → MayName kind own →
+    RunsPart start moment kind own count new → IsLast start new
+unfolding setup_in
+part-state start new moment kind own count O spelled named r =
+    (let b = walk-begin moment r.job start r.begun kind own named O spelled r.begins in
+    let steps : AreSteps r.begun (moment + 1) 1 r.steps =
+    subst (λ n. AreSteps r.begun (moment + 1) n r.steps) b.0 r.are_steps in
+    let last = walk-steps start r.begun kind (chosen (setup_in start) own) (beginning start moment kind own)
+    (moment + 1) r.steps O b.1 steps in
+    let W = last.1 in
+    subst (IsLast start) (sym r.last) (record {
+      sound = W.sound;
+      up = W.sound.set_up W.opened;
+      setup = W.setup;
+      handed = W.handed;
+      whole = steps-whole start O kind own r.begun (beginning start moment kind own) (moment + 1) r.steps b.1
+          steps (begun-whole start O kind own moment r.job r.begun r.begins);
+    }))
 
 -- the state in which a job ended is sound, with the setup and the providers of its begin
 pub last-state : (start new : State) (moment : ℕ) (kind : Kind) (own : Option ℕ) (how : Answer)

@@ -10,6 +10,7 @@ pub mod Images
 pub mod InitEnds
 pub mod RowCauses
 pub mod Failed
+pub mod CutSources
 pub mod ScrubRuns
 pub mod ScrubEnds
 pub mod LastStates
@@ -31,6 +32,7 @@ pub mod EndStatuses
 pub mod AnyDisk
 pub mod Samples
 pub mod PutSample
+pub mod LongSample
 pub mod AuditSample
 pub mod RepairSample
 pub mod UpgradeSample

@@ -222,7 +222,7 @@ own-alone = record {
 pub own-put : Answers (PutAt held_name 1) (store upgraded_records)
     (with_sink (store own_records) (stored_line held_name 0)) (ends 0)
 own-put = AnswersPut.begun upgraded_records [] upgraded-sure.known.opened refl
-    (record { are_bytes = refl; front = refl; few = omega arith; end = λ l. refl })
+    (record { are_bytes = refl; front = refl }) (omega arith)
     (AnswersJob.ended Put begins-own own-alone
     (left-alone upgraded_records (PutJob held_name []) (Some 1) Put (store upgraded_records)
     (with_sink (store own_records) (stored_line held_name 0)) []
@@ -230,13 +230,14 @@ own-put = AnswersPut.begun upgraded_records [] upgraded-sure.known.opened refl
     (λ w last n O r. jobs-leave (PutJob held_name []) (Some 1) w last n Put [] (refl, refl)
     (MayName.put held_name [] refl) O r)
     upgraded-sure.known.opened refl own-alone)
-    (record { written = inl (refl, refl); place = refl }))
+    (record { written = inl (refl, refl); place = refl })) (λ may. refl)
 
 -- a put with a profile of its own is refused in a journal of the first version
 pub old-refused : Answers (PutAt held_name 1) (store set_up_records) (store set_up_records) (ends 23)
 old-refused = AnswersPut.begun set_up_records [] set_up-sure.known.opened refl
-    (record { are_bytes = refl; front = refl; few = omega arith; end = λ l. refl })
+    (record { are_bytes = refl; front = refl }) (omega arith)
     (AnswersJob.refused refusal.OldVersion refl (same-disk set_up_records) (refused-so set_up_records 23))
+    (λ may. refl)
 
 -- and so is one with a profile that there is none of
 pub unknown-refused : Answers (PutAt held_name 5) (store set_up_records) (store set_up_records) (ends 20)

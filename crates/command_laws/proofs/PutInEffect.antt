@@ -8,7 +8,7 @@ use Rattle.device_defs.specs.Cells.{Cells, reads}
 use Rattle.device_defs.specs.Disks.{Stopped}
 use Rattle.device_defs.specs.Images.{EachImage}
 use Rattle.device_defs.specs.Told.{Goes}
-use Rattle.record_defs.specs.Records.{Record, PutStart, largest_file, largest_journal}
+use Rattle.record_defs.specs.Records.{Record, PutStart, largest_journal}
 use Rattle.record_defs.specs.Journal.{StandsFor, StandsOrIsEmpty}
 use Rattle.record_defs.specs.Table.{next_id}
 use Rattle.record_defs.proofs.Standing.{stands-front}
@@ -22,16 +22,17 @@ use Rattle.opening_defs.specs.Journals.{journal_read}
 use Rattle.command_defs.specs.Opens.{setup_in_effect}
 use Rattle.command_defs.specs.Refusals.{refusal_over}
 use Rattle.command_defs.specs.Ran.{Ran}
-use Rattle.command_defs.specs.Puts.{put_records, PutIsCut, PutLeaves}
+use Rattle.command_defs.specs.Puts.{put_records, MayHaveEnd, PutIsCut, PutLeaves}
+use Rattle.command_defs.specs.GivenUp.{after_begin}
 use Rattle.command_defs.specs.Jobs.{AnswersJob, LeftAlone}
-use Rattle.command_defs.specs.Commands.{AnswersPut}
+use Rattle.command_defs.specs.Commands.{MayBeWhole, AnswersPut}
 use Rattle.command_laws.specs.Ends.{IsKnown, after_put}
 use Rattle.command_laws.specs.After.{IsSure, Follows, HasRightFile}
 use Rattle.command_laws.proofs.Known.{known-once}
 use Rattle.command_laws.proofs.GetEnds.{ran_left}
-use Rattle.command_laws.proofs.JobEnds.{unstarted-refused, put-begins, put-in_effect}
+use Rattle.command_laws.proofs.JobEnds.{unstarted-refused, put-in_effect, read-all, images-stand}
 use Rattle.command_laws.proofs.Afterwards.{sure-refused}
-use Rattle.command_laws.proofs.DoneStores.{next-image, whole-read}
+use Rattle.command_laws.proofs.DoneStores.{next-image}
 use Rattle.command_laws.proofs.FilesStay.{stored-file}
 
 -- a disk that the next command finds told before
@@ -98,11 +99,29 @@ module _ (name bytes : List ℕ) (own : Option ℕ) (records : List Record) (spo
   images-fewer (Some cells) after doubt some few less h =
       λ image is. image-fewer image after doubt some few less (h image is)
 
-  module _ (are : AreBytes bytes) (begins : refusal_over records (PutJob name bytes) own ≡ None)
+  -- a put that was given up has one record in effect
+  given-fewer : EachImage new.disk (λ image. StandsFor image (after_begin records name)) → ⊥
+  given-fewer h = not-fewer (one-more new.disk h)
+    where
+      one-more : (told : Option Cells) →
+          EachImage told (λ image. StandsFor image (after_begin records name)) → EachImage told Fewer
+      one-more None h = tt
+      one-more (Some cells) h = λ image is. (after_begin records name, h image is, omega arith)
+
+  module _ (seen : List ℕ) (are : AreBytes seen)
+      (begins : refusal_over records (PutJob name seen) own ≡ None)
       (how : Answer)
-      (left : LeftAlone records (PutJob name bytes) own how old new end.heard) where
+      (left : LeftAlone records (PutJob name seen) own how old new end.heard)
+      (all : MayHaveEnd records left.after left.doubt name (length seen) own → seen ≡ bytes) where
     abbrev x : Ran
-    x = ran_left records (PutJob name bytes) how old new end.heard left
+    x = ran_left records (PutJob name seen) how old new end.heard left
+
+    -- what was read is all that the source held
+    with-all : seen ≡ bytes →
+        HasRightFile new (after_put records name (length seen) own) name seen spoilt →
+        HasRightFile new (after_put records name (length bytes) own) name bytes spoilt
+    with-all same =
+        subst (λ bs. HasRightFile new (after_put records name (length bs) own) name bs spoilt) same
 
     -- fewer records came in, and no more than one may be in doubt
     cut-off : (done : List Record) → x.after ≡ reverse done ++ records → length done ≤ 1 →
@@ -125,26 +144,30 @@ module _ (name bytes : List ℕ) (own : Option ℕ) (records : List Record) (spo
     sure-off entry done sure is = absurd (let e : None ≡ Some entry = sym sure ∙ is in cc)
 
     cut-parts : (done : List Record) (entry : Record) (rest : List Record) →
-        put_records records name (length bytes) own ≡ done ++ entry ∷ rest → length done ≤ 1
+        put_records records name (length seen) own ≡ done ++ entry ∷ rest → length done ≤ 1
     cut-parts done entry rest parts =
         (let e = ap length parts in let a = length-append done (entry ∷ rest) in omega (arith, e, a))
 
-    by-answer : (h : Answer) → PutLeaves x own name bytes h →
+    by-answer : (h : Answer) → PutLeaves x own name seen h →
         HasRightFile new (after_put records name (length bytes) own) name bytes spoilt
-    by-answer answer.Put L = stored-file name bytes own records spoilt old new
-        (put-in_effect records name bytes own begins) are _ _ L.1 tells
+    by-answer answer.Put L = with-all (all (inl L.0.after)) (stored-file name seen own records spoilt old new
+        (put-in_effect records name seen own begins) are _ _ L.1 tells)
     by-answer (answer.ProviderFault k) L =
         absurd (let W = L.2 in
         cut-off (PutStart (next_id records) name ∷ []) W.after (omega arith)
         (λ entry is. sure-off entry (PutStart (next_id records) name ∷ []) W.sure is))
     by-answer answer.DiskFault L = by-cut L.1
       where
-        by-cut : PutIsCut x own name bytes →
+        by-cut : PutIsCut x own name seen →
             HasRightFile new (after_put records name (length bytes) own) name bytes spoilt
         by-cut (PutIsCut.at_start after doubt held) =
             absurd (cut-off [] after (omega arith) (λ entry is. omega arith))
-        by-cut (PutIsCut.at_done after doubt stored) = stored-file name bytes own records spoilt old new
-            (put-in_effect records name bytes own begins) are None (λ j. ⊥) stored tells
+        by-cut (PutIsCut.at_done after doubt stored) = elim doubt [
+          | inl sure ↦ absurd (cut-off (PutStart (next_id records) name ∷ []) after (omega arith)
+              (λ entry is. sure-off entry (PutStart (next_id records) name ∷ []) sure is))
+          | inr is ↦ with-all (all (inr is)) (stored-file name seen own records spoilt old new
+              (put-in_effect records name seen own begins) are None (λ j. ⊥) stored tells)
+        ]
     by-answer answer.Memory L =
         absurd (let C = L.0 in
         cut-off C.done C.after (cut-parts C.done C.next C.rest C.parts)
@@ -170,27 +193,34 @@ put-in-effect name bytes own records spoilt old new next end (AnswersPut.bad_pro
     absurd (refused-not name bytes own records spoilt old new next end S N F tells 20 0 r)
 put-in-effect name bytes own records spoilt old new next end (AnswersPut.no_memory taken r) S source N F tells =
     absurd (refused-not name bytes own records spoilt old new next end S N F tells 70 0 r)
-put-in-effect name bytes own records spoilt old new next end (AnswersPut.begun rs seen opened known read A) S source N F tells =
-    job (subst (λ l. AnswersJob (PutJob name seen) own l old new end)
-    (known-once old records rs S.known opened.read) A)
+put-in-effect name bytes own records spoilt old new next end (AnswersPut.given_up rs seen opened known none stops runs left) S source N F tells =
+    absurd (given-fewer name bytes own records spoilt old new next end S N F tells
+    (subst (λ l. EachImage new.disk (λ image. StandsFor image (after_begin l name)))
+    (known-once old records rs S.known opened.read) (images-stand new.disk _ _ left.images)))
+put-in-effect name bytes own records spoilt old new next end (AnswersPut.begun rs seen opened known read few A whole) S source N F tells =
+    subst (λ l. HasRightFile new (after_put l name (length bytes) own) name bytes spoilt) once (job A whole)
   where
-    by-left : (how : Answer) → AreBytes bytes → refusal_over records (PutJob name bytes) own ≡ None →
-        LeftAlone records (PutJob name bytes) own how old new end.heard →
-        HasRightFile new (after_put records name (length bytes) own) name bytes spoilt
-    by-left how are begins left =
-        by-answer name bytes own records spoilt old new next end S N F tells are begins how left how
-        left.leaves.by_kind.0
+    once : rs ≡ records
+    once = known-once old records rs S.known opened.read
 
-    job : AnswersJob (PutJob name seen) own records old new end →
-        HasRightFile new (after_put records name (length bytes) own) name bytes spoilt
-    job (AnswersJob.refused why is synced r) =
-        absurd (refused-not name bytes own records spoilt old new next end S N F tells _ 0 r)
-    job (AnswersJob.no_memory synced r) =
-        absurd (refused-not name bytes own records spoilt old new next end S N F tells 70 0 r)
-    job (AnswersJob.ended how none runs left by) =
-        (let short = (put-begins records name seen own none).1 in
-        let same : seen ≡ bytes = whole-read (largest_file + 1) old.source new.source bytes seen source read
-        (read.end (omega (arith, short))) in
-        by-left how (subst AreBytes same read.are_bytes)
-        (subst (λ bs. refusal_over records (PutJob name bs) own ≡ None) same none)
-        (subst (λ bs. LeftAlone records (PutJob name bs) own how old new end.heard) same left))
+    sure : IsSure old rs
+    sure = subst (IsSure old) (sym once) S
+
+    found : IsKnown next (after_put rs name (length bytes) own)
+    found = subst (λ l. IsKnown next (after_put l name (length bytes) own)) (sym once) F
+
+    told : (j : ℕ) → j < (setup_in_effect rs).n → spoilt j ≡ false →
+        is_some (provider_at old.providers j).held ≡ true
+    told j l = tells j (subst (λ l. j < (setup_in_effect l).n) once l)
+
+    job : (A : AnswersJob (PutJob name seen) own rs old new end) →
+        (MayBeWhole name seen own rs A → IfSome new.source (λ rest. rest ≡ [])) →
+        HasRightFile new (after_put rs name (length bytes) own) name bytes spoilt
+    job (AnswersJob.refused why is synced r) all =
+        absurd (refused-not name bytes own rs spoilt old new next end sure N found told _ 0 r)
+    job (AnswersJob.no_memory synced r) all =
+        absurd (refused-not name bytes own rs spoilt old new next end sure N found told 70 0 r)
+    job (AnswersJob.ended how none runs left by) all =
+        by-answer name bytes own rs spoilt old new next end sure N found told seen read.are_bytes none how
+        left (λ may. read-all old.source new.source bytes seen source read (all may)) how
+        left.leaves.by_kind.0

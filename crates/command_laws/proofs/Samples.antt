@@ -36,7 +36,7 @@ use Rattle.command_defs.specs.Commands.{AnswersAlone, AnswersList, Answers}
 use Rattle.command_laws.specs.Ends.{AreSafe}
 use Rattle.command_laws.specs.After.{IsSure, HasRightFile, is_wrong_at}
 use Rattle.lone_laws.specs.Walked.{MayName}
-use Rattle.command_laws.specs.Instances.{store, small_setup, idle_providers, held_name, held_file, other_name, set_up_records, held_records, scrubbed_store, with_sink, ends, get_held, get_other}
+use Rattle.command_laws.specs.Instances.{store, small_setup, idle_providers, held_name, held_file, other_name, set_up_records, held_records, started_records, scrubbed_store, with_sink, ends, get_held, get_other}
 use Rattle.command_laws.specs.Pieces.{IsLater, IsChain}
 use Rattle.job_laws.specs.Failing.{bad_seen}
 use Rattle.command_laws.proofs.FilesStay.{bad-few}
@@ -66,6 +66,11 @@ store-sure rs some all accepted room few = record {
 pub set_up-sure : IsSure (store set_up_records) set_up_records
 set_up-sure = store-sure set_up_records (λ e. cc) refl (refl, tt)
     (let e : text_size set_up_records ≡ 51 = refl in omega (arith, e)) (omega arith)
+
+-- so is the one after the first record of the put
+pub started-sure : IsSure (store started_records) started_records
+started-sure = store-sure started_records (λ e. cc) refl (refl, (refl, tt))
+    (let e : text_size started_records ≡ 63 = refl in omega (arith, e)) (omega arith)
 
 -- the store with the empty file is sure
 pub held-sure : IsSure (store held_records) held_records

@@ -17,6 +17,7 @@ use Rattle.command_defs.specs.Commands.{AnswersPut, AnswersAlone, AnswersList, A
 use Rattle.command_laws.specs.Ends.{opens_store}
 use Rattle.opening_defs.proofs.Readings.{read-once, read-set_up, read-good, fresh-good, bad-once}
 use Rattle.command_laws.proofs.Known.{is_unopened, ended-opened, status-ended, job-opened}
+use Rattle.command_laws.proofs.JobEnds.{given-status}
 
 -- how a command goes that looks at a store: it is not started, or it has a status of its own, over records
 -- that were read or none
@@ -34,7 +35,12 @@ put-opening name old new end (AnswersPut.source_fault records opened known rose 
 put-opening name old new end (AnswersPut.bad_profile records opened unknown synced same r) =
     Opening.over records opened (ap is_unopened r.status_is)
 put-opening name old new end (AnswersPut.no_memory taken r) = Opening.no_room r.status_is
-put-opening name old new end (AnswersPut.begun records bytes opened known read A) =
+put-opening name old new end (AnswersPut.given_up records bytes opened known none stops runs left) =
+    Opening.over records opened (elim (given-status _ bytes old new end stops) [
+      | inl e ↦ ap is_unopened e
+      | inr e ↦ ap is_unopened e
+    ])
+put-opening name old new end (AnswersPut.begun records bytes opened known read few A whole) =
     Opening.over records opened (job-opened _ _ records old new end A)
 
 alone-opening : (kind : Kind) (old new : Seen) (end : Ending) → AnswersAlone kind old new end →

@@ -6,8 +6,8 @@
 --                                               as a stop then left it, and as many providers
 --   IsThen command records old new after     == the records after a command: those before it, or these with
 --                                               the first few of its job's
---   is_refusal status                        == the status tells that a command was refused, or that its
---                                               source failed
+--   is_refusal status                        == the status tells that a command was refused, and has changed
+--                                               nothing
 --   is_ending status                         == the status is one with which a command ends whose words have
 --                                               a form
 --   is_wrong_at records s file bytes j       == provider j is wrong for a file of these bytes, or does not
@@ -38,7 +38,7 @@ use Rattle.machine_defs.specs.Events.{AreBytes}
 use Rattle.command_defs.specs.Forms.{Command, PutUnder, PutAt, GetOf, DropOf, ListAll, AuditAll, UpgradeJournal}
 use Rattle.command_defs.specs.Seen.{Seen, provider_at}
 use Rattle.command_defs.specs.Opens.{setup_in_effect, object_in_effect}
-use Rattle.command_laws.specs.Ends.{IsKnown, profile_named, RunsKind, DiskHas}
+use Rattle.command_laws.specs.Ends.{IsKnown, profile_named, RunsKind, ReadsWhole, DiskHas}
 use Rattle.command_laws.specs.Kept.{AreAppended}
 
 -- the store is known, and each image of its disk stands for these records
@@ -51,7 +51,8 @@ pub record Follows (new next : Seen) : Type 0 where
   pub disk : (next.disk ≡ new.disk) ⊎ Goes Stopped new.disk next.disk
   pub handed : length next.providers ≡ length new.providers
 
--- these are records before a command with the first few of those that its job appends
+-- these are records before a command with the first few of those that its job appends; a put whose last one
+-- is among them has read its whole source
 pub record HasGrown (command : Command) (records : List Record) (old new : Seen)
     (after : List Record) : Type 0 where
   pub kind : Kind
@@ -59,25 +60,27 @@ pub record HasGrown (command : Command) (records : List Record) (old new : Seen)
   pub own : List Record
   pub are_own : AreAppended records kind (profile_named command) own
   pub count : ℕ
+  pub whole : 1 < count → ReadsWhole kind old new
   pub after_is : after ≡ reverse (take count own) ++ records
 
 -- the records after a command, by those before it
 abbrev pub IsThen : Command → List Record → Seen → Seen → List Record → Type 0
 IsThen command records old new after = (after ≡ records) ⊎ HasGrown command records old new after
 
--- the statuses of refusals, and that of a source that failed before a begin
+-- the statuses of refusals
 abbrev pub is_refusal : ℕ → Bool
 is_refusal status =
     (status == 3) || (status == 6) || (status == 7) || (status == 8) || (status == 9) || (status == 10)
     || (status == 11)
-    || (status == 14) || (status == 16) || (status == 17) || (status == 18) || (status == 20)
+    || (status == 17) || (status == 18) || (status == 20)
     || (status == 21) || (status == 22) || (status == 23) || (status == 24)
 
--- the statuses with which a command ends whose words have a form: done, a row lost, faults, want of memory,
--- and refusals
+-- the statuses with which a command ends whose words have a form: done, a row lost, faults, a source that is
+-- too long, want of memory, and refusals
 abbrev pub is_ending : ℕ → Bool
 is_ending status =
-    (status == 0) || (status == 4) || (status == 12) || (status == 13) || (status == 15) || (status == 70)
+    (status == 0) || (status == 4) || (status == 12) || (status == 13) || (status == 14) || (status == 15)
+    || (status == 16) || (status == 70)
     || is_refusal status
 
 -- a provider with this content is wrong for an object of these bytes

@@ -11,20 +11,25 @@
 --   opens_store command                == the command looks at the records of a store
 --   put_of name own                    == the words of a put, with the profile that it names, or with none
 --   profile_named command              == the profile that a command names
---   put_refusal records name bytes own == why a put is refused: for a profile that there is none of before
---                                         all else, since its source is not read then
+--   put_refusal records name own       == why a put is refused, whatever its source: for a profile that there
+--                                         is none of before all else, since its source is not read then
 --   after_put records name size own, after_drop, after_audit, after_repair, after_upgrade
 --                                      == the records that such a job that is done leaves
 --   ran_to after records old new heard == what a job left that was done, as it is seen
---   RunsKind command old new kind      == the command runs a job of this kind: a put of what it read
---   EndsInOrder command old new end    == status 0, or 70, or the command is refused, with its cause
+--   RunsKind command old new kind      == the command runs a job of this kind: a put of a first part of what
+--                                         it read
+--   ReadsWhole kind old new            == the bytes of such a put are its whole source
+--   GivesUpPut name own old new end    == what a put leaves that was given up behind its begin, since its
+--                                         source failed or has more bytes than a file may have
+--   EndsInOrder command old new end    == status 0, or 70, or the command is refused, with its cause, or its
+--                                         source is too long
 --   FaultsHaveCauses old new end       == a status of a fault comes only where the count of that device rose
 --   AreSafe records old new bytes      == for each file in effect at most b providers are wrong for its
 --                                         bytes, or failed
 --   HoldsFile records new bytes file j == what is told of provider j has each block of a file of these bytes
 --   IsWholePut name own old new end, IsDropped, IsAudited, IsRepaired, IsUpgraded, IsScrubbed
 --                                      == what a command has done that is done; its text is told, or cut off
-use Rattle.std.specs.Prelude.{◌≡◌, ◌⊎◌, ℕ, ◌+◌, ◌≤◌, ◌<◌, Bool, true, false, IsTrue, List, [], ◌∷◌, length, Option, None, Some, IfSome, is_some, if◌then◌else◌}
+use Rattle.std.specs.Prelude.{◌≡◌, ◌⊎◌, ℕ, ◌+◌, ◌≤◌, ◌<◌, Bool, true, false, IsTrue, List, [], ◌∷◌, ◌++◌, length, Option, None, Some, IfSome, is_some, if◌then◌else◌}
 use Rattle.column_defs.specs.Columns.{columns}
 use Rattle.device_defs.specs.Faults.{Rose}
 use Rattle.device_defs.specs.Images.{EachImage}
@@ -37,14 +42,15 @@ use Rattle.machine_defs.specs.Events.{AreBytes}
 use Rattle.machine_defs.specs.Begins.{chosen}
 use Rattle.machine_defs.specs.Refusals.{Refusal, BadProfile}
 use Rattle.machine_defs.specs.Heard.{Entry}
-use Rattle.command_defs.specs.Seen.{Seen, Ending, ReadsUpTo, IsRefused, IsSynced, provider_at}
+use Rattle.command_defs.specs.Seen.{Seen, Ending, ReadsUpTo, ReadsFront, IsRefused, IsSynced, provider_at}
 use Rattle.command_defs.specs.Opens.{IsOpened, Unstarted, setup_in_effect, object_in_effect, stripes_in_effect}
 use Rattle.command_defs.specs.Refusals.{is_unknown, refusal_over, status_of}
 use Rattle.command_defs.specs.Ran.{Ran, ran_alone, EachHeldGoes}
 use Rattle.command_defs.specs.Forms.{Command, RowOf, InitWith, PutUnder, PutAt, GetOf, DropOf, AuditAll, RepairDue, UpgradeJournal}
 use Rattle.command_defs.specs.Lines.{stored_line, dropped_line, audit_lines, repaired_line, upgraded_line, scrub_lines}
 use Rattle.command_defs.specs.Blocks.{DroppedFrom}
-use Rattle.command_defs.specs.Puts.{put_done, StoresFile}
+use Rattle.command_defs.specs.Puts.{put_done, StoresFile, StoresAll}
+use Rattle.command_defs.specs.GivenUp.{put_stripe, after_begin, StopsReading}
 use Rattle.command_defs.specs.Audits.{HearsRounds, CountsHeard}
 use Rattle.command_defs.specs.Repairs.{flags, RewritesAll}
 use Rattle.command_defs.specs.Scrubs.{SweepsAll}
@@ -89,17 +95,22 @@ abbrev pub profile_named : Command → Option ℕ
 profile_named (PutAt name profile) = Some profile
 profile_named command = None
 
--- why a put is refused: for a profile that there is none of before all else
-abbrev pub put_refusal : List Record → List ℕ → List ℕ → Option ℕ → Option Refusal
-put_refusal records name bytes own =
-    if is_unknown own then Some BadProfile else refusal_over records (PutJob name bytes) own
+-- Why a put is refused, whatever its source: for a profile that there is none of before all else. That its
+-- source is too long shows behind its begin.
+abbrev pub put_refusal : List Record → List ℕ → Option ℕ → Option Refusal
+put_refusal records name own =
+    if is_unknown own then Some BadProfile else refusal_over records (PutJob name []) own
+
+-- a put of a first part of what was read
+abbrev pub PutsFront : List ℕ → Seen → Seen → Kind → Type 0
+PutsFront name old new kind =
+    (bytes : List ℕ) × (rest : List ℕ) × ReadsFront old.source new.source (bytes ++ rest)
+    × (length bytes ≤ largest_file) × (kind ≡ PutJob name bytes)
 
 -- the kind of the job that a command runs
 abbrev pub RunsKind : Command → Seen → Seen → Kind → Type 0
-RunsKind (PutUnder name) old new kind =
-    (bytes : List ℕ) × ReadsUpTo (largest_file + 1) old.source new.source bytes × (kind ≡ PutJob name bytes)
-RunsKind (PutAt name profile) old new kind =
-    (bytes : List ℕ) × ReadsUpTo (largest_file + 1) old.source new.source bytes × (kind ≡ PutJob name bytes)
+RunsKind (PutUnder name) old new kind = PutsFront name old new kind
+RunsKind (PutAt name profile) old new kind = PutsFront name old new kind
 RunsKind (GetOf name) old new kind = kind ≡ GetJob name
 RunsKind (DropOf name) old new kind = kind ≡ DropJob name
 RunsKind AuditAll old new kind = kind ≡ AuditJob
@@ -107,8 +118,38 @@ RunsKind RepairDue old new kind = kind ≡ RepairJob
 RunsKind UpgradeJournal old new kind = kind ≡ UpgradeJob
 RunsKind command old new kind = ⊥
 
+-- the bytes of a put are its whole source
+abbrev pub ReadsWhole : Kind → Seen → Seen → Type 0
+ReadsWhole (PutJob name bytes) old new =
+    ReadsFront old.source new.source bytes × IfSome new.source (λ left. left ≡ [])
+ReadsWhole kind old new = Unit {0}
+
+-- what a job left that was done, as it is seen
+abbrev pub ran_to : List Record → List Record → Seen → Seen → List Entry → Ran
+ran_to after records old new heard = ran_alone records old new heard old.disk_faults after None
+
+-- each image of the disk stands for these records
+abbrev pub DiskHas : List Record → Seen → Type 0
+DiskHas records new = EachImage new.disk (λ image. StandsFor image records)
+
+-- a put was given up behind its begin: its number is used, the whole stripes of what was read are stored
+-- under it, no file came into effect or went out of it, and no repair came due or went
+pub record GivesUpPut (name : List ℕ) (own : Option ℕ) (old new : Seen) (end : Ending) : Type 0 where
+  pub records : List Record
+  pub bytes : List ℕ
+  pub opened : IsOpened old records
+  pub taken : put_refusal records name own ≡ None
+  pub stops : StopsReading (put_stripe records own) bytes old new end
+  pub disk : DiskHas (after_begin records name) new
+  pub files : (other : List ℕ) → file_of (after_begin records name) other ≡ file_of records other
+  pub due : due_of (after_begin records name) ≡ due_of records
+  pub stored : StoresAll (ran_to (after_begin records name) records old new end.heard) own bytes
+  pub others : (j : ℕ) → (setup_in_effect records).n ≤ j
+      → provider_at new.providers j ≡ provider_at old.providers j
+
 -- a command is done, or found no memory, or is refused: before its begin, for a profile that there is none
--- of, or for the first cause that applies over records that a start accepts
+-- of, or for the first cause that applies over records that a start accepts; or it is a put that was given up
+-- since its source is too long
 pub data EndsInOrder (command : Command) (old new : Seen) (end : Ending) : Type 0 where
   done : end.status ≡ 0 → EndsInOrder command old new end
   no_memory : end.status ≡ 70 → EndsInOrder command old new end
@@ -118,6 +159,8 @@ pub data EndsInOrder (command : Command) (old new : Seen) (end : Ending) : Type 
   refused : (records : List Record) (kind : Kind) (why : Refusal) → IsOpened old records
       → RunsKind command old new kind → refusal_over records kind (profile_named command) ≡ Some why →
       IsRefused (status_of why) 0 old new end → EndsInOrder command old new end
+  too_long : (name : List ℕ) (own : Option ℕ) → command ≡ put_of name own → end.status ≡ 16
+      → GivesUpPut name own old new end → EndsInOrder command old new end
 
 -- a status of a fault comes only where the count of that device rose; that of a provider is told by its place
 pub record FaultsHaveCauses (old new : Seen) (end : Ending) : Type 0 where
@@ -159,14 +202,6 @@ after_repair records due = RepairDone due.number ∷ records
 -- the records after an upgrade
 abbrev pub after_upgrade : List Record → List Record
 after_upgrade records = Version ∷ records
-
--- what a job left that was done, as it is seen
-abbrev pub ran_to : List Record → List Record → Seen → Seen → List Entry → Ran
-ran_to after records old new heard = ran_alone records old new heard old.disk_faults after None
-
--- each image of the disk stands for these records
-abbrev pub DiskHas : List Record → Seen → Type 0
-DiskHas records new = EachImage new.disk (λ image. StandsFor image records)
 
 -- a put: the whole source is stored on every provider, and in effect, with the profile that was named, or
 -- else the setup's

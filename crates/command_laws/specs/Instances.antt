@@ -10,9 +10,14 @@
 --                                                     with the file put into it with a profile of its own
 --   audited_records, due_records, repaired_records == of a store with no file after an audit, with a repair
 --                                                     due, and after it
+--   started_records, given_up_store                == of one after the first record of the put, and what is
+--                                                     seen where its source failed then
 --   put_store, audited_store, repaired_store, upgraded_store, own_store, scrubbed_store
 --                                                  == what is seen after a put of the file, that audit, that
 --                                                     repair, an upgrade, that put, a scrub of the file
+--   hidden_providers                               == four providers that tell nothing
+--   reading records bytes                          == devices whose disk reads these records, with such
+--                                                     providers, and these bytes in the source
 --   small_numbers, key_text, key_devices, ready_store
 --                                                  == the numbers of an init, its key, devices before it and
 --                                                     after it
@@ -30,7 +35,7 @@ use Rattle.record_defs.specs.Journal.{text}
 use Rattle.record_defs.specs.Table.{File, file_as}
 use Rattle.command_defs.specs.Forms.{Numbers, GetOf}
 use Rattle.command_defs.specs.Lines.{ready_line, stored_line, audit_lines, repaired_line, upgraded_line, scrub_lines}
-use Rattle.command_defs.specs.Seen.{Seen, Ending}
+use Rattle.command_defs.specs.Seen.{Seen, Ending, nobody}
 use Rattle.command_laws.specs.Pieces.{Call}
 
 -- four providers, one of them primary, of which one may be wrong
@@ -68,6 +73,14 @@ store records = record {
   sink_faults = 0;
 }
 
+-- four providers that tell nothing
+abbrev pub hidden_providers : List Provider
+hidden_providers = nobody ∷ nobody ∷ nobody ∷ nobody ∷ []
+
+-- devices with such providers, and these bytes in the source
+abbrev pub reading : List Record → List ℕ → Seen
+reading records bytes = record (store records) { providers = hidden_providers; source = Some bytes }
+
 -- devices whose disk reads nothing
 abbrev pub empty_devices : Seen
 empty_devices = record (store []) { disk = Some [] }
@@ -95,6 +108,10 @@ set_up_records = SetUp small_setup ∷ []
 -- and of one with the file
 abbrev pub held_records : List Record
 held_records = PutDone 1 0 ∷ PutStart 1 held_name ∷ set_up_records
+
+-- of one after the first record of the put
+abbrev pub started_records : List Record
+started_records = PutStart 1 held_name ∷ set_up_records
 
 -- of one whose journal has its second version
 abbrev pub upgraded_records : List Record
@@ -143,6 +160,10 @@ ready_store = with_sink (store set_up_records) ready_line
 -- what is seen after the put of the file, the audit and the repair
 abbrev pub put_store : Seen
 put_store = with_sink (store held_records) (stored_line held_name 0)
+
+-- what is seen after the put whose source failed behind its begin
+abbrev pub given_up_store : Seen
+given_up_store = record (store started_records) { source_faults = 1 }
 
 -- what is seen after the audit
 abbrev pub audited_store : Seen

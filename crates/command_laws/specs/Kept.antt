@@ -4,8 +4,9 @@
 --                                                 before
 --   AreAppended records kind profile own       == these are the records that a job of this kind appends over
 --                                                 these records, the oldest first; a put also names a profile
---   IsAfter records kind profile image         == an image stands for these records, with the first few of
---                                                 those of such a job
+--   IsAfter records kind profile old new image == an image stands for these records, with the first few of
+--                                                 those of such a job; of a put whose last one stands there,
+--                                                 the bytes are the whole source
 --   LeavesImages command old new               == the images are images as before, or a job was run over the
 --                                                 records that were read, and each image stands for these
 --                                                 with some that it wrote
@@ -20,27 +21,28 @@
 --   LosesFile name old new end, LosesRepair, LosesScrub
 --                                              == what a get, a repair and a scrub leave that found a row
 --                                                 lost
-use Rattle.std.specs.Prelude.{◌≡◌, ◌⊎◌, ℕ, ◌+◌, ◌<◌, Bool, true, false, List, [], ◌∷◌, ◌++◌, length, reverse, take, Option, Some, IfSome}
+use Rattle.std.specs.Prelude.{◌≡◌, ◌⊎◌, ℕ, ◌<◌, ◌≤◌, Bool, true, false, List, [], ◌∷◌, ◌++◌, length, reverse, take, Option, Some, IfSome}
 use Rattle.column_defs.specs.Verdicts.{is_flagged}
 use Rattle.device_defs.specs.Faults.{Rose}
 use Rattle.device_defs.specs.Images.{IsImage, EachImage}
 use Rattle.device_defs.specs.Told.{Goes}
-use Rattle.record_defs.specs.Records.{Record, PutStart, Drop, RepairDone, Version, largest_file}
+use Rattle.record_defs.specs.Records.{Record, Drop, RepairDone, Version, largest_file}
 use Rattle.record_defs.specs.Journal.{StandsFor}
-use Rattle.record_defs.specs.Table.{File, Due, next_id, file_of, due_of}
+use Rattle.record_defs.specs.Table.{File, Due, file_of, due_of}
 use Rattle.machine_defs.specs.Events.{AreBytes}
 use Rattle.machine_defs.specs.Jobs.{Kind, PutJob, GetJob, DropJob, AuditJob, RepairJob, UpgradeJob}
 use Rattle.command_defs.specs.Forms.{Command, Numbers, RowOf, PutUnder, PutAt, GetOf, RepairDue, ScrubAll}
-use Rattle.command_defs.specs.Seen.{Seen, Ending, ReadsUpTo, provider_at}
+use Rattle.command_defs.specs.Seen.{Seen, Ending, ReadsFront, provider_at}
 use Rattle.opening_defs.specs.Journals.{IsSetUpOn, MayBeLeft}
 use Rattle.command_defs.specs.Opens.{IsOpened, setup_in_effect}
 use Rattle.command_defs.specs.Inits.{setup_with}
 use Rattle.command_defs.specs.Puts.{put_records, StoresPart}
+use Rattle.command_defs.specs.GivenUp.{after_begin}
 use Rattle.command_defs.specs.Gets.{LosesStripe}
 use Rattle.command_defs.specs.Audits.{audit_records}
 use Rattle.command_defs.specs.Repairs.{flags, LosesAtPlace, RewritesSome}
 use Rattle.command_defs.specs.Scrubs.{everyone}
-use Rattle.command_laws.specs.Ends.{profile_named, RunsKind, DiskHas, ran_to}
+use Rattle.command_laws.specs.Ends.{profile_named, RunsKind, ReadsWhole, DiskHas, ran_to}
 
 -- each image of the disk is one that it had before
 abbrev pub KeepsImages : Seen → Seen → Type 0
@@ -57,18 +59,21 @@ AreAppended records RepairJob profile own =
     (due : Due) × (due_of records ≡ Some due) × (own ≡ RepairDone due.number ∷ [])
 AreAppended records UpgradeJob profile own = own ≡ Version ∷ []
 
--- an image stands for records, with the first few of those of a job
-pub record IsAfter (records : List Record) (kind : Kind) (profile : Option ℕ) (image : List ℕ) : Type 0 where
+-- an image stands for records, with the first few of those of a job; a put whose last one stands there has
+-- read its whole source
+pub record IsAfter (records : List Record) (kind : Kind) (profile : Option ℕ) (old new : Seen)
+    (image : List ℕ) : Type 0 where
   pub own : List Record
   pub are_own : AreAppended records kind profile own
   pub count : ℕ
+  pub whole : 1 < count → ReadsWhole kind old new
   pub stands : StandsFor image (reverse (take count own) ++ records)
 
 -- the images are images as before, or those of records that were read, with some that the job wrote
 pub data LeavesImages (command : Command) (old new : Seen) : Type 0 where
   kept : KeepsImages old new → LeavesImages command old new
   ran : (records : List Record) (kind : Kind) → IsOpened old records → RunsKind command old new kind
-      → EachImage new.disk (IsAfter records kind (profile_named command)) →
+      → EachImage new.disk (IsAfter records kind (profile_named command) old new) →
       LeavesImages command old new
 
 -- a store was set up, or each image is one that a failed init may leave
@@ -96,10 +101,6 @@ opens_rows RepairDue = true
 opens_rows ScrubAll = true
 opens_rows command = false
 
--- the records after the first append of a put
-abbrev pub after_start : List Record → List ℕ → List Record
-after_start records name = PutStart (next_id records) name ∷ records
-
 -- a store of a put failed: its number is used, no file came into effect or went out of it, and no repair
 -- came due or went
 pub record FailsToPut (name : List ℕ) (profile : Option ℕ) (old new : Seen) (end : Ending) : Type 0 where
@@ -107,15 +108,16 @@ pub record FailsToPut (name : List ℕ) (profile : Option ℕ) (old new : Seen) 
   pub bytes : List ℕ
   pub opened : IsOpened old records
   pub are_bytes : AreBytes bytes
-  pub read : ReadsUpTo (largest_file + 1) old.source new.source bytes
+  pub read : ReadsFront old.source new.source bytes
+  pub few : length bytes ≤ largest_file
   pub provider : end.at < (setup_in_effect records).n
   pub rose : Rose (provider_at old.providers end.at).store_faults
       (provider_at new.providers end.at).store_faults
   pub sink : new.sink ≡ old.sink
-  pub disk : DiskHas (after_start records name) new
-  pub files : (other : List ℕ) → file_of (after_start records name) other ≡ file_of records other
-  pub due : due_of (after_start records name) ≡ due_of records
-  pub stored : StoresPart (ran_to (after_start records name) records old new end.heard) profile bytes
+  pub disk : DiskHas (after_begin records name) new
+  pub files : (other : List ℕ) → file_of (after_begin records name) other ≡ file_of records other
+  pub due : due_of (after_begin records name) ≡ due_of records
+  pub stored : StoresPart (ran_to (after_begin records name) records old new end.heard) profile bytes
 
 -- a store of a repair failed, of a flagged provider: the repair stays due, and some of its blocks may have
 -- been written anew

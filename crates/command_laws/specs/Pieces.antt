@@ -8,7 +8,7 @@
 --   IsCall command old new end w own == these moments are what the machine makes of a command: a later call
 --                                       of the program, a reopening, and where that opened, the begin of its
 --                                       job or of a scrub with its steps, or a list of names; from this state
---                                       on
+--                                       on. A put that was given up makes some steps of its job and no end
 --   AreReplaced events old new       == these events replaced what providers hold
 --   IsLater new next                 == the next command finds the disk as the last one left it, or as a stop
 --                                       then left it, and what providers hold as such events left it
@@ -23,7 +23,7 @@ use Rattle.device_defs.specs.Disks.{Stopped}
 use Rattle.device_defs.specs.Providers.{Provider, with_symbol, without_block, HasPlace}
 use Rattle.device_defs.specs.ProviderCalls.{Replaces}
 use Rattle.device_defs.specs.Told.{Goes}
-use Rattle.machine_defs.specs.Answers.{Answer}
+use Rattle.machine_defs.specs.Answers.{Answer, Put}
 use Rattle.machine_defs.specs.Events.{Event, Begin, BeginAt, BeginScrub, Step, Alter, Lose, Stop, Reopen, Names, Continue, Outcome, Refused, Opened, Begun, Ended, Listed, Continued, IsSpelled, AreBytes}
 use Rattle.machine_defs.specs.Heard.{heard_by}
 use Rattle.machine_defs.specs.Jobs.{Kind, PutJob, job_of}
@@ -43,7 +43,7 @@ use Rattle.command_defs.specs.Jobs.{EndsByAnswer}
 use Rattle.command_defs.specs.Lines.{text_of, list_lines, scrub_text}
 use Rattle.command_defs.specs.Refusals.{is_unknown, status_of}
 use Rattle.command_defs.specs.Commands.{Answers}
-use Rattle.command_laws.specs.Ends.{profile_named, RunsKind, opens_store}
+use Rattle.command_laws.specs.Ends.{profile_named, RunsKind, ReadsWhole, opens_store}
 
 -- a sound state stands for what is seen: each image of the disk for its records, or for these with the one
 -- in doubt, or it is too short for any where there are none; and the providers are its own
@@ -80,8 +80,9 @@ unopened_status why = 70
 
 -- what the machine makes of a command from this state on: its store is not opened, for the reason that the
 -- status tells; it is opened, and no more came of it, also where a put names a profile that there is none of;
--- the begin of its job is refused; the names are listed,
--- and the files in effect written; or its job, or a scrub, began and went on to its end
+-- the begin of its job is refused; the names are listed, and the files in effect written; its job, or a
+-- scrub, began and went on to its end, and a put that is stored is one of its whole source; or a put began,
+-- went on, and was given up
 pub data IsCall (command : Command) (old new : Seen) (end : Ending) (w : State)
     (own : List Moment) : Type 0 where
   unopened : (a b : State) (why : Refusal)
@@ -103,13 +104,18 @@ pub data IsCall (command : Command) (old new : Seen) (end : Ending) (w : State)
       WritesLine (list_lines (files_of b.records)) end.status (sinking old new) → end.heard ≡ [] →
       IsCall command old new end w own
   ended : (kind : Kind) (a b c d : State) (steps : List Moment) (answer : Answer)
-      → RunsKind command old new kind → GoOn 1 steps →
+      → RunsKind command old new kind → (answer ≡ Put → ReadsWhole kind old new) → GoOn 1 steps →
       own ≡ moment (Step 1) (Ended answer) d
       ∷ (steps ++ moment (begin_of kind (profile_named command)) (Begun 1) c ∷ moment Reopen Opened b
       ∷ moment Continue Continued a ∷ []) →
       EndsByAnswer (text_of (setup_in b).tolerance kind answer) answer old new end
       → end.heard ≡ heard_by (job_of (now c steps).jobs 1) →
       IsCall command old new end w own
+  given_up : (name bytes : List ℕ) (a b c : State) (steps : List Moment)
+      → RunsKind command old new (PutJob name bytes) → GoOn 1 steps →
+      own ≡ steps ++ moment (begin_of (PutJob name bytes) (profile_named command)) (Begun 1) c
+      ∷ moment Reopen Opened b ∷ moment Continue Continued a ∷ [] →
+      (end.status ≡ 14) ⊎ (end.status ≡ 16) → end.heard ≡ [] → IsCall command old new end w own
   scrubbed : (a b c d : State) (steps : List Moment) (answer : Answer) → command ≡ ScrubAll → GoOn 1 steps →
       own ≡ moment (Step 1) (Ended answer) d
       ∷ (steps ++ moment BeginScrub (Begun 1) c ∷ moment Reopen Opened b ∷ moment Continue Continued a ∷ []) →

@@ -13,19 +13,19 @@ ghost use Rattle.command_defs.specs.Seen.{Seen, Ending, IsRefused, provider_at};
 ghost use Rattle.opening_defs.specs.Journals.{IsFree};
 ghost use Rattle.command_defs.specs.Opens.{setup_in_effect};
 ghost use Rattle.command_defs.specs.Inits.{setup_with};
+ghost use Rattle.command_defs.specs.GivenUp.{after_begin};
 ghost use Rattle.command_defs.specs.Lines.{audit_lines};
 ghost use Rattle.command_defs.specs.Audits.{HearsRounds, CountsHeard};
 ghost use Rattle.command_defs.specs.Jobs.{IsTold};
 ghost use Rattle.command_defs.specs.Commands.{Answers, IsUsage};
 ghost use Rattle.command_laws.specs.Ends.{IsDone, IsKnown, GivesText, GivesUnlessMemory, opens_store, put_of, after_put, after_drop, after_audit, after_repair, after_upgrade, ran_to};
 ghost use Rattle.command_laws.specs.After.{IsSure, Follows, IsThen, is_refusal, HasRightFile, IsUntouched, IsSteady, spoilt_below, IsFaultless, keeps_blocks, IsOfAnother};
-ghost use Rattle.command_laws.specs.Kept.{after_start};
 ghost use Rattle.command_laws.specs.Opened.{IsKeyed};
 
 /// A store that is known stays known, whatever comes of a command, and a stop after it: its records are those
-/// before, or these with the first few of those that the job of the command appends. After a refusal they are
-/// those before, and nothing has changed; nor has it after a row, after words that are no command, and after
-/// an init, whatever comes of it.
+/// before, or these with the first few of those that the job of the command appends; a put whose last one is
+/// among them has read its whole source. After a refusal they are those before, and nothing has changed; nor
+/// has it after a row, after words that are no command, and after an init, whatever comes of it.
 pub fn stores_stay_known()
     ensures always { (command : Command) (records : List Record) (old new next : Seen) (end : Ending)
         → Answers command old new end →
@@ -52,8 +52,9 @@ pub fn stores_stay_known()
         → IsSure old records → IsSure new records }
 {}
 
-/// After a command that is done, and after 4 or 13, the store is known, with the records that are said; and
-/// no stop harms it. A put may name a profile of its own.
+/// After a command that is done, and after 4, 13 or 16, the store is known, with the records that are said;
+/// and no stop harms it. So it is after a put of status 14, unless that has changed nothing. A put may name a
+/// profile of its own.
 pub fn done_commands_leave_known_stores()
     ensures init { (numbers : Numbers) (key : List ℕ) (old new : Seen) (end : Ending)
         → Answers (InitWith numbers) old new end → IsDone end →
@@ -67,7 +68,16 @@ pub fn done_commands_leave_known_stores()
     ensures failed_put { (name : List ℕ) (own : Option ℕ) (records : List Record) (old new : Seen)
         (end : Ending)
         → Answers (put_of name own) old new end →
-        end.status ≡ 13 → IsKnown old records → IsSure new (after_start records name) }
+        end.status ≡ 13 → IsKnown old records → IsSure new (after_begin records name) }
+    ensures long_put { (name : List ℕ) (own : Option ℕ) (records : List Record) (old new : Seen)
+        (end : Ending)
+        → Answers (put_of name own) old new end →
+        end.status ≡ 16 → IsKnown old records → IsSure new (after_begin records name) }
+    ensures cut_put { (name : List ℕ) (own : Option ℕ) (records : List Record) (old new : Seen)
+        (end : Ending)
+        → Answers (put_of name own) old new end →
+        end.status ≡ 14 → IsKnown old records
+        → IsRefused 14 0 old new end ⊎ IsSure new (after_begin records name) }
     ensures get { (name : List ℕ) (records : List Record) (old new : Seen) (end : Ending)
         → Answers (GetOf name) old new end →
         IsDone end ⊎ (end.status ≡ 4) → IsKnown old records → IsSure new records }

@@ -82,8 +82,9 @@ pub fn reads_leave_what_is_held()
 
 /// A put of status 0 or 15 has stored its whole source on every provider, and brought it into effect, with
 /// the profile that it names or else the setup's. A put ends so, or finds no memory, or is refused with its
-/// cause, unless a count of faults rose: the disk's, that of a provider's stores, the source's or the sink's.
-/// Over a disk and a source that tell, one that is not refused ends so.
+/// cause, or is given up since its source is too long, unless a count of faults rose: the disk's, that of a
+/// provider's stores, the source's or the sink's. Over a disk and a source that tell, one that is not refused
+/// and whose source is not too long ends so.
 pub fn puts_store_the_source()
     ensures done { (name : List ℕ) (own : Option ℕ) (old new : Seen) (end : Ending)
         → Answers (put_of name own) old new end → IsDone end → IsWholePut name own old new end }
@@ -226,8 +227,10 @@ pub fn upgrades_end_well()
 
 /// A job has the status of a refusal only where that is the first of its refusals to apply; and where one
 /// applies, the command ends with its status, or that of no memory, and has changed nothing. So it is of the
-/// job of a command over records that were read, and of a command over a disk that tells. A put that names a
-/// profile of which there is none is refused for it before all else.
+/// job of a command over records that were read, and of a command over a disk that tells. A put is refused
+/// whatever its source, for a profile of which there is none before all else; that its source is too long
+/// (16) shows behind its begin, and only where it is not refused and its source has more than 4,194,304
+/// bytes.
 pub fn refusals_are_exact()
     ensures only { (kind : Kind) (own : Option ℕ) (records : List Record) (old new : Seen) (end : Ending)
         (why : Refusal) → AnswersJob kind own records old new end →
@@ -245,17 +248,22 @@ pub fn refusals_are_exact()
         IsKnown old records → (Rose old.disk_faults new.disk_faults → ⊥)
         → refusal_over records kind None ≡ Some why →
         IsRefused (status_of why) 0 old new end ⊎ IsRefused 70 0 old new end }
-    ensures put_only { (name bytes : List ℕ) (own : Option ℕ) (records : List Record) (old new : Seen)
+    ensures put_only { (name : List ℕ) (own : Option ℕ) (records : List Record) (old new : Seen)
         (end : Ending) (why : Refusal) →
-        Answers (put_of name own) old new end → IsKnown old records → old.source ≡ Some bytes
-        → status_of why ≢ 70 →
-        end.status ≡ status_of why → put_refusal records name bytes own ≡ Some why }
-    ensures put_always { (name bytes : List ℕ) (own : Option ℕ) (records : List Record) (old new : Seen)
+        Answers (put_of name own) old new end → IsKnown old records
+        → status_of why ≢ 70 → status_of why ≢ 16 →
+        end.status ≡ status_of why → put_refusal records name own ≡ Some why }
+    ensures put_always { (name : List ℕ) (own : Option ℕ) (records : List Record) (old new : Seen)
         (end : Ending) (why : Refusal) →
-        Answers (put_of name own) old new end → IsKnown old records → old.source ≡ Some bytes
+        Answers (put_of name own) old new end → IsKnown old records
         → (Rose old.disk_faults new.disk_faults → ⊥) →
-        (Rose old.source_faults new.source_faults → ⊥) → put_refusal records name bytes own ≡ Some why →
+        (Rose old.source_faults new.source_faults → ⊥) → put_refusal records name own ≡ Some why →
         IsRefused (status_of why) 0 old new end ⊎ IsRefused 70 0 old new end }
+    ensures too_long_only { (name bytes : List ℕ) (own : Option ℕ) (records : List Record) (old new : Seen)
+        (end : Ending) →
+        Answers (put_of name own) old new end → IsKnown old records → old.source ≡ Some bytes
+        → end.status ≡ 16 →
+        (put_refusal records name own ≡ None) × (largest_file < length bytes) }
 {}
 
 /// A command that looks at a store ends with 9 only where the disk has none, with 8 only where its bytes are

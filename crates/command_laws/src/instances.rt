@@ -1,9 +1,10 @@
 //! Concrete values that meet what the laws suppose of a store, its file and commands over it: these laws are
 //! not empty.
-ghost use Rattle.std.specs.Prelude.{◌≡◌, ◌+◌, ◌-◌, ◌^◌, ◌<◌, ◌≤◌, true, false, [], ◌∷◌, length, Some, None};
-ghost use Rattle.record_defs.specs.Records.{SetUp, is_name, largest_journal, all_profiles};
+ghost use Rattle.std.specs.Prelude.{◌≡◌, ℕ, List, ◌+◌, ◌-◌, ◌^◌, ◌<◌, ◌≤◌, true, false, [], ◌∷◌, length, Some, None};
+ghost use Rattle.record_defs.specs.Records.{SetUp, is_name, largest_file, largest_journal, all_profiles};
 ghost use Rattle.record_defs.specs.Journal.{text_size};
 ghost use Rattle.record_defs.specs.Table.{version_of, next_id, files_of};
+ghost use Rattle.machine_defs.specs.Events.{AreBytes};
 ghost use Rattle.machine_defs.specs.Openings.{IsNotSetUp};
 ghost use Rattle.machine_defs.specs.States.{State};
 ghost use Rattle.command_defs.specs.Forms.{InitWith, PutUnder, PutAt, GetOf, ListAll, AuditAll, RepairDue, UpgradeJournal, ScrubAll, RowOf};
@@ -17,16 +18,17 @@ ghost use Rattle.command_laws.specs.Ends.{AreSafe};
 ghost use Rattle.command_laws.specs.After.{IsSure, Follows, HasRightFile, IsUntouched, IsSteady, IsFaultless};
 ghost use Rattle.command_laws.specs.Opened.{IsKeyed};
 ghost use Rattle.command_laws.specs.Pieces.{IsStore, IsLater, IsChain};
-ghost use Rattle.command_laws.specs.Instances.{store, small_setup, small_numbers, key_devices, ready_store, put_store, held_name, held_file, other_name, set_up_records, held_records, upgraded_records, own_records, due_records, audited_store, repaired_store, upgraded_store, own_store, scrubbed_store, empty_devices, failed_devices, with_sink, ends, get_held, get_other};
+ghost use Rattle.command_laws.specs.Instances.{store, small_setup, small_numbers, key_devices, ready_store, put_store, held_name, held_file, other_name, set_up_records, held_records, upgraded_records, own_records, due_records, audited_store, repaired_store, upgraded_store, own_store, scrubbed_store, given_up_store, started_records, reading, empty_devices, failed_devices, with_sink, ends, get_held, get_other};
 
-/// A store that was set up, one with one empty file, one with a repair due, one whose journal has its second
-/// version and one with a file that has a profile of its own are known, in each image of the disk. The file
-/// is right on all providers, none of which is wrong or failed; the next command finds it so; and a state of
-/// the abstract client stands for the store, as one does for a disk on which nothing is set up, and for one
-/// of which an init failed, whose setup is in doubt.
+/// A store that was set up, whatever its source holds, one with one empty file, one with a repair due, one
+/// whose journal has its second version and one with a file that has a profile of its own are known, in each
+/// image of the disk. The file is right on all providers, none of which is wrong or failed; the next command
+/// finds it so; and a state of the abstract client stands for the store, as one does for a disk on which
+/// nothing is set up, and for one of which an init failed, whose setup is in doubt.
 pub fn there_are_known_stores()
     ensures set_up { IsSure (store set_up_records) set_up_records }
     ensures sure { IsSure (store held_records) held_records }
+    ensures reading { (bytes : List ℕ) → IsSure (reading set_up_records bytes) set_up_records }
     ensures due { IsSure (store due_records) due_records }
     ensures upgraded { IsSure (store upgraded_records) upgraded_records }
     ensures own { IsSure (store own_records) own_records }
@@ -49,12 +51,14 @@ pub fn there_are_known_stores()
 {}
 
 /// An init with a key sets up an empty disk. Over a store that was set up a put of the empty file is done,
-/// and leaves that store. Over it a get gives the file, a get of another name ends with 3, and a list gives
-/// the files; over an empty disk a get ends with 9; a row whose numbers are no shape ends with 20, and words
-/// that are no command with 2. Over a store with no file an audit is done, and a repair that was due. An
-/// upgrade is done over a store that was set up, and over the upgraded one a put with a profile of its own; a
-/// profile that there is none of, one in a journal of the first version, and a second upgrade are refused.
-/// A scrub is done over the store with the file, of which nothing differs. Two gets are a chain.
+/// and leaves that store; one whose source fails behind its begin is given up, and so is one of any source of
+/// one byte more than a file may have, over providers that tell nothing. Over the store with the file a get
+/// gives it, a get of another name ends with 3, and a list gives the files; over an empty disk a get ends
+/// with 9; a row whose numbers are no shape ends with 20, and words that are no command with 2. Over a store
+/// with no file an audit is done, and a repair that was due. An upgrade is done over a store that was set up,
+/// and over the upgraded one a put with a profile of its own; a profile that there is none of, one in a
+/// journal of the first version, and a second upgrade are refused. A scrub is done over the store with the
+/// file, of which nothing differs. Two gets are a chain.
 pub fn there_are_answers()
     ensures got { Answers (GetOf held_name) (store held_records) (store held_records) (ends 0) }
     ensures missing { Answers (GetOf other_name) (store held_records) (store held_records) (ends 3) }
@@ -66,6 +70,9 @@ pub fn there_are_answers()
     ensures init { Answers (InitWith small_numbers) key_devices ready_store (ends 0)
         × IsKeyed small_numbers small_setup.master key_devices }
     ensures put { Answers (PutUnder held_name) (store set_up_records) put_store (ends 0) }
+    ensures given_up { Answers (PutUnder held_name) (store set_up_records) given_up_store (ends 14) }
+    ensures too_long { (bytes : List ℕ) → AreBytes bytes → length bytes ≡ largest_file + 1 →
+        Answers (PutUnder held_name) (reading set_up_records bytes) (reading started_records []) (ends 16) }
     ensures audit { Answers AuditAll (store set_up_records) audited_store (ends 0) }
     ensures repair { Answers RepairDue (store due_records) repaired_store (ends 0) }
     ensures upgrade { Answers UpgradeJournal (store set_up_records) upgraded_store (ends 0) }

@@ -1,19 +1,22 @@
 //! What commands leave however they end: the disk's images, fetches, and what a store that failed or a lost
 //! row leaves due.
-ghost use Rattle.std.specs.Prelude.{◌≡◌, ◌≢◌, ◌⊎◌, ℕ, true, List, [], Option};
+ghost use Rattle.std.specs.Prelude.{◌≡◌, ◌≢◌, ◌⊎◌, ℕ, ◌<◌, true, List, [], length, Option, Some, None};
+ghost use Rattle.device_defs.specs.Faults.{Rose};
 ghost use Rattle.device_defs.specs.Images.{EachImage};
-ghost use Rattle.record_defs.specs.Records.{Record};
+ghost use Rattle.record_defs.specs.Records.{Record, largest_file};
 ghost use Rattle.record_defs.specs.Journal.{StandsFor};
 ghost use Rattle.machine_defs.specs.Jobs.{Kind};
 ghost use Rattle.command_defs.specs.Forms.{Command, Numbers, RowOf, InitWith, GetOf, DropOf, ListAll, AuditAll, RepairDue, UpgradeJournal, ScrubAll};
-ghost use Rattle.command_defs.specs.Seen.{Seen, Ending, IsRefused, KeepsDisk};
+ghost use Rattle.command_defs.specs.Seen.{Seen, Ending, IsRefused, KeepsDisk, provider_at};
+ghost use Rattle.command_defs.specs.Opens.{setup_in_effect};
 ghost use Rattle.command_defs.specs.Commands.{Answers};
-ghost use Rattle.command_laws.specs.Ends.{IsKnown, put_of, profile_named, RunsKind, opens_store};
+ghost use Rattle.command_laws.specs.Ends.{IsKnown, put_of, put_refusal, profile_named, RunsKind, GivesUpPut, opens_store};
 ghost use Rattle.command_laws.specs.Kept.{KeepsImages, IsAfter, LeavesImages, InitImages, SameFetches, stores_blocks, opens_rows, FailsToPut, FailsToRepair, FailsToScrub, LosesFile, LosesRepair, LosesScrub};
 
 /// What a stop may leave of the disk after a command: what it could have left before, or, where a job was
-/// run, the records that were read with the first few of those that the job wrote. A scrub at most syncs the
-/// disk, and an init leaves a store that is set up as it is.
+/// run, the records that were read with the first few of those that the job wrote. A put whose last one may
+/// stand there has read its whole source. A scrub at most syncs the disk, and an init leaves a store that is
+/// set up as it is.
 pub fn images_stand()
     ensures refused { (status at : ℕ) (old new : Seen) (end : Ending) → IsRefused status at old new end
         → KeepsImages old new }
@@ -30,7 +33,7 @@ pub fn images_stand()
         → EachImage old.disk (λ image. StandsFor image records) →
         EachImage new.disk (λ image. StandsFor image records
         ⊎ ((kind : Kind) × RunsKind command old new kind
-        × IsAfter records kind (profile_named command) image)) }
+        × IsAfter records kind (profile_named command) old new image)) }
     ensures init { (numbers : Numbers) (old new : Seen) (end : Ending)
         → Answers (InitWith numbers) old new end → InitImages numbers old new }
     ensures init_known { (numbers : Numbers) (records : List Record) (old new : Seen) (end : Ending)
@@ -65,6 +68,29 @@ pub fn failed_stores_leave()
     ensures only { (command : Command) (old new : Seen) (end : Ending) → Answers command old new end
         → end.status ≡ 13 →
         stores_blocks command ≡ true }
+{}
+
+/// A source that failed, or that has more bytes than a file may have. A put of status 16, or of 14 behind its
+/// begin, was given up: its number is used, the whole stripes of what was read are stored under it, and no
+/// file came into effect or went out of it. A command of status 14 that was not given up has changed nothing.
+/// Over a disk and a source that tell, a put of more than 4,194,304 bytes that is not refused ends with 16,
+/// or finds no memory, unless a count of faults rose: the disk's, that of a provider's stores, or the
+/// source's.
+pub fn cut_sources_leave()
+    ensures source_fault { (command : Command) (old new : Seen) (end : Ending) → Answers command old new end
+        → end.status ≡ 14 →
+        IsRefused 14 0 old new end ⊎ ((name : List ℕ) × (own : Option ℕ) × (command ≡ put_of name own)
+        × GivesUpPut name own old new end) }
+    ensures too_long { (command : Command) (old new : Seen) (end : Ending) → Answers command old new end
+        → end.status ≡ 16 →
+        (name : List ℕ) × (own : Option ℕ) × (command ≡ put_of name own) × GivesUpPut name own old new end }
+    ensures ends_well { (name bytes : List ℕ) (own : Option ℕ) (records : List Record) (old new : Seen)
+        (end : Ending) → Answers (put_of name own) old new end →
+        IsKnown old records → old.source ≡ Some bytes → largest_file < length bytes
+        → put_refusal records name own ≡ None → (Rose old.disk_faults new.disk_faults → ⊥) →
+        ((j : ℕ) → j < (setup_in_effect records).n
+        → Rose (provider_at old.providers j).store_faults (provider_at new.providers j).store_faults → ⊥) →
+        (Rose old.source_faults new.source_faults → ⊥) → (end.status ≡ 16) ⊎ (end.status ≡ 70) }
 {}
 
 /// A get, a repair or a scrub of status 4 tells a row that was not accepted, the lowest of the first stripe

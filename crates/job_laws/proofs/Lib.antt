@@ -25,5 +25,6 @@ pub mod Drops
 pub mod Upgrades
 pub mod Complete
 pub mod Telling
+pub mod Parts
 pub mod Mended
 pub mod BeginRefusals

@@ -228,6 +228,26 @@ module _ (s : Setup) (profile : ℕ) (name bytes : List ℕ) (subject id count :
         ∙ R.others o t (λ e. inr (let l = n.stored e in omega (arith, l, size)));
   }
 
+-- the stores of a put, once all are made, store its file on each provider
+pub all-stored : (s : Setup) (profile : ℕ) (name bytes : List ℕ) (job : Job) (id : ℕ) (pinned : List Pinned)
+    (old new : ℕ → Provider) (given now : List Given) (j : ℕ) → job.profile ≡ profile → job.subject ≡ id →
+    j < s.n → Made (x s profile name bytes job.subject id pinned j) (store_actions s job bytes) old new given
+    now → Goes (StoredOn (object_of (profiled s profile) id) bytes None ⊥ j) (old j).held (new j).held
+all-stored s profile name bytes job id pinned old new given now j is drawn below m =
+    goes-mono (StoresRange s profile name bytes job.subject id pinned j 0 count)
+    (StoredOn (object_of (profiled s profile) id) bytes None ⊥ j)
+    (λ h k R. whole-none s profile name bytes job.subject id count pinned j ⊥ h k k size R refl) (old j).held
+    (new j).held
+    (stores-go s profile name bytes job.subject id pinned j count 0 old new given now below
+    (subst (λ i. Made (x s profile name bytes job.subject id pinned j)
+    (flat_map (λ t. on_each_provider s (λ k. Store k i t)) (upto count)) old new given now) drawn m))
+  where
+    count : ℕ
+    count = stripes_of (profiled s job.profile) (length bytes)
+
+    size : count ≡ stripes (object_of (profiled s profile) id) (length bytes)
+    size = ap (λ p. stripes_of (profiled s p) (length bytes)) is
+
 -- ---- the list of a put
 
 abbrev NoStore : Action → Type 0
@@ -261,7 +281,7 @@ put-parts s job name bytes kind = put-list s job name bytes kind
     ∙ ap (λ ys. append_actions ++ ys)
     (sym (append_assoc (store_actions s job bytes) append_actions (remove_actions s job ++ End ∷ [])))
 
-writing-put : (s : Setup) (job : Job) (name bytes : List ℕ) → job.kind ≡ PutJob name bytes →
+pub writing-put : (s : Setup) (job : Job) (name bytes : List ℕ) → job.kind ≡ PutJob name bytes →
     Each IsWriting (actions_of s job)
 writing-put s job name bytes kind = subst (Each IsWriting) (sym (put-list s job name bytes kind)) (
   tt,
@@ -538,20 +558,9 @@ module _ (start new : State) (name bytes : List ℕ) (own : Option ℕ) (how : A
     all-goes : 4 ≤ E.job.place → (j : ℕ) → j < (setup_in start).n →
         Goes (StoredOn stored_as bytes None ⊥ j)
         (start.providers j).held (E.before.providers j).held
-    all-goes l j below = goes-mono
-        (StoresRange (setup_in start) its name bytes E.job.subject (next_id start.records) [] j 0
-        (stripes_of (profiled (setup_in start) E.job.profile) (length bytes)))
-        (StoredOn stored_as bytes None ⊥ j)
-        (λ h k R. whole-none (setup_in start) its name bytes E.job.subject (next_id start.records)
-        (stripes_of (profiled (setup_in start) E.job.profile) (length bytes))
-        [] j ⊥ h k k count-same R refl) (start.providers j).held (E.before.providers j).held
-        (stores-go (setup_in start) its name bytes E.job.subject (next_id start.records) [] j
-        (stripes_of (profiled (setup_in start) E.job.profile) (length bytes)) 0 start.providers
-        E.before.providers [] E.job.given below
-        (subst (λ i. Made put_with
-        (flat_map (λ t. on_each_provider (setup_in start) (λ k. Store k i t))
-        (upto (stripes_of (profiled (setup_in start) E.job.profile) (length bytes)))) start.providers
-        E.before.providers [] E.job.given) (subject-is (omega (arith, l))) (stores-made l)))
+    all-goes l j below = all-stored (setup_in start) its name bytes E.job (next_id start.records)
+        [] start.providers E.before.providers [] E.job.given j E.walked.profile_is
+        (subject-is (omega (arith, l))) below (stores-made l)
 
     stores-all : 4 ≤ E.job.place → new.providers ≡ E.before.providers → StoresAll ran own bytes
     unfolding setup_in

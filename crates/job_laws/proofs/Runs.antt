@@ -1,18 +1,22 @@
 -- The job of a command walks to its last step.
-use Rattle.std.proofs.Common.{◌≡◌, ℕ, ◌+◌, List, [], ◌∷◌, length, Option, Some, None, ap, subst, ◌∙◌}
-use Rattle.machine_defs.specs.Jobs.{Kind, Job}
-use Rattle.machine_defs.specs.Actions.{Action}
+use Rattle.std.proofs.Common.{◌≡◌, ℕ, ◌+◌, ◌==◌, List, [], ◌∷◌, length, Option, Some, None, refl, ap, sym, subst, ◌∙◌, arith}
+use Rattle.std.proofs.lemmas.Bool.{eq-eqb}
+use Rattle.machine_defs.specs.Jobs.{Kind, Job, with_job}
+use Rattle.machine_defs.specs.Actions.{Action, WriteBody, SyncBody, WriteGate, SyncGate, Store, Fetch, Ask, Work, Remove}
 use Rattle.machine_defs.specs.Answers.{Answer}
-use Rattle.machine_defs.specs.Events.{Ended, IsSpelledKind}
-use Rattle.machine_defs.specs.States.{State, setup_in}
+use Rattle.machine_defs.specs.Events.{Step, More, Ended, Waiting, IsSpelledKind}
+use Rattle.machine_defs.specs.States.{State, Append, setup_in}
 use Rattle.machine_defs.specs.Begins.{chosen, beginning}
+use Rattle.machine_defs.specs.Appends.{Moves}
 use Rattle.machine_defs.specs.Steps.{next_action, holder_of, Acts}
+use Rattle.machine_defs.specs.Machine.{Happens}
+use Rattle.machine_defs.proofs.JobLists.{cond_true}
 use Rattle.machine_defs.specs.Runs.{Moment, now}
 use Rattle.machine_defs.specs.Heard.{Entry, heard_by}
 use Rattle.opening_defs.specs.Opened.{IsOpenAtRest}
 use Rattle.command_defs.specs.JobRuns.{AreSteps, GoesOnTo, RunsJob}
 use Rattle.lone_laws.specs.Walked.{MayName, WalkedAt}
-use Rattle.lone_laws.proofs.Walk.{walk-begin, walk-step, walk-last, found}
+use Rattle.lone_laws.proofs.Walk.{walk-begin, walk-step, walk-last, step-acts, found}
 
 -- the last step of a job, and the state and the job before it
 pub record Ends (start : State) (kind : Kind) (own : Option ℕ) (answer : Answer) (heard : List Entry)
@@ -26,14 +30,84 @@ pub record Ends (start : State) (kind : Kind) (own : Option ℕ) (answer : Answe
   pub free : holder_of before.append action ≡ None
   pub acts : Acts before job action (Ended answer) new
 
+-- ---- a step that goes on makes one action
+
+-- the job in a state in which it has made one action more
+record HasMade (w : State) (job : Job) (new : State) : Type 0 where
+  pub next : Job
+  pub number : next.number ≡ job.number
+  pub place : next.place ≡ job.place + 1
+  pub jobs : new.jobs ≡ with_job w.jobs next
+
+made-by : (w : State) (job next : Job) (v new : State) → next.number ≡ job.number →
+    next.place ≡ job.place + 1 → v.jobs ≡ with_job w.jobs next → new ≡ v → HasMade w job new
+made-by w job next v new number place jobs is =
+    record { next = next; number = number; place = place; jobs = ap (λ (z : State). z.jobs) is ∙ jobs }
+
+moves-make : (w : State) (job : Job) (action : Action) (flight : Option Append) (new : State) →
+    Moves w job action flight More new → HasMade w job new
+moves-make w job WriteBody flight new (entry, writes, (faults, low, is)) =
+    made-by w job _ _ new refl refl refl is
+moves-make w job SyncBody (Some a) new (at, (faults, low, is)) = made-by w job _ _ new refl refl refl is
+moves-make w job WriteGate (Some a) new (at, (faults, low, is)) = made-by w job _ _ new refl refl refl is
+moves-make w job SyncGate (Some a) new (at, (faults, low, is)) = made-by w job _ _ new refl refl refl is
+moves-make w job action flight new h = absurd h
+
+acts-make : (w : State) (job : Job) (action : Action) (new : State) → Acts w job action More new →
+    HasMade w job new
+acts-make w job (Store j o t) new (p, call, is) = made-by w job _ _ new refl refl refl is
+acts-make w job (Fetch j o t) new (block, (p, call, is)) = made-by w job _ _ new refl refl refl is
+acts-make w job (Ask j o r) new (symbol, (p, call, is)) = made-by w job _ _ new refl refl refl is
+acts-make w job (Work o t) new (symbols, gives, is) = made-by w job _ _ new refl refl refl is
+acts-make w job (Remove j o) new (p, call, is) = made-by w job _ _ new refl refl refl is
+acts-make w job action new h = moves-make w job action w.append new h
+
+-- a step that goes on leaves the job one place further
+next-place : (start : State) (O : IsOpenAtRest start 1) (kind : Kind) {profile : ℕ} (w : State) (job : Job)
+    (W : WalkedAt start kind profile w job) (moment : ℕ) (new : State) (next : Job) →
+    Happens 8 moment w (Step 1) More new → WalkedAt start kind profile new next → next.place ≡ job.place + 1
+next-place start O kind w job W moment new next h V =
+    (let a = step-acts start O kind w job W More new
+    (λ n e. absurd (let f : More ≡ Waiting n = e in cc)) h in
+    let m = acts-make w job a.0 new a.3 in
+    let e : next ∷ [] ≡ m.next ∷ [] = sym V.jobs ∙ (m.jobs ∙ (ap (λ js. with_job js m.next) W.jobs
+    ∙ cond_true (job.number == m.next.number) (m.next ∷ []) (job ∷ [])
+    (eq-eqb job.number m.next.number (sym m.number)))) in
+    let f : next ≡ m.next = cc in
+    ap (λ (z : Job). z.place) f ∙ m.place)
+
+-- ---- steps
+
+-- a job on its walk, so many places further
+pub record WalkedOn (start : State) (kind : Kind) (profile : ℕ) (job : Job) (count : ℕ)
+    (w : State) : Type 0 where
+  pub next : Job
+  pub walked : WalkedAt start kind profile w next
+  pub place : next.place ≡ job.place + count
+
+-- steps that all go on leave a job on its walk, a place further for each of them
+pub walk-on : (start w : State) (kind : Kind) (profile : ℕ) (job : Job) (moment : ℕ) (ms : List Moment) →
+    IsOpenAtRest start 1 → WalkedAt start kind profile w job → AreSteps w moment 1 ms →
+    WalkedOn start kind profile job (length ms) (now w ms)
+walk-on start w kind profile job moment [] O W h =
+    record { next = job; walked = W; place = omega arith }
+walk-on start w kind profile job moment (m ∷ ms) O W (event, outcome, happens, rest) =
+    (let r = walk-on start w kind profile job moment ms O W rest in
+    let n = walk-step start O kind (now w ms) r.next r.walked (moment + length ms) m.state happens in
+    record {
+      next = n.0;
+      walked = n.1;
+      place = (let a = next-place start O kind (now w ms) r.next r.walked (moment + length ms) m.state n.0
+          happens n.1 in
+          let b = r.place in omega (arith, a, b));
+    })
+
 -- steps that all go on leave a job on its walk
 pub walk-steps : (start w : State) (kind : Kind) (profile : ℕ) (job : Job) (moment : ℕ) (ms : List Moment) →
     IsOpenAtRest start 1 → WalkedAt start kind profile w job → AreSteps w moment 1 ms →
     (next : Job) × WalkedAt start kind profile (now w ms) next
-walk-steps start w kind profile job moment [] O W h = (job, W)
-walk-steps start w kind profile job moment (m ∷ ms) O W (event, outcome, happens, rest) =
-    (let r = walk-steps start w kind profile job moment ms O W rest in
-    walk-step start O kind (now w ms) r.0 r.1 (moment + length ms) m.state happens)
+walk-steps start w kind profile job moment ms O W h =
+    (let r = walk-on start w kind profile job moment ms O W h in (r.next, r.walked))
 
 -- a job that runs alone walks to its last step, which ends it
 pub job-ends : (start new : State) (moment : ℕ) (kind : Kind) (own : Option ℕ) (answer : Answer)

@@ -80,7 +80,7 @@ module _ (records : List Record) (kind : Kind) (own : Option ℕ) (answer : Answ
   over : IsOpenedOver w records A.faults old.providers
   over = state-over records A.faults old.providers R.read.accepted
 
-  ran : RanAlone records kind own answer old new heard A.faults w 1
+  abbrev ran : RanAlone records kind own answer old new heard A.faults w 1
   ran = A.ran w 1 over
 
   left-by : Leaves (ran_from w ran.last heard) kind own answer
@@ -124,22 +124,37 @@ module _ (records : List Record) (kind : Kind) (own : Option ℕ) (answer : Answ
   images-stand None h = tt
   images-stand (Some cells) h = λ image is. image-stands image (h image is)
 
+  -- what a job left, with the records that are in effect after its run from some state
+  pub record LeftAfter : Type 0 where
+    pub left : LeftAlone records kind own answer old new heard
+    pub state : State
+    pub over : IsOpenedOver state records A.faults old.providers
+    pub after_is : left.after ≡ (A.ran state 1 over).last.records
+
   -- what a command tells of its job's run leaves what a job of its kind leaves
-  pub left-alone : LeftAlone records kind own answer old new heard
-  left-alone = record {
-    faults = A.faults;
-    before = A.before;
-    after = ran.last.records;
-    doubt = option_map (λ (d : Doubt). d.entry) ran.last.doubt;
-    leaves = subst (λ n. Leaves
-        (record (ran_alone records old new heard A.faults ran.last.records
-        (option_map (λ (d : Doubt). d.entry) ran.last.doubt)) { disk_after = n }) kind own answer)
-        ran.faults_are
-        (subst (λ (f : ℕ → Provider). Leaves (record (ran_from w ran.last heard) { new = f }) kind own answer)
-        (λ i j. provider-is j i) left-by);
-    images = images-stand new.disk ran.images;
-    past_text = ran.past_text;
+  pub left-after : LeftAfter
+  left-after = record {
+    left = record {
+      faults = A.faults;
+      before = A.before;
+      after = ran.last.records;
+      doubt = option_map (λ (d : Doubt). d.entry) ran.last.doubt;
+      leaves = subst (λ n. Leaves
+          (record (ran_alone records old new heard A.faults ran.last.records
+          (option_map (λ (d : Doubt). d.entry) ran.last.doubt)) { disk_after = n }) kind own answer)
+          ran.faults_are
+          (subst (λ (f : ℕ → Provider). Leaves (record (ran_from w ran.last heard) { new = f }) kind own answer)
+          (λ i j. provider-is j i) left-by);
+      images = images-stand new.disk ran.images;
+      past_text = ran.past_text;
+    };
+    state = w;
+    over = over;
+    after_is = refl;
   }
+
+  pub left-alone : LeftAlone records kind own answer old new heard
+  left-alone = left-after.left
 
 -- ---- each kind of job
 

@@ -4,10 +4,10 @@ use Rattle.machine_defs.specs.Jobs.{Kind, Job}
 use Rattle.machine_defs.specs.Actions.{Action, WriteBody, SyncBody, WriteGate, SyncGate, Store, Fetch, Ask, Work, Remove, End}
 use Rattle.machine_defs.specs.Answers as answer
 use Rattle.machine_defs.specs.Answers.{Answer}
-use Rattle.machine_defs.specs.Events.{IsSpelledKind, Outcome, More, Ended, Waiting}
+use Rattle.machine_defs.specs.Events.{IsSpelledKind, Outcome, Begun, More, Ended, Waiting}
 use Rattle.machine_defs.specs.Heard.{Entry}
 use Rattle.machine_defs.specs.States.{State, Append, setup_in}
-use Rattle.machine_defs.specs.Begins.{chosen, beginning}
+use Rattle.machine_defs.specs.Begins.{BeginsAt, chosen, beginning}
 use Rattle.machine_defs.specs.Appends.{Moves}
 use Rattle.machine_defs.specs.Steps.{Acts}
 use Rattle.machine_defs.specs.Runs.{Moment, now}
@@ -84,7 +84,8 @@ module _ (old : State) (job : Job) (new : State) where
       })
 
 module _ (start : State) (O : IsOpenAtRest start 1) (kind : Kind) (own : Option ℕ) where
-  steps-whole : (w : State) (job : Job) (moment : ℕ) (ms : List Moment) →
+  -- steps that all go on leave the disk with the whole history
+  pub steps-whole : (w : State) (job : Job) (moment : ℕ) (ms : List Moment) →
       WalkedAt start kind (chosen (setup_in start) own) w job →
       AreSteps w moment 1 ms → IsWholeJournal w → IsWholeJournal (now w ms)
   steps-whole w job moment [] W h whole = whole
@@ -94,6 +95,15 @@ module _ (start : State) (O : IsOpenAtRest start 1) (kind : Kind) (own : Option 
       (λ n e. absurd (let f : More ≡ Waiting n = e in cc)) happens in
       acts-whole (now w ms) r.0 m.state a.0 More a.3 (steps-whole w job moment ms W rest whole))
 
+  -- so does its begin
+  pub begun-whole : (moment number : ℕ) (begun : State) → BeginsAt 8 moment start kind own (Begun number) begun →
+      IsWholeJournal begun
+  begun-whole moment number begun b = subst IsWholeJournal (sym b.3) (record {
+    journal = O.rest.whole.journal;
+    area = O.rest.whole.area;
+    unswitched = O.rest.whole.unswitched;
+  })
+
   -- a job that runs alone leaves the disk with the whole history
   pub runs-whole : (new : State) (moment : ℕ) (how : Answer) (heard : List Entry) → IsSpelledKind kind →
       MayName kind own → RunsJob start moment kind own how heard new → IsWholeJournal new
@@ -101,12 +111,7 @@ module _ (start : State) (O : IsOpenAtRest start 1) (kind : Kind) (own : Option 
       (let b = walk-begin moment r.job start r.begun kind own named O spelled r.begins in
       let g : GoesOnTo r.begun (moment + 1) 1 how heard new =
       subst (λ n. GoesOnTo r.begun (moment + 1) n how heard new) b.0 r.goes_on in
-      let begun : IsWholeJournal r.begun = subst IsWholeJournal (sym r.begins.3)
-      (record {
-        journal = O.rest.whole.journal;
-        area = O.rest.whole.area;
-        unswitched = O.rest.whole.unswitched;
-      }) in
+      let begun = begun-whole moment r.job r.begun r.begins in
       let last = walk-steps start r.begun kind (chosen (setup_in start) own)
       (beginning start moment kind own) (moment + 1) g.steps O b.1 g.are_steps in
       let a = step-acts start O kind (now r.begun g.steps) last.0 last.1 (Ended how) new

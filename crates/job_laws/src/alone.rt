@@ -3,7 +3,7 @@ ghost use Rattle.std.specs.Prelude.{◌≡◌, ℕ, List, length, Option};
 ghost use Rattle.device_defs.specs.Providers.{Provider};
 ghost use Rattle.record_defs.specs.Records.{Record};
 ghost use Rattle.record_defs.specs.Acceptance.{AreAccepted};
-ghost use Rattle.machine_defs.specs.Jobs.{Kind};
+ghost use Rattle.machine_defs.specs.Jobs.{Kind, PutJob};
 ghost use Rattle.machine_defs.specs.Answers.{Answer};
 ghost use Rattle.machine_defs.specs.Events.{IsSpelledKind};
 ghost use Rattle.machine_defs.specs.States.{State};
@@ -13,6 +13,7 @@ ghost use Rattle.command_defs.specs.Opens as opens;
 ghost use Rattle.opening_defs.specs.Opened.{IsOpenedOver, IsOpenAtRest};
 ghost use Rattle.lone_laws.specs.Walked.{MayName};
 ghost use Rattle.command_defs.specs.Jobs.{RunsAlone, LeftAlone};
+ghost use Rattle.command_defs.specs.GivenUp.{PartRuns, PartLeft};
 
 /// A state that was opened over records which a start has read, with enough providers, is one from which the
 /// laws of runs speak; and over all accepted records there is one.
@@ -32,4 +33,13 @@ pub fn told_jobs_leave()
         IsSpelledKind kind → MayName kind own → length new.providers ≡ length old.providers
         → RunsAlone records kind own answer old new heard →
         LeftAlone records kind own answer old new heard }
+{}
+
+/// What a put leaves that stops before its last append, and whose command tells of its run.
+pub fn told_parts_leave()
+    ensures { (records : List Record) (name bytes : List ℕ) (own : Option ℕ) (old new : Seen)
+        → opens.IsOpened old records →
+        IsSpelledKind (PutJob name bytes) → MayName (PutJob name bytes) own
+        → length new.providers ≡ length old.providers → PartRuns records name bytes own old new →
+        PartLeft records name bytes own old new }
 {}

@@ -1,6 +1,6 @@
 use Rattle.command_laws.proofs.JobEnds.{put-answers}
 use Rattle.std.proofs.Common.{inl, inr}
-use Rattle.command_laws.proofs.DoneStores.{scrub-sure, upgrade-sure, init-sure, put-sure, failed-put-sure, failed-repair-sure, get-sure, drop-sure, list-sure, audit-sure, repair-sure}
+use Rattle.command_laws.proofs.DoneStores.{scrub-sure, upgrade-sure, init-sure, put-sure, failed-put-sure, cut-put-sure, long-put-sure, failed-repair-sure, get-sure, drop-sure, list-sure, audit-sure, repair-sure}
 use Rattle.command_laws.proofs.after.done_commands_leave_known_stores.Goals as goal
 
 pub returns-clause-init : goal.returns-clause-init
@@ -30,6 +30,17 @@ returns-clause-repair c records due old new end A done K is_due =
 pub returns-clause-failed_put : goal.returns-clause-failed_put
 returns-clause-failed_put c name own records old new end A failed K =
     failed-put-sure name records old new end (put-answers name own old new end A) failed K
+
+pub returns-clause-long_put : goal.returns-clause-long_put
+returns-clause-long_put c name own records old new end A long K =
+    long-put-sure name own records old new end (put-answers name own old new end A) long K
+
+pub returns-clause-cut_put : goal.returns-clause-cut_put
+returns-clause-cut_put c name own records old new end A cut K =
+    elim (cut-put-sure name own records old new end (put-answers name own old new end A) (inl cut) K) [
+      | inl same ↦ inl same.1
+      | inr sure ↦ inr sure
+    ]
 
 pub returns-clause-failed_repair : goal.returns-clause-failed_repair
 returns-clause-failed_repair c records old new end A failed K =

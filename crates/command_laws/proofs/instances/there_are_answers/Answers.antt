@@ -1,5 +1,6 @@
 use Rattle.command_laws.proofs.Samples.{got, missed, listed, chained}
-use Rattle.command_laws.proofs.PutSample.{put}
+use Rattle.command_laws.proofs.PutSample.{put, given-up}
+use Rattle.command_laws.proofs.LongSample.{long-put}
 use Rattle.command_laws.proofs.AuditSample.{audit}
 use Rattle.command_laws.proofs.RepairSample.{repair}
 use Rattle.command_laws.proofs.UpgradeSample.{upgrade, upgraded-twice}
@@ -22,6 +23,12 @@ returns-clause-chain c = chained
 
 pub returns-clause-put : goal.returns-clause-put
 returns-clause-put c = put
+
+pub returns-clause-given_up : goal.returns-clause-given_up
+returns-clause-given_up c = given-up
+
+pub returns-clause-too_long : goal.returns-clause-too_long
+returns-clause-too_long c = long-put
 
 pub returns-clause-audit : goal.returns-clause-audit
 returns-clause-audit c = audit

@@ -2,6 +2,7 @@ use Rattle.std.proofs.Common.{refl, inl, arith}
 use Rattle.command_laws.specs.Instances.{store, held_records}
 use Rattle.command_laws.proofs.Between.{sure-store}
 use Rattle.command_laws.proofs.Samples.{never-rises, never-seen, set_up-sure, held-sure, held-file, none-bad, all-safe}
+use Rattle.command_laws.proofs.LongSample.{reading-sure}
 use Rattle.command_laws.proofs.RepairSample.{due-sure}
 use Rattle.command_laws.proofs.UpgradeSample.{upgraded-sure}
 use Rattle.command_laws.proofs.OwnSample.{own-sure}
@@ -13,6 +14,9 @@ returns-clause-set_up c = set_up-sure
 
 pub returns-clause-sure : goal.returns-clause-sure
 returns-clause-sure c = held-sure
+
+pub returns-clause-reading : goal.returns-clause-reading
+returns-clause-reading c = reading-sure
 
 pub returns-clause-file : goal.returns-clause-file
 returns-clause-file c = held-file

@@ -1,0 +1,163 @@
+-- Commands whose source failed, or has more bytes than a file may have: which end so, and what they leave.
+use Rattle.std.proofs.Common.{◌≡◌, ◌⊎◌, ℕ, Bool, true, false, cond, List, Option, Some, None, refl, sym, ◌∙◌, inl, inr, arith}
+use Rattle.record_defs.specs.Records.{Record}
+use Rattle.machine_defs.specs.Jobs.{Kind, PutJob, GetJob, DropJob, AuditJob, RepairJob, UpgradeJob}
+use Rattle.machine_defs.specs.Refusals as refusal
+use Rattle.machine_defs.specs.Refusals.{Refusal}
+use Rattle.command_defs.specs.Forms.{Command, Numbers, RowOf, InitWith, PutUnder, PutAt, GetOf, DropOf, ListAll, AuditAll, RepairDue, UpgradeJournal, ScrubAll}
+use Rattle.command_defs.specs.Seen.{Seen, Ending, IsRefused, sinking}
+use Rattle.command_defs.specs.Sinking.{WritesLine}
+use Rattle.command_defs.specs.Refusals.{refusal_over}
+use Rattle.command_defs.specs.Inits.{AnswersInit, InitsDisk}
+use Rattle.command_defs.specs.Scrubs.{AnswersScrub}
+use Rattle.command_defs.specs.Commands.{AnswersPut, AnswersAlone, AnswersList, Answers}
+use Rattle.command_laws.specs.Ends.{put_of, GivesUpPut}
+use Rattle.command_laws.proofs.Known.{status-written, status-ended}
+use Rattle.command_laws.proofs.RowCauses.{none-at}
+use Rattle.command_laws.proofs.JobEnds.{short-never, cut-not, unstarted-cut, ended-cut, job-cut, given-gives}
+use Rattle.command_laws.proofs.Images.{ReadsNone}
+
+-- its source failed, or is too long
+abbrev IsCut : ℕ → Type 0
+IsCut status = (status ≡ 14) ⊎ (status ≡ 16)
+
+-- ---- commands that read no source
+
+never : (b : Bool) (x : Refusal) (rest : Option Refusal) → (Some x ≡ Some refusal.TooLong → ⊥) →
+    (rest ≡ Some refusal.TooLong → ⊥) → cond b (Some x) rest ≡ Some refusal.TooLong → ⊥
+never true x rest here there e = here e
+never false x rest here there e = there e
+
+-- only a put is refused for a length
+kind-short : (kind : Kind) (records : List Record) → ReadsNone kind →
+    refusal_over records kind None ≡ Some refusal.TooLong → ⊥
+kind-short (PutJob name bytes) records none = absurd none
+kind-short (GetJob name) records none =
+    never _ refusal.BadName _ (λ e. cc) (never _ refusal.NoSuchName None (λ e. cc) (λ e. cc))
+kind-short (DropJob name) records none =
+    never _ refusal.BadName _ (λ e. cc) (never _ refusal.NoSuchName _ (λ e. cc)
+    (never _ refusal.JournalFull None (λ e. cc) (λ e. cc)))
+kind-short AuditJob records none =
+    never _ refusal.RepairDue _ (λ e. cc) (never _ refusal.JournalFull None (λ e. cc) (λ e. cc))
+kind-short RepairJob records none =
+    never _ refusal.NothingDue _ (λ e. cc) (never _ refusal.JournalFull None (λ e. cc) (λ e. cc))
+kind-short UpgradeJob records none =
+    never _ refusal.NewVersion _ (λ e. cc) (never _ refusal.JournalFull None (λ e. cc) (λ e. cc))
+
+alone-cut : (kind : Kind) (old new : Seen) (end : Ending) → ReadsNone kind → AnswersAlone kind old new end →
+    IsCut end.status → ⊥
+alone-cut kind old new end none (AnswersAlone.unstarted u) cut = unstarted-cut old new end u cut
+alone-cut kind old new end none (AnswersAlone.begun records opened A) cut =
+    job-cut kind None records old new end (kind-short kind records none) A cut
+
+written-cut : (text : List ℕ) (old new : Seen) (end : Ending) →
+    WritesLine text end.status (sinking old new) → IsCut end.status → ⊥
+written-cut text old new end w cut = ended-cut end.status (status-written text old new end w) cut
+
+list-cut : (old new : Seen) (end : Ending) → AnswersList old new end → IsCut end.status → ⊥
+list-cut old new end (AnswersList.unstarted u) cut = unstarted-cut old new end u cut
+list-cut old new end (AnswersList.no_memory r) cut =
+    cut-not end.status 70 r.status_is (λ e. omega (arith, e)) (λ e. omega (arith, e)) cut
+list-cut old new end (AnswersList.listed records opened L) cut = written-cut _ old new end L.written cut
+
+scrub-cut : (old new : Seen) (end : Ending) → AnswersScrub old new end → IsCut end.status → ⊥
+scrub-cut old new end (AnswersScrub.unstarted u) cut = unstarted-cut old new end u cut
+scrub-cut old new end (AnswersScrub.no_memory records opened synced r) cut =
+    cut-not end.status 70 r.status_is (λ e. omega (arith, e)) (λ e. omega (arith, e)) cut
+scrub-cut old new end (AnswersScrub.ended records how opened synced heard runs left by) cut =
+    ended-cut end.status (status-ended _ how old new end by) cut
+
+row-cut : (n l b : ℕ) (seen : List (Option ℕ)) (old new : Seen) (end : Ending) →
+    Answers (RowOf n l b seen) old new end → IsCut end.status → ⊥
+row-cut n l b seen old new end A (inl is) =
+    none-at n l b seen old new end A.0 14 is (λ e. omega (arith, e)) (λ e. omega (arith, e))
+    (λ e. omega (arith, e)) (λ e. omega (arith, e)) (λ e. omega (arith, e))
+row-cut n l b seen old new end A (inr is) =
+    none-at n l b seen old new end A.0 16 is (λ e. omega (arith, e)) (λ e. omega (arith, e))
+    (λ e. omega (arith, e)) (λ e. omega (arith, e)) (λ e. omega (arith, e))
+
+-- ---- an init and a put
+
+-- an init whose source failed has changed nothing
+init-cut : (numbers : Numbers) (old new : Seen) (end : Ending) → AnswersInit numbers old new end →
+    IsCut end.status → (end.status ≡ 14) × IsRefused 14 0 old new end
+init-cut numbers old new end (AnswersInit.bad_setup bad same r) cut =
+    absurd (cut-not end.status 20 r.status_is (λ e. omega (arith, e)) (λ e. omega (arith, e)) cut)
+init-cut numbers old new end (AnswersInit.too_few_providers good few same r) cut =
+    absurd (cut-not end.status 22 r.status_is (λ e. omega (arith, e)) (λ e. omega (arith, e)) cut)
+init-cut numbers old new end (AnswersInit.source_fault good enough rose taken r) cut = (r.status_is, r)
+init-cut numbers old new end (AnswersInit.bad_key bytes good enough read bad r) cut =
+    absurd (cut-not end.status 18 r.status_is (λ e. omega (arith, e)) (λ e. omega (arith, e)) cut)
+init-cut numbers old new end (AnswersInit.no_memory taken r) cut =
+    absurd (cut-not end.status 70 r.status_is (λ e. omega (arith, e)) (λ e. omega (arith, e)) cut)
+init-cut numbers old new end (AnswersInit.keyed bytes key good enough read form (InitsDisk.disk_fault rose F)) cut =
+    absurd (cut-not end.status 12 F.status_is (λ e. omega (arith, e)) (λ e. omega (arith, e)) cut)
+init-cut numbers old new end (AnswersInit.keyed bytes key good enough read form (InitsDisk.bad_journal at is r)) cut =
+    absurd (cut-not end.status 8 r.status_is (λ e. omega (arith, e)) (λ e. omega (arith, e)) cut)
+init-cut numbers old new end (AnswersInit.keyed bytes key good enough read form (InitsDisk.already is r)) cut =
+    absurd (cut-not end.status 10 r.status_is (λ e. omega (arith, e)) (λ e. omega (arith, e)) cut)
+init-cut numbers old new end (AnswersInit.keyed bytes key good enough read form (InitsDisk.no_memory F)) cut =
+    absurd (cut-not end.status 70 F.status_is (λ e. omega (arith, e)) (λ e. omega (arith, e)) cut)
+init-cut numbers old new end (AnswersInit.keyed bytes key good enough read form (InitsDisk.ready R)) cut =
+    absurd (written-cut _ old new end R.written cut)
+
+-- a put whose source failed before its begin has changed nothing; else it was given up
+put-cut : (name : List ℕ) (own : Option ℕ) (old new : Seen) (end : Ending) → AnswersPut name own old new end →
+    IsCut end.status →
+    ((end.status ≡ 14) × IsRefused 14 0 old new end) ⊎ GivesUpPut name own old new end
+put-cut name own old new end (AnswersPut.unstarted u same) cut = absurd (unstarted-cut old new end u cut)
+put-cut name own old new end (AnswersPut.bad_profile records opened unknown synced same r) cut =
+    absurd (cut-not end.status 20 r.status_is (λ e. omega (arith, e)) (λ e. omega (arith, e)) cut)
+put-cut name own old new end (AnswersPut.source_fault records opened known rose synced taken r) cut =
+    inl (r.status_is, r)
+put-cut name own old new end (AnswersPut.no_memory taken r) cut =
+    absurd (cut-not end.status 70 r.status_is (λ e. omega (arith, e)) (λ e. omega (arith, e)) cut)
+put-cut name own old new end (AnswersPut.begun records bytes opened known read few A whole) cut =
+    absurd (job-cut (PutJob name bytes) own records old new end (short-never records name bytes own few) A
+    cut)
+put-cut name own old new end (AnswersPut.given_up records bytes opened known none stops runs left) cut =
+    inr (given-gives name bytes own records old new end opened known none stops left)
+
+-- ---- all commands
+
+-- a put that was given up
+abbrev IsGivenUp : Command → Seen → Seen → Ending → Type 0
+IsGivenUp command old new end =
+    (name : List ℕ) × (own : Option ℕ) × (command ≡ put_of name own) × GivesUpPut name own old new end
+
+command-cut : (command : Command) (old new : Seen) (end : Ending) → Answers command old new end →
+    IsCut end.status →
+    ((end.status ≡ 14) × IsRefused 14 0 old new end) ⊎ IsGivenUp command old new end
+command-cut (RowOf n l b seen) old new end A cut = absurd (row-cut n l b seen old new end A cut)
+command-cut (InitWith numbers) old new end A cut = inl (init-cut numbers old new end A cut)
+command-cut (PutUnder name) old new end A cut = elim (put-cut name None old new end A cut) [
+  | inl same ↦ inl same
+  | inr given ↦ inr (name, None, refl, given)
+]
+command-cut (PutAt name profile) old new end A cut = elim (put-cut name (Some profile) old new end A cut) [
+  | inl same ↦ inl same
+  | inr given ↦ inr (name, Some profile, refl, given)
+]
+command-cut (GetOf name) old new end A cut = absurd (alone-cut (GetJob name) old new end tt A.0 cut)
+command-cut (DropOf name) old new end A cut = absurd (alone-cut (DropJob name) old new end tt A.0 cut)
+command-cut ListAll old new end A cut = absurd (list-cut old new end A.0 cut)
+command-cut AuditAll old new end A cut = absurd (alone-cut AuditJob old new end tt A.0 cut)
+command-cut RepairDue old new end A cut = absurd (alone-cut RepairJob old new end tt A.0 cut)
+command-cut UpgradeJournal old new end A cut = absurd (alone-cut UpgradeJob old new end tt A.0 cut)
+command-cut ScrubAll old new end A cut = absurd (scrub-cut old new end A.0 cut)
+
+-- a command whose source failed has changed nothing, or is a put that was given up
+pub source-told : (command : Command) (old new : Seen) (end : Ending) → Answers command old new end →
+    end.status ≡ 14 → IsRefused 14 0 old new end ⊎ IsGivenUp command old new end
+source-told command old new end A is = elim (command-cut command old new end A (inl is)) [
+  | inl same ↦ inl same.1
+  | inr given ↦ inr given
+]
+
+-- one whose source is too long is a put that was given up
+pub long-told : (command : Command) (old new : Seen) (end : Ending) → Answers command old new end →
+    end.status ≡ 16 → IsGivenUp command old new end
+long-told command old new end A is = elim (command-cut command old new end A (inr is)) [
+  | inl same ↦ absurd (let e : 14 ≡ 16 = sym same.0 ∙ is in omega (arith, e))
+  | inr given ↦ given
+]
