@@ -1,29 +1,35 @@
 -- Jobs whose steps are computed, from states just opened over four providers.
-use Rattle.std.proofs.Common.{◌≡◌, ℕ, zero, suc, ◌+◌, ◌<◌, ◌≤◌, true, List, [], ◌∷◌, length, ◌++◌, Option, Some, None, refl, subst, arith}
-use Rattle.std.specs.Prelude.{slice_get}
+use Rattle.std.proofs.Common.{◌≡◌, ℕ, zero, suc, ◌+◌, ◌<◌, ◌≤◌, true, false, List, [], ◌∷◌, length, ◌++◌, Option, Some, None, refl, subst, ◌∙◌, arith}
+use Rattle.std.specs.Prelude.{slice_get, IfSome}
 use Rattle.std.proofs.lemmas.Bool.{false≢true}
 use Rattle.device_defs.specs.Providers.{Provider}
-use Rattle.record_defs.specs.Records.{Record, PutDone}
+use Rattle.record_defs.specs.Records.{Record}
 use Rattle.record_defs.specs.Table.{file_of}
-use Rattle.machine_defs.specs.Jobs.{Kind, job_of}
+use Rattle.machine_defs.specs.Jobs.{Kind, PutJob, job_of}
 use Rattle.machine_defs.specs.Answers.{Answer}
 use Rattle.machine_defs.specs.Begins.{refusal_of_begin, beginning}
-use Rattle.machine_defs.specs.Events.{Step, Ended, IsSpelledKind}
+use Rattle.machine_defs.specs.Events.{Step, Ended, AreBytes, IsSpelledKind}
 use Rattle.machine_defs.specs.Heard.{Entry, heard_by}
 use Rattle.machine_defs.specs.Machine.{Happens}
-use Rattle.machine_defs.specs.States.{State, Doubt}
+use Rattle.machine_defs.specs.States.{State}
+use Rattle.machine_defs.specs.Stands.{StandsForState}
 use Rattle.machine_defs.specs.Runs.{Moment, now}
 use Rattle.opening_defs.specs.Opened.{IsOpenedOver}
-use Rattle.command_defs.specs.Seen.{Seen}
+use Rattle.command_defs.specs.Seen.{Seen, Ending, ReadsFront}
 use Rattle.command_defs.specs.JobRuns.{AreSteps, RunsJob}
-use Rattle.command_defs.specs.Opens.{IsOpened}
-use Rattle.command_defs.specs.Jobs.{RanAlone, RunsAlone, LeftAlone}
+use Rattle.command_defs.specs.Lines.{text_of}
+use Rattle.command_defs.specs.Opens.{IsOpened, setup_in_effect}
+use Rattle.command_defs.specs.Refusals.{is_unknown, refusal_over}
+use Rattle.command_defs.specs.Jobs.{SamePast, RanAlone, RunsAlone, LeftAlone, EndsByAnswer, AnswersJob}
+use Rattle.command_defs.specs.Commands.{AnswersPut, AnswersAlone}
 use Rattle.lone_laws.specs.Walked.{MayName}
+use Rattle.job_laws.proofs.BeginRefusals.{refusal-of}
 use Rattle.job_laws.proofs.Telling.{left-alone, jobs-leave}
 use Rattle.made_runs.specs.Steps.{can_step}
-use Rattle.made_runs.specs.Turns.{Turn, Goes, Gives, LosesOne, StoreFails, Cut, gone_by, can_go_by, turned, FitsTurn, job_run, AreFitTurns, is_more}
+use Rattle.made_runs.specs.Turns.{Turn, Goes, Gives, LosesOne, StoreFails, Cut, gone_by, can_go_by, turned, FitsTurn, FitsStep, told, after_step, job_run, AreFitTurns, is_more}
 use Rattle.made_runs.proofs.Steps.{first, second, steps}
 use Rattle.made_runs.proofs.Turns.{goes-so}
+use Rattle.damage_run.specs.Schedule.{byte}
 use Rattle.command_runs.specs.Devices.{named}
 use Rattle.command_runs.proofs.Shape.{formed, form-is, one_byte, one_byte-is}
 
@@ -84,14 +90,6 @@ runs-so w n kind own turns answer last is_open begins fit ends = record {
   };
 }
 
--- the record in doubt, or one that nothing writes
-abbrev pub doubt_at : State → Doubt
-doubt_at w = or_else w.doubt
-  where
-    or_else : Option Doubt → Doubt
-    or_else None = record { entry = PutDone 0 0; maker = None }
-    or_else (Some d) = d
-
 -- four providers are handed in
 pub four-each : (xs : List Provider) (ps : ℕ → Provider) → slice_get xs 0 ≡ Some (ps 0) →
     slice_get xs 1 ≡ Some (ps 1) → slice_get xs 2 ≡ Some (ps 2) → slice_get xs 3 ≡ Some (ps 3) →
@@ -143,3 +141,112 @@ pub left-so : (records : List Record) (kind : Kind) (own : Option ℕ) (answer :
 left-so records kind own answer old new heard spelled named R same A =
     left-alone records kind own answer old new heard spelled named
     (λ w last n O r. jobs-leave kind own w last n answer heard spelled named O r) R same A
+
+-- ---- a job from a state spelled out
+
+-- its turns go, it ends so, and what is seen is that of its last state
+pub record EndsSo (kind : Kind) (own : Option ℕ) (turns : List Turn) (answer : Answer) (old new : Seen)
+    (heard : List Entry) (v : State) (n : ℕ) (last : State) (EndsBy : Type 0) : Type 0 where
+  pub fit : AreFitTurns (begun_with v n kind own) [] v.next_job turns
+  pub ends : EndsBy
+  pub heard_is : heard_by (job_of (after_turns v n kind own turns).jobs v.next_job) ≡ heard
+  pub images : StandsForState new.disk last
+  pub faults_are : last.disk_faults ≡ new.disk_faults
+  pub count : v.handed ≡ 4 → last.handed ≡ length new.providers
+  pub each : (j : ℕ) → j < length new.providers → slice_get new.providers j ≡ Some (last.providers j)
+  pub past_text : SamePast kind own answer v.records last.records old.disk new.disk
+
+-- a job that goes so runs alone
+pub ran-so : (rs : List Record) (bytes : ℕ → List ℕ) (p q r s : Provider) (w : State) (n : ℕ) (kind : Kind)
+    (own : Option ℕ) (turns : List Turn) (answer : Answer) (old new : Seen) (heard : List Entry)
+    (last : State) → w.handed ≡ 4 → refusal_over rs kind own ≡ None →
+    EndsSo kind own turns answer old new heard (formed rs bytes p q r s w) n last
+    (Happens 8 n (after_turns (formed rs bytes p q r s w) n kind own turns) (Step 1) (Ended answer) last) →
+    RanAlone rs kind own answer old new heard 0 (formed rs bytes p q r s w) n
+ran-so rs bytes p q r s w n kind own turns answer old new heard last count begins E = record {
+  last = last;
+  runs = subst (λ h. RunsJob (formed rs bytes p q r s w) n kind own answer h last) E.heard_is
+      (runs-so (formed rs bytes p q r s w) n kind own turns answer last refl
+      (refusal-of (formed rs bytes p q r s w) kind own refl refl refl
+      (record { journal = refl; area = refl; unswitched = refl }) ∙ begins) E.fit E.ends);
+  images = E.images;
+  faults_are = E.faults_are;
+  handed = record { count = E.count count; each = E.each };
+  past_text = E.past_text;
+}
+
+-- so does one that ends by a turn
+pub turned-so : (rs : List Record) (bytes : ℕ → List ℕ) (p q r s : Provider) (w : State) (n : ℕ) (kind : Kind)
+    (own : Option ℕ) (turns : List Turn) (final : Turn) (answer : Answer) (old new : Seen)
+    (heard : List Entry) → told final ≡ Ended answer → w.handed ≡ 4 → refusal_over rs kind own ≡ None →
+    EndsSo kind own turns answer old new heard (formed rs bytes p q r s w) n
+    (after_step (after_turns (formed rs bytes p q r s w) n kind own turns) 1 final)
+    (FitsStep (after_turns (formed rs bytes p q r s w) n kind own turns) 1 final) →
+    RanAlone rs kind own answer old new heard 0 (formed rs bytes p q r s w) n
+turned-so rs bytes p q r s w n kind own turns final answer old new heard is count begins E =
+    (let at_end : State = after_turns (formed rs bytes p q r s w) n kind own turns in
+    ran-so rs bytes p q r s w n kind own turns answer old new heard (after_step at_end 1 final) count begins
+    (record {
+      fit = E.fit;
+      ends = subst (λ o. Happens 8 n at_end (Step 1) o (after_step at_end 1 final)) is
+          (goes-so 8 n at_end 1 final E.ends);
+      heard_is = E.heard_is;
+      images = E.images;
+      faults_are = E.faults_are;
+      count = E.count;
+      each = E.each;
+      past_text = E.past_text;
+    }))
+
+-- and so it does from each state just opened
+pub turns-run : (rs : List Record) (p q r s : Provider) (kind : Kind) (own : Option ℕ) (turns : List Turn)
+    (final : Turn) (answer : Answer) (old new : Seen) (heard : List Entry) → told final ≡ Ended answer →
+    old.disk_faults ≤ 0 → old.providers ≡ (p ∷ q ∷ r ∷ s ∷ []) → refusal_over rs kind own ≡ None →
+    ((w : State) (n : ℕ) → EndsSo kind own turns answer old new heard (formed rs w.bytes p q r s w) n
+    (after_step (after_turns (formed rs w.bytes p q r s w) n kind own turns) 1 final)
+    (FitsStep (after_turns (formed rs w.bytes p q r s w) n kind own turns) 1 final)) →
+    RunsAlone rs kind own answer old new heard
+turns-run rs p q r s kind own turns final answer old new heard is before same begins E =
+    alone-over rs p q r s kind own answer old new heard before same
+    (λ w n count. turned-so rs w.bytes p q r s w n kind own turns final answer old new heard is count begins
+    (E w n))
+
+-- so it does where the file of one byte is in effect, of no put with a profile of its own
+pub byte-run : (rs : List Record) (p q r s : Provider) (kind : Kind) (turns : List Turn) (final : Turn)
+    (answer : Answer) (old new : Seen) (heard : List Entry) → told final ≡ Ended answer →
+    old.disk_faults ≤ 0 → old.providers ≡ (p ∷ q ∷ r ∷ s ∷ []) →
+    file_of rs named ≡ Some (record { name = named; id = 1; size = 1; profile = 0 }) →
+    refusal_over rs kind None ≡ None →
+    ((w : State) (n : ℕ) → EndsSo kind None turns answer old new heard
+    (formed rs (one_byte w.bytes) p q r s w) n
+    (after_step (after_turns (formed rs (one_byte w.bytes) p q r s w) n kind None turns) 1 final)
+    (FitsStep (after_turns (formed rs (one_byte w.bytes) p q r s w) n kind None turns) 1 final)) →
+    RunsAlone rs kind None answer old new heard
+byte-run rs p q r s kind turns final answer old new heard is before same file begins E =
+    alone-byte rs p q r s kind None answer old new heard before same file
+    (λ w n count. turned-so rs (one_byte w.bytes) p q r s w n kind None turns final answer old new heard is
+    count begins (E w n))
+
+-- a command ends so whose job ran alone
+pub alone-ends : (rs : List Record) (kind : Kind) (answer : Answer) (old new : Seen) (end : Ending) →
+    IsOpened old rs → length new.providers ≡ length old.providers → IsSpelledKind kind →
+    refusal_over rs kind None ≡ None → RunsAlone rs kind None answer old new end.heard →
+    EndsByAnswer (text_of (setup_in_effect rs).tolerance kind answer) answer old new end →
+    AnswersAlone kind old new end
+alone-ends rs kind answer old new end opened same spelled begins alone ends =
+    AnswersAlone.begun rs opened (AnswersJob.ended answer begins alone
+    (left-so rs kind None answer old new end.heard spelled (MayName.none refl) opened same alone) ends)
+
+-- a put of the byte ends so whose job ran alone, where its source is at its end
+pub put-ends : (rs : List Record) (name : List ℕ) (own : Option ℕ) (answer : Answer) (old new : Seen)
+    (end : Ending) → IsOpened old rs → length new.providers ≡ length old.providers → AreBytes name →
+    is_unknown own ≡ false → MayName (PutJob name byte) own → ReadsFront old.source new.source byte →
+    IfSome new.source (λ left. left ≡ []) → refusal_over rs (PutJob name byte) own ≡ None →
+    RunsAlone rs (PutJob name byte) own answer old new end.heard →
+    EndsByAnswer (text_of (setup_in_effect rs).tolerance (PutJob name byte) answer) answer old new end →
+    AnswersPut name own old new end
+put-ends rs name own answer old new end opened same spelled known may read whole begins alone ends =
+    AnswersPut.begun rs byte opened known read (omega arith)
+    (AnswersJob.ended answer begins alone
+    (left-so rs (PutJob name byte) own answer old new end.heard (spelled, refl) may opened same alone) ends)
+    (λ m. whole)

@@ -174,7 +174,7 @@ nothing-due = (
 -- a put under an empty name ends with 17
 pub bad-name : Answers (PutUnder []) to_put put_unmade (ends 17)
 bad-name = AnswersPut.begun four_records byte put-old.known.opened refl
-    (record { are_bytes = refl; front = refl; few = omega arith; end = λ l. refl })
+    (record { are_bytes = refl; front = refl }) (omega arith)
     (AnswersJob.refused refusal.BadName refl (same-disk four_records)
     (record {
       status_is = refl;
@@ -184,6 +184,7 @@ bad-name = AnswersPut.begun four_records byte put-old.known.opened refl
       providers = refl;
       sink = refl;
     }))
+    (λ m. absurd m)
 
 -- a put at a profile that there is none of ends with 20, and its source is not read
 pub bad-profile : Answers (PutAt named 5) to_put to_put (ends 20)
@@ -194,7 +195,7 @@ bad-profile = AnswersPut.bad_profile four_records put-old.known.opened refl (sam
 -- a put with a profile of its own ends with 23 where the journal has its first version
 pub old-version : Answers (PutAt named 1) to_put put_unmade (ends 23)
 old-version = AnswersPut.begun four_records byte put-old.known.opened refl
-    (record { are_bytes = refl; front = refl; few = omega arith; end = λ l. refl })
+    (record { are_bytes = refl; front = refl }) (omega arith)
     (AnswersJob.refused refusal.OldVersion refl (same-disk four_records)
     (record {
       status_is = refl;
@@ -204,6 +205,7 @@ old-version = AnswersPut.begun four_records byte put-old.known.opened refl
       providers = refl;
       sink = refl;
     }))
+    (λ m. absurd m)
 
 -- a second upgrade ends with 24
 pub new-version : Answers UpgradeJournal upgraded_kept upgraded_kept (ends 24)

@@ -5,7 +5,8 @@ use Rattle.command_laws.specs.After.{IsSure}
 use Rattle.command_runs.specs.Devices.{four_records, started_records, byte_records, dropped_records, byte_audited_records, byte_repaired_records, both_records, to_put_other, stored_other, all_hidden, to_put, byte_stored, put_failed, put_cut, put_unmade, byte_kept, dropped, all_lost, found_lost, due_lost, repair_lost, damaged, byte_audited, due, repaired, repair_failed, mended, got, drop_cut, audit_cut, repair_cut, byte_upgraded_records, byte_own_records, byte_upgraded, upgrade_cut, upgraded_kept, to_put_own, stored_own, two_damaged, scrubbed, scrub_failed, swept, robbed_later, got_later}
 use Rattle.command_runs.proofs.Shape.{AreFit, sure}
 
-four-fit : AreFit four_records
+-- a journal may hold the records of a store that was set up
+pub four-fit : AreFit four_records
 four-fit = record { some = λ e. cc; all = refl; accepted = (refl, tt); room = omega arith }
 
 -- a journal may hold the records after a put's first append

@@ -15,9 +15,10 @@ ghost use Rattle.opening_defs.specs.Journals.{journal_read, IsBadStart, IsBadIni
 ghost use Rattle.command_defs.specs.Inits.{setup_with};
 ghost use Rattle.command_defs.specs.Lines.{stored_line, upgraded_line};
 ghost use Rattle.command_defs.specs.Refusals.{refusal_over};
+ghost use Rattle.command_defs.specs.GivenUp.{after_begin};
 ghost use Rattle.command_defs.specs.Audits.{HearsRounds, CountsHeard};
 ghost use Rattle.command_laws.specs.Ends.{IsKnown, IsWholePut, IsDropped, IsAudited, IsRepaired, IsUpgraded, IsScrubbed, FaultsHaveCauses, EndsInOrder, GivesUnlessMemory, HoldsFile, put_refusal, ran_to, after_put, after_audit, after_repair, after_upgrade};
-ghost use Rattle.command_laws.specs.Kept.{FailsToPut, FailsToRepair, FailsToScrub, LosesFile, LosesRepair, LosesScrub, LeavesImages, after_start};
+ghost use Rattle.command_laws.specs.Kept.{FailsToPut, FailsToRepair, FailsToScrub, LosesFile, LosesRepair, LosesScrub, LeavesImages};
 ghost use Rattle.command_laws.specs.After.{IsSure, IsThen, HasRightFile};
 ghost use Rattle.command_runs.specs.Lone.{RunsSomewhere, ScrubsSomewhere};
 ghost use Rattle.command_runs.specs.Devices.{with_source, named, four_records, byte_records, byte_audited_records, good_numbers, bad_numbers, to_put, byte_stored, put_failed, put_cut, put_torn, put_gone, drop_cut, audit_cut, repair_cut, byte_kept, dropped, all_lost, found_lost, due_lost, repair_lost, no_blocks, damaged, byte_audited, answers_heard, due, repaired, repair_failed, mended, got, own_blocks_heard, seen_after_drop, disk_failed, scrambled, all_hidden, hidden_fetched, both_records, stored_other, byte_upgraded_records, byte_own_records, byte_upgraded, upgrade_cut, to_put_own, stored_own, two_damaged, symbols_off, blocks_off, scrubbed, scrub_failed, robbed_later, got_later, later_heard, ends_at, ends_hearing};
@@ -99,8 +100,8 @@ pub fn statuses_have_their_causes()
         × IsBadStart (journal_read (firm (replicate 12 0))) 0 }
     ensures repair_due { refusal_over byte_audited_records AuditJob None ≡ Some DueRefusal }
     ensures nothing_due { refusal_over byte_records RepairJob None ≡ Some NothingDue }
-    ensures bad_profile { put_refusal four_records named byte (Some 5) ≡ Some BadProfile }
-    ensures old_version { put_refusal four_records named byte (Some 1) ≡ Some OldVersion }
+    ensures bad_profile { put_refusal four_records named (Some 5) ≡ Some BadProfile }
+    ensures old_version { put_refusal four_records named (Some 1) ≡ Some OldVersion }
     ensures new_version { refusal_over byte_upgraded_records UpgradeJob None ≡ Some NewVersion }
     ensures row { IsShape 4 1 1 × AcceptsNone (upto 4) (None ∷ None ∷ Some 7 ∷ Some 9 ∷ []) 1 1 }
     ensures hidden_get { EndsInOrder (GetOf other_name) all_hidden all_hidden (ends 3)
@@ -157,7 +158,7 @@ pub fn cut_commands_leave_known_stores()
         × CountsHeard (ran_to (after_audit byte_records 0 counts) byte_records damaged audit_cut
         answers_heard) 1 0 counts }
     ensures images { LeavesImages (PutUnder named) to_put put_torn }
-    ensures failed { IsSure put_failed (after_start four_records named) }
+    ensures failed { IsSure put_failed (after_begin four_records named) }
     ensures scrub { IsSure scrub_failed byte_records }
 {
     stores_stay_known();

@@ -4,12 +4,11 @@ use Rattle.command_runs.specs.Devices.{named, four_records, byte_records, byte_a
 use Rattle.damage_run.specs.Points.{counts}
 use Rattle.damage_run.specs.Schedule.{byte}
 use Rattle.command_laws.specs.Instances.{ends}
-use Rattle.command_runs.proofs.TornPut.{answers as torn}
-use Rattle.command_runs.proofs.CutDrop.{answers as cut_drop}
-use Rattle.command_runs.proofs.CutAudit.{answers as cut_audit}
-use Rattle.command_runs.proofs.CutRepair.{answers as cut_repair}
-use Rattle.command_runs.proofs.CutUpgrade.{answers as cut_upgrade}
-use Rattle.command_runs.proofs.FailedPut.{answers as failed_put}
+use Rattle.command_runs.proofs.Puts.{torn, failed as failed_put}
+use Rattle.command_runs.proofs.Drops.{cut as cut_drop}
+use Rattle.command_runs.proofs.Audits.{cut as cut_audit}
+use Rattle.command_runs.proofs.Repairs.{cut as cut_repair}
+use Rattle.command_runs.proofs.Upgrades.{cut as cut_upgrade}
 use Rattle.command_runs.proofs.DoneScrub.{fails-answers as failed_scrub}
 use Rattle.command_runs.proofs.Torn.{stopped-closed, stopped-open}
 use Rattle.command_runs.proofs.Stores.{put-old, cut-new, stored-sure, damaged-sure, due-sure, audit_cut-new, repair_cut-new, two_damaged-sure}

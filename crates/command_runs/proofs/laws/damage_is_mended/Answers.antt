@@ -5,14 +5,13 @@ use Rattle.command_runs.specs.Devices.{named, four_records, byte_records, byte_a
 use Rattle.damage_run.specs.Points.{counts}
 use Rattle.damage_run.specs.Schedule.{byte}
 use Rattle.command_laws.specs.Instances.{ends}
-use Rattle.command_runs.proofs.StoredPut.{answers as put}
-use Rattle.command_runs.proofs.DoneAudit.{answers as audit}
-use Rattle.command_runs.proofs.DoneRepair.{answers as repair}
-use Rattle.command_runs.proofs.DoneGet.{answers as get}
-use Rattle.command_runs.proofs.DoneDrop.{answers as drop}
+use Rattle.command_runs.proofs.Puts.{stored as put}
+use Rattle.command_runs.proofs.Audits.{done as audit}
+use Rattle.command_runs.proofs.Repairs.{done as repair}
+use Rattle.command_runs.proofs.Gets.{done as get, later as later_get}
+use Rattle.command_runs.proofs.Drops.{done as drop}
 use Rattle.command_runs.proofs.DoneScrub.{answers as scrub}
 use Rattle.command_runs.proofs.SweptScrub.{answers as swept_scrub}
-use Rattle.command_runs.proofs.LaterGet.{answers as later_get}
 use Rattle.command_runs.proofs.Stores.{put-old, stored-sure, due-sure, two_damaged-sure}
 use Rattle.command_runs.proofs.Refusals.{gone}
 use Rattle.command_laws.proofs.Samples.{never-rises}

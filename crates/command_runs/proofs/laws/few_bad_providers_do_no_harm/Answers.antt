@@ -3,8 +3,8 @@ use Rattle.command_runs.specs.Devices.{named, byte_records, two_damaged, scrubbe
 use Rattle.damage_run.specs.Points.{counts}
 use Rattle.damage_run.specs.Schedule.{byte}
 use Rattle.command_laws.specs.Instances.{ends}
-use Rattle.command_runs.proofs.DoneRepair.{answers as repair}
-use Rattle.command_runs.proofs.DoneGet.{answers as get}
+use Rattle.command_runs.proofs.Repairs.{done as repair}
+use Rattle.command_runs.proofs.Gets.{done as get}
 use Rattle.command_runs.proofs.DoneScrub.{answers as scrub}
 use Rattle.command_laws.proofs.Samples.{never-rises}
 use Rattle.command_runs.proofs.Stores.{due-sure, mended-sure, two_damaged-sure}

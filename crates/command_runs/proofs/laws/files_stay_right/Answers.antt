@@ -1,4 +1,4 @@
-use Rattle.std.proofs.Common.{None, refl, inl, inr, false, arith}
+use Rattle.std.proofs.Common.{[], None, refl, inl, inr, false, arith}
 use Rattle.machine_defs.specs.Jobs.{PutJob, AuditJob}
 use Rattle.command_defs.specs.Forms.{PutUnder, AuditAll}
 use Rattle.command_defs.specs.Puts.{put_records}
@@ -7,10 +7,9 @@ use Rattle.command_runs.specs.Devices.{named, four_records, byte_records, both_r
 use Rattle.damage_run.specs.Points.{counts}
 use Rattle.damage_run.specs.Schedule.{byte}
 use Rattle.command_laws.specs.Instances.{other_name, ends}
-use Rattle.command_runs.proofs.StoredPut.{answers as put}
-use Rattle.command_runs.proofs.DoneAudit.{answers as audit}
-use Rattle.command_runs.proofs.DoneRepair.{answers as repair}
-use Rattle.command_runs.proofs.OtherPut.{answers as other_put}
+use Rattle.command_runs.proofs.Puts.{stored as put, other as other_put}
+use Rattle.command_runs.proofs.Audits.{done as audit}
+use Rattle.command_runs.proofs.Repairs.{done as repair}
 use Rattle.command_runs.proofs.DoneScrub.{answers as scrub, fails-answers as failed_scrub}
 use Rattle.command_runs.proofs.Stores.{put-old, damaged-sure, audited-new, due-sure, to_put_other-sure, two_damaged-sure}
 use Rattle.command_runs.proofs.Meets.{second, none-tell, three-tell, due-file, damaged-file, kept-file, repair-steady, other-name, two-file, two-tell, scrub-steady, failed_scrub-steady}
@@ -30,6 +29,7 @@ returns-clause-audit c =
       own = audit_records byte_records 0 counts;
       are_own = (0, counts, refl);
       count = 2;
+      whole = λ l. tt;
       after_is = refl;
     }))
 
@@ -40,14 +40,11 @@ returns-clause-other c = c.files_stay.ensures.others
     other-name to_put_other-sure.known kept-file
     (inr (record {
       kind = PutJob other_name byte;
-      of_command = (
-        byte,
-        record { are_bytes = refl; front = refl; few = omega arith; end = λ l. refl },
-        refl,
-      );
+      of_command = (byte, [], record { are_bytes = refl; front = refl }, omega arith, refl);
       own = put_records byte_records other_name 1 None;
       are_own = refl;
       count = 2;
+      whole = λ l. (record { are_bytes = refl; front = refl }, refl);
       after_is = refl;
     }))
 

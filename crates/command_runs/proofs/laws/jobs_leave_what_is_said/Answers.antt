@@ -1,16 +1,12 @@
 use Rattle.std.proofs.Common.{Some, None, refl, inl}
 use Rattle.command_runs.specs.Devices.{named, to_put, byte_stored, put_failed, byte_kept, dropped, all_lost, found_lost, due_lost, repair_lost, no_blocks, damaged, byte_audited, answers_heard, due, repaired, repair_failed, byte_upgraded, to_put_own, stored_own, two_damaged, scrubbed, scrub_failed, ends_at, ends_hearing}
 use Rattle.command_laws.specs.Instances.{other_name, ends}
-use Rattle.command_runs.proofs.StoredPut.{answers as put}
-use Rattle.command_runs.proofs.DoneDrop.{answers as drop}
-use Rattle.command_runs.proofs.DoneAudit.{answers as audit}
-use Rattle.command_runs.proofs.DoneRepair.{answers as repair}
-use Rattle.command_runs.proofs.FailedPut.{answers as failed_put}
-use Rattle.command_runs.proofs.FailedRepair.{answers as failed_repair}
-use Rattle.command_runs.proofs.LostGet.{answers as lost_get}
-use Rattle.command_runs.proofs.LostRepair.{answers as lost_repair}
-use Rattle.command_runs.proofs.DoneUpgrade.{answers as upgrade}
-use Rattle.command_runs.proofs.OwnPut.{answers as own_put}
+use Rattle.command_runs.proofs.Puts.{stored as put, failed as failed_put, own as own_put}
+use Rattle.command_runs.proofs.Drops.{done as drop}
+use Rattle.command_runs.proofs.Audits.{done as audit}
+use Rattle.command_runs.proofs.Repairs.{done as repair, failed as failed_repair, lost as lost_repair}
+use Rattle.command_runs.proofs.Gets.{lost as lost_get}
+use Rattle.command_runs.proofs.Upgrades.{done as upgrade}
 use Rattle.command_runs.proofs.DoneScrub.{answers as scrub, fails-answers as failed_scrub}
 use Rattle.command_runs.proofs.LostScrub.{answers as lost_scrub}
 use Rattle.command_runs.proofs.laws.jobs_leave_what_is_said.Goals as goal

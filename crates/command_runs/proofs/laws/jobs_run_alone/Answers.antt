@@ -7,19 +7,12 @@ use Rattle.damage_run.specs.Schedule.{byte}
 use Rattle.command_laws.specs.Instances.{other_name}
 use Rattle.command_runs.proofs.Stores.{put-old, stored-sure, mended-sure, robbed-old, damaged-sure, due-sure, robbed_due-old, to_put_own-sure}
 use Rattle.command_runs.proofs.Somewhere.{somewhere}
-use Rattle.command_runs.proofs.StoredPut.{alone as put_alone}
-use Rattle.command_runs.proofs.FailedPut.{alone as failed_put_alone}
-use Rattle.command_runs.proofs.CutPut.{alone as cut_put_alone}
-use Rattle.command_runs.proofs.NoRoomPut.{alone as unmade_put_alone}
-use Rattle.command_runs.proofs.DoneDrop.{alone as drop_alone}
-use Rattle.command_runs.proofs.DoneGet.{alone as get_alone}
-use Rattle.command_runs.proofs.LostGet.{alone as lost_get_alone}
-use Rattle.command_runs.proofs.DoneAudit.{alone as audit_alone}
-use Rattle.command_runs.proofs.DoneRepair.{alone as repair_alone}
-use Rattle.command_runs.proofs.LostRepair.{alone as lost_repair_alone}
-use Rattle.command_runs.proofs.FailedRepair.{alone as failed_repair_alone}
-use Rattle.command_runs.proofs.DoneUpgrade.{alone as upgrade_alone}
-use Rattle.command_runs.proofs.OwnPut.{alone as own_put_alone}
+use Rattle.command_runs.proofs.Puts.{stored-runs as put_alone, failed-runs as failed_put_alone, cut-runs as cut_put_alone, unmade-runs as unmade_put_alone, own-runs as own_put_alone}
+use Rattle.command_runs.proofs.Drops.{done-runs as drop_alone}
+use Rattle.command_runs.proofs.Gets.{done-runs as get_alone, lost-runs as lost_get_alone}
+use Rattle.command_runs.proofs.Audits.{done-runs as audit_alone}
+use Rattle.command_runs.proofs.Repairs.{done-runs as repair_alone, lost-runs as lost_repair_alone, failed-runs as failed_repair_alone}
+use Rattle.command_runs.proofs.Upgrades.{done-runs as upgrade_alone}
 use Rattle.command_runs.proofs.laws.jobs_run_alone.Goals as goal
 
 pub returns-clause-put : goal.returns-clause-put

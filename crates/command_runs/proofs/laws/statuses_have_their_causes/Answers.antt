@@ -7,13 +7,11 @@ use Rattle.machine_defs.specs.Refusals as refusal
 use Rattle.command_defs.specs.Forms.{PutUnder, ListAll}
 use Rattle.command_laws.proofs.Samples.{never-rises}
 use Rattle.command_runs.specs.Devices.{named, four_records, byte_records, byte_audited_records, byte_upgraded_records, to_put, put_failed, put_unmade, byte_kept, upgraded_kept, due, disk_failed, scrambled, all_hidden, hidden_fetched, no_blocks, all_lost, found_lost, ends_hearing}
-use Rattle.damage_run.specs.Schedule.{byte}
 use Rattle.command_laws.specs.Instances.{with_sink, other_name, ends}
-use Rattle.command_runs.proofs.FailedPut.{answers as failed_put}
+use Rattle.command_runs.proofs.Puts.{failed as failed_put, hidden as hidden_put}
 use Rattle.command_runs.proofs.Stores.{put-old, stored-sure, due-sure, upgraded_kept-sure}
 use Rattle.command_runs.proofs.Refusals.{disk-fault, source-fault, sink-fault, bad-journal, repair-due, nothing-due, bad-profile, old-version, new-version, lost-row, hidden-get, hidden-list, hidden-repair}
-use Rattle.command_runs.proofs.HiddenPut.{answers as hidden_put}
-use Rattle.command_runs.proofs.HiddenGet.{answers as hidden_get}
+use Rattle.command_runs.proofs.Gets.{hidden as hidden_get}
 use Rattle.command_runs.proofs.LostScrub.{answers as lost_scrub}
 use Rattle.command_runs.proofs.Meets.{none-rises, lost-steady}
 use Rattle.command_runs.proofs.laws.statuses_have_their_causes.Goals as goal
@@ -48,12 +46,14 @@ returns-clause-nothing_due c =
     (ends 7) refusal.NothingDue nothing-due.0 stored-sure.known (λ e. omega (arith, e)) refl
 
 pub returns-clause-bad_profile : goal.returns-clause-bad_profile
-returns-clause-bad_profile c = c.refusals_are_exact.ensures.put_only named byte (Some 5) four_records to_put
-    to_put (ends 20) refusal.BadProfile bad-profile put-old.known refl (λ e. omega (arith, e)) refl
+returns-clause-bad_profile c = c.refusals_are_exact.ensures.put_only named (Some 5) four_records to_put
+    to_put (ends 20) refusal.BadProfile bad-profile put-old.known (λ e. omega (arith, e))
+    (λ e. omega (arith, e)) refl
 
 pub returns-clause-old_version : goal.returns-clause-old_version
-returns-clause-old_version c = c.refusals_are_exact.ensures.put_only named byte (Some 1) four_records to_put
-    put_unmade (ends 23) refusal.OldVersion old-version put-old.known refl (λ e. omega (arith, e)) refl
+returns-clause-old_version c = c.refusals_are_exact.ensures.put_only named (Some 1) four_records to_put
+    put_unmade (ends 23) refusal.OldVersion old-version put-old.known (λ e. omega (arith, e))
+    (λ e. omega (arith, e)) refl
 
 pub returns-clause-new_version : goal.returns-clause-new_version
 returns-clause-new_version c =

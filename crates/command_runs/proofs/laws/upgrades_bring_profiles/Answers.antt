@@ -7,8 +7,8 @@ use Rattle.command_runs.specs.Devices.{named, byte_records, byte_upgraded_record
 use Rattle.damage_run.specs.Schedule.{byte}
 use Rattle.command_laws.specs.Instances.{other_name, ends}
 use Rattle.command_laws.proofs.Samples.{never-rises}
-use Rattle.command_runs.proofs.DoneUpgrade.{answers as upgrade}
-use Rattle.command_runs.proofs.OwnPut.{answers as own_put}
+use Rattle.command_runs.proofs.Upgrades.{done as upgrade}
+use Rattle.command_runs.proofs.Puts.{own as own_put}
 use Rattle.command_runs.proofs.Begins.{upgrade_begins, own_begins}
 use Rattle.command_runs.proofs.Stores.{stored-sure, to_put_own-sure}
 use Rattle.command_runs.proofs.Meets.{all-tell, own-steady, byte-file, own-file, other-name}
@@ -40,6 +40,7 @@ returns-clause-kept c = c.files_stay.ensures.reads UpgradeJournal named byte byt
       own = Version ∷ [];
       are_own = refl;
       count = 1;
+      whole = λ l. tt;
       after_is = refl;
     }))
 
@@ -63,14 +64,11 @@ returns-clause-first c = c.files_stay.ensures.others (PutAt other_name 1) named 
     own-file
     (inr (record {
       kind = PutJob other_name byte;
-      of_command = (
-        byte,
-        record { are_bytes = refl; front = refl; few = omega arith; end = λ l. refl },
-        refl,
-      );
+      of_command = (byte, [], record { are_bytes = refl; front = refl }, omega arith, refl);
       own = put_records byte_upgraded_records other_name 1 (Some 1);
       are_own = refl;
       count = 2;
+      whole = λ l. (record { are_bytes = refl; front = refl }, refl);
       after_is = refl;
     }))
 

@@ -1,28 +1,12 @@
-use Rattle.command_runs.proofs.StoredPut.{answers as stored_put}
-use Rattle.command_runs.proofs.FailedPut.{answers as put_failed}
-use Rattle.command_runs.proofs.CutPut.{answers as put_cut}
-use Rattle.command_runs.proofs.NoRoomPut.{answers as put_unmade}
-use Rattle.command_runs.proofs.OtherPut.{answers as other_put}
-use Rattle.command_runs.proofs.HiddenPut.{answers as hidden_put}
-use Rattle.command_runs.proofs.HiddenGet.{answers as hidden_get}
-use Rattle.command_runs.proofs.DoneDrop.{answers as dropped}
-use Rattle.command_runs.proofs.LostGet.{answers as get_lost}
-use Rattle.command_runs.proofs.LostRepair.{answers as repair_lost}
-use Rattle.command_runs.proofs.DoneAudit.{answers as audited}
-use Rattle.command_runs.proofs.DoneRepair.{answers as repaired}
-use Rattle.command_runs.proofs.FailedRepair.{answers as repair_failed}
-use Rattle.command_runs.proofs.DoneGet.{answers as got}
-use Rattle.command_runs.proofs.TornPut.{answers as torn_put}
-use Rattle.command_runs.proofs.CutDrop.{answers as cut_drop}
-use Rattle.command_runs.proofs.CutAudit.{answers as cut_audit}
-use Rattle.command_runs.proofs.CutRepair.{answers as cut_repair}
-use Rattle.command_runs.proofs.DoneUpgrade.{answers as upgraded}
-use Rattle.command_runs.proofs.CutUpgrade.{answers as cut_upgrade}
-use Rattle.command_runs.proofs.OwnPut.{answers as own_put}
+use Rattle.command_runs.proofs.Puts.{stored as stored_put, failed as put_failed, cut as put_cut, unmade as put_unmade, other as other_put, hidden as hidden_put, torn as torn_put, own as own_put}
+use Rattle.command_runs.proofs.Gets.{hidden as hidden_get, lost as get_lost, done as got, later as later_get}
+use Rattle.command_runs.proofs.Drops.{done as dropped, cut as cut_drop}
+use Rattle.command_runs.proofs.Repairs.{lost as repair_lost, done as repaired, failed as repair_failed, cut as cut_repair}
+use Rattle.command_runs.proofs.Audits.{done as audited, cut as cut_audit}
+use Rattle.command_runs.proofs.Upgrades.{done as upgraded, cut as cut_upgrade}
 use Rattle.command_runs.proofs.DoneScrub.{answers as scrub_done, fails-answers as scrub_fails}
 use Rattle.command_runs.proofs.SweptScrub.{answers as scrub_swept}
 use Rattle.command_runs.proofs.LostScrub.{answers as scrub_lost}
-use Rattle.command_runs.proofs.LaterGet.{answers as later_get}
 use Rattle.command_runs.proofs.runs.commands_end.Goals as goal
 
 pub returns-clause-put : goal.returns-clause-put
