@@ -1,6 +1,7 @@
 use crate::store::Store;
 use crate::told::{Faults, NONE_FAILS, Told, tell};
 use provider_model::Tamper;
+use std::alloc::Global;
 
 /// Whether a command ended with 0, and wrote this where that is looked at.
 fn is_well(told: &Told, text: Option<&[u8]>) -> bool {
@@ -8,6 +9,11 @@ fn is_well(told: &Told, text: Option<&[u8]>) -> bool {
         Some(text) => told.is(0, 0, text),
         None => told.status() == 0,
     }
+}
+
+/// So many bytes, all the same. Want of memory is the one refusal.
+fn long_bytes(alloc: Global, len: usize) -> Option<Vec<u8>> {
+    Some(vec![in alloc; 0xa7u8; len].ok()?)
 }
 
 impl<P: Tamper + Drop> Store<P> {
@@ -43,6 +49,21 @@ impl<P: Tamper + Drop> Store<P> {
         self.make(line, b"abc", Faults { read, ..NONE_FAILS });
         match &self.last {
             Some(told) => told.status() == status,
+            None => false,
+        }
+    }
+
+    /// Whether a command whose source has these bytes and fails at one of its calls ends with this status,
+    /// and writes nothing.
+    pub fn stops_at(&mut self, line: &str, input: &[u8], read: u64, status: u8) -> bool {
+        self.make(line, input, Faults { read, ..NONE_FAILS });
+        self.is_told(status, 0, b"")
+    }
+
+    /// Whether a command whose source has so many bytes ends with this status, and has written this.
+    pub fn over_long(&mut self, line: &str, len: usize, status: u8, text: &[u8]) -> bool {
+        match long_bytes(self.alloc, len) {
+            Some(bytes) => self.ends(line, &bytes, status, 0, text),
             None => false,
         }
     }

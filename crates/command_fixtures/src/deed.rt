@@ -11,6 +11,10 @@ pub enum Deed {
     Refused(&'static str, &'static [u8], u8, u64),
     /// A command whose source has the bytes `abc`, and fails at one of its calls, ends with this status.
     OverSource(&'static str, u64, u8),
+    /// The same with a source of these bytes; it writes nothing.
+    StopsAt(&'static str, &'static [u8], u64, u8),
+    /// A command whose source has so many bytes ends with this status, and has written this.
+    Long(&'static str, usize, u8, &'static [u8]),
     /// A command whose sink fails at one of its calls ends with this status, and has written this.
     OverSink(&'static str, &'static [u8], u64, u8, &'static [u8]),
     /// A command ends with 0, and writes this where that is looked at; or it finds no memory and, made again,

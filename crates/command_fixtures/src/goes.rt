@@ -45,6 +45,8 @@ impl<P: Holder + Drop> Store<P> {
             Deed::Done(line, input, text) => self.ends(line, input, 0, 0, text),
             Deed::Refused(line, input, status, at) => self.ends(line, input, status, at, b""),
             Deed::OverSource(line, call, status) => self.over_source(line, call, status),
+            Deed::StopsAt(line, input, call, status) => self.stops_at(line, input, call, status),
+            Deed::Long(line, len, status, text) => self.over_long(line, len, status, text),
             Deed::OverSink(line, input, call, status, text) => self.over_sink(
                 line, input, call, status, text,
             ),

@@ -39,7 +39,7 @@ moves-turn w job WriteGate (Some a) r new h = absurd h
 moves-turn w job SyncGate (Some a) r new h = absurd h
 moves-turn w job action flight r new h = absurd h
 
-moves-end : (w : State) (job : Job) (action : Action) (flight : Option Append) (how : Answer) (new : State) →
+pub moves-end : (w : State) (job : Job) (action : Action) (flight : Option Append) (how : Answer) (new : State) →
     Moves w job action flight (Ended how) new → (how ≡ answer.DiskFault) ⊎ (how ≡ answer.Memory)
 moves-end w job action flight answer.DiskFault new h = inl refl
 moves-end w job action flight answer.Memory new h = inr refl

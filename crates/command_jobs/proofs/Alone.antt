@@ -1,30 +1,38 @@
 -- From the begin and the steps of a job to what its command tells of it.
-use Rattle.std.proofs.Common.{◌≡◌, ℕ, ◌+◌, ◌≤◌, List, length, replicate, drop, Option, Some, None, Ok, Err, refl, ap, sym, subst, ◌∙◌, inl, inr, arith}
+use Rattle.std.proofs.Common.{◌≡◌, ℕ, ◌+◌, ◌*◌, ◌<◌, ◌≤◌, List, length, replicate, drop, Option, Some, None, Ok, Err, refl, ap, sym, subst, ◌∙◌, inl, inr, arith}
+use Rattle.std.specs.Prelude.{IfSome}
 use Rattle.std.specs.Option.{option_map}
+use Rattle.std.proofs.Math.Nat.{mul-le-mul_right}
 use Rattle.std.proofs.lemmas.List.{length-replicate}
 use Rattle.device_defs.specs.Cells.{Cells, reads}
 use Rattle.device_defs.specs.Providers.{Provider}
 use Rattle.record_defs.specs.Records.{Record}
 use Rattle.record_defs.specs.Journal.{text_size}
-use Rattle.machine_defs.specs.Jobs.{Kind}
+use Rattle.machine_defs.specs.Jobs.{Kind, PutJob, Job, job_of}
+use Rattle.machine_defs.specs.Setups.{profiled, stripes_of}
 use Rattle.machine_defs.specs.Answers as answer
 use Rattle.machine_defs.specs.Answers.{Answer}
-use Rattle.machine_defs.specs.Events.{IsSpelledKind}
-use Rattle.machine_defs.specs.Begins.{beginning}
-use Rattle.machine_defs.specs.Heard.{Entry}
+use Rattle.machine_defs.specs.Events.{Step, IsSpelledKind}
+use Rattle.machine_defs.specs.Begins.{chosen, beginning}
+use Rattle.machine_defs.specs.Events as events
+use Rattle.machine_defs.specs.Heard.{Entry, heard_by}
+use Rattle.machine_defs.specs.Machine.{Happens}
+use Rattle.machine_defs.specs.Runs.{Moment, now}
 use Rattle.machine_defs.specs.Refusals as refusal
 use Rattle.machine_defs.specs.Refusals.{Refusal}
-use Rattle.machine_defs.specs.States.{State}
+use Rattle.machine_defs.specs.States.{State, setup_in}
 use Rattle.machine_defs.specs.Stands.{StandsForState}
 use Rattle.command_defs.specs.Seen.{Seen, nobody}
 use Rattle.command_defs.specs.Opens as opens
 use Rattle.command_defs.specs.Opens.{setup_in_effect}
 use Rattle.command_defs.specs.Refusals as commands
 use Rattle.opening_defs.specs.Opened.{AreHanded, IsOpenedOver, IsOpenAtRest}
-use Rattle.command_defs.specs.JobRuns.{GoesOnTo}
-use Rattle.command_defs.specs.Jobs.{past, with_next, SameBehind, SamePast, RanAlone, RunsAlone, LeftAlone}
-use Rattle.lone_laws.specs.Walked.{MayName}
-use Rattle.lone_laws.proofs.Walk.{walk-begin}
+use Rattle.command_defs.specs.JobRuns.{AreSteps}
+use Rattle.command_defs.specs.Jobs.{past, with_next, SameBehind, SamePast, LeavesBy, RanAlone, RunsAlone, LeftAlone}
+use Rattle.command_defs.specs.Puts.{MayHaveEnd}
+use Rattle.command_defs.specs.Ran.{ran_alone}
+use Rattle.lone_laws.specs.Walked.{MayName, WalkedAt}
+use Rattle.lone_laws.proofs.Walk.{walk-begin, found}
 use Rattle.vault_core.specs.declared.wish.BeginFault.{BeginFault}
 use Rattle.vault_core.specs.declared.wish.BeginFault.TheVariants as begin_fault
 use Rattle.vault_core.specs.Carried.{refusal_of}
@@ -34,9 +42,12 @@ use Rattle.vault_open.specs.Devices.{Devices, devices}
 use Rattle.vault.specs.Outcomes.{machine_answer}
 use Rattle.vault.specs.Stands.{Stands, MakesBegin}
 use Rattle.command_jobs.specs.Opened.{IsFreshOver}
-use Rattle.command_jobs.specs.Going.{IsOnly, IsUnderWay, GoesToEnd}
+use Rattle.command_jobs.specs.Going.{IsOnly, IsUnderWay, IsEarly, EndsEarly}
 use Rattle.command_jobs.specs.Ends.{IsSeenBefore, IsSeenAfter, IsRefusedOver, EndsOver}
 use Rattle.job_laws.proofs.BeginRefusals.{refusal-of}
+use Rattle.job_laws.proofs.Runs.{WalkedOn, walk-on}
+use Rattle.job_laws.proofs.Telling.{LeftAfter, left-after, jobs-leave}
+use Rattle.command_jobs.proofs.Early.{no-put, fault-first, not-whole}
 use Rattle.command_jobs.proofs.Begins.{spelled-begun}
 use Rattle.command_jobs.proofs.Fresh.{OpensAll, ThereIsOne, over-opened, just-opened}
 
@@ -48,7 +59,7 @@ LeavesAll = (records : List Record) (kind : Kind) (own : Option ℕ) (answer : A
 
 -- ---- what the disk reads past the text, from the time before the opening on
 
-past-of : (rs : List Record) (a b : Option Cells) → option_map reads b ≡ option_map reads a →
+pub past-of : (rs : List Record) (a b : Option Cells) → option_map reads b ≡ option_map reads a →
     option_map (past rs) b ≡ option_map (past rs) a
 past-of rs a b e = sym (through b) ∙ (ap (option_map (drop (text_size rs))) e ∙ through a)
   where
@@ -91,14 +102,16 @@ RefusesAs old kind own why new =
     (w : State) (d : Devices) (moment : ℕ) → Stands old d w → MakesBegin w moment kind own (Err why) new d
 
 -- a job that began over a state just opened
-record HasBegun (w : State) (moment : ℕ) (kind : Kind) (own : Option ℕ) (number : ℕ) (v : Vault) (d : Devices) : Type 0 where
-  made : MakesBegin w moment kind own (Ok number) v d
-  spelled : IsSpelledKind kind
-  first : number ≡ 1
-  only : IsOnly w kind own made.state
-  unrefused : commands.refusal_over w.records kind own ≡ None
+pub record HasBegun (w : State) (moment : ℕ) (kind : Kind) (own : Option ℕ) (number : ℕ) (v : Vault) (d : Devices) : Type 0 where
+  pub made : MakesBegin w moment kind own (Ok number) v d
+  pub spelled : IsSpelledKind kind
+  pub first : number ≡ 1
+  pub walked : WalkedAt w kind (chosen (setup_in w) own) made.state (beginning w moment kind own)
+  pub only : IsOnly w kind own made.state
+  pub place : only.job.place ≡ 0
+  pub unrefused : commands.refusal_over w.records kind own ≡ None
 
-has-begun : (w : State) (moment : ℕ) (kind : Kind) (own : Option ℕ) (number : ℕ) (old new : Vault)
+pub has-begun : (w : State) (moment : ℕ) (kind : Kind) (own : Option ℕ) (number : ℕ) (old new : Vault)
     (d : Devices) → MayName kind own → IsOpenAtRest w 1 → Stands old d w → BeginsAs old kind own number new → HasBegun w moment kind own number new d
 has-begun w moment kind own number old new d named O stands begins =
     (let M = begins w d moment stands in
@@ -108,7 +121,9 @@ has-begun w moment kind own number old new d named O stands begins =
       made = M;
       spelled = s;
       first = b.0;
+      walked = b.1;
       only = record { opened = O; job = beginning w moment kind own; walked = b.1 };
+      place = refl;
       unrefused = sym (refusal-of w kind own O.rest.idle.0 O.rest.idle.3 O.rest.idle.2 O.rest.whole) ∙ M.begins.1;
     })
 
@@ -187,13 +202,14 @@ module _ (law : OpensAll) (there : ThereIsOne) (v : Vault) (records : List Recor
         | inr e ↦ inl (memory-is why e)
       ])
 
-  module _ (leaves : LeavesAll) (next last : Vault) (kind : Kind) (own : Option ℕ) (number : ℕ)
+  -- the one job that was begun went on from each state that may have been just opened
+  module _ (next last : Vault) (kind : Kind) (own : Option ℕ) (number : ℕ)
       (ended : Ended) (named : MayName kind own)
-      (providers after : List Provider) (new_holds : Option Cells) (new_faults : ℕ)
+      (providers after : List Provider) (new_holds : Option Cells) (new_faults : ℕ) (told : Option ℕ)
       (begins : BeginsAs v kind own number next)
-      (goes : (start w : State) (kind : Kind) (own : Option ℕ) (moment : ℕ) → IsOnly start kind own w →
+      (goes : (start w : State) (moment : ℕ) → (only : IsOnly start kind own w) → only.job.place ≡ 0 →
       Stands next (devices holds faults providers) w →
-      GoesToEnd start kind own w moment ended last (devices holds faults providers)
+      EndsEarly start kind own w moment told ended last (devices holds faults providers)
       (devices new_holds new_faults after))
       (same : length after ≡ length providers)
       (old new : Seen) (R : opens.IsOpened old records)
@@ -202,43 +218,77 @@ module _ (law : OpensAll) (there : ThereIsOne) (v : Vault) (records : List Recor
     enough : (setup_in_effect records).n ≤ length providers
     enough = subst (λ (ps : List Provider). (setup_in_effect records).n ≤ length ps) B.providers R.enough
 
-    ran-alone : (w : State) (moment : ℕ) → IsOpenedOver w records faults providers →
-        RanAlone records kind own (machine_answer ended.answer) old new ended.heard faults w moment
-    ran-alone w moment over =
+    -- the run from a state, of which so many steps went on before the last one
+    pub record RanTo (w : State) (moment : ℕ) : Type 0 where
+      pub ran : RanAlone records kind own (machine_answer ended.answer) old new ended.heard faults w moment
+      pub opened : IsOpenAtRest w 1
+      pub begun : WalkedAt w kind (chosen (setup_in w) own) ran.runs.begun (beginning w moment kind own)
+      pub first : ran.runs.job ≡ 1
+      pub early : IfSome told (λ stripes. length ran.runs.goes_on.steps < 4 + stripes * (setup_in w).n)
+
+    ran-to : (w : State) (moment : ℕ) → IsOpenedOver w records faults providers → RanTo w moment
+    ran-to w moment over =
         (let x = opened-at providers w enough over in
         let h = has-begun w moment kind own number v next
         (devices holds faults providers) named x.opened x.stands begins in
-        let G = goes w h.made.state kind own (moment + 1) h.only h.made.stands in
+        let E = goes w h.made.state (moment + 1) h.only h.place h.made.stands in
+        let G = E.to_end in
         record {
-          last = G.last;
-          runs = record {
-            begun = h.made.state;
-            job = number;
-            begins = h.made.begins;
-            goes_on = subst (λ n. GoesOnTo h.made.state (moment + 1) n
-                (machine_answer ended.answer) ended.heard G.last) (sym h.first) G.goes;
+          ran = record {
+            last = G.last;
+            runs = record {
+              begun = h.made.state;
+              job = number;
+              begins = h.made.begins;
+              goes_on = record {
+                steps = G.goes.steps;
+                are_steps = subst (λ n. AreSteps h.made.state (moment + 1) n G.goes.steps) (sym h.first)
+                    G.goes.are_steps;
+                ends = subst (λ n. Happens 8 ((moment + 1) + length G.goes.steps)
+                    (now h.made.state G.goes.steps) (Step n) (events.Ended (machine_answer ended.answer)) G.last)
+                    (sym h.first) G.goes.ends;
+                heard_is = subst (λ n. ended.heard
+                    ≡ heard_by (job_of (now h.made.state G.goes.steps).jobs n)) (sym h.first)
+                    G.goes.heard_is;
+              };
+            };
+            images = subst (λ told. StandsForState told G.last) (sym A.disk) G.stands.desk.devices.images;
+            faults_are = G.stands.desk.devices.faults ∙ sym A.faults;
+            handed = subst (λ (ps : List Provider). AreHanded ps G.last)
+                (sym A.providers) G.stands.desk.devices.providers;
+            past_text = subst (λ told. SamePast kind own (machine_answer ended.answer) records G.last.records
+                old.disk told) (sym A.disk)
+                (past-before kind own (machine_answer ended.answer) records G.last.records old.disk holds
+                new_holds B.reads
+                (subst (λ rs. SamePast kind own (machine_answer ended.answer) rs G.last.records holds new_holds)
+                over.records G.past_text));
           };
-          images = subst (λ told. StandsForState told G.last) (sym A.disk) G.stands.desk.devices.images;
-          faults_are = G.stands.desk.devices.faults ∙ sym A.faults;
-          handed = subst (λ (ps : List Provider). AreHanded ps G.last)
-              (sym A.providers) G.stands.desk.devices.providers;
-          past_text = subst (λ told. SamePast kind own (machine_answer ended.answer) records G.last.records
-              old.disk told) (sym A.disk)
-              (past-before kind own (machine_answer ended.answer) records G.last.records old.disk holds new_holds
-              B.reads
-              (subst (λ rs. SamePast kind own (machine_answer ended.answer) rs G.last.records holds new_holds)
-              over.records G.past_text));
+          opened = x.opened;
+          begun = h.walked;
+          first = h.first;
+          early = early-by told w h.made.state (length G.goes.steps) h.only.job E.early
+              (found w x.opened kind h.made.state h.only.job h.only.walked) h.place;
         })
+      where
+        early-by : (told : Option ℕ) (w v : State) (count : ℕ) (job : Job) → IsEarly w v count told →
+            job_of v.jobs 1 ≡ Some job → job.place ≡ 0 →
+            IfSome told (λ stripes. count < 4 + stripes * (setup_in w).n)
+        early-by None w v count job h is zero_place = tt
+        early-by (Some stripes) w v count job h is zero_place =
+            (let l = h job is in let z = zero_place in omega (arith, l, z))
 
-    runs-alone : RunsAlone records kind own (machine_answer ended.answer) old new ended.heard
+    pub all-ran-to : (w : State) (moment : ℕ) → IsOpenedOver w records faults old.providers → RanTo w moment
+    all-ran-to w moment over = ran-to w moment
+        (subst (λ (ps : List Provider). IsOpenedOver w records faults ps) B.providers over)
+
+    abbrev pub runs-alone : RunsAlone records kind own (machine_answer ended.answer) old new ended.heard
     runs-alone = record {
       faults = faults;
       before = B.faults;
-      ran = λ w moment over. ran-alone w moment
-          (subst (λ (ps : List Provider). IsOpenedOver w records faults ps) B.providers over);
+      ran = λ w moment over. (all-ran-to w moment over).ran;
     }
 
-    begun-one : (w : State) ×
+    pub begun-one : (w : State) ×
         (HasBegun w 1 kind own number next (devices holds faults providers) × (w.records ≡ records))
     begun-one = (let x = opened-one providers enough in (
       x.0,
@@ -249,20 +299,104 @@ module _ (law : OpensAll) (there : ThereIsOne) (v : Vault) (records : List Recor
       ),
     ))
 
-    left-alone : LeftAlone records kind own (machine_answer ended.answer) old new ended.heard
-    left-alone = leaves records kind own (machine_answer ended.answer) old new ended.heard R begun-one.1.0.spelled named
-        (ap length A.providers ∙ (same ∙ sym (ap length B.providers))) runs-alone
+    pub spelled-here : IsSpelledKind kind
+    spelled-here = begun-one.1.0.spelled
 
-    -- how the one job ended, over what the journal held
-    pub ends-over : EndsOver records kind own ended old new
-    ends-over = record {
+    pub as-many : length new.providers ≡ length old.providers
+    as-many = ap length A.providers ∙ (same ∙ sym (ap length B.providers))
+
+    -- how the one job ended, over what the journal held, where this is what it left
+    abbrev pub ends-with : LeftAlone records kind own (machine_answer ended.answer) old new ended.heard →
+        EndsOver records kind own ended old new
+    ends-with left = record {
       unrefused = subst (λ rs. commands.refusal_over rs kind own ≡ None) begun-one.1.1 begun-one.1.0.unrefused;
       runs = runs-alone;
-      left = left-alone;
+      left = left;
       counts = record {
-        disk = (let a = left-alone.before in let b = left-alone.leaves.counts.disk in omega (arith, a, b));
-        handed = ap length A.providers ∙ (same ∙ sym (ap length B.providers));
-        stores = left-alone.leaves.counts.stores;
-        others = left-alone.leaves.counts.others;
+        disk = (let a = left.before in let b = left.leaves.counts.disk in omega (arith, a, b));
+        handed = as-many;
+        stores = left.leaves.counts.stores;
+        others = left.leaves.counts.others;
       };
     }
+
+    pub ends-over : LeavesAll → EndsOver records kind own ended old new
+    ends-over leaves =
+        ends-with (leaves records kind own (machine_answer ended.answer) old new ended.heard R spelled-here named
+        as-many runs-alone)
+
+    -- ---- a put that was an open stream as it ended
+
+    module _ (name bytes : List ℕ) (is_put : kind ≡ PutJob name bytes) (stripes : ℕ)
+        (is_open : told ≡ Some stripes)
+        (within : stripes ≤ stripes_of (profiled (setup_in_effect records)
+        (chosen (setup_in_effect records) own)) (length bytes)) where
+      L : LeftAfter records kind own (machine_answer ended.answer) old new ended.heard spelled-here named
+          (λ w last moment O r. jobs-leave kind own w last moment (machine_answer ended.answer) ended.heard
+          spelled-here named O r) R as-many runs-alone
+      L = left-after records kind own (machine_answer ended.answer) old new ended.heard spelled-here named
+          (λ w last moment O r. jobs-leave kind own w last moment (machine_answer ended.answer) ended.heard
+          spelled-here named O r) R as-many runs-alone
+
+      r : RanTo L.state 1
+      r = all-ran-to L.state 1 L.over
+
+      abbrev steps : List Moment
+      steps = r.ran.runs.goes_on.steps
+
+      walk : WalkedOn L.state kind (chosen (setup_in L.state) own) (beginning L.state 1 kind own) (length steps)
+          (now r.ran.runs.begun steps)
+      walk = walk-on L.state r.ran.runs.begun kind (chosen (setup_in L.state) own)
+          (beginning L.state 1 kind own) (1 + 1) steps r.opened r.begun
+          (subst (λ n. AreSteps r.ran.runs.begun (1 + 1) n steps) r.first r.ran.runs.goes_on.are_steps)
+
+      walked : WalkedAt L.state (PutJob name bytes) (chosen (setup_in L.state) own)
+          (now r.ran.runs.begun steps) walk.next
+      walked = subst (λ (k : Kind). WalkedAt L.state k (chosen (setup_in L.state) own)
+          (now r.ran.runs.begun steps) walk.next) is_put walk.walked
+
+      happens : Happens 8 ((1 + 1) + length steps) (now r.ran.runs.begun steps) (Step 1)
+          (events.Ended (machine_answer ended.answer)) r.ran.last
+      happens = subst (λ n. Happens 8 ((1 + 1) + length steps) (now r.ran.runs.begun steps) (Step n)
+          (events.Ended (machine_answer ended.answer)) r.ran.last) r.first r.ran.runs.goes_on.ends
+
+      within-there : stripes ≤ stripes_of (profiled (setup_in L.state) (chosen (setup_in L.state) own))
+          (length bytes)
+      unfolding setup_in
+      within-there = subst (λ (rs : List Record). stripes ≤ stripes_of (profiled (setup_in_effect rs)
+          (chosen (setup_in_effect rs) own)) (length bytes)) (sym L.over.records) within
+
+      early : walk.next.place < 4 + stripes_of (profiled (setup_in L.state) (chosen (setup_in L.state) own))
+          (length bytes) * (setup_in L.state).n
+      early =
+          (let l = subst (λ (o : Option ℕ). IfSome o
+          (λ stripes. length steps < 4 + stripes * (setup_in L.state).n)) is_open r.early in
+          let p = walk.place in
+          let m = mul-le-mul_right (setup_in L.state).n within-there in
+          omega (arith, l, p, m))
+
+      none-put : machine_answer ended.answer ≡ answer.Put → ⊥
+      none-put e = no-put L.state (now r.ran.runs.begun steps) r.ran.last name bytes own walk.next r.opened
+          walked early ((1 + 1) + length steps)
+          (subst (λ (how : Answer). Happens 8 ((1 + 1) + length steps) (now r.ran.runs.begun steps) (Step 1)
+          (events.Ended how) r.ran.last) e happens)
+
+      none-kept : machine_answer ended.answer ≡ answer.DiskFault → L.left.after ≡ records
+      unfolding r
+      none-kept e = L.after_is
+          ∙ (fault-first L.state (now r.ran.runs.begun steps) r.ran.last name bytes own walk.next r.opened
+          walked early ((1 + 1) + length steps)
+          (subst (λ (how : Answer). Happens 8 ((1 + 1) + length steps) (now r.ran.runs.begun steps) (Step 1)
+          (events.Ended how) r.ran.last) e happens) ∙ L.over.records)
+
+      pub left-open : LeftAlone records kind own (machine_answer ended.answer) old new ended.heard
+      left-open = L.left
+
+      -- its last record is neither in effect nor in doubt
+      pub not-ended : MayHaveEnd records left-open.after left-open.doubt name (length bytes) own → ⊥
+      unfolding L left-open
+      not-ended m = not-whole (ran_alone records old new ended.heard L.left.faults L.left.after L.left.doubt) own
+          name bytes (machine_answer ended.answer)
+          (subst (λ (k : Kind). LeavesBy (ran_alone records old new ended.heard L.left.faults L.left.after
+          L.left.doubt) k own (machine_answer ended.answer)) is_put L.left.leaves.by_kind).0
+          none-put none-kept m

@@ -8,20 +8,14 @@ use Rattle.machine_defs.specs.Begins.{BeginsAt, beginning}
 use Rattle.machine_defs.proofs.JobLists.{cond_true}
 use Rattle.state_laws.specs.Sound.{IsSound}
 use Rattle.lone_laws.specs.Walked.{MayName}
-use Rattle.command_jobs.specs.Kinds.{kind_of, own_of}
+use Rattle.command_jobs.specs.Kinds.{kind_of}
 use Rattle.command_jobs.specs.declared.job.Job.{Job}
-use Rattle.command_jobs.specs.declared.job.Job.TheVariants as job
 
 -- ---- the profile
 
--- only a put names one
-pub may-name : (j : Job) → MayName (kind_of j) (own_of j)
-may-name (job.Put name bytes profile) = MayName.put name.now bytes refl
-may-name (job.Get name) = MayName.none refl
-may-name (job.Drop name) = MayName.none refl
-may-name job.Audit = MayName.none refl
-may-name job.Repair = MayName.none refl
-may-name job.Upgrade = MayName.none refl
+-- a job that reads no source names none
+pub may-name : (j : Job) → MayName (kind_of j) None
+may-name j = MayName.none refl
 
 -- ---- words
 

@@ -17,6 +17,7 @@ use Rattle.vault.specs.declared.vault.Vault.{Vault}
 use Rattle.vault_open.specs.Devices.{Devices, devices}
 use Rattle.vault.specs.Seen.{vault_setup, master_of, table_of, next_job_of, provider_count}
 use Rattle.vault.specs.Stands.{Stands}
+use Rattle.vault.specs.Streams.{IsStreamless}
 use Rattle.command_jobs.specs.Opened.{AreRecords, IsFreshOver}
 use Rattle.command_jobs.proofs.Readings.{read-records}
 
@@ -69,7 +70,7 @@ just-opened w records faults providers O over = record {
 }
 
 -- the setup of a vault that was just opened
-fresh-setup : (v : Vault) (records : List Record) (holds : Option Cells) (faults : ℕ) (w : State)
+pub fresh-setup : (v : Vault) (records : List Record) (holds : Option Cells) (faults : ℕ) (w : State)
     (providers : List Provider) → w.records ≡ records → Stands v (devices holds faults providers) w →
     (with_master (vault_setup v) (master_of v) ≡ setup_in_effect records) × IsFoldOf records (table_of v)
 unfolding setup_in
@@ -80,8 +81,9 @@ fresh-setup v records holds faults w providers e S =
 pub fresh-vault : OpensAll → ThereIsOne →
     (v : Vault) (records : List Record) (told holds : Option Cells) (faults : ℕ) → IsRead told records →
     ((w : State) (providers : List Provider) → IsJustOpened w records 1 faults providers →
-    Stands v (devices holds faults providers) w) → next_job_of v ≡ 1 → IsFreshOver v records holds faults
-fresh-vault law there v records told holds faults r stands first =
+    Stands v (devices holds faults providers) w) → next_job_of v ≡ 1 → IsStreamless v →
+    IsFreshOver v records holds faults
+fresh-vault law there v records told holds faults r stands first streams =
     (let ps : List Provider = replicate (setup_in_effect records).n nobody in
     let few : (setup_in_effect records).n ≤ length ps =
     (let e = length-replicate (setup_in_effect records).n nobody in omega (arith, e)) in
@@ -96,6 +98,7 @@ fresh-vault law there v records told holds faults r stands first =
       tolerance = ap (λ (z : Setup). z.tolerance) s.0;
       table = s.1;
       next_job = first;
+      streams = streams;
     })
 
 -- a vault that stands for a state uses no more providers than are handed in

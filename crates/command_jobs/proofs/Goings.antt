@@ -7,19 +7,20 @@ use Rattle.device_defs.specs.Cells.{Cells, reads}
 use Rattle.device_defs.specs.Told.{Goes}
 use Rattle.record_defs.specs.Records.{Record}
 use Rattle.record_defs.specs.Journal.{text_size}
-use Rattle.machine_defs.specs.Jobs.{Kind}
+use Rattle.machine_defs.specs.Jobs.{Kind, Job, job_of}
 use Rattle.machine_defs.specs.Answers as answer
 use Rattle.machine_defs.specs.Answers.{Answer}
 use Rattle.machine_defs.specs.Events.{Step, More, Ended}
-use Rattle.machine_defs.specs.States.{State, Append}
+use Rattle.machine_defs.specs.States.{State, Append, setup_in}
+use Rattle.machine_defs.specs.Begins.{chosen}
+use Rattle.machine_defs.proofs.JobLists.{same_value}
 use Rattle.machine_defs.specs.Machine.{Happens}
 use Rattle.machine_defs.specs.Runs.{Moment, now}
 use Rattle.machine_defs.specs.Heard.{heard_by}
-use Rattle.machine_defs.specs.Jobs.{job_of}
-use Rattle.command_defs.specs.JobRuns.{AreSteps}
 use Rattle.command_defs.specs.Jobs.{past, with_next, IsNext, SameBehind, SamePast}
 use Rattle.journal_core.specs.Moves.{SameFrom}
-use Rattle.lone_laws.proofs.Walk.{walk-step}
+use Rattle.lone_laws.proofs.Walk.{found}
+use Rattle.job_laws.proofs.Runs.{WalkedOn, walk-on}
 use Rattle.vault_core.specs.Carried.{IsWriting}
 use Rattle.vault.specs.declared.turn.Ended.{Ended as EndedJob}
 use Rattle.vault.specs.declared.turn.Turn.{Turn}
@@ -29,7 +30,7 @@ use Rattle.vault_open.specs.Devices.{Devices}
 use Rattle.vault.specs.Devices.{records_in_flight, IsSameBeyond}
 use Rattle.vault.specs.Outcomes.{machine_answer, outcome_of}
 use Rattle.vault.specs.Stands.{Stands, MakesStep}
-use Rattle.command_jobs.specs.Going.{IsOnly, GoesToEnd}
+use Rattle.command_jobs.specs.Going.{IsOnly, OnWay, GoesToEnd}
 use Rattle.command_jobs.proofs.Acting.{step-turn, step-grows, step-ends}
 use Rattle.command_jobs.proofs.Cuts.{fault-records, memory-clears, next-written, next-flight}
 
@@ -41,11 +42,11 @@ drop-further m n xs ys l e = sym (beyond xs) ∙ (ap (drop (n - m)) e ∙ beyond
     beyond : (zs : List ℕ) → drop (n - m) (drop m zs) ≡ drop n zs
     beyond zs = drop-drop (n - m) m zs ∙ ap (λ k. drop k zs) (let f : m + (n - m) ≡ n = omega (arith, l) in f)
 
-goes-same : (n : ℕ) (told : Option Cells) → Goes (SameFrom n) told told
+pub goes-same : (n : ℕ) (told : Option Cells) → Goes (SameFrom n) told told
 goes-same n None = tt
 goes-same n (Some cells) = refl
 
-goes-on-same : (m n : ℕ) (a b c : Option Cells) → m ≤ n → Goes (SameFrom m) a b → Goes (SameFrom n) b c →
+pub goes-on-same : (m n : ℕ) (a b c : Option Cells) → m ≤ n → Goes (SameFrom m) a b → Goes (SameFrom n) b c →
     Goes (SameFrom n) a c
 goes-on-same m n None None None l h k = tt
 goes-on-same m n (Some a) (Some b) (Some c) l h k = k ∙ drop-further m n (reads b) (reads a) l h
@@ -60,7 +61,7 @@ goes-further m n (Some a) (Some b) l h = drop-further m n (reads b) (reads a) l 
 goes-further m n None (Some b) l h = absurd h
 goes-further m n (Some a) None l h = absurd h
 
-past-same : (rs : List Record) (a b : Option Cells) → Goes (SameFrom (text_size rs)) a b →
+pub past-same : (rs : List Record) (a b : Option Cells) → Goes (SameFrom (text_size rs)) a b →
     option_map (past rs) b ≡ option_map (past rs) a
 past-same rs None None h = refl
 past-same rs (Some a) (Some b) h = ap (λ (bytes : List ℕ). Some bytes) h
@@ -105,23 +106,17 @@ flying-le rs entry (Some a) same =
 
 -- ---- the job on its way
 
--- the job has made these steps, and vault and devices stand for the state after them
-pub record OnWay (start : State) (kind : Kind) (own : Option ℕ) (w : State) (moment : ℕ) (v : Vault)
-    (old new : Devices) : Type 0 where
-  pub steps : List Moment
-  pub are_steps : AreSteps w moment 1 steps
-  pub only : IsOnly start kind own (now w steps)
-  pub stands : Stands v new (now w steps)
-  pub beyond : IsSameBeyond (now w steps) old new
-
 -- before its first step a job is on its way
-pub no-steps : (start : State) (kind : Kind) (own : Option ℕ) (w : State) (moment : ℕ) (v : Vault) (d : Devices) →
+abbrev pub no-steps : (start : State) (kind : Kind) (own : Option ℕ) (w : State) (moment : ℕ) (v : Vault) (d : Devices) →
     IsOnly start kind own w → Stands v d w → OnWay start kind own w moment v d d
 no-steps start kind own w moment v d only stands =
     record {
       steps = [];
       are_steps = tt;
       only = only;
+      place = λ begun is. (let e = same_value (job_of w.jobs 1) only.job begun
+          (found start only.opened kind w only.job only.walked) is in
+          let p = ap (λ (j : Job). j.place) e in omega (arith, p));
       stands = stands;
       beyond = goes-same (text_size (records_in_flight w.records w.append)) d.holds;
     }
@@ -136,27 +131,44 @@ steps-turn start kind own w moment number result v old new only first M =
 
 module _ (start : State) (kind : Kind) (own : Option ℕ) (w : State) (moment number : ℕ) (first : number ≡ 1) (v next : Vault)
     (old mid new : Devices) (way : OnWay start kind own w moment v old mid) where
-  abbrev here : State
+  abbrev pub here : State
   here = now w way.steps
 
   -- one more step, and it is still on its way
-  pub one-more : MakesStep here (moment + length way.steps) number turn.More next mid new →
-      OnWay start kind own w moment next old new
-  one-more M =
-      (let happens : Happens 8 (moment + length way.steps) here (Step 1) More M.state =
-      subst (λ n. Happens 8 (moment + length way.steps) here (Step n) More M.state) first M.happens in
-      let walk = walk-step start way.only.opened kind here way.only.job way.only.walked
-      (moment + length way.steps) M.state happens in
-      record {
-        steps = record { event = Step 1; outcome = More; state = M.state } ∷ way.steps;
-        are_steps = (refl, refl, happens, way.are_steps);
-        only = record { opened = way.only.opened; job = walk.0; walked = walk.1 };
-        stands = M.stands;
-        beyond = goes-on-same (text_size (records_in_flight here.records here.append))
-            (text_size (records_in_flight M.state.records M.state.append)) old.holds mid.holds new.holds
-            (step-grows start way.only.opened kind here way.only.job way.only.walked
-            (moment + length way.steps) M.state happens) way.beyond (M.beyond (λ e. cc));
-      })
+  module _ (M : MakesStep here (moment + length way.steps) number turn.More next mid new) where
+    pub made : Happens 8 (moment + length way.steps) here (Step 1) More M.state
+    made = subst (λ n. Happens 8 (moment + length way.steps) here (Step n) More M.state) first M.happens
+
+    abbrev pub step : Moment
+    step = record { event = Step 1; outcome = More; state = M.state }
+
+    pub further : WalkedOn start kind (chosen (setup_in start) own) way.only.job 1 M.state
+    further = walk-on start here kind (chosen (setup_in start) own) way.only.job (moment + length way.steps)
+        (step ∷ []) way.only.opened way.only.walked (
+          refl,
+          refl,
+          subst (λ n. Happens 8 n here (Step 1) More M.state)
+              (let e : moment + length way.steps ≡ (moment + length way.steps) + 0 = omega arith in e) made,
+          tt,
+        )
+
+    abbrev pub one-more : OnWay start kind own w moment next old new
+    one-more =
+        record {
+          steps = step ∷ way.steps;
+          are_steps = (refl, refl, made, way.are_steps);
+          only = record { opened = way.only.opened; job = further.next; walked = further.walked };
+          place = λ begun is. (let a = way.place begun is in let b = further.place in omega (arith, a, b));
+          stands = M.stands;
+          beyond = goes-on-same (text_size (records_in_flight here.records here.append))
+              (text_size (records_in_flight M.state.records M.state.append)) old.holds mid.holds new.holds
+              (step-grows start way.only.opened kind here way.only.job way.only.walked
+              (moment + length way.steps) M.state made) way.beyond (M.beyond (λ e. cc));
+        }
+
+    -- it is one place further
+    pub one-further : one-more.only.job.place ≡ way.only.job.place + 1
+    one-further = further.place
 
   -- a step that ends the job
   module _ (ended : EndedJob)
@@ -272,6 +284,11 @@ module _ (start : State) (kind : Kind) (own : Option ℕ) (w : State) (moment nu
           new.holds
           past_end past_fault past_memory;
     }
+
+    -- its steps before the last one are those on its way
+    pub end-steps : at-end.goes.steps ≡ way.steps
+    unfolding at-end
+    end-steps = refl
 
 -- other turns do not come
 pub never-stops : (r : Turn) → ((holder : ℕ) × (r ≡ turn.Waiting holder)) ⊎

@@ -4,6 +4,14 @@ pub mod Readings
 pub mod Fresh
 pub mod Cuts
 pub mod Goings
+pub mod ReadBytes
+pub mod Early
 pub mod Alone
+pub mod Told
+pub mod Advancing
+pub mod Fed
+pub mod Feeding
+pub mod Streaming
+pub mod Beginning
 pub mod Sweeps
 pub mod Scrubbing

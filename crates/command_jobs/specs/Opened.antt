@@ -29,6 +29,7 @@ use Rattle.vault.specs.declared.vault.Vault.{Vault}
 use Rattle.vault_open.specs.Devices.{devices}
 use Rattle.vault.specs.Seen.{vault_setup, table_of, next_job_of, provider_count}
 use Rattle.vault.specs.Stands.{Stands}
+use Rattle.vault.specs.Streams.{IsStreamless}
 use Rattle.opening_defs.specs.Opened.{IsJustOpened}
 use Rattle.command_jobs.specs.declared.open.Unopened.{Unopened}
 use Rattle.command_jobs.specs.declared.open.Unopened.TheVariants as unopened
@@ -54,6 +55,7 @@ pub record IsFreshOver (v : Vault) (records : List Record) (holds : Option Cells
   pub tolerance : (vault_setup v).tolerance ≡ (setup_in_effect records).tolerance
   pub table : IsFoldOf records (table_of v)
   pub next_job : next_job_of v ≡ 1
+  pub streams : IsStreamless v
 
 -- a vault that was just opened over this disk, with enough providers
 pub record IsFreshFor (v : Vault) (holds : Option Cells) (faults handed : ℕ) : Type 0 where

@@ -1,22 +1,10 @@
-use stream_model::Bytes;
-
-/// The one job of a command.
+/// The one job of a command that reads no source.
 #[derive(Drop)]
 pub enum Job<'a> {
-    /// Put a file of these bytes under a name, with the profile of a number, or else the setup's.
-    Put {
-        name: &'a [u8],
-        bytes: Bytes,
-        profile: Option<u8>,
-    },
     /// Get the file of a name.
-    Get {
-        name: &'a [u8],
-    },
+    Get { name: &'a [u8] },
     /// Drop the file of a name.
-    Drop {
-        name: &'a [u8],
-    },
+    Drop { name: &'a [u8] },
     /// Audit all files in effect.
     Audit,
     /// Rebuild the providers that the last audit flagged.

@@ -1,4 +1,4 @@
-ghost use Rattle.std.specs.Prelude.{◌≡◌, ◌<◌, ◌≤◌, ◌-◌, ◌^◌, ℕ, List, Option, IfOk, IfErr, OnErr, is_some, length, map};
+ghost use Rattle.std.specs.Prelude.{◌≡◌, ◌<◌, ◌≤◌, ◌-◌, ◌^◌, ℕ, List, Option, None, IfOk, IfErr, OnErr, is_some, length, map};
 ghost use Rattle.machine_defs.specs.Jobs.{Kind};
 ghost use Rattle.machine_defs.specs.States.{State};
 ghost use Rattle.record_defs.specs.Records.{Record};
@@ -9,8 +9,9 @@ ghost use Rattle.vault.specs.Devices.{devices_seen};
 ghost use Rattle.vault.specs.Outcomes.{HasPaddedCounts};
 ghost use Rattle.vault.specs.Seen.{next_job_of};
 ghost use Rattle.vault.specs.Stands.{Stands, MakesBegin};
+ghost use Rattle.vault.specs.Streams.{IsStreamless, KeepsStreamless};
 ghost use Rattle.command_jobs.specs.Opened.{IsFreshOver, IsFreshFor};
-ghost use Rattle.command_jobs.specs.Kinds.{kind_of, own_of};
+ghost use Rattle.command_jobs.specs.Kinds.{kind_of};
 ghost use Rattle.command_jobs.specs.Going.{IsOnly, IsUnderWay, GoesToEnd};
 ghost use Rattle.command_jobs.specs.Ends.{IsSeenBefore, IsSeenAfter, IsRefusedOver, EndsOver};
 
@@ -18,6 +19,7 @@ use crate::job::Job;
 use disk_model::Disk;
 use job_laws::alone::{opened_states, told_jobs_leave};
 use provider_model::Provider;
+use vault::laws::only_streams_wait;
 use vault::{BeginFault, Ended, Turn, Vault};
 
 /// Runs the one job of a vault to its end. Condition: the vault was just opened over this disk, and as many
@@ -33,11 +35,11 @@ pub fn run_job<D: Disk, P: Provider>(
         → IsFreshOver vault records (D.holds disk.old) (D.faults disk.old) → opens.IsOpened old records
         → IsSeenBefore old (devices_seen D.Disk P.Provider disk.old providers.old)
         → IsSeenAfter new (devices_seen D.Disk P.Provider disk.new providers.new)
-        → EndsOver records (kind_of job.entry) (own_of job.entry) ended old new) }
+        → EndsOver records (kind_of job.entry) None ended old new) }
     ensures padded { IfOk result (λ ended. HasPaddedCounts ended.answer) }
     ensures refused { IfErr result (λ why. (records : List Record)
         → IsFreshOver vault records (D.holds disk.old) (D.faults disk.old)
-        → IsRefusedOver records (kind_of job.entry) (own_of job.entry) why) }
+        → IsRefusedOver records (kind_of job.entry) None why) }
     ensures tells { is_some (D.holds disk.new) ≡ is_some (D.holds disk.old) }
     ensures untouched { OnErr result ((disk.new ≡ disk.old) × (providers.new ≡ providers.old)) }
 {
@@ -59,15 +61,11 @@ pub fn run_job<D: Disk, P: Provider>(
 /// Begins a job of a vault.
 fn begin(vault: &mut Vault, job: Job) -> Result<u32, BeginFault>
     requires { next_job_of vault.old < 2 ^ 32 - 1 }
-    ensures { (w : State) (d : Devices) (moment : ℕ) → Stands vault.old d w
-        → MakesBegin w moment (kind_of job.entry) (own_of job.entry) result vault.new d }
+    ensures machine { (w : State) (d : Devices) (moment : ℕ) → Stands vault.old d w
+        → MakesBegin w moment (kind_of job.entry) None result vault.new d }
+    ensures streams { KeepsStreamless vault.old vault.new }
 {
     match job {
-        Job::Put {
-            name,
-            bytes,
-            profile,
-        } => vault.begin_put(name, bytes, profile),
         Job::Get { name } => vault.begin_get(name),
         Job::Drop { name } => vault.begin_drop(name),
         Job::Audit => vault.begin_audit(),
@@ -85,6 +83,7 @@ fn finish<D: Disk, P: Provider>(
 ) -> Ended
     requires first { number ≡ 1 }
     requires under_way { IsUnderWay vault.old (devices_seen D.Disk P.Provider disk.old providers.old) }
+    requires streams { IsStreamless vault.old }
     ensures ended { (start w : State) (kind : Kind) (own : Option ℕ) (moment : ℕ) → IsOnly start kind own w
         → Stands vault.old (devices_seen D.Disk P.Provider disk.old providers.old) w
         → GoesToEnd start kind own w moment result vault.new
@@ -93,6 +92,7 @@ fn finish<D: Disk, P: Provider>(
     ensures tells { is_some (D.holds disk.new) ≡ is_some (D.holds disk.old) }
     ensures padded { HasPaddedCounts result.answer }
 {
+    only_streams_wait();
     loop {
         match vault.step(number, disk, providers) {
             Turn::More => {}

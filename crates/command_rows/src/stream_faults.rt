@@ -1,7 +1,9 @@
 use crate::check::check;
 use crate::setups::{FOUR, THREE};
-use command_fixtures::Deed::{DiskHas, Done, OverSink, OverSource, Providers, Refused};
-use command_fixtures::Rows;
+use command_fixtures::Deed::{
+    Blocks, DiskHas, Done, Holds, Long, OverSink, OverSource, Providers, Refused, StopsAt,
+};
+use command_fixtures::{KEY, Rows};
 
 /// The first read gives the bytes and the second their end; a source that failed is told before a bad name.
 const SOURCES: &[Rows] = &[Rows::Deeds(&[
@@ -19,6 +21,60 @@ const SOURCES: &[Rows] = &[Rows::Deeds(&[
 #[test]
 fn a_source_that_fails_leaves_the_journal_alone(rt: HostRuntime) {
     check(&rt, SOURCES);
+}
+
+/// A stripe has 32 bytes. The first read gives the first stripe, and the next one fails once it is stored: the
+/// start stays in effect, under a number that is not used again.
+const FORTY: &[u8] = &[b'f'; 40];
+
+const LATER: &[Rows] = &[Rows::Deeds(&[
+    FOUR,
+    StopsAt("put a", FORTY, 1, 14),
+    DiskHas(63),
+    Done("list", b"", b""),
+    Holds(0, 1),
+    Blocks(4, 1, 1, 6),
+    Done("put a", b"abc", b"stored a 3\n"),
+    Blocks(4, 2, 1, 6),
+    Done("put b", &[b'b'; 32], b"stored b 32\n"),
+    Blocks(4, 3, 1, 6),
+    Done("get a", b"", b"abc"),
+    Done("get b", b"", &[b'b'; 32]),
+    Done("put c", FORTY, b"stored c 40\n"),
+    Blocks(4, 4, 2, 6),
+    Done("get c", b"", FORTY),
+])];
+
+#[test]
+fn a_source_that_fails_later_leaves_the_stripes_before(rt: HostRuntime) {
+    check(&rt, LATER);
+}
+
+/// A stripe has 4608 bytes: 910 of them are stored before the byte is read that no file has room for.
+const TOO_LONG: &[Rows] = &[Rows::Deeds(&[
+    Done("init 6 3 1 4 1 1 0", KEY, b"ready\n"),
+    Long("put a", 4_194_305, 16, b""),
+    DiskHas(63),
+    Done("list", b"", b""),
+    Blocks(6, 1, 910, 128),
+])];
+
+#[test]
+fn a_source_that_is_too_long_leaves_the_stripes_before(rt: HostRuntime) {
+    check(&rt, TOO_LONG);
+}
+
+/// The longest file.
+const LONGEST: &[Rows] = &[Rows::Deeds(&[
+    Done("init 6 3 1 4 1 1 0", KEY, b"ready\n"),
+    Long("put a", 4_194_304, 0, b"stored a 4194304\n"),
+    Done("list", b"", b"a 4194304\n"),
+    Blocks(6, 1, 911, 128),
+])];
+
+#[test]
+fn the_longest_source_is_stored(rt: HostRuntime) {
+    check(&rt, LONGEST);
 }
 
 /// A set-up.

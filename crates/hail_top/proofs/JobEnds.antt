@@ -55,12 +55,6 @@ ended-told subject tolerance kind own records old new end ended written count is
         (record { old = w; new = new.sink; before = count; now = new.sink_faults }))
         (sym is_written) told)
 
--- a job that names no profile ended
-pub names-none : (kind : Kind) (own : Option ℕ) (records : List Record) (old new : Seen) (end : Ending) →
-    own ≡ None → AnswersOver kind own records old new end → AnswersJob kind None records old new end
-names-none kind own records old new end none over =
-    subst (λ (o : Option ℕ). AnswersJob kind o records old new end) none over.answers
-
 -- devices that are as they were lost no fault
 pub untouched : (old new : Seen) (d : Devices) → IsSeenBefore old d → new.disk_faults ≡ d.faults →
     new.providers ≡ d.providers → NoFaultUndone old new

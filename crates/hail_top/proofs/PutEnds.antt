@@ -1,36 +1,40 @@
 -- How a put ends whose vault was opened.
-use Rattle.std.proofs.Common.{◌≡◌, ℕ, ◌+◌, true, false, List, Option, refl, sym, ◌∙◌, subst}
+use Rattle.std.proofs.Common.{◌≡◌, ℕ, true, false, List, [], length, Option, refl, ap, sym, ◌∙◌, subst, inl, inr}
+use Rattle.std.specs.Prelude.{IfSome}
 use Rattle.std.specs.Option.{option_map}
 use Rattle.device_defs.specs.Disks.{synced}
 use Rattle.device_defs.specs.Faults.{Rose}
-use Rattle.record_defs.specs.Records.{Record, largest_file}
+use Rattle.record_defs.specs.Records.{Record}
+use Rattle.machine_defs.specs.Answers.{Answer}
+use Rattle.machine_defs.specs.Heard.{Entry}
 use Rattle.machine_defs.specs.Jobs.{PutJob}
-use Rattle.command_defs.specs.Seen.{Seen, Ending, KeepsDisk, IsSynced, ReadsAtMost, ReadsUpTo}
-use Rattle.command_defs.specs.Opens.{IsOpened}
-use Rattle.command_defs.specs.Refusals.{is_unknown}
-use Rattle.command_defs.specs.Commands.{AnswersPut, begun, bad_profile, source_fault, no_memory}
+use Rattle.command_defs.specs.Seen.{Seen, Ending, KeepsDisk, IsSynced, sinking}
+use Rattle.command_defs.specs.Opens.{setup_in_effect, IsOpened}
+use Rattle.command_defs.specs.Ran.{ran_alone}
+use Rattle.command_defs.specs.Refusals.{is_unknown, status_of}
+use Rattle.command_defs.specs.Puts.{MayHaveEnd}
+use Rattle.command_defs.specs.Jobs as jobs
+use Rattle.command_defs.specs.Jobs.{RunsAlone, LeftAlone}
+use Rattle.command_defs.specs.GivenUp.{put_stripe, StopsFor, StopsReading}
+use Rattle.command_defs.specs.Commands.{AnswersPut, begun, bad_profile, source_fault, no_memory, given_up}
+use Rattle.vault_core.specs.declared.wish.BeginFault.{BeginFault}
+use Rattle.vault_core.specs.Carried.{refusal_of}
 use Rattle.vault_open.specs.Devices.{Devices}
-use Rattle.command_jobs.specs.Ends.{IsSeenBefore}
-use Rattle.hail_top.specs.declared.reading.ReadFault.{ReadFault}
-use Rattle.hail_top.specs.declared.reading.ReadFault.TheVariants as read_fault
+use Rattle.vault.specs.declared.turn.Ended.{Ended}
+use Rattle.vault.specs.Outcomes.{machine_answer}
+use Rattle.command_jobs.specs.declared.stream.Streamed.{Streamed}
+use Rattle.command_jobs.specs.declared.stream.Streamed.TheVariants as streamed
+use Rattle.command_jobs.specs.declared.stream.Unbegun.{Unbegun}
+use Rattle.command_jobs.specs.declared.stream.Unbegun.TheVariants as unbegun
+use Rattle.command_jobs.specs.Ends.{IsSeenBefore, IsRefusedOver}
+use Rattle.command_jobs.specs.Streams.{PutEnds, PutStops, StreamsOver, IsRefusedRead, IsUnbegunOver}
 use Rattle.hail_top.specs.Endings.{ending_with}
-use Rattle.hail_top.specs.Telling.{unread_ending}
-use Rattle.hail_top.specs.Jobs.{AnswersOver, PutsOver}
+use Rattle.hail_top.specs.Telling.{unbegun_ending, TellsPut, TellsStreamed}
+use Rattle.hail_top.specs.Jobs.{PutsOver}
+use Rattle.hail_top.proofs.AnswerTexts.{answer-ends}
 use Rattle.hail_top.proofs.Refused.{refused-told}
 use Rattle.hail_top.proofs.Told.{resynced}
 use Rattle.hail_top.proofs.JobEnds.{untouched}
-
--- the source was read, and the job was refused or ended
-pub begun-put : (name bytes : List ℕ) (own : Option ℕ) (records : List Record) (old new : Seen) (end : Ending)
-    (left : Option (List ℕ)) → old.source ≡ left → IsOpened old records →
-    is_unknown own ≡ false → ReadsUpTo (largest_file + 1) left new.source bytes →
-    AnswersOver (PutJob name bytes) own records old new end → PutsOver name own old new end
-begun-put name bytes own records old new end left is opened known read over = record {
-  answers = begun records bytes opened known
-      (subst (λ (told : Option (List ℕ)). ReadsUpTo (largest_file + 1) told new.source bytes) (sym is) read)
-      over.answers;
-  counts = over.counts;
-}
 
 -- there is no profile of the number that the put names
 pub unknown-put : (name : List ℕ) (own : Option ℕ) (records : List Record) (old new : Seen) (d : Devices)
@@ -49,17 +53,19 @@ unknown-put name own records old new d end count left was_count was_left is_coun
       counts = untouched old new d before faults providers;
     })
 
--- the source was not read
-pub unread-put : (name : List ℕ) (own : Option ℕ) (records : List Record) (old new : Seen) (d : Devices) (end : Ending)
-    (fault : ReadFault) (count : ℕ) (left : Option (List ℕ)) → old.source_faults ≡ count → old.source ≡ left →
-    ReadsAtMost (largest_file + 1) left new.source
-    → IsOpened old records → is_unknown own ≡ false → IsSeenBefore old d → d.holds ≡ option_map synced old.disk →
-    end ≡ unread_ending fault → (fault ≡ read_fault.Failed → Rose count new.source_faults)
-    → new.disk ≡ d.holds → new.disk_faults ≡ d.faults → new.providers ≡ d.providers → new.sink ≡ old.sink →
+-- the put did not begin
+pub unbegun-put : (name : List ℕ) (own : Option ℕ) (records : List Record) (old new : Seen) (d : Devices)
+    (end : Ending) (why : Unbegun) (count : ℕ) (left : Option (List ℕ)) → old.source_faults ≡ count →
+    old.source ≡ left → IsUnbegunOver records name own why left new.source → IsOpened old records →
+    is_unknown own ≡ false → IsSeenBefore old d → d.holds ≡ option_map synced old.disk →
+    end ≡ unbegun_ending why → (why ≡ unbegun.SourceFault → Rose count new.source_faults) →
+    new.disk ≡ d.holds → new.disk_faults ≡ d.faults → new.providers ≡ d.providers → new.sink ≡ old.sink →
     PutsOver name own old new end
-unread-put name own records old new d end fault count left is_count is_left few opened known before was_synced is rose disk faults providers silent =
+unbegun-put name own records old new d end why count left is_count is_left over opened known before was_synced is rose disk faults providers silent =
     record {
-      answers = by_fault fault is rose;
+      answers = by_cause why is rose
+          (subst (λ (told : Option (List ℕ)). IsUnbegunOver records name own why told new.source) (sym is_left)
+          over);
       counts = untouched old new d before faults providers;
     }
   where
@@ -72,14 +78,102 @@ unread-put name own records old new d end fault count left is_count is_left few 
     same_providers : new.providers ≡ old.providers
     same_providers = providers ∙ sym before.providers
 
-    taken : ReadsAtMost (largest_file + 1) old.source new.source
-    taken = subst (λ (told : Option (List ℕ)). ReadsAtMost (largest_file + 1) told new.source)
-        (sym is_left) few
+    by_refusal : (why : BeginFault) → end ≡ ending_with (status_of (refusal_of why)) 0 →
+        IsRefusedRead records name own why old.source new.source → AnswersPut name own old new end
+    by_refusal why is r = on r.refused
+      where
+        on : IsRefusedOver records (PutJob name r.bytes) own why → AnswersPut name own old new end
+        on (inl memory) = begun records r.bytes opened known r.reads r.few
+            (jobs.no_memory synced_here (refused-told 70 0 old new end
+            (is ∙ ap (λ (w : BeginFault). ending_with (status_of (refusal_of w)) 0) memory) kept
+            same_providers silent)) (λ m. absurd m)
+        on (inr some) = begun records r.bytes opened known r.reads r.few
+            (jobs.refused (refusal_of why) some synced_here
+            (refused-told (status_of (refusal_of why)) 0 old new end is kept same_providers silent))
+            (λ m. absurd m)
 
-    by_fault : (fault : ReadFault) → end ≡ unread_ending fault →
-        (fault ≡ read_fault.Failed → Rose count new.source_faults) → AnswersPut name own old new end
-    by_fault read_fault.Failed is rose =
+    by_cause : (why : Unbegun) → end ≡ unbegun_ending why →
+        (why ≡ unbegun.SourceFault → Rose count new.source_faults) →
+        IsUnbegunOver records name own why old.source new.source → AnswersPut name own old new end
+    by_cause unbegun.SourceFault is rose taken =
         source_fault records opened known (subst (λ (n : ℕ). Rose n new.source_faults) (sym is_count) (rose refl))
         synced_here taken (refused-told 14 0 old new end is kept same_providers silent)
-    by_fault read_fault.Memory is rose =
+    by_cause unbegun.Memory is rose taken =
         no_memory taken (refused-told 70 0 old new end is kept same_providers silent)
+    by_cause (unbegun.Refused why) is rose r = by_refusal why is r
+
+-- how the job of a put ended, and what of its source was read
+record EndedPut (name bytes : List ℕ) (own : Option ℕ) (records : List Record) (answer : Answer)
+    (old new : Seen) (heard : List Entry) : Type 0 where
+  runs : RunsAlone records (PutJob name bytes) own answer old new heard
+  left : LeftAlone records (PutJob name bytes) own answer old new heard
+  whole : MayHaveEnd records left.after left.doubt name (length bytes) own
+      → IfSome new.source (λ left. left ≡ [])
+
+-- the put ran to its end, and that was told
+ended-put : (name : List ℕ) (own : Option ℕ) (records : List Record) (old new : Seen) (end : Ending)
+    (ended : Ended) (read : ℕ) → IsOpened old records → is_unknown own ≡ false →
+    PutEnds records name own ended read old new → TellsPut name ended read end (sinking old new) →
+    PutsOver name own old new end
+ended-put name own records old new end ended read opened known P T = record {
+  answers = begun records P.bytes opened known P.reads P.few
+      (jobs.ended (machine_answer ended.answer) P.over.unrefused here.runs here.left
+      (answer-ends (ran_alone records old new end.heard here.left.faults here.left.after here.left.doubt)
+      T.subject (setup_in_effect records).tolerance (machine_answer ended.answer) (PutJob name P.bytes) own
+      old new end here.left.leaves.by_kind (T.name_is, T.length_is ∙ sym P.read_is) T.told))
+      here.whole;
+  counts = P.over.counts;
+}
+  where
+    here : EndedPut name P.bytes own records (machine_answer ended.answer) old new end.heard
+    here = subst (λ (entries : List Entry). EndedPut name P.bytes own records (machine_answer ended.answer) old
+        new entries) (sym T.heard)
+        (record { runs = P.over.runs; left = P.over.left; whole = P.whole })
+
+-- the put was given up, and that was told
+stopped-put : (name : List ℕ) (own : Option ℕ) (records : List Record) (old new : Seen) (end : Ending)
+    (status : ℕ) (stops : ℕ → Type 0) → IsOpened old records → is_unknown own ≡ false →
+    ((count : ℕ) → stops count → StopsFor count old new (ending_with status 0)) →
+    PutStops records name own old new stops → end ≡ ending_with status 0 → new.sink ≡ old.sink →
+    PutsOver name own old new end
+stopped-put name own records old new end status stops opened known shows S is silent = record {
+  answers = given_up records S.bytes opened known S.unrefused
+      (subst (λ (e : Ending). StopsReading (put_stripe records own) S.bytes old new e) (sym is)
+      (record {
+        read = S.read;
+        are_bytes = S.reads.are_bytes;
+        front = S.reads.front;
+        stripes = S.stripes;
+        bytes_are = S.bytes_are;
+        whole = S.whole;
+        rest = S.rest;
+        cause = shows (length S.read) S.cause;
+        place = refl;
+        heard = refl;
+        sink = silent;
+      })) S.runs S.left;
+  counts = S.counts;
+}
+
+-- how a put ended was told
+pub streamed-put : (name : List ℕ) (own : Option ℕ) (records : List Record) (old new : Seen) (end : Ending)
+    (how : Streamed) (written : Option (List ℕ)) (count : ℕ) → old.sink ≡ written → old.sink_faults ≡ count →
+    IsOpened old records → is_unknown own ≡ false → StreamsOver records name own how old new →
+    TellsStreamed name how end
+    (record { old = written; new = new.sink; before = count; now = new.sink_faults }) →
+    PutsOver name own old new end
+streamed-put name own records old new end how written count is_written is_count opened known over told =
+    by_end how over
+    (subst (λ (n : ℕ). TellsStreamed name how end
+    (record { old = old.sink; new = new.sink; before = n; now = new.sink_faults })) (sym is_count)
+    (subst (λ (w : Option (List ℕ)). TellsStreamed name how end
+    (record { old = w; new = new.sink; before = count; now = new.sink_faults })) (sym is_written) told))
+  where
+    by_end : (how : Streamed) → StreamsOver records name own how old new →
+        TellsStreamed name how end (sinking old new) → PutsOver name own old new end
+    by_end (streamed.Ended ended read) over told =
+        ended-put name own records old new end ended read opened known over told
+    by_end streamed.SourceFault over told =
+        stopped-put name own records old new end 14 _ opened known (λ n c. inl (refl, c.0, c.1)) over told.0 told.1
+    by_end streamed.TooLong over told =
+        stopped-put name own records old new end 16 _ opened known (λ n c. inr (refl, c)) over told.0 told.1

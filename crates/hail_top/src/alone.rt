@@ -7,7 +7,7 @@ ghost use Rattle.command_defs.specs.Seen.{Seen, NoCountFalls};
 ghost use Rattle.command_defs.specs.Opens.{IsOpened};
 ghost use Rattle.command_defs.specs.Commands.{AnswersAlone};
 ghost use Rattle.vault.specs.Devices.{devices_seen};
-ghost use Rattle.command_jobs.specs.Kinds.{kind_of, own_of};
+ghost use Rattle.command_jobs.specs.Kinds.{kind_of};
 ghost use Rattle.command_jobs.specs.Opened.{IsFreshOver, IsFreshFor};
 ghost use Rattle.command_jobs.specs.Ends.{IsSeenBefore};
 ghost use Rattle.hail_top.specs.Endings.{seen_over, ending_of};
@@ -38,7 +38,7 @@ pub fn answer_job<D: Disk, P: Provider, K: Sink>(
         → IsSeenBefore old (devices_seen D.Disk P.Provider disk.old providers.old)
         → D.holds disk.old ≡ option_map synced old.disk → old.sink ≡ K.written sink.old
         → old.sink_faults ≡ K.faults sink.old
-        → AnswersOver (kind_of job.entry) (own_of job.entry) records old
+        → AnswersOver (kind_of job.entry) None records old
         (seen_over D.Disk P.Provider K.Sink disk.new providers.new left read_faults sink.new)
         (ending_of result) }
     ensures count { K.faults sink.old ≤ K.faults sink.new }
@@ -51,8 +51,7 @@ pub fn answer_job<D: Disk, P: Provider, K: Sink>(
     }
 }
 
-/// Opens the store, runs a job that reads no source, and tells what came of it. Condition: the job names no
-/// profile.
+/// Opens the store, runs a job that reads no source, and tells what came of it.
 pub fn alone<D: Disk, P: Provider, K: Sink>(
     alloc: Global,
     job: Job,
@@ -60,7 +59,6 @@ pub fn alone<D: Disk, P: Provider, K: Sink>(
     providers: &mut [P],
     sink: &mut K,
 ) -> Report
-    requires { own_of job ≡ None }
     ensures answers { (left : Option (List ℕ)) (read_faults : ℕ) → AnswersAlone (kind_of job.entry)
         (seen_over D.Disk P.Provider K.Sink disk.old providers.old left read_faults sink.old)
         (seen_over D.Disk P.Provider K.Sink disk.new providers.new left read_faults sink.new)

@@ -12,20 +12,17 @@ ghost use Rattle.command_jobs.specs.Opened.{IsFreshOver, IsFreshFor};
 ghost use Rattle.command_jobs.specs.Ends.{IsSeenBefore};
 ghost use Rattle.hail_top.specs.Endings.{seen_of, ending_of};
 ghost use Rattle.hail_top.specs.Jobs.{PutsOver};
+ghost use Rattle.hail_top.specs.Telling.{TellsStreamed};
 
-use crate::alone::answer_job;
-use crate::reading::read_up_to;
-use crate::refusals::{unopened, unread};
-use crate::report::{BAD_SETUP, Report};
-use command_jobs::{Job, open_vault};
+use crate::refusals::{unbegun, unopened};
+use crate::report::{BAD_SETUP, Report, SOURCE_FAULT, TOO_LONG};
+use crate::tell::{Subject, ended};
+use command_jobs::{Streamed, open_vault, run_stream};
 use disk_model::Disk;
 use provider_model::Provider;
 use std::alloc::Global;
 use stream_model::{Sink, Source};
 use vault::Vault;
-
-/// How many bytes of a source are read for a file: one more than the longest file has.
-const PAST_LONGEST: usize = (1 << 22) + 1;
 
 /// How many profiles there are.
 const PROFILES: u8 = 5;
@@ -40,9 +37,33 @@ fn is_unknown(profile: Option<u8>) -> bool
     }
 }
 
-/// Reads the file, and puts it into a vault that was just opened. Where it is to have a profile that there is
-/// none of, the source is not read.
-fn put_read<D: Disk, P: Provider, S: Source, K: Sink>(
+/// Tells how a put under a name ended, or why it was given up.
+fn streamed<K: Sink>(alloc: Global, name: &[u8], how: Streamed, sink: &mut K) -> Report
+    ensures told { TellsStreamed name.now how (ending_of result) (record {
+      old = K.written sink.old;
+      new = K.written sink.new;
+      before = K.faults sink.old;
+      now = K.faults sink.new;
+    }) }
+    ensures count { K.faults sink.old ≤ K.faults sink.new }
+{
+    match how {
+        Streamed::Ended { ended: end, length } => {
+            let subject = Subject {
+                name,
+                length,
+                tolerance: 0,
+            };
+            ended(alloc, &subject, end, sink)
+        }
+        Streamed::SourceFault => Report::of(SOURCE_FAULT),
+        Streamed::TooLong => Report::of(TOO_LONG),
+    }
+}
+
+/// Puts the file that the source gives into a vault that was just opened. Where it is to have a profile that
+/// there is none of, the source is not read.
+fn put_stream<D: Disk, P: Provider, S: Source, K: Sink>(
     alloc: Global,
     name: &[u8],
     profile: Option<u8>,
@@ -70,23 +91,9 @@ fn put_read<D: Disk, P: Provider, S: Source, K: Sink>(
         vault.close();
         return Report::of(BAD_SETUP);
     }
-    match read_up_to(alloc, PAST_LONGEST, source) {
-        Ok(bytes) => answer_job(
-            alloc,
-            Job::Put {
-                name,
-                bytes,
-                profile,
-            },
-            vault,
-            disk,
-            providers,
-            sink,
-        ),
-        Err(fault) => {
-            vault.close();
-            unread(fault)
-        }
+    match run_stream(alloc, vault, name, profile, disk, providers, source) {
+        Ok(how) => streamed(alloc, name, how, sink),
+        Err(why) => unbegun(why),
     }
 }
 
@@ -111,7 +118,7 @@ pub fn put<D: Disk, P: Provider, S: Source, K: Sink>(
     ensures tells { is_some (D.holds disk.new) ≡ is_some (D.holds disk.old) }
 {
     match open_vault(alloc, disk, providers.len()) {
-        Ok(vault) => put_read(alloc, name, profile, vault, disk, providers, source, sink),
+        Ok(vault) => put_stream(alloc, name, profile, vault, disk, providers, source, sink),
         Err(why) => unopened(why),
     }
 }

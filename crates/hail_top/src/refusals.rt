@@ -3,7 +3,7 @@ ghost use Rattle.std.specs.Prelude.{◌≡◌};
 ghost use Rattle.command_defs.specs.Refusals.{status_of};
 ghost use Rattle.vault_core.specs.Carried.{refusal_of};
 ghost use Rattle.hail_top.specs.Endings.{ending_of, ending_with};
-ghost use Rattle.hail_top.specs.Telling.{unread_ending, unopened_ending};
+ghost use Rattle.hail_top.specs.Telling.{unread_ending, unopened_ending, unbegun_ending};
 
 use crate::reading::ReadFault;
 use crate::report::{
@@ -11,7 +11,7 @@ use crate::report::{
     NO_SUCH_NAME, NOT_SET_UP, NOTHING_DUE, OLD_VERSION, REPAIR_DUE, Report, SOURCE_FAULT,
     TOO_FEW_PROVIDERS, TOO_LONG, TOO_MANY_FILES,
 };
-use command_jobs::Unopened;
+use command_jobs::{Unbegun, Unopened};
 use vault::BeginFault;
 
 /// Tells that a source was not read.
@@ -53,5 +53,16 @@ pub fn refused(why: BeginFault) -> Report
         BeginFault::OldVersion => Report::of(OLD_VERSION),
         BeginFault::NewVersion => Report::of(NEW_VERSION),
         BeginFault::MustReopen | BeginFault::Busy | BeginFault::Memory => Report::of(NO_MEMORY),
+    }
+}
+
+/// Tells that a put did not begin.
+pub fn unbegun(why: Unbegun) -> Report
+    ensures { ending_of result ≡ unbegun_ending why }
+{
+    match why {
+        Unbegun::SourceFault => Report::of(SOURCE_FAULT),
+        Unbegun::Memory => Report::of(NO_MEMORY),
+        Unbegun::Refused(why) => refused(why),
     }
 }

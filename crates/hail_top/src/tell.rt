@@ -29,14 +29,13 @@ impl<'a> Subject<'a> {
     pub fn new(job: &Job<'a>, tolerance: u16) -> Subject<'a>
         ensures { TellsOf result tolerance (kind_of job.now) }
     {
-        let (name, length): (&'a [u8], usize) = match job {
-            Job::Put { name, bytes, .. } => (*name, bytes.as_slice().len()),
-            Job::Get { name } | Job::Drop { name } => (*name, 0),
-            Job::Audit | Job::Repair | Job::Upgrade => (&[], 0),
+        let name: &'a [u8] = match job {
+            Job::Get { name } | Job::Drop { name } => *name,
+            Job::Audit | Job::Repair | Job::Upgrade => &[],
         };
         Subject {
             name,
-            length,
+            length: 0,
             tolerance,
         }
     }

@@ -34,7 +34,7 @@ returns-then-handed-from-clause-refused g c =
     let f = fresh-vault c.opened_states.ensures.opened c.opened_states.ensures.there_is_one
     c.in_ok-vault.vault o.0 (g.D.Disk.holds c.args.disk.now) (g.D.Disk.holds c.start.new.disk)
     (g.D.Disk.faults c.start.new.disk)
-    o.1 o.2 c.in_ok-vault.ensures.number in
+    o.1 o.2 c.in_ok-vault.ensures.number c.in_ok-vault.ensures.streams in
     let few : c.args.handed < (setup_in_effect o.0).n =
     (let e = f.providers in let l = c.if-handed-from.true in let m = c.from.ensures in
     let n = ap (λ (s : Setup). s.n) c.setup.ensures in omega (arith, e, l, m, n)) in
@@ -50,7 +50,7 @@ returns-clause-opened g c =
     let f = fresh-vault c.opened_states.ensures.opened c.opened_states.ensures.there_is_one
     c.in_ok-vault.vault o.0 (g.D.Disk.holds c.args.disk.now) (g.D.Disk.holds c.start.new.disk)
     (g.D.Disk.faults c.start.new.disk)
-    o.1 o.2 c.in_ok-vault.ensures.number in
+    o.1 o.2 c.in_ok-vault.ensures.number c.in_ok-vault.ensures.streams in
     let enough : (setup_in_effect o.0).n ≤ c.args.handed =
     (let e = f.providers in let l = c.if-handed-from.false in let m = c.from.ensures in
     let n = ap (λ (s : Setup). s.n) c.setup.ensures in omega (arith, e, l, m, n)) in

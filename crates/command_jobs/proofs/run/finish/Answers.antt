@@ -1,18 +1,29 @@
-use Rattle.std.proofs.Common.{◌+◌, length, ◌∙◌, arith}
+use Rattle.std.proofs.Common.{◌+◌, length, refl, ◌∙◌, arith}
 use Rattle.std.proofs.lemmas.List.{length-map}
 use Rattle.machine_defs.specs.Runs.{now}
 use Rattle.provider_model.specs.Seen.{provider_seen}
 use Rattle.command_jobs.proofs.Fresh.{stands-enough}
-use Rattle.command_jobs.proofs.Goings.{steps-turn, one-more, at-end, never-stops}
+use Rattle.command_jobs.proofs.Goings.{no-steps, steps-turn, one-more, at-end, never-stops}
 use Rattle.command_jobs.proofs.run.finish.Goals as goal
 
-pub step-requires : goal.step-requires
-step-requires g c =
+pub loop-ended-init : goal.loop-ended-init
+loop-ended-init g c = (
+  λ start w kind own moment only stands. no-steps start kind own w moment c.args.vault.now _ only stands,
+  c.requires.streams,
+  refl,
+)
+
+pub step-requires-clause-handed : goal.step-requires-clause-handed
+step-requires-clause-handed g c =
     let u = c.requires.under_way in
     let way = c.loop-ended.invariant.0 u.start u.state u.kind u.own 0 u.only u.stands in
     let few = stands-enough c.loop-ended.vault _ _ way.stands in
     let e = length-map c.loop-ended.providers (provider_seen g.P.Provider) in
     omega (arith, few, e)
+
+pub step-requires-clause-given : goal.step-requires-clause-given
+step-requires-clause-given g c =
+    c.only_streams_wait.ensures c.loop-ended.vault c.args.number c.loop-ended.invariant.1
 
 pub loop-ended-preserved : goal.loop-ended-preserved
 loop-ended-preserved g c = (
@@ -20,7 +31,8 @@ loop-ended-preserved g c = (
       let way = c.loop-ended.invariant.0 start w kind own moment only stands in
       one-more start kind own w moment c.args.number c.requires.first c.loop-ended.vault c.step.new.self _ _ _ way
       (c.in-More.ensures.machine (now w way.steps) (moment + length way.steps) way.stands),
-  c.step.ensures.tells ∙ c.loop-ended.invariant.1,
+  c.step.ensures.streams c.loop-ended.invariant.1,
+  c.step.ensures.tells ∙ c.loop-ended.invariant.2,
 )
 
 pub returns-in-Done-clause-ended : goal.returns-in-Done-clause-ended

@@ -5,8 +5,8 @@ use Rattle.machine_defs.specs.States.{State}
 use Rattle.vault.specs.Devices.{devices_seen}
 use Rattle.vault.specs.Seen.{left_of}
 use Rattle.vault.specs.Stands.{Stands}
-use Rattle.command_jobs.specs.Going.{IsOnly}
-use Rattle.command_jobs.proofs.Goings.{OnWay}
+use Rattle.vault.specs.Streams.{IsStreamless}
+use Rattle.command_jobs.specs.Going.{IsOnly, OnWay}
 use Rattle.command_jobs.proofs.run.finish.Given as goal
 
 abbrev pub invariant-loop-ended : goal.invariant-loop-ended
@@ -16,7 +16,7 @@ invariant-loop-ended g l = ((start w : State) (kind : Kind) (own : Option ℕ) (
     → OnWay start kind own w moment l.vault
     (devices_seen g.D.Disk g.P.Provider l.initial.disk l.initial.providers)
     (devices_seen g.D.Disk g.P.Provider l.disk l.providers))
-    × (is_some (g.D.Disk.holds l.disk) ≡ is_some (g.D.Disk.holds l.initial.disk))
+    × IsStreamless l.vault × (is_some (g.D.Disk.holds l.disk) ≡ is_some (g.D.Disk.holds l.initial.disk))
 
 abbrev pub decreases-loop-ended : goal.decreases-loop-ended
 decreases-loop-ended g l = left_of l.vault l.number

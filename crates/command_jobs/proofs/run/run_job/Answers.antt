@@ -1,8 +1,8 @@
-use Rattle.std.proofs.Common.{◌≡◌, ◌≤◌, length, map, sym, ◌∙◌, arith}
+use Rattle.std.proofs.Common.{◌≡◌, ◌≤◌, None, length, map, sym, ◌∙◌, arith}
 use Rattle.std.proofs.lemmas.List.{length-map}
 use Rattle.command_defs.specs.Opens.{setup_in_effect}
 use Rattle.provider_model.specs.Seen.{provider_seen}
-use Rattle.command_jobs.specs.Kinds.{kind_of, own_of}
+use Rattle.command_jobs.specs.Kinds.{kind_of}
 use Rattle.command_jobs.proofs.Begins.{may-name}
 use Rattle.command_jobs.proofs.Alone.{under-way, refused-over, ends-over}
 use Rattle.command_jobs.proofs.run.run_job.Goals as goal
@@ -11,7 +11,7 @@ pub returns-in-Err-clause-refused : goal.returns-in-Err-clause-refused
 returns-in-Err-clause-refused g c =
     λ records fresh. refused-over c.opened_states.ensures.opened c.opened_states.ensures.there_is_one
     c.args.vault records (g.D.Disk.holds c.args.disk.now) (g.D.Disk.faults c.args.disk.now) fresh
-    c.begin.new.vault (kind_of c.args.job) (own_of c.args.job) c.in-Err.why c.in-Err.ensures
+    c.begin.new.vault (kind_of c.args.job) None c.in-Err.why c.in-Err.ensures.machine
 
 pub finish-ended-requires-clause-first : goal.finish-ended-requires-clause-first
 finish-ended-requires-clause-first g c =
@@ -21,8 +21,8 @@ finish-ended-requires-clause-first g c =
     (let a = r.enough in let b = length-map c.args.providers.now seen in omega (arith, a, b)) in
     (under-way c.opened_states.ensures.opened c.opened_states.ensures.there_is_one c.args.vault r.records
     (g.D.Disk.holds c.args.disk.now) (g.D.Disk.faults c.args.disk.now) r.fresh
-    c.begin.new.vault (kind_of c.args.job) (own_of c.args.job) c.in-Ok.number
-    (map seen c.args.providers.now) (may-name c.args.job) few c.in-Ok.ensures).0
+    c.begin.new.vault (kind_of c.args.job) None c.in-Ok.number
+    (map seen c.args.providers.now) (may-name c.args.job) few c.in-Ok.ensures.machine).0
 
 pub finish-ended-requires-clause-under_way : goal.finish-ended-requires-clause-under_way
 finish-ended-requires-clause-under_way g c =
@@ -32,8 +32,8 @@ finish-ended-requires-clause-under_way g c =
     (let a = r.enough in let b = length-map c.args.providers.now seen in omega (arith, a, b)) in
     (under-way c.opened_states.ensures.opened c.opened_states.ensures.there_is_one c.args.vault r.records
     (g.D.Disk.holds c.args.disk.now) (g.D.Disk.faults c.args.disk.now) r.fresh
-    c.begin.new.vault (kind_of c.args.job) (own_of c.args.job) c.in-Ok.number
-    (map seen c.args.providers.now) (may-name c.args.job) few c.in-Ok.ensures).1
+    c.begin.new.vault (kind_of c.args.job) None c.in-Ok.number
+    (map seen c.args.providers.now) (may-name c.args.job) few c.in-Ok.ensures.machine).1
 
 pub returns-in-Ok-clause-ended : goal.returns-in-Ok-clause-ended
 returns-in-Ok-clause-ended g c = λ records old new fresh opened before after.
@@ -42,9 +42,13 @@ returns-in-Ok-clause-ended g c = λ records old new fresh opened before after.
     length-map c.finish-ended.new.providers seen
     ∙ (c.finish-ended.auto.providers ∙ sym (length-map c.args.providers.now seen)) in
     ends-over c.opened_states.ensures.opened c.opened_states.ensures.there_is_one c.args.vault records
-    (g.D.Disk.holds c.args.disk.now) (g.D.Disk.faults c.args.disk.now) fresh c.told_jobs_leave.ensures
-    c.begin.new.vault c.finish-ended.new.vault (kind_of c.args.job) (own_of c.args.job) c.in-Ok.number
+    (g.D.Disk.holds c.args.disk.now) (g.D.Disk.faults c.args.disk.now) fresh
+    c.begin.new.vault c.finish-ended.new.vault (kind_of c.args.job) None c.in-Ok.number
     c.finish-ended.result (may-name c.args.job)
     (map seen c.args.providers.now) (map seen c.finish-ended.new.providers)
-    (g.D.Disk.holds c.finish-ended.new.disk) (g.D.Disk.faults c.finish-ended.new.disk) c.in-Ok.ensures
-    c.finish-ended.ensures.ended same old new opened before after
+    (g.D.Disk.holds c.finish-ended.new.disk) (g.D.Disk.faults c.finish-ended.new.disk) None
+    c.in-Ok.ensures.machine
+    (λ start w moment only place stands. record {
+      to_end = c.finish-ended.ensures.ended start w (kind_of c.args.job) None moment only stands;
+      early = tt;
+    }) same old new opened before after c.told_jobs_leave.ensures

@@ -5,7 +5,6 @@ use Rattle.command_defs.specs.Commands.{begun, unstarted}
 use Rattle.provider_model.specs.Seen.{provider_seen}
 use Rattle.command_jobs.specs.declared.open.Unopened.{Unopened}
 use Rattle.hail_top.proofs.Unopened.{unopened-told}
-use Rattle.hail_top.proofs.JobEnds.{names-none}
 use Rattle.hail_top.proofs.Opened.{opened-read, no_count_falls, still}
 use Rattle.hail_top.proofs.alone.alone.Goals as goal
 
@@ -18,10 +17,9 @@ returns-in-Ok-clause-answers g c left count =
     let found = c.in-Ok.ensures.opened in
     let opened = opened-read old found.0 (length c.args.providers.now)
     (sym (length-map c.args.providers.now see)) found.1 in
-    begun found.0 opened (names-none _ _ found.0 old _ _ c.requires
-    (c.answer_job.ensures.over found.0 old left count found.2 opened
+    begun found.0 opened ((c.answer_job.ensures.over found.0 old left count found.2 opened
     (record { reads = c.in-Ok.ensures.reads; faults = c.in-Ok.ensures.cause.never_falls; providers = refl })
-    c.in-Ok.ensures.synced refl refl))
+    c.in-Ok.ensures.synced refl refl).answers)
 
 pub returns-in-Ok-clause-counts : goal.returns-in-Ok-clause-counts
 returns-in-Ok-clause-counts g c left count =

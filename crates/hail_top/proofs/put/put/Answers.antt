@@ -18,7 +18,7 @@ returns-in-Ok-clause-answers g c =
     let found = c.in-Ok.ensures.opened in
     let opened = opened-read old found.0 (length c.args.providers.now)
     (sym (length-map c.args.providers.now see)) found.1 in
-    (c.put_read.ensures.over found.0 old found.2 opened
+    (c.put_stream.ensures.over found.0 old found.2 opened
     (record { reads = c.in-Ok.ensures.reads; faults = c.in-Ok.ensures.cause.never_falls; providers = refl })
     c.in-Ok.ensures.synced refl refl refl refl).answers
 
@@ -32,10 +32,10 @@ returns-in-Ok-clause-counts g c =
     let found = c.in-Ok.ensures.opened in
     let opened = opened-read old found.0 (length c.args.providers.now)
     (sym (length-map c.args.providers.now see)) found.1 in
-    no_count_falls old _ (c.put_read.ensures.over found.0 old found.2 opened
+    no_count_falls old _ (c.put_stream.ensures.over found.0 old found.2 opened
     (record { reads = c.in-Ok.ensures.reads; faults = c.in-Ok.ensures.cause.never_falls; providers = refl })
     c.in-Ok.ensures.synced refl refl refl refl).counts
-    c.put_read.ensures.source_count c.put_read.ensures.sink_count
+    c.put_stream.ensures.source_count c.put_stream.ensures.sink_count
 
 pub returns-in-Err-clause-answers : goal.returns-in-Err-clause-answers
 returns-in-Err-clause-answers g c =

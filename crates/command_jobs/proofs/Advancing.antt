@@ -1,0 +1,89 @@
+-- The only job of a vault that goes on, and where it is an open stream, up to where it waits.
+use Rattle.std.proofs.Common.{◌≡◌, ℕ, ◌+◌, ◌*◌, ◌≤◌, length, Option, Some, None, sym, subst, ◌∙◌, inl, inr, arith}
+use Rattle.std.proofs.lemmas.Bool.{cases_lt}
+use Rattle.std.specs.Prelude.{IfSome}
+use Rattle.machine_defs.specs.Jobs.{Kind}
+use Rattle.machine_defs.specs.Runs.{now}
+use Rattle.machine_defs.specs.States.{State, setup_in}
+use Rattle.vault.specs.declared.turn.Ended.{Ended}
+use Rattle.vault.specs.declared.turn.Turn.TheVariants as turn
+use Rattle.vault.specs.declared.vault.Vault.{Vault}
+use Rattle.vault.specs.Stands.{MakesStep}
+use Rattle.vault.specs.Streams.{wants_of, told_of, KeepsTold}
+use Rattle.vault_open.specs.Devices.{Devices}
+use Rattle.command_jobs.specs.Going.{OnWay, IsBehind, IsEarly, EndsEarly}
+use Rattle.command_jobs.proofs.Goings.{one-more, one-further, at-end, end-steps}
+use Rattle.command_jobs.proofs.Told.{told-kept, goes-on}
+
+-- on its way, and if it was before, behind the stores of the stripes that were given
+pub record StillBehind (start : State) (kind : Kind) (own : Option ℕ) (w : State) (moment : ℕ)
+    (told : Option ℕ) (before : ℕ) (v : Vault) (d e : Devices) : Type 0 where
+  pub way : OnWay start kind own w moment v d e
+  pub behind : IsBehind start told before → IsBehind start told way.only.job.place
+
+module _ (start : State) (kind : Kind) (own : Option ℕ) (w : State) (moment number : ℕ) (first : number ≡ 1)
+    (told : Option ℕ) (before : ℕ) (v next : Vault) (d e f : Devices)
+    (here : StillBehind start kind own w moment told before v d e) (told_is : told_of v number ≡ told)
+    (none : wants_of v number ≡ None) where
+  told-one : told_of v 1 ≡ told
+  told-one = subst (λ n. told_of v n ≡ told) first told_is
+
+  none-one : wants_of v 1 ≡ None
+  none-one = subst (λ n. wants_of v n ≡ None) first none
+
+  -- it does not wait, so it is not yet there
+  early : (told : Option ℕ) → told_of v 1 ≡ told → IsBehind start told here.way.only.job.place →
+      IfSome told (λ stripes. here.way.only.job.place + 1 ≤ 4 + stripes * (setup_in start).n)
+  early None is h = tt
+  early (Some stripes) is h = less here.way.only.job.place (4 + stripes * (setup_in start).n) h
+      (goes-on start kind own (now w here.way.steps) v e here.way.only here.way.stands stripes is none-one)
+    where
+      less : (a b : ℕ) → a ≤ b → (a ≡ b → ⊥) → a + 1 ≤ b
+      less a b l n = elim (cases_lt a b) [
+        | inl s ↦ (let t = s in omega (arith, t))
+        | inr s ↦ absurd (n (let t = s in omega (arith, l, t)))
+      ]
+
+  its-early : IsBehind start told before →
+      IfSome told (λ stripes. here.way.only.job.place + 1 ≤ 4 + stripes * (setup_in start).n)
+  its-early b = early told told-one (here.behind b)
+
+  -- a step that goes on
+  module _ (M : MakesStep (now w here.way.steps) (moment + length here.way.steps) number turn.More next e f) where
+    abbrev way : OnWay start kind own w moment next d f
+    way = one-more start kind own w moment number first v next d e f here.way M
+
+    pub still-behind : StillBehind start kind own w moment told before next d f
+    still-behind = record {
+      way = way;
+      behind = λ b. by told (its-early b);
+    }
+      where
+        by : (told : Option ℕ) →
+            IfSome told (λ stripes. here.way.only.job.place + 1 ≤ 4 + stripes * (setup_in start).n) →
+            IsBehind start told way.only.job.place
+        by None h = tt
+        by (Some stripes) h = (let p = one-further start kind own w moment number first v next d e f here.way M in
+            omega (arith, p, h))
+
+    pub still-told : KeepsTold v next number → told_of next number ≡ told
+    still-told keeps = subst (λ n. told_of next n ≡ told) (sym first)
+        (told-kept start kind own (now w way.steps) next f way.only way.stands v
+        (subst (λ n. KeepsTold v next n) first keeps) ∙ told-one)
+
+  -- a step that ends it
+  module _ (ended : Ended)
+      (M : MakesStep (now w here.way.steps) (moment + length here.way.steps) number (turn.Done ended) next e f) where
+    pub ends-early : IsBehind start told before → EndsEarly start kind own w moment told ended next d f
+    ends-early b = record {
+      to_end = at-end start kind own w moment number first v next d e f here.way ended M;
+      early = subst (λ steps. IsEarly start w (length steps) told)
+          (sym (end-steps start kind own w moment number first v next d e f here.way ended M))
+          (by told (its-early b));
+    }
+      where
+        by : (told : Option ℕ) →
+            IfSome told (λ stripes. here.way.only.job.place + 1 ≤ 4 + stripes * (setup_in start).n) →
+            IsEarly start w (length here.way.steps) told
+        by None h = tt
+        by (Some stripes) h = λ begun is. (let p = here.way.place begun is in omega (arith, p, h))

@@ -1,0 +1,131 @@
+-- A stream that begins over a vault just opened.
+use Rattle.std.proofs.Common.{◌≡◌, ℕ, zero, suc, ◌+◌, ◌*◌, ◌<◌, ◌≤◌, List, [], length, replicate, Option, Some, None, Ok, refl, ap, sym, subst, ◌∙◌, inl, inr, arith}
+use Rattle.std.proofs.lemmas.Bool.{cases_lt}
+use Rattle.std.proofs.lemmas.List.{length-replicate}
+use Rattle.std.proofs.Math.Nat.{mul-le-mul_right}
+use Rattle.code_defs.specs.Profiles.{profile_of}
+use Rattle.device_defs.specs.Cells.{Cells}
+use Rattle.device_defs.specs.Faults.{Rose, last_count}
+use Rattle.device_defs.specs.Providers.{Provider}
+use Rattle.record_defs.specs.Records.{Setup, Record, largest_file}
+use Rattle.machine_defs.specs.Begins.{chosen}
+use Rattle.machine_defs.specs.Events.{AreBytes}
+use Rattle.machine_defs.specs.Jobs.{PutJob}
+use Rattle.machine_defs.specs.States.{State, setup_in}
+use Rattle.command_defs.specs.Opens.{setup_in_effect}
+use Rattle.command_defs.specs.Seen.{ReadsAtMost, nobody}
+use Rattle.command_defs.specs.GivenUp.{put_stripe}
+use Rattle.hail_field.specs.Shape.{IsShape}
+use Rattle.state_laws.proofs.Given.{valid-shape}
+use Rattle.state_laws.proofs.Written.{setup-valid}
+use Rattle.lone_laws.proofs.Walk.{opened-sound}
+use Rattle.lone_laws.specs.Walked.{MayName}
+use Rattle.record_codec.specs.Entries.{with_master}
+use Rattle.vault_core.specs.Streams.{stripe_size}
+use Rattle.vault.specs.declared.vault.Vault.{Vault}
+use Rattle.vault.specs.Seen.{vault_setup, master_of}
+use Rattle.vault_open.specs.Devices.{devices}
+use Rattle.command_jobs.specs.Opened.{IsFreshOver}
+use Rattle.command_jobs.specs.Streams.{IsStripe, IsBegun}
+use Rattle.command_jobs.proofs.Alone.{BeginsAs, has-begun, opened-at, opened-one}
+use Rattle.command_jobs.proofs.Fresh.{OpensAll, ThereIsOne, fresh-setup}
+use Rattle.command_jobs.proofs.ReadBytes.{reads-none}
+
+-- nothing was read
+pub read-nothing : (told : Option (List ℕ)) → ReadsAtMost (largest_file + 1) told told
+read-nothing told = record { bytes = []; front = (reads-none told).front; few = omega arith }
+
+-- a count that rose later, rose
+pub rose-later : (a b c : ℕ) → a ≤ b → b ≤ c → Rose b c → Rose a c
+rose-later a b c l m r = λ low. elim (cases_lt b last_count) [
+  | inl s ↦ (let t = r s in omega (arith, l, t))
+  | inr s ↦ (let t = s in omega (arith, low, m, t))
+]
+
+-- how many symbols of a block are kept
+keep-some : (p : ℕ) → 1 ≤ (profile_of p).keep
+keep-some zero = omega arith
+keep-some (suc zero) = omega arith
+keep-some (suc (suc zero)) = omega arith
+keep-some (suc (suc (suc zero))) = omega arith
+keep-some (suc (suc (suc (suc p)))) = omega arith
+
+keep-few : (p : ℕ) → (profile_of p).keep ≤ 96
+keep-few zero = omega arith
+keep-few (suc zero) = omega arith
+keep-few (suc (suc zero)) = omega arith
+keep-few (suc (suc (suc zero))) = omega arith
+keep-few (suc (suc (suc (suc p)))) = omega arith
+
+-- a stripe of primary providers
+a-stripe : (l keep : ℕ) → 1 ≤ l → l ≤ 16 → 1 ≤ keep → keep ≤ 96 → IsStripe (16 * (l * keep))
+a-stripe l keep a b c d = record {
+  symbols = l * keep;
+  size_is = refl;
+  some = (let m = mul-le-mul_right keep a in let e : 1 * keep ≡ keep = omega arith in omega (arith, m, e, c));
+  most = (let m = mul-le-mul_right keep b in let e : 16 * keep ≤ 1536 = omega (arith, d) in omega (arith, m, e));
+}
+
+module _ (law : OpensAll) (there : ThereIsOne) (v : Vault) (records : List Record) (holds : Option Cells)
+    (faults : ℕ) (F : IsFreshOver v records holds faults) where
+  ps : List Provider
+  ps = replicate (setup_in_effect records).n nobody
+
+  its-setup : with_master (vault_setup v) (master_of v) ≡ setup_in_effect records
+  unfolding ps
+  its-setup =
+      (let few : (setup_in_effect records).n ≤ length ps =
+      (let e = length-replicate (setup_in_effect records).n nobody in omega (arith, e)) in
+      let x = opened-one law there v records holds faults F ps few in
+      (fresh-setup v records holds faults x.0 ps x.1.over.records x.1.stands).0)
+
+  -- its numbers make a shape
+  its-shape : IsShape (setup_in_effect records).n (setup_in_effect records).l (setup_in_effect records).b
+  unfolding setup_in ps
+  its-shape =
+      (let few : (setup_in_effect records).n ≤ length ps =
+      (let e = length-replicate (setup_in_effect records).n nobody in omega (arith, e)) in
+      let x = opened-one law there v records holds faults F ps few in
+      subst (λ (rs : List Record). IsShape (setup_in_effect rs).n (setup_in_effect rs).l (setup_in_effect rs).b)
+      x.1.over.records (valid-shape (setup_in x.0) (setup-valid 8 x.0 (opened-sound x.0 x.1.opened)
+      x.1.opened.opened)))
+
+  -- how many bytes its stripes have
+  pub stripe-over : (own : Option ℕ) → stripe_size (with_master (vault_setup v) (master_of v))
+      (chosen (with_master (vault_setup v) (master_of v)) own) ≡ put_stripe records own
+  stripe-over own = ap (λ (s : Setup). stripe_size s (chosen s own)) its-setup
+
+  pub is-stripe : (own : Option ℕ) (size : ℕ) → size ≡ put_stripe records own → IsStripe size
+  is-stripe own size is = subst IsStripe (sym is)
+      (a-stripe (setup_in_effect records).l
+      (profile_of (chosen (setup_in_effect records) own)).keep its-shape.2
+      (let n = its-shape.1 in let k = its-shape.4 in omega (arith, n, k))
+      (keep-some (chosen (setup_in_effect records) own)) (keep-few (chosen (setup_in_effect records) own)))
+
+  module _ (next : Vault) (name : List ℕ) (own : Option ℕ) (number size : ℕ) (providers : List Provider)
+      (enough : (setup_in_effect records).n ≤ length providers) (size_is : size ≡ put_stripe records own)
+      (begins : (bytes : List ℕ) → AreBytes bytes → length bytes ≤ largest_file →
+      BeginsAs v (PutJob name bytes) own number next) where
+    pub first-number : number ≡ 1
+    first-number =
+        (let x = opened-one law there v records holds faults F providers enough in
+        (has-begun x.0 1 (PutJob name []) own number v next (devices holds faults providers)
+        (MayName.put name [] refl) x.1.opened x.1.stands (begins [] refl (omega arith))).first)
+
+    pub all-begun : (bytes : List ℕ) → AreBytes bytes → length bytes ≤ largest_file →
+        IsBegun next (devices holds faults providers) size bytes
+    unfolding setup_in
+    all-begun bytes are few =
+        (let x = opened-one law there v records holds faults F providers enough in
+        let h = has-begun x.0 1 (PutJob name bytes) own number v next (devices holds faults providers)
+        (MayName.put name bytes refl) x.1.opened x.1.stands (begins bytes are few) in
+        record {
+          start = x.0;
+          name = name;
+          own = own;
+          state = h.made.state;
+          only = h.only;
+          stands = h.made.stands;
+          place = h.place;
+          size_is = size_is ∙ ap (λ (rs : List Record). put_stripe rs own) (sym x.1.over.records);
+        })
