@@ -1,6 +1,7 @@
 // Calls of a provider and what they are to answer. What is tested is called through functions with no clause:
 // a test is proved to be safe, and shows the rest by running.
-use crate::given::CHALLENGE;
+use crate::given::{CHALLENGE, OF_ONE_BLOCK};
+use challenge::Challenge;
 use hail_field::Symbol;
 use provider_model::{Provider, StoreFault, Tamper};
 use stream_model::Failed;
@@ -17,6 +18,8 @@ pub enum Call {
     Lacks(u64, u32, usize),
     /// The challenge is answered.
     Ask(u64, Result<Option<u128>, Failed>),
+    /// The challenge to an object of one block is answered.
+    AskOfOne(u64, Result<Option<u128>, Failed>),
     /// An object is removed.
     Remove(u64, Result<(), Failed>),
     /// The symbol at a place of a block becomes another.
@@ -112,9 +115,13 @@ fn lacks<P: Provider>(provider: &mut P, object: u64, stripe: u32, size: usize) -
     }
 }
 
-/// The number of the answer to the challenge.
-fn ask<P: Provider>(provider: &mut P, object: u64) -> Result<Option<u128>, Failed> {
-    match provider.ask(object, &CHALLENGE) {
+/// The number of the answer to a challenge.
+fn ask<P: Provider>(
+    provider: &mut P,
+    object: u64,
+    challenge: &Challenge,
+) -> Result<Option<u128>, Failed> {
+    match provider.ask(object, challenge) {
         Ok(Some(symbol)) => Ok(Some(symbol.0)),
         Ok(None) => Ok(None),
         Err(failed) => Err(failed),
@@ -143,7 +150,8 @@ pub fn is_right<P: Provider>(provider: &mut P, call: &Call) -> bool {
             fetches(provider, object, stripe, room, found, wanted)
         }
         Call::Lacks(object, stripe, size) => lacks(provider, object, stripe, size),
-        Call::Ask(object, wanted) => ask(provider, object) == wanted,
+        Call::Ask(object, wanted) => ask(provider, object, &CHALLENGE) == wanted,
+        Call::AskOfOne(object, wanted) => ask(provider, object, &OF_ONE_BLOCK) == wanted,
         Call::Remove(object, wanted) => remove(provider, object) == wanted,
         _ => false,
     }

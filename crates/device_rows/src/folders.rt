@@ -1,7 +1,7 @@
 // Rows of folders that fail, lose or hold something else, and of two that are one.
 use crate::adapters::OfProvider::{self, Calls, Looks};
 use crate::adapters::{first_wrong_of_provider, over_folder};
-use crate::calls::Call::{Ask, Fetch, Lacks, Lose, Remove, Store};
+use crate::calls::Call::{Ask, AskOfOne, Fetch, Lacks, Lose, Remove, Store};
 use crate::files::Look;
 use crate::forgetful::{Counts, Forgetful};
 use crate::given::{CHALLENGE, WEIGHT, no_other};
@@ -37,9 +37,20 @@ static ASKED: [OfProvider; 9] = [
     Looks(Look::RemoveAll("asked")),
 ];
 
+// The challenge to one block picks its rows 1, 4, 0 and 0. A block of another size has no answer.
+static ASKED_OF_ONE: [OfProvider; 6] = [
+    Calls(AskOfOne(1, Ok(None))),
+    Calls(Store(1, 0, SIX, Ok(()))),
+    Calls(AskOfOne(1, Ok(Some(WEIGHT)))),
+    Calls(Store(1, 0, ONE, Ok(()))),
+    Calls(AskOfOne(1, Ok(None))),
+    Looks(Look::RemoveAll("asked")),
+];
+
 #[test]
 fn a_missing_block_has_no_answer(rt: HostRuntime) {
     no_other(&rt, over_folder(&rt, rt.alloc(), "asked", &ASKED));
+    no_other(&rt, over_folder(&rt, rt.alloc(), "asked", &ASKED_OF_ONE));
 }
 
 // A hole of 16 stripes hides what is behind it.

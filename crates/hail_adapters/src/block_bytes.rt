@@ -4,12 +4,22 @@ ghost use Rattle.std.specs.Int.{w128, to_le_bytes};
 ghost use Rattle.column_defs.specs.Objects.{bytes_of_symbols};
 
 use hail_field::{Symbol, laws};
+use std::simd::prelude::*;
 
 /// The bytes of a symbol.
 pub const SYMBOL_BYTES: usize = 16;
 
 /// The bytes of the longest block.
 pub const BLOCK_BYTES: usize = 2048;
+
+/// The bytes of a symbol, lowest first. The two halves go into a vector faster than the bytes would.
+fn lanes(symbol: Symbol) -> u8x16
+    ensures { result ≡ to_le_bytes w128 symbol }
+{
+    let low = (symbol.0 % 18_446_744_073_709_551_616) as u64;
+    let high = (symbol.0 >> 64) as u64;
+    u64x2::from_array([low, high]).to_le_bytes()
+}
 
 /// Fills `out` with the bytes of a block.
 pub fn put_symbols(block: &[Symbol], out: &mut [u8])
@@ -19,7 +29,7 @@ pub fn put_symbols(block: &[Symbol], out: &mut [u8])
 {
     for k in 0..block.len() {
         let at = SYMBOL_BYTES * k;
-        out[at..at + SYMBOL_BYTES].copy_from_slice(&block[k].to_bytes());
+        out[at..at + SYMBOL_BYTES].copy_from_slice(&lanes(block[k]).to_array());
     }
 }
 

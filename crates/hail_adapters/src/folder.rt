@@ -8,11 +8,12 @@ ghost use Rattle.hail_adapters.specs.BlockNames.{new_block};
 use crate::block_bytes::{BLOCK_BYTES, SYMBOL_BYTES, put_symbols, take_symbols};
 use crate::block_name::{NAME_BYTES, put_path};
 use crate::found::{found, is_missing};
+use crate::one_block::answer_in_block;
 use crate::plain::{folder_of, open_plain, open_sized, sync_folder, to_make, to_read, to_write};
 use crate::provider_folders::Mark;
 use crate::seen_rows::answer_of;
 use crate::transfer::{fill, gives};
-use challenge::Challenge;
+use challenge::{Challenge, Drawn};
 use hail_field::{Memory, Symbol};
 use std::alloc::Global;
 use std::fs::{self, DirBuilder, Files, OpenFile};
@@ -249,10 +250,23 @@ impl<R: Files + Clone + Drop> Folder<R> {
         Ok(Some(last.symbols[(row % size) as usize]))
     }
 
+    /// Answers a challenge to a file of one block; none where there is no block of the challenge's size.
+    fn answer_in_one(&mut self, object: u64, drawn: &Drawn) -> io::Result<Option<Symbol>> {
+        let mut symbols = [Symbol::ZERO; 128];
+        let block = &mut symbols[..drawn.challenge.size as usize];
+        if !self.fetch(object, 0, block)? {
+            return Ok(None);
+        }
+        Ok(answer_in_block(drawn, block))
+    }
+
     /// Answers a challenge by what stands in the picked rows; none where one of them has no symbol. Each block
     /// is read once.
     pub fn answer(&mut self, object: u64, challenge: &Challenge) -> io::Result<Option<Symbol>> {
         let drawn = challenge.draw();
+        if challenge.rows <= u64::from(challenge.size) {
+            return self.answer_in_one(object, &drawn);
+        }
         let picks = challenge.picks as usize;
         let mut drawn_rows = drawn.rows;
         let picked = &mut drawn_rows[..picks];

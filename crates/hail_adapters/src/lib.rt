@@ -9,6 +9,7 @@ mod folder_provider;
 mod found;
 mod home;
 mod kept_file;
+mod one_block;
 mod plain;
 mod provider_folders;
 mod seen_rows;
