@@ -1,7 +1,7 @@
 #!/bin/bash
 # What the program keeps out of a home: a second program at the same time, standard streams that came closed, what a hostile provider
-# puts in the place of a block, and two providers in one folder. It tells each case that goes otherwise, ends with 0 exactly where none does, and leaves
-# nothing behind.
+# puts in the place of a block, two providers in one folder, and a file that is too long. It tells each case that goes otherwise, ends with 0
+# exactly where none does, and leaves nothing behind.
 set -u
 
 . "$(dirname "$0")/common.sh"
@@ -169,6 +169,16 @@ one_folder() {
     intact 'a put into one folder twice'
 }
 
+# A put that is too long ends in the middle: no file has changed, and its number is not used again.
+too_long() {
+    new_home 4
+    head -c 4194305 /dev/zero | "$hail" home put notes >out 2>err
+    [ "$? $(cat err)" = '16 hail: too long' ] || wrong "a put that is too long says $(cat err)"
+    intact 'a put that is too long'
+    [ -e home/provider-5/2-909 ] && [ ! -e home/provider-5/2-910 ] || wrong 'a put that is too long leaves no whole stripes, or more'
+    "$hail" home put other <notes >out 2>err && [ -e home/provider-0/3-0 ] || wrong "a put behind it ends with $?"
+}
+
 # Nobody else can read what was made.
 own_files() {
     new_home
@@ -184,5 +194,6 @@ closed_streams
 hostile_blocks
 hostile_folders
 one_folder
+too_long
 own_files
 exit $failed

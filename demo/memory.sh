@@ -5,6 +5,7 @@
 # of a device where an allocation of a call without an answer for want of memory was refused, or as it would have ended; where its very
 # words found none it may tell them as no command. Then the same command, over the home that the run left, must end well, or as where its
 # work was done, and the file must come back byte for byte.
+# At last a put of 4 MiB must take no more memory than an init and 1 MiB.
 # It prints 'N runs, W wrong', ends with 0 exactly where W is 0, and leaves nothing behind. Without a C compiler it tries nothing.
 set -u
 
@@ -18,11 +19,13 @@ scratch=$(mktemp -d) || exit 1
 trap 'rm -rf "$scratch"' EXIT
 cd "$scratch" || exit 1
 
-# The allocation whose number is in REFUSED is refused, and how many there were goes to the file that ALLOCATIONS names.
+# The allocation whose number is in REFUSED is refused, and how many there were goes to the file that ALLOCATIONS names; how many kB of
+# memory the process had at most to that which PEAK names.
 cat >refuse.c <<'END'
 #include <fcntl.h>
 #include <stdio.h>
 #include <stdlib.h>
+#include <sys/resource.h>
 #include <unistd.h>
 
 static long made, refused = -1;
@@ -48,17 +51,25 @@ void *realloc(void *block, size_t size)
     return is_refused() ? NULL : __libc_realloc(block, size);
 }
 
-__attribute__((destructor)) static void tell(void)
+static void put_down(const char *variable, long number)
 {
     char text[32];
-    const char *name = getenv("ALLOCATIONS");
+    const char *name = getenv(variable);
     int file = name ? open(name, O_WRONLY | O_CREAT | O_TRUNC, 0600) : -1;
     if (file < 0)
         return;
-    int length = snprintf(text, sizeof text, "%ld\n", made);
+    int length = snprintf(text, sizeof text, "%ld\n", number);
     if (write(file, text, length) != length)
         _exit(99);
     close(file);
+}
+
+__attribute__((destructor)) static void tell(void)
+{
+    struct rusage used;
+    put_down("ALLOCATIONS", made);
+    if (getrusage(RUSAGE_SELF, &used) == 0)
+        put_down("PEAK", used.ru_maxrss);
 }
 END
 cc -shared -fPIC -O1 -o refuse.so refuse.c || { echo 'memory: the C compiler fails, and nothing is tried'; exit 0; }
@@ -154,5 +165,21 @@ rm home/provider-0/1-*
 goes_on scrub
 goes_on upgrade
 source=text && goes_on put a 2
+
+# Runs a command over the large home; the file `peak` has how much memory it had at most, in kB.
+measure() {
+    LD_PRELOAD=$scratch/refuse.so PEAK=$scratch/peak "$program" large "$@" <"$source" >out 2>err || note_wrong "$* ends with $?"
+}
+
+# A put has one stripe in memory: a file of 4 MiB takes at most 1 MiB more than an init.
+head -c 4194304 /dev/urandom >long
+mkdir large
+source=key && measure init 6 3 1 4 8 16 0 && least=$(cat peak)
+source=long && measure put long && most=$(cat peak)
+source=/dev/null && measure get long
+cmp -s out long || note_wrong 'the long file does not come back'
+echo "an init takes ${least} kB, a put of 4 MiB ${most}, a get of it $(cat peak)"
+[ "$most" -le $((least + 1024)) ] || note_wrong "a put of 4 MiB takes ${most} kB, an init ${least}"
+
 echo "$tried runs, $wrong wrong"
 [ "$wrong" -eq 0 ]
