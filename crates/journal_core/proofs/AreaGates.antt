@@ -3,8 +3,7 @@ use Rattle.std.proofs.Common.{◌≡◌, ◌≢◌, inl, inr, ℕ, ◌+◌, ◌<
 use Rattle.std.proofs.lemmas.Bool.Decides.{nat_tests}
 use Rattle.std.proofs.lemmas.List.{append-nil, drop-drop, drop_at, drop_all, drop_more, take_more, take-take}
 use Rattle.record_defs.specs.Records.{Record as Entry}
-use Rattle.record_defs.specs.Spellings.{spelling, Spells}
-use Rattle.record_defs.specs.Journal.{SpellsNone}
+use Rattle.record_defs.specs.Spellings.{spelling, Spells, SpellsNone}
 use Rattle.record_defs.specs.Areas.{Area, A, B, base_of, magic_front, area_of, entries, IsSwitched, HasNoFront, HoldsIn}
 use Rattle.journal_core.specs.Gates.{IsReadIn, StopsIn}
 

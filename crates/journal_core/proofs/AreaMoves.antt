@@ -1,9 +1,9 @@
 -- An append in an area: its moves, and what the images of a disk stand for in its course.
-use Rattle.std.proofs.Common.{◌≡◌, ◌≢◌, ◌⊎◌, inl, inr, ℕ, zero, suc, ◌+◌, ◌-◌, ◌≤◌, ◌<◌, min, Bool, true, false, List, [], ◌∷◌, ◌++◌, length, take, drop, replicate, Option, Some, None, Result, Ok, Err, refl, sym, ap, ◌∙◌, subst, arith, append_assoc, length-append, length-take, length-drop}
-use Rattle.std.specs.Prelude.{IsTrue, IfSome, IsErrOf, OnErr, ◌&&◌}
+use Rattle.std.proofs.Common.{◌≡◌, ◌≢◌, ◌⊎◌, inl, inr, ℕ, zero, suc, ◌+◌, ◌-◌, ◌≤◌, ◌<◌, min, Bool, true, false, List, [], ◌∷◌, ◌++◌, length, take, drop, replicate, Option, Some, None, Result, Ok, Err, refl, sym, ap, ◌∙◌, subst, arith, length-append, length-take, length-drop}
+use Rattle.std.specs.Prelude.{IsTrue, IfSome, IsErrOf, OnErr}
 use Rattle.std.specs.Option.{option_map}
 use Rattle.std.specs.List.{list_all}
-use Rattle.std.proofs.lemmas.List.{map-append, drop-append-le, drop-take, drop-drop, append_cancel_left}
+use Rattle.std.proofs.lemmas.List.{drop-append-le, drop-take, drop-drop}
 use Rattle.stream_model.specs.declared.fault.WriteFault.{WriteFault}
 use Rattle.stream_model.specs.declared.fault.WriteFault.TheVariants as write_fault
 use Rattle.device_defs.specs.Cells.{Cells, firm, loose}
@@ -12,16 +12,14 @@ use Rattle.device_defs.specs.Images.{IsImage}
 use Rattle.device_defs.specs.Told.{Goes}
 use Rattle.record_defs.specs.Records.{Record, is_in_grammar}
 use Rattle.record_defs.specs.Spellings.{spelling}
-use Rattle.record_defs.specs.Journal.{magic, before_gate, StandsFor}
 use Rattle.record_defs.specs.Areas.{Area, base_of, entries, HoldsIn, StandsActive}
-use Rattle.record_defs.proofs.AreaLaws.{before_gate-entries}
 use Rattle.journal_core.specs.Moves.{IsAfterMoves, IsGivenUp, IsWrite, cells_after, MayTear}
 use Rattle.journal_core.specs.Texts.{IsNamed, StandsFirm, IsAfterMovesIn, IsGivenUpIn, AllStandIn, MayStandWith}
 use Rattle.journal_core.proofs.CellLemmas.{settled}
 use Rattle.journal_core.proofs.MoveLemmas.{IfSome-mapped, IfSome-goes, IfSome-same, body_written, gate_written, body_failed, gate_failed, synced}
-use Rattle.journal_core.proofs.ImageLemmas.{before_after, between_after, closed_after, before_given_up, between_given_up}
-use Rattle.journal_core.proofs.AreaMeanings.{behind}
-use Rattle.journal_core.proofs.Splices.{splice-written, splice-torn, drop-settled, IsImage-drop}
+use Rattle.journal_core.proofs.ImageLemmas.{ended-text, old-text, given-text, either-after, either-given}
+use Rattle.journal_core.proofs.AreaStands.{firm-image}
+use Rattle.journal_core.proofs.Splices.{splice-written, splice-torn, drop-settled}
 use Rattle.journal_core.proofs.Texts.{behind-switch, named-below, named-settled, named-image}
 
 -- ---- writes from where an area begins
@@ -85,53 +83,6 @@ longer (suc (suc (suc zero))) front body cells h =
     some-cells (firm front) (firm body ++ h.0) cells (1, true) h.1
 longer (suc (suc (suc (suc n)))) front body cells h =
     some-cells (firm front) (firm body ++ h.0) cells (1, false) h.1
-
--- ---- a front before the front
-
-front-more : (m front : List ℕ) (cells rest : Cells) → cells ≡ firm front ++ rest →
-    firm m ++ cells ≡ firm (m ++ front) ++ rest
-front-more m front cells rest is =
-    ap (λ (c : Cells). firm m ++ c) is
-    ∙ sym (append_assoc (firm m) (firm front) rest)
-    ∙ ap (λ (c : Cells). c ++ rest) (sym (map-append (λ b. (b, false)) m front))
-
-moves-more : (n : ℕ) (m front body : List ℕ) (cells : Cells) → IsAfterMoves n front body cells →
-    IsAfterMoves n (m ++ front) body (firm m ++ cells)
-moves-more zero m front body cells h =
-    (h.0, h.1, h.2, front-more m front cells ((h.0, false) ∷ h.1) h.3)
-moves-more (suc zero) m front body cells h =
-    (h.0, h.1, h.2, front-more m front cells ((h.0, false) ∷ (loose body ++ h.1)) h.3)
-moves-more (suc (suc zero)) m front body cells h =
-    (h.0, h.1, h.2, front-more m front cells ((h.0, false) ∷ (firm body ++ h.1)) h.3)
-moves-more (suc (suc (suc zero))) m front body cells h =
-    (h.0, front-more m front cells ((1, true) ∷ (firm body ++ h.0)) h.1)
-moves-more (suc (suc (suc (suc n)))) m front body cells h =
-    (h.0, front-more m front cells ((1, false) ∷ (firm body ++ h.0)) h.1)
-
-given-more : (n : ℕ) (m front body : List ℕ) (cells : Cells) → IsGivenUp n front body cells →
-    IsGivenUp n (m ++ front) body (firm m ++ cells)
-given-more zero m front body cells h = moves-more 0 m front body cells h
-given-more (suc zero) m front body cells h = moves-more 0 m front body cells h
-given-more (suc (suc n)) m front body cells (inl h) = inl (moves-more 0 m front body cells h)
-given-more (suc (suc n)) m front body cells (inr h) =
-    inr (h.0, h.1, front-more m front cells ((h.0, true) ∷ (firm body ++ h.1)) h.2)
-
-IsImage-front : (m : List ℕ) (cells : Cells) (image : List ℕ) → IsImage cells image →
-    IsImage (firm m ++ cells) (m ++ image)
-IsImage-front [] cells image is = is
-IsImage-front (b ∷ m) cells image is = (λ e. refl, IsImage-front m cells image is)
-
--- an area's bytes behind the magic that stand for records are held in the area
-held-in : (area : Area) (rs : List Record) (image : List ℕ) →
-    StandsFor (magic ++ drop (base_of area) image) rs → HoldsIn image area rs
-held-in area rs image s = record {
-  in_grammar = s.in_grammar;
-  gate = s.gate;
-  rest = s.rest;
-  closed = s.closed;
-  bytes_are = append_cancel_left magic (drop (base_of area) image) (entries rs ++ s.gate ∷ s.rest)
-      (s.bytes_are ∙ sym (behind rs (s.gate ∷ s.rest)));
-}
 
 module _ (area : Area) (rs : List Record) where
   abbrev base : ℕ
@@ -311,92 +262,61 @@ module _ (area : Area) (rs : List Record) where
 
 module _ (area : Area) (rs : List Record) (r : Record) (all : IsTrue (list_all is_in_grammar rs))
     (one : IsTrue (is_in_grammar r)) (body : List ℕ) (body_is : body ≡ spelling r ++ 0 ∷ []) where
-  -- the cells of the area behind the magic
-  abbrev seen : Cells → Cells
-  seen cells = firm magic ++ drop (base_of area) cells
+  -- what is written is the record and a closed gate
+  spelt : (n : ℕ) (cells : Cells) → IsAfterMovesIn n area rs body cells →
+      IsAfterMoves n (entries rs) (spelling r ++ 0 ∷ []) (drop (base_of area) cells)
+  spelt n cells h =
+      subst (λ (b : List ℕ). IsAfterMoves n (entries rs) b (drop (base_of area) cells)) body_is h.text
 
-  moves-seen : (n : ℕ) (cells : Cells) → IsAfterMovesIn n area rs body cells →
-      IsAfterMoves n (before_gate rs) body (seen cells)
-  moves-seen n cells h = subst (λ (l : List ℕ). IsAfterMoves n l body (seen cells))
-      (sym (before_gate-entries rs)) (moves-more n magic (entries rs) body (drop (base_of area) cells) h.text)
-
-  given-seen : (n : ℕ) (cells : Cells) → IsGivenUpIn n area rs body cells →
-      IsGivenUp n (before_gate rs) body (seen cells)
-  given-seen n cells h = subst (λ (l : List ℕ). IsGivenUp n l body (seen cells))
-      (sym (before_gate-entries rs)) (given-more n magic (entries rs) body (drop (base_of area) cells) h.text)
-
-  image-seen : (cells : Cells) (image : List ℕ) → IsImage cells image →
-      IsImage (seen cells) (magic ++ drop (base_of area) image)
-  image-seen cells image of = IsImage-front magic (drop (base_of area) cells) (drop (base_of area) image)
-      (IsImage-drop (base_of area) cells image of)
-
-  active-in : (qs : List Record) (cells : Cells) (image : List ℕ) → IsNamed cells area → IsImage cells image →
-      StandsFor (magic ++ drop (base_of area) image) qs → StandsActive image area qs
-  active-in qs cells image named of s =
-      record { active = named-image area cells image named of; holds = held-in area qs image s }
+  spelt-given : (n : ℕ) (cells : Cells) → IsGivenUpIn n area rs body cells →
+      IsGivenUp n (entries rs) (spelling r ++ 0 ∷ []) (drop (base_of area) cells)
+  spelt-given n cells h =
+      subst (λ (b : List ℕ). IsGivenUp n (entries rs) b (drop (base_of area) cells)) body_is h.text
 
   either-in : (cells : Cells) (image : List ℕ) → IsNamed cells area → IsImage cells image →
-      StandsFor (magic ++ drop (base_of area) image) rs ⊎ StandsFor (magic ++ drop (base_of area) image) (r ∷ rs)
-      → StandsActive image area rs ⊎ StandsActive image area (r ∷ rs)
-  either-in cells image named of (inl s) = inl (active-in rs cells image named of s)
-  either-in cells image named of (inr s) = inr (active-in (r ∷ rs) cells image named of s)
+      HoldsIn image area rs ⊎ HoldsIn image area (r ∷ rs) →
+      StandsActive image area rs ⊎ StandsActive image area (r ∷ rs)
+  either-in cells image named of (inl h) =
+      inl (record { active = named-image area cells image named of; holds = h })
+  either-in cells image named of (inr h) =
+      inr (record { active = named-image area cells image named of; holds = h })
 
   module _ (n : ℕ) where
     -- up to the third move each image stands for the records before it
     pub before-in : (told : Option Cells) → n < 3 → IfSome told (IsAfterMovesIn n area rs body) →
         AllStandIn area rs told
     before-in None few h = tt
-    before-in (Some cells) few h = λ image of. active-in rs cells image h.named of
-        (before_after rs r all one body (Some (seen cells)) body_is n few (moves-seen n cells h)
-        (magic ++ drop (base_of area) image) (image-seen cells image of))
+    before-in (Some cells) few h = λ image of. firm-image area rs cells image
+        (record { named = h.named; text = old-text area rs r all one n cells few (spelt n cells h) }) of
 
     -- all through an append each image stands for the records before it, or for these with its own
     pub between-in : (told : Option Cells) → IfSome told (IsAfterMovesIn n area rs body) →
         MayStandWith area rs r told
     between-in None h = tt
     between-in (Some cells) h = λ image of. either-in cells image h.named of
-        (between_after rs r all one body (Some (seen cells)) body_is n (moves-seen n cells h)
-        (magic ++ drop (base_of area) image) (image-seen cells image of))
+        (either-after area rs r all one n cells (spelt n cells h) image of)
 
     -- an append given up before its gate leaves the records before it
     pub before-given-in : (told : Option Cells) → n < 2 → IfSome told (IsGivenUpIn n area rs body) →
         AllStandIn area rs told
     before-given-in None few h = tt
-    before-given-in (Some cells) few h = λ image of. active-in rs cells image h.named of
-        (before_given_up rs r all one body (Some (seen cells)) body_is n few (given-seen n cells h)
-        (magic ++ drop (base_of area) image) (image-seen cells image of))
+    before-given-in (Some cells) few h = λ image of. firm-image area rs cells image
+        (record { named = h.named; text = given-text area rs r all one n cells few (spelt-given n cells h) }) of
 
     -- an append given up leaves the records before it, or these with its own
     pub between-given-in : (told : Option Cells) → IfSome told (IsGivenUpIn n area rs body) →
         MayStandWith area rs r told
     between-given-in None h = tt
     between-given-in (Some cells) h = λ image of. either-in cells image h.named of
-        (between_given_up rs r all one body (Some (seen cells)) body_is n (given-seen n cells h)
-        (magic ++ drop (base_of area) image) (image-seen cells image of))
+        (either-given area rs r all one n cells (spelt-given n cells h) image of)
 
     -- once an append is done the text with its record is firm
     pub ready-in : (told : Option Cells) → n ≡ 4 → IfSome told (IsAfterMovesIn n area rs body) →
         IfSome told (StandsFirm area (r ∷ rs))
     ready-in None four h = tt
-    ready-in (Some cells) four h =
-        let closed = closed_after rs r all one body (Some (seen cells)) body_is n four (moves-seen n cells h) in
-        record {
-          named = h.named;
-          text = record {
-            in_grammar = both all one;
-            gate = closed.0;
-            rest = closed.1;
-            closed = closed.2;
-            cells_are = append_cancel_left (firm magic) (drop (base_of area) cells)
-                (firm (entries (r ∷ rs)) ++ (closed.0, false) ∷ closed.1)
-                (closed.3
-                ∙ ap (λ (l : List ℕ). firm l ++ (closed.0, false) ∷ closed.1) (before_gate-entries (r ∷ rs))
-                ∙ ap (λ (c : Cells). c ++ (closed.0, false) ∷ closed.1)
-                (map-append (λ b. (b, false)) magic (entries (r ∷ rs)))
-                ∙ append_assoc (firm magic) (firm (entries (r ∷ rs))) ((closed.0, false) ∷ closed.1));
-          };
-        }
-      where
-        both : IsTrue (list_all is_in_grammar rs) → IsTrue (is_in_grammar r) →
-            IsTrue (list_all is_in_grammar (r ∷ rs))
-        both a o = (λ i. o i && a i)
+    ready-in (Some cells) four h = record {
+      named = h.named;
+      text = ended-text area rs r all one cells
+          (subst (λ (k : ℕ). IsAfterMoves k (entries rs) (spelling r ++ 0 ∷ []) (drop (base_of area) cells)) four
+          (spelt n cells h));
+    }

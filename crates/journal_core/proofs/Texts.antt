@@ -1,47 +1,17 @@
 -- The text of an area on cells: what of it stays under a write, a sync and a stop.
 use Rattle.std.proofs.Common.{◌≡◌, ◌≢◌, ℕ, ◌+◌, ◌≤◌, Bool, true, false, List, [], ◌∷◌, ◌++◌, length, take, drop, refl, sym, ap, ◌∙◌, subst, arith, append_assoc, length-append}
-use Rattle.std.specs.Prelude.{IsTrue, ◌&&◌}
+use Rattle.std.specs.Prelude.{IsTrue}
 use Rattle.std.specs.List.{list_all}
-use Rattle.std.proofs.lemmas.Bool.{and_parts}
 use Rattle.std.proofs.lemmas.List.{map-append, length-map}
 use Rattle.device_defs.specs.Cells.{Cells, firm, loose}
 use Rattle.device_defs.specs.Disks.{written, Torn}
 use Rattle.device_defs.specs.Images.{IsImage}
-use Rattle.record_defs.specs.Records.{Record, is_spelled, is_in_grammar}
-use Rattle.record_defs.specs.Spellings.{spelling}
-use Rattle.record_defs.specs.Areas.{Area, A, B, other_area, base_of, magic_front, switch_of, area_of, entries, entries_size, HoldsIn, IsSwitched}
-use Rattle.record_defs.proofs.Grammar.{grammar-spelled}
-use Rattle.record_defs.proofs.Sizes.{spelled-length}
+use Rattle.record_defs.specs.Records.{Record, is_in_grammar}
+use Rattle.record_defs.specs.Areas.{Area, A, B, other_area, base_of, magic_front, switch_of, area_of, entries, HoldsIn, IsSwitched}
+use Rattle.record_defs.proofs.Sizes.{length-entries}
 use Rattle.journal_core.proofs.CellLemmas.{written-behind, torn_gate, settled, settled-append, settled-firm, settled-loose, IsImage-firm}
 use Rattle.journal_core.specs.Texts.{HasText, HasLooseText, IsNamed, IsSwitching, IsApart}
 use Rattle.journal_core.proofs.Splices.{IsSplice, kept-below, kept-above, drop-written, drop-settled, IsImage-drop}
-
--- ---- how long entries are
-
--- records with a spelling take as many bytes as is told of them
-pub length-spelled : (rs : List Record) → IsTrue (list_all is_spelled rs) →
-    length (entries rs) ≡ entries_size rs
-length-spelled [] p = refl
-length-spelled (r ∷ rs) p =
-    let parts = and_parts (is_spelled r) (list_all is_spelled rs) p in
-    omega (
-      arith,
-      length-append (entries rs) (1 ∷ spelling r),
-      spelled-length r parts.0,
-      length-spelled rs parts.1,
-    )
-
--- records in the grammar have a spelling
-pub all-spelled : (rs : List Record) → IsTrue (list_all is_in_grammar rs) → IsTrue (list_all is_spelled rs)
-all-spelled [] p = refl
-all-spelled (r ∷ rs) p =
-    let parts = and_parts (is_in_grammar r) (list_all is_in_grammar rs) p in
-    (λ i. grammar-spelled r parts.0 i && all-spelled rs parts.1 i)
-
--- records in the grammar take as many bytes as is told of them
-pub length-entries : (rs : List Record) → IsTrue (list_all is_in_grammar rs) →
-    length (entries rs) ≡ entries_size rs
-length-entries rs p = length-spelled rs (all-spelled rs p)
 
 -- ---- a text under a write
 

@@ -2,7 +2,6 @@ pub mod Lists
 pub mod Moves
 pub mod FourMoves
 pub mod Appends
-pub mod Faults
 pub mod Gates
 pub mod Firm
 pub mod Texts

@@ -1,12 +1,9 @@
--- What a disk holds in the course of an append, and what its images stand for. Lists of records have the
--- newest first.
+-- What cells are in the course of an append: a front, a gate behind it, and a body behind the gate.
 --
 --   IsClosed front cells            == a closed gate stands behind these bytes, and nothing up to it is loose
 --   IsInDoubt front body cells      == the gate behind these bytes is loose, and the body behind it is firm
 --   IsAfterMoves n front body cells == after n moves: write the body, sync, write the open gate, sync
 --   IsGivenUp n front body cells    == after a fault of the move that came after n
---   AllStandFor rs told             == each image of the disk stands for these records
---   MayStandFor rs r told           == each image stands for these records, or for these with one more
 --   SameFrom at old new             == what is read from an offset on is as before, also where it lies past
 --                                      an end
 --   IsWrite moves                   == the move that comes after so many is a write
@@ -14,11 +11,8 @@
 --                                      body
 --   MayTear n gate body old new     == how the cells may go where that move failed: torn by a write, as
 --                                      before at a sync
-use Rattle.std.specs.Prelude.{◌≡◌, ◌≢◌, ◌⊎◌, ℕ, zero, suc, ◌+◌, true, false, List, ◌∷◌, ◌++◌, length, drop, Option}
+use Rattle.std.specs.Prelude.{◌≡◌, ◌≢◌, ◌⊎◌, ℕ, zero, suc, ◌+◌, true, false, List, ◌∷◌, ◌++◌, length, drop}
 use Rattle.device_defs.specs.Cells.{Cells, reads, firm, loose}
-use Rattle.device_defs.specs.Images.{EachImage}
-use Rattle.record_defs.specs.Records.{Record}
-use Rattle.record_defs.specs.Journal.{StandsFor}
 use Rattle.journal_core.specs.FourMoves.{moved_on, MayBeTorn}
 
 -- a closed gate stands behind these bytes, and nothing up to it is loose
@@ -53,14 +47,6 @@ abbrev pub IsGivenUp : ℕ → List ℕ → List ℕ → Cells → Type 0
 IsGivenUp zero front body cells = IsClosed front cells
 IsGivenUp (suc zero) front body cells = IsClosed front cells
 IsGivenUp (suc (suc n)) front body cells = IsInDoubtOrClosed front body cells
-
--- each image stands for these records
-abbrev pub AllStandFor : List Record → Option Cells → Type 0
-AllStandFor rs told = EachImage told (λ image. StandsFor image rs)
-
--- each image stands for these records, or for these and one more
-abbrev pub MayStandFor : List Record → Record → Option Cells → Type 0
-MayStandFor rs r told = EachImage told (λ image. StandsFor image rs ⊎ StandsFor image (r ∷ rs))
 
 -- what is read from an offset on is as before
 abbrev pub SameFrom : ℕ → Cells → Cells → Type 0

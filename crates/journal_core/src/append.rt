@@ -5,11 +5,10 @@ ghost use Rattle.device_defs.specs.Faults.{HasCause, one_more};
 ghost use Rattle.device_defs.specs.Told.{Goes};
 ghost use Rattle.record_defs.specs.Records.{Record as Entry, record_size};
 ghost use Rattle.record_defs.specs.Spellings.{spelling};
-ghost use Rattle.record_defs.specs.Journal.{before_gate};
 ghost use Rattle.record_defs.specs.Areas.{Area};
 ghost use Rattle.journal_core.specs.Texts.{StandsFirm, IsGivenUpIn, AllStandIn, MayStandWith};
 ghost use Rattle.record_codec.specs.Entries.{entry_of, IsInGrammar};
-ghost use Rattle.journal_core.specs.Moves.{IsClosed, IsAfterMoves, IsGivenUp, AllStandFor, MayStandFor, SameFrom, IsWrite, cells_after, MayTear};
+ghost use Rattle.journal_core.specs.Moves.{SameFrom, IsWrite, cells_after, MayTear};
 
 use crate::moving::make_move;
 use disk_model::Disk;
@@ -37,7 +36,7 @@ fn copy_front(all: &mut [u8], bytes: &[u8])
 }
 
 impl Append {
-    ghost use Rattle.journal_core.specs.Appends.{gate_of, body_of, moves_of, Appends, AppendsIn};
+    ghost use Rattle.journal_core.specs.Appends.{gate_of, body_of, moves_of, Appends};
 
     /// An append at the closed gate at offset `gate`. Condition: the record is in the grammar, and the
     /// journal has room.
@@ -81,33 +80,19 @@ impl Append {
         ensures torn { IsErrOf result write_fault.Failed
             → Goes (MayTear (moves_of self.old) (gate_of self.old) (body_of self.old)) (D.holds disk.old)
             (D.holds disk.new) }
-        ensures moved { (rs : List Entry) (r : Entry) → Appends rs r self.old (D.holds disk.old)
-            → OnOk result (Appends rs r self.new (D.holds disk.new)) }
-        ensures given_up { (rs : List Entry) (r : Entry) → Appends rs r self.old (D.holds disk.old)
-            → OnErr result (IfSome (D.holds disk.new)
-            (IsGivenUp (moves_of self.old) (before_gate rs) (body_of self.old))) }
-        ensures before { (rs : List Entry) (r : Entry) → Appends rs r self.old (D.holds disk.old)
-            → moves_of self.old < 2 → AllStandFor rs (D.holds disk.new) }
-        ensures between { (rs : List Entry) (r : Entry) → Appends rs r self.old (D.holds disk.old)
-            → MayStandFor rs r (D.holds disk.new) }
-        ensures after { (rs : List Entry) (r : Entry) → Appends rs r self.old (D.holds disk.old)
-            → OnOk result (moves_of self.new ≡ 4 → AllStandFor (r ∷ rs) (D.holds disk.new)) }
-        ensures closed { (rs : List Entry) (r : Entry) → Appends rs r self.old (D.holds disk.old)
-            → OnOk result (moves_of self.new ≡ 4
-            → IfSome (D.holds disk.new) (IsClosed (before_gate (r ∷ rs)))) }
-        ensures moved_in { (area : Area) (rs : List Entry) (r : Entry) → AppendsIn area rs r self.old
-            (D.holds disk.old) → OnOk result (AppendsIn area rs r self.new (D.holds disk.new)) }
-        ensures given_up_in { (area : Area) (rs : List Entry) (r : Entry) → AppendsIn area rs r self.old
+        ensures moved { (area : Area) (rs : List Entry) (r : Entry) → Appends area rs r self.old
+            (D.holds disk.old) → OnOk result (Appends area rs r self.new (D.holds disk.new)) }
+        ensures given_up { (area : Area) (rs : List Entry) (r : Entry) → Appends area rs r self.old
             (D.holds disk.old) → OnErr result (IfSome (D.holds disk.new)
             (IsGivenUpIn (moves_of self.old) area rs (body_of self.old))) }
-        ensures before_in { (area : Area) (rs : List Entry) (r : Entry) → AppendsIn area rs r self.old
+        ensures before { (area : Area) (rs : List Entry) (r : Entry) → Appends area rs r self.old
             (D.holds disk.old) → moves_of self.old < 2 → AllStandIn area rs (D.holds disk.new) }
-        ensures between_in { (area : Area) (rs : List Entry) (r : Entry) → AppendsIn area rs r self.old
+        ensures between { (area : Area) (rs : List Entry) (r : Entry) → Appends area rs r self.old
             (D.holds disk.old) → MayStandWith area rs r (D.holds disk.new) }
-        ensures ready_in { (area : Area) (rs : List Entry) (r : Entry) → AppendsIn area rs r self.old
+        ensures ready { (area : Area) (rs : List Entry) (r : Entry) → Appends area rs r self.old
             (D.holds disk.old) → OnOk result (moves_of self.new ≡ 4
             → IfSome (D.holds disk.new) (StandsFirm area (r ∷ rs))) }
-        ensures kept_in { (area : Area) (rs : List Entry) (r : Entry) → AppendsIn area rs r self.old
+        ensures kept { (area : Area) (rs : List Entry) (r : Entry) → Appends area rs r self.old
             (D.holds disk.old) → IsErrOf result write_fault.Memory
             → IfSome (D.holds disk.new) (StandsFirm area rs) }
         ensures beyond { Goes (SameFrom (gate_of self.old + 1 + length (body_of self.old)))

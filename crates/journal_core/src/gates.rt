@@ -1,36 +1,14 @@
-ghost use Rattle.std.specs.Prelude.{◌≡◌, ◌≢◌, ◌↔◌, ◌≤◌, List, [], length, take, IfOk, IfErr, IsTrue};
+ghost use Rattle.std.specs.Prelude.{◌≡◌, ◌↔◌, ◌≤◌, List, [], length, take, IfOk, IfErr, IsTrue};
 ghost use Rattle.record_defs.specs.Records.{Record as Entry};
-ghost use Rattle.record_defs.specs.Journal.{magic};
 ghost use Rattle.record_defs.specs.Areas.{Area, magic_front, IsSwitched, HasNoFront};
-ghost use Rattle.journal_core.specs.Gates.{IsReadTo, TakesRecord, StopsAt, IsReadIn, TakesIn, StopsIn};
+ghost use Rattle.journal_core.specs.Gates.{IsReadIn, TakesIn, StopsIn};
 
 use crate::areas::{FIRST_BASE, SECOND, SECOND_BASE};
 use crate::fault::BadJournal;
 use record_codec::Record;
 
-const MAGIC: [u8; 8] = *b"HAILJRN1";
-
 /// What the switch byte stands behind.
 const MAGIC_FRONT: [u8; 7] = *b"HAILJRN";
-
-fn has_magic(bytes: &[u8]) -> bool
-    ensures { IsTrue result ↔ (take 8 bytes.now ≡ magic) }
-{
-    bytes.len() >= 8 && bytes[..8] == MAGIC[..]
-}
-
-/// The offset of a journal's first gate, in bytes: behind the magic. Bytes that do not begin with the magic
-/// are bad at 0.
-pub fn first_gate(bytes: &[u8]) -> Result<usize, BadJournal>
-    ensures ok { IfOk result (IsReadTo bytes.now []) }
-    ensures bad { IfErr result (λ bad. (take 8 bytes.now ≢ magic) × (bad.at ≡ 0)) }
-{
-    if has_magic(bytes) {
-        Ok(8)
-    } else {
-        Err(BadJournal { at: 0 })
-    }
-}
 
 fn has_front(bytes: &[u8]) -> bool
     ensures { IsTrue result ↔ ((8 ≤ length bytes.now) × (take 7 bytes.now ≡ magic_front)) }
@@ -59,13 +37,9 @@ pub fn active_gate(bytes: &[u8]) -> Result<usize, BadJournal>
 /// closed, at which the text ends. Bytes that end before the gate are bad at the gate; where no record stands
 /// behind an open gate they are bad at the byte behind it.
 pub fn next_record(bytes: &[u8], gate: usize) -> Result<Option<(Record, usize)>, BadJournal>
-    ensures taken { (rs : List Entry) → IsReadTo bytes.now rs gate
-        → IfOk result (TakesRecord bytes.now rs gate) }
-    ensures bad { (rs : List Entry) → IsReadTo bytes.now rs gate
-        → IfErr result (λ bad. StopsAt bytes.now rs bad.at) }
-    ensures taken_in { (area : Area) (rs : List Entry) → IsReadIn bytes.now area rs gate
+    ensures taken { (area : Area) (rs : List Entry) → IsReadIn bytes.now area rs gate
         → IfOk result (TakesIn bytes.now area rs gate) }
-    ensures bad_in { (area : Area) (rs : List Entry) → IsReadIn bytes.now area rs gate
+    ensures bad { (area : Area) (rs : List Entry) → IsReadIn bytes.now area rs gate
         → IfErr result (λ bad. StopsIn bytes.now area rs bad.at) }
 {
     if gate >= bytes.len() {

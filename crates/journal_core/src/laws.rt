@@ -1,58 +1,35 @@
 //! What holds of every journal.
 ghost use Rattle.std.specs.Prelude.{◌≡◌, ◌∷◌, ◌++◌, ℕ, suc, List, [], length};
 ghost use Rattle.record_defs.specs.Records.{Record};
-ghost use Rattle.record_defs.specs.Journal.{text, before_gate, StandsFor, IsBadAt};
+ghost use Rattle.record_defs.specs.Journal.{text};
 ghost use Rattle.record_defs.specs.Examples.{four_set_up};
-ghost use Rattle.record_defs.specs.Areas.{Area, A, B, base_of, magic_front, switch_of, entries, StandsActive, IsBadActiveAt};
+ghost use Rattle.record_defs.specs.Areas.{Area, A, B, base_of, magic_front, switch_of, entries, StandsActive, IsBadAt};
 ghost use Rattle.device_defs.specs.Cells.{Cells, reads, firm};
 ghost use Rattle.device_defs.specs.Images.{IsImage};
-ghost use Rattle.journal_core.specs.Moves.{IsClosed};
 ghost use Rattle.journal_core.specs.Texts.{StandsFirm};
 ghost use Rattle.journal_core.specs.Firm.{AreFirm};
 
-/// Bytes stand for one list of records at most.
-pub fn one_meaning()
-    ensures { (bytes : List ℕ) (a b : List Record) → StandsFor bytes a → StandsFor bytes b → a ≡ b }
-{}
-
-/// Bytes that are bad at some place stand for no records.
-pub fn bad_stands_for_none()
-    ensures { (bytes : List ℕ) (at : ℕ) (records : List Record) → IsBadAt bytes at → StandsFor bytes records
-        → ⊥ }
-{}
-
-/// Bytes are bad at one place at most.
-pub fn one_place()
-    ensures { (bytes : List ℕ) (at other : ℕ) → IsBadAt bytes at → IsBadAt bytes other → at ≡ other }
-{}
-
 /// Bytes stand for one list of records, in one of the two areas, at most.
-pub fn one_active_meaning()
+pub fn one_meaning()
     ensures { (bytes : List ℕ) (a b : Area) (rs qs : List Record) → StandsActive bytes a rs
         → StandsActive bytes b qs → (a ≡ b) × (rs ≡ qs) }
 {}
 
-/// Bytes that are bad at some place in their active area stand for no records.
-pub fn bad_area_stands_for_none()
-    ensures { (bytes : List ℕ) (at : ℕ) (area : Area) (rs : List Record) → IsBadActiveAt bytes at
+/// Bytes that are bad at some place stand for no records.
+pub fn bad_stands_for_none()
+    ensures { (bytes : List ℕ) (at : ℕ) (area : Area) (rs : List Record) → IsBadAt bytes at
         → StandsActive bytes area rs → ⊥ }
 {}
 
-/// Bytes are bad at one place of their active area at most.
-pub fn one_active_place()
-    ensures { (bytes : List ℕ) (at other : ℕ) → IsBadActiveAt bytes at → IsBadActiveAt bytes other
+/// Bytes are bad at one place at most.
+pub fn one_place()
+    ensures { (bytes : List ℕ) (at other : ℕ) → IsBadAt bytes at → IsBadAt bytes other
         → at ≡ other }
 {}
 
 /// An instance: bytes that name the second area and end before it are bad where it begins.
 pub fn named_area_is_bad()
-    ensures { IsBadActiveAt (magic_front ++ switch_of B ∷ []) (base_of B) }
-{}
-
-/// A disk with nothing loose that reads a journal is ready for an append behind its records.
-pub fn read_is_closed()
-    ensures { (bytes : List ℕ) (records : List Record) → StandsFor bytes records
-        → IsClosed (before_gate records) (firm bytes) }
+    ensures { IsBadAt (magic_front ++ switch_of B ∷ []) (base_of B) }
 {}
 
 /// While the first eight bytes of a disk and the text of its active area are firm, every image of it stands

@@ -7,11 +7,9 @@ mod fault;
 mod gates;
 pub mod laws;
 mod moving;
-mod reading;
 
 pub use append::Append;
 pub use areas::{FIRST_BASE, SECOND, SECOND_BASE, SWITCH};
 pub use fault::{BadJournal, JournalFault};
-pub use gates::{active_gate, first_gate, next_record};
+pub use gates::{active_gate, next_record};
 pub use moving::make_move;
-pub use reading::read_journal;

@@ -7,7 +7,7 @@ use Rattle.stream_model.specs.declared.fault.WriteFault.{WriteFault}
 use Rattle.stream_model.specs.declared.fault.WriteFault.TheVariants as write_fault
 use Rattle.device_defs.specs.Cells.{Cells}
 use Rattle.device_defs.specs.Told.{Goes}
-use Rattle.record_defs.specs.Records.{Record, is_spelled}
+use Rattle.record_defs.specs.Records.{Record, is_in_grammar}
 use Rattle.record_defs.specs.Areas.{Area, A, B, other_area, base_of, switch_of, entries, text_length, end_in}
 use Rattle.journal_core.specs.Moves.{IsWrite}
 use Rattle.journal_core.specs.FourMoves.{moved_on, MayBeTorn}
@@ -15,7 +15,7 @@ use Rattle.journal_pack.specs.declared.pack.Pack.{Pack}
 use Rattle.journal_core.specs.Texts.{StandsFirm}
 use Rattle.journal_pack.specs.Moves.{switch_to, IsAfterPack, IsPackGivenUp}
 use Rattle.journal_pack.specs.Packs.{to_of, text_of, moves_of, WritesText, Packs}
-use Rattle.journal_core.proofs.Texts.{length-spelled}
+use Rattle.record_defs.proofs.Sizes.{length-entries}
 use Rattle.journal_pack.proofs.Steps.{switch-is, moved, kept-up, given-up}
 
 module _ (area : Area) (rs qs : List Record) (p : Pack) (old new : Option Cells)
@@ -60,29 +60,29 @@ module _ (area : Area) (rs qs : List Record) (p : Pack) (old new : Option Cells)
 -- ---- the length of the new text
 
 -- in the first area it counts from the start of the disk
-pub size-first : (area : Area) (qs : List Record) (p : Pack) → IsTrue (list_all is_spelled qs) →
+pub size-first : (area : Area) (qs : List Record) (p : Pack) → IsTrue (list_all is_in_grammar qs) →
     WritesText area qs p → to_of p ≡ 8 → 8 + length (text_of p) ≡ text_length area qs
 size-first A qs p spelled w here = omega (
   arith,
   ap length w.text,
   length-append (entries qs) (0 ∷ []),
-  length-spelled qs spelled,
+  length-entries qs spelled,
 )
 size-first B qs p spelled w here = absurd (let to = w.to in omega (arith, to, here))
 
 -- in the second from where the area begins
-pub size-second : (area : Area) (qs : List Record) (p : Pack) → IsTrue (list_all is_spelled qs) →
+pub size-second : (area : Area) (qs : List Record) (p : Pack) → IsTrue (list_all is_in_grammar qs) →
     WritesText area qs p → to_of p ≢ 8 → length (text_of p) ≡ text_length area qs
 size-second A qs p spelled w other = absurd (other w.to)
 size-second B qs p spelled w other = omega (
   arith,
   ap length w.text,
   length-append (entries qs) (0 ∷ []),
-  length-spelled qs spelled,
+  length-entries qs spelled,
 )
 
 -- where it ends
-pub end-is : (area : Area) (qs : List Record) (p : Pack) → IsTrue (list_all is_spelled qs) →
+pub end-is : (area : Area) (qs : List Record) (p : Pack) → IsTrue (list_all is_in_grammar qs) →
     WritesText area qs p → to_of p + length (text_of p) ≡ end_in area qs
 end-is area qs p spelled w =
     let to = w.to in
@@ -91,5 +91,5 @@ end-is area qs p spelled w =
       to,
       ap length w.text,
       length-append (entries qs) (0 ∷ []),
-      length-spelled qs spelled,
+      length-entries qs spelled,
     )

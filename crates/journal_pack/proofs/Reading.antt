@@ -1,13 +1,13 @@
 -- Reading the active area, record by record.
 use Rattle.std.proofs.Common.{◌≡◌, inl, inr, ℕ, ◌+◌, List, arith}
 use Rattle.record_defs.specs.Records.{Record as Entry}
-use Rattle.record_defs.specs.Areas.{Area, end_in, IsSwitched, IsBadActiveAt}
+use Rattle.record_defs.specs.Areas.{Area, end_in, IsSwitched, IsBadAt}
 use Rattle.journal_core.specs.Gates.{IsReadIn, StopsIn}
-use Rattle.journal_core.proofs.Texts.{length-entries}
+use Rattle.record_defs.proofs.Sizes.{length-entries}
 
 -- where reading stops is the first place at which the active area fails to be a text
 pub stops-bad : (bytes : List ℕ) (area : Area) (rs : List Entry) (at : ℕ) → IsSwitched bytes area →
-    StopsIn bytes area rs at → IsBadActiveAt bytes at
+    StopsIn bytes area rs at → IsBadAt bytes at
 stops-bad bytes area rs at active (inl ends) =
     inr (record { area = area; active = active; fails = inl ends.0 })
 stops-bad bytes area rs at active (inr breaks) =

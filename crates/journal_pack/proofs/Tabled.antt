@@ -6,16 +6,16 @@ use Rattle.std.proofs.lemmas.Bool.{and_parts, and_from}
 use Rattle.std.proofs.lemmas.List.{reverse-append, take_more}
 use Rattle.std.proofs.lemmas.List.Elements.{All-nil, All-cons, All-head, All-tail}
 use Rattle.std.proofs.lemmas.List.Folds.{list_all-append}
-use Rattle.record_defs.specs.Records.{Record as Entry, Version, Resume, is_spelled}
+use Rattle.record_defs.specs.Records.{Record as Entry, Version, Resume, is_in_grammar}
 use Rattle.record_defs.specs.Table.{File}
 use Rattle.record_defs.specs.Packed.{as_record, with_files, with_due, with_setup, packed}
 use Rattle.record_codec.specs.declared.records.Record.{Record}
-use Rattle.record_codec.specs.Entries.{entry_of, HasPadding, HasSpelling}
+use Rattle.record_codec.specs.Entries.{entry_of, HasPadding, IsInGrammar}
 use Rattle.journal_core.specs.Lists.{newest_first}
 use Rattle.vault_table.specs.Values.{Kept, IsFoldOf}
 use Rattle.record_defs.specs.Areas.{entries, entries_size}
 use Rattle.journal_pack.specs.Tables.{packed_table}
-use Rattle.journal_core.proofs.Texts.{length-spelled}
+use Rattle.record_defs.proofs.Sizes.{length-entries}
 
 -- one file more on top
 pub files-push : (fs : List File) (f : File) (rs : List Entry) →
@@ -59,18 +59,18 @@ all-reverse p (x ∷ xs) h =
     let one = and_parts (p x) true parts.1 in
     and_from (p x) (list_all p xs) one.0 (all-reverse p xs parts.0)
 
-all-entries : (records : List Record) → list_all is_spelled (map entry_of records) ≡ true →
-    All (λ r. IsTrue (is_spelled (entry_of r))) records
-all-entries [] h = All-nil (λ r. IsTrue (is_spelled (entry_of r)))
+all-entries : (records : List Record) → list_all is_in_grammar (map entry_of records) ≡ true →
+    All (λ r. IsTrue (is_in_grammar (entry_of r))) records
+all-entries [] h = All-nil (λ r. IsTrue (is_in_grammar (entry_of r)))
 all-entries (r ∷ records) h =
-    let parts = and_parts (is_spelled (entry_of r)) (list_all is_spelled (map entry_of records)) h in
-    All-cons (λ x. IsTrue (is_spelled (entry_of x))) r records parts.0 (all-entries records parts.1)
+    let parts = and_parts (is_in_grammar (entry_of r)) (list_all is_in_grammar (map entry_of records)) h in
+    All-cons (λ x. IsTrue (is_in_grammar (entry_of x))) r records parts.0 (all-entries records parts.1)
 
 -- records whose plain data have spellings, with padded counts, have spellings
 pub have-spellings : (records : List Record) → All HasPadding records →
-    IsTrue (list_all is_spelled (newest_first records)) → All HasSpelling records
+    IsTrue (list_all is_in_grammar (newest_first records)) → All IsInGrammar records
 have-spellings records padded h =
-    let each = all-entries records (all-reverse is_spelled (map entry_of records) h) in
+    let each = all-entries records (all-reverse is_in_grammar (map entry_of records) h) in
     (λ k d inside. record { spelled = each k d inside; padded = padded k d inside })
 
 -- at a place of a list something stands
@@ -89,24 +89,24 @@ reverse-all p (x ∷ xs) h =
     ∙ and_from (list_all p (reverse xs)) (list_all p (x ∷ [])) (reverse-all p xs parts.1)
     (and_from (p x) true parts.0 refl)
 
-entries-all : (records : List Record) → All HasSpelling records →
-    list_all is_spelled (map entry_of records) ≡ true
+entries-all : (records : List Record) → All IsInGrammar records →
+    list_all is_in_grammar (map entry_of records) ≡ true
 entries-all [] each = refl
 entries-all (r ∷ records) each =
-    and_from (is_spelled (entry_of r)) (list_all is_spelled (map entry_of records))
-    (All-head HasSpelling r records each).spelled (entries-all records (All-tail HasSpelling r records each))
+    and_from (is_in_grammar (entry_of r)) (list_all is_in_grammar (map entry_of records))
+    (All-head IsInGrammar r records each).spelled (entries-all records (All-tail IsInGrammar r records each))
 
 -- the plain data of records that have spellings have them
-pub are-spelled : (records : List Record) → All HasSpelling records →
-    IsTrue (list_all is_spelled (newest_first records))
-are-spelled records each = reverse-all is_spelled (map entry_of records) (entries-all records each)
+pub are-spelled : (records : List Record) → All IsInGrammar records →
+    IsTrue (list_all is_in_grammar (newest_first records))
+are-spelled records each = reverse-all is_in_grammar (map entry_of records) (entries-all records each)
 
 -- so their text is as long as is told
-pub text-long : (records : List Record) → All HasSpelling records →
+pub text-long : (records : List Record) → All IsInGrammar records →
     length (entries (newest_first records) ++ 0 ∷ []) ≡ entries_size (newest_first records) + 1
 text-long records each =
     omega (
       arith,
       length-append (entries (newest_first records)) (0 ∷ []),
-      length-spelled (newest_first records) (are-spelled records each),
+      length-entries (newest_first records) (are-spelled records each),
     )

@@ -4,7 +4,7 @@
 --                                their text ends here
 --   IsActiveFault bytes fault == why nothing was read: the one bad place, or want of memory
 use Rattle.std.specs.Prelude.{◌≡◌, ℕ, List}
-use Rattle.record_defs.specs.Areas.{Area, base_of, end_in, StandsActive, IsBadActiveAt}
+use Rattle.record_defs.specs.Areas.{Area, base_of, end_in, StandsActive, IsBadAt}
 use Rattle.journal_core.specs.declared.fault.JournalFault.{JournalFault}
 use Rattle.journal_core.specs.declared.fault.JournalFault.TheVariants as journal_fault
 use Rattle.journal_core.specs.Lists.{newest_first}
@@ -19,5 +19,5 @@ pub record IsReadActive (bytes : List ℕ) (active : Active) : Type 0 where
 
 -- why nothing was read
 abbrev pub IsActiveFault : List ℕ → JournalFault → Type 0
-IsActiveFault bytes (journal_fault.Bad bad) = IsBadActiveAt bytes bad.at
+IsActiveFault bytes (journal_fault.Bad bad) = IsBadAt bytes bad.at
 IsActiveFault bytes journal_fault.Memory = Unit {0}

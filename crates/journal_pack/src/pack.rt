@@ -4,10 +4,10 @@ ghost use Rattle.stream_model.specs.declared.fault.WriteFault.TheVariants as wri
 ghost use Rattle.std.specs.Option.{option_map};
 ghost use Rattle.device_defs.specs.Faults.{HasCause, one_more};
 ghost use Rattle.device_defs.specs.Told.{Goes};
-ghost use Rattle.record_defs.specs.Records.{Record as Entry, is_spelled};
+ghost use Rattle.record_defs.specs.Records.{Record as Entry, is_in_grammar};
 ghost use Rattle.record_defs.specs.Spellings.{spelling};
 ghost use Rattle.record_defs.specs.Areas.{Area, other_area, base_of, entries, entries_size, text_length, end_in};
-ghost use Rattle.record_codec.specs.Entries.{entry_of, HasSpelling};
+ghost use Rattle.record_codec.specs.Entries.{entry_of, IsInGrammar};
 ghost use Rattle.journal_core.specs.Lists.{newest_first};
 ghost use Rattle.journal_core.specs.Moves.{IsWrite};
 ghost use Rattle.journal_core.specs.FourMoves.{moved_on, MayBeTorn};
@@ -20,7 +20,7 @@ use record_codec::Record;
 use std::alloc::Global;
 use stream_model::{Memory, WriteFault};
 
-/// The switch byte of the first area, as a journal of before has it.
+/// The switch byte that names the first area.
 const FIRST: u8 = b'1';
 
 /// A packed journal on its way into the area that is not active, in four moves: write its text there, sync,
@@ -30,13 +30,15 @@ pub struct Pack {
     to: u64,
     text: Vec<u8>,
     moves: u8,
+    ghost first: { 8 ≤ to },
     ghost place: { to ≤ 2 ^ 23 },
+    ghost closed: { 1 ≤ length text.items },
     ghost short: { length text.items + 8 ≤ 2 ^ 23 },
 }
 
 /// Adds an open gate and a record's bytes to a text.
 fn add_entry(text: &mut Vec<u8>, entry: &Record) -> Result<(), Memory>
-    requires { HasSpelling entry.now }
+    requires { IsInGrammar entry.now }
     ensures { OnOk result (text.new.items ≡ text.old.items ++ 1 ∷ spelling (entry_of entry.now)) }
 {
     let mut spelled = [0u8; 80];
@@ -48,7 +50,7 @@ fn add_entry(text: &mut Vec<u8>, entry: &Record) -> Result<(), Memory>
 
 /// The text of records: each behind an open gate, and a closed gate.
 fn make_text(alloc: Global, records: &[Record]) -> Result<Vec<u8>, Memory>
-    requires { All HasSpelling records.now }
+    requires { All IsInGrammar records.now }
     ensures { IfOk result (λ v. v.items ≡ entries (newest_first records.now) ++ 0 ∷ []) }
 {
     let mut text = Vec::new(alloc);
@@ -73,7 +75,7 @@ impl Pack {
     /// a spelling, and the text fits in front of the second area.
     pub fn new(alloc: Global, base: u64, records: &[Record]) -> Result<Pack, Memory>
         requires area { (base ≡ 8) ⊎ (base ≡ 2 ^ 23) }
-        requires spelled { All HasSpelling records.now }
+        requires spelled { All IsInGrammar records.now }
         requires short { entries_size (newest_first records.now) + 9 ≤ 2 ^ 23 }
         ensures writes { IfOk result (λ p. (area : Area) → base ≡ base_of area
             → WritesText (other_area area) (newest_first records.now) p) }
@@ -91,7 +93,7 @@ impl Pack {
     /// The length of the new text in bytes: in the first area counted from the start of the disk, in the
     /// second from where the area begins.
     pub fn size(&self) -> u64
-        ensures { (area : Area) (qs : List Entry) → IsTrue (list_all is_spelled qs)
+        ensures { (area : Area) (qs : List Entry) → IsTrue (list_all is_in_grammar qs)
             → WritesText area qs self.now → result ≡ text_length area qs }
     {
         if self.to == FIRST_BASE {
@@ -101,9 +103,25 @@ impl Pack {
         }
     }
 
+    /// Where the area begins that it writes into, in bytes from the start of the disk.
+    pub fn base(&self) -> u64
+        ensures { result ≡ to_of self.now }
+    {
+        self.to
+    }
+
+    /// Whether all four moves are made.
+    pub fn is_made(&self) -> bool
+        ensures { IsTrue result ↔ (moves_of self.now ≡ 4) }
+    {
+        self.moves == 4
+    }
+
     /// The offset past the gate that closes the new text, in bytes from the start of the disk.
     pub fn end(&self) -> u64
-        ensures { (area : Area) (qs : List Entry) → IsTrue (list_all is_spelled qs)
+        ensures least { 9 ≤ result }
+        ensures most { result ≤ 2 ^ 24 }
+        ensures value { (area : Area) (qs : List Entry) → IsTrue (list_all is_in_grammar qs)
             → WritesText area qs self.now → result ≡ end_in area qs }
     {
         self.to + self.text.len() as u64

@@ -1,10 +1,10 @@
 ghost use Rattle.std.specs.Prelude.{◌≡◌, ◌≤◌, ◌^◌, ◌∷◌, [], All, List, IfOk, OnOk, IsSome, IsTrue};
 ghost use Rattle.std.specs.List.{list_all};
-ghost use Rattle.record_defs.specs.Records.{Record as EntryData, SetUp, Version, Resume, is_spelled};
+ghost use Rattle.record_defs.specs.Records.{Record as EntryData, SetUp, Version, Resume, is_in_grammar};
 ghost use Rattle.record_defs.specs.Acceptance.{AreAccepted};
 ghost use Rattle.record_defs.specs.Packed.{as_record, with_files, with_due, with_setup, packed};
 ghost use Rattle.record_defs.specs.Areas.{entries_size};
-ghost use Rattle.record_codec.specs.Entries.{entry_of, with_master, HasPadding, HasSpelling};
+ghost use Rattle.record_codec.specs.Entries.{entry_of, with_master, HasPadding, IsInGrammar};
 ghost use Rattle.journal_core.specs.Lists.{newest_first};
 ghost use Rattle.vault_table.specs.Values.{file_of_entry, id_after, IsFoldOf};
 ghost use Rattle.journal_pack.specs.Tables.{packed_table};
@@ -105,9 +105,9 @@ pub fn pack_records(alloc: Global, table: &Table) -> Result<Vec<Record>, Memory>
     ensures packed { IfOk result (λ v. (rs : List EntryData) → IsFoldOf rs table.now
         → newest_first v.items ≡ packed rs) }
     ensures spelled { IfOk result (λ v. (rs : List EntryData) → IsFoldOf rs table.now → AreAccepted rs
-        → IsTrue (list_all is_spelled rs) → All HasSpelling v.items) }
+        → IsTrue (list_all is_in_grammar rs) → All IsInGrammar v.items) }
     ensures short { IfOk result (λ v. (rs : List EntryData) → IsFoldOf rs table.now → AreAccepted rs
-        → IsTrue (list_all is_spelled rs) → entries_size (newest_first v.items) ≤ 2 ^ 17) }
+        → IsTrue (list_all is_in_grammar rs) → entries_size (newest_first v.items) ≤ 2 ^ 17) }
 {
     let mut records = first_records(alloc, table)?;
     add_files(&mut records, table)?;

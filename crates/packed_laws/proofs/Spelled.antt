@@ -4,7 +4,7 @@ use Rattle.std.specs.Prelude.{IsTrue, ◌==◌, nat_lt, nat_le, if◌then◌else
 use Rattle.std.specs.List.{list_all}
 use Rattle.std.proofs.lemmas.Bool.{cases_Bool, and_parts, and_from, lt-ltb}
 use Rattle.std.proofs.lemmas.Bool.Decides.{nat_tests}
-use Rattle.record_defs.specs.Records.{Setup, Record, SetUp, PutStart, PutDone, Drop, AuditStart, AuditDone, RepairDone, PutDoneIn, Version, Resume, InEffect, RepairDue, is_name, is_spelled, largest_file, largest_journal, all_profiles}
+use Rattle.record_defs.specs.Records.{Setup, Record, SetUp, PutStart, PutDone, Drop, AuditStart, AuditDone, RepairDone, PutDoneIn, Version, Resume, InEffect, RepairDue, is_name, is_in_grammar, largest_file, largest_journal, all_profiles}
 use Rattle.record_defs.specs.Table.{File, Due, file_as, profile_in, setup_of, next_id, next_audit, started_as, with_file, without_file, with_put, files_of, due_of, exceeds}
 use Rattle.record_defs.specs.Acceptance.{AreAccepted}
 use Rattle.record_defs.specs.Packed.{as_record, with_files, with_due, with_setup, packed}
@@ -13,16 +13,16 @@ use Rattle.record_defs.proofs.OrderLaws.{few-files_of, next_id-fits, next_audit-
 
 -- each record has a spelling
 abbrev pub AreSpelled : List Record → Type 0
-AreSpelled rs = IsTrue (list_all is_spelled rs)
+AreSpelled rs = IsTrue (list_all is_in_grammar rs)
 
-first : (r : Record) (rs : List Record) → AreSpelled (r ∷ rs) → IsTrue (is_spelled r)
-first r rs h = (and_parts (is_spelled r) (list_all is_spelled rs) h).0
+first : (r : Record) (rs : List Record) → AreSpelled (r ∷ rs) → IsTrue (is_in_grammar r)
+first r rs h = (and_parts (is_in_grammar r) (list_all is_in_grammar rs) h).0
 
 rest : (r : Record) (rs : List Record) → AreSpelled (r ∷ rs) → AreSpelled rs
-rest r rs h = (and_parts (is_spelled r) (list_all is_spelled rs) h).1
+rest r rs h = (and_parts (is_in_grammar r) (list_all is_in_grammar rs) h).1
 
-more : (r : Record) (rs : List Record) → IsTrue (is_spelled r) → AreSpelled rs → AreSpelled (r ∷ rs)
-more r rs g h = and_from (is_spelled r) (list_all is_spelled rs) g h
+more : (r : Record) (rs : List Record) → IsTrue (is_in_grammar r) → AreSpelled rs → AreSpelled (r ∷ rs)
+more r rs g h = and_from (is_in_grammar r) (list_all is_in_grammar rs) g h
 
 -- ---- a test of each file in effect
 
@@ -61,10 +61,10 @@ none-some x e = absurd cc
 
 -- the setup in effect has a spelling
 pub setup-spelled : (rs : List Record) (s : Setup) → AreSpelled rs → setup_of rs ≡ Some s →
-    IsTrue (is_spelled (SetUp s))
+    IsTrue (is_in_grammar (SetUp s))
 setup-spelled [] s g h = absurd (none-some s h)
 setup-spelled (SetUp t ∷ rs) s g h =
-    (let e : t ≡ s = cc in subst (λ x. IsTrue (is_spelled (SetUp x))) e (first (SetUp t) rs g))
+    (let e : t ≡ s = cc in subst (λ x. IsTrue (is_in_grammar (SetUp x))) e (first (SetUp t) rs g))
 setup-spelled (PutStart id name ∷ rs) s g h = setup-spelled rs s (rest (PutStart id name) rs g) h
 setup-spelled (PutDone id size ∷ rs) s g h = setup-spelled rs s (rest (PutDone id size) rs g) h
 setup-spelled (Drop name ∷ rs) s g h = setup-spelled rs s (rest (Drop name) rs g) h
@@ -84,7 +84,7 @@ setup-spelled (RepairDue number counts ∷ rs) s g h = setup-spelled rs s (rest 
 profile-fits : (rs : List Record) → AreSpelled rs → nat_lt (profile_in (setup_of rs)) all_profiles ≡ true
 profile-fits rs g = by (setup_of rs) refl
   where
-    fits : (s : Setup) → IsTrue (is_spelled (SetUp s)) → nat_lt s.profile all_profiles ≡ true
+    fits : (s : Setup) → IsTrue (is_in_grammar (SetUp s)) → nat_lt s.profile all_profiles ≡ true
     fits s h = grind (arith, nat_tests, h)
 
     by : (o : Option Setup) → setup_of rs ≡ o → nat_lt (profile_in o) all_profiles ≡ true
@@ -109,7 +109,7 @@ done-by k id name o h = elim (cases_Bool (k == id)) [
   | inr f ↦ grind (arith, h, f)
 ]
 
-start-named : (id : ℕ) (name : List ℕ) → IsTrue (is_spelled (PutStart id name)) → is_name name ≡ true
+start-named : (id : ℕ) (name : List ℕ) → IsTrue (is_in_grammar (PutStart id name)) → is_name name ≡ true
 start-named id name h = (and_parts (nat_lt id (2 ^ 64)) (is_name name) h).1
 
 -- a name that a put was started under is a name
@@ -143,11 +143,11 @@ started-spelled (RepairDue number counts ∷ rs) id name g h =
 
 -- a file's record has a spelling
 abbrev fits : File → Bool
-fits f = is_spelled (as_record f)
+fits f = is_in_grammar (as_record f)
 
 fit : (id size profile : ℕ) (name : List ℕ) → nat_lt id (2 ^ 64) ≡ true → nat_le size largest_file ≡ true →
     nat_lt profile all_profiles ≡ true → is_name name ≡ true →
-    is_spelled (InEffect id size profile name) ≡ true
+    is_in_grammar (InEffect id size profile name) ≡ true
 fit id size profile name i s p n =
     and_from (nat_lt id (2 ^ 64) && nat_le size largest_file && nat_lt profile all_profiles) (is_name name)
     (and_from (nat_lt id (2 ^ 64) && nat_le size largest_file) (nat_lt profile all_profiles)
@@ -182,27 +182,27 @@ files-fit (InEffect id size profile kept ∷ rs) g =
     all-put fits (files_of rs) (Some kept) id size profile
     (files-fit rs (rest (InEffect id size profile kept) rs g))
     (λ name e. (let same : kept ≡ name = cc in
-    subst (λ x. is_spelled (InEffect id size profile x) ≡ true) same
+    subst (λ x. is_in_grammar (InEffect id size profile x) ≡ true) same
     (first (InEffect id size profile kept) rs g)))
 files-fit (RepairDue number counts ∷ rs) g = files-fit rs (rest (RepairDue number counts) rs g)
 
 -- ---- the due audit
 
-due-fits : (number undecided : ℕ) (counts : List ℕ) → IsTrue (is_spelled (AuditDone number undecided counts)) →
-    IsTrue (is_spelled (RepairDue number counts))
+due-fits : (number undecided : ℕ) (counts : List ℕ) → IsTrue (is_in_grammar (AuditDone number undecided counts)) →
+    IsTrue (is_in_grammar (RepairDue number counts))
 due-fits number undecided counts h = grind (arith, nat_tests, h)
 
 due-by : (b : Bool) (new due : Due) (o : Option Due) → (if b then Some new else o) ≡ Some due →
-    IsTrue (is_spelled (RepairDue new.number new.counts)) →
-    (o ≡ Some due → IsTrue (is_spelled (RepairDue due.number due.counts))) →
-    IsTrue (is_spelled (RepairDue due.number due.counts))
+    IsTrue (is_in_grammar (RepairDue new.number new.counts)) →
+    (o ≡ Some due → IsTrue (is_in_grammar (RepairDue due.number due.counts))) →
+    IsTrue (is_in_grammar (RepairDue due.number due.counts))
 due-by true new due o h g later = (let e : new ≡ due = cc in
-    subst (λ (d : Due). IsTrue (is_spelled (RepairDue d.number d.counts))) e g)
+    subst (λ (d : Due). IsTrue (is_in_grammar (RepairDue d.number d.counts))) e g)
 due-by false new due o h g later = later h
 
 -- a due audit has a record with a spelling
 pub due-spelled : (rs : List Record) (due : Due) → AreSpelled rs → due_of rs ≡ Some due →
-    IsTrue (is_spelled (RepairDue due.number due.counts))
+    IsTrue (is_in_grammar (RepairDue due.number due.counts))
 due-spelled [] due g h = absurd (none-some due h)
 due-spelled (SetUp s ∷ rs) due g h = due-spelled rs due (rest (SetUp s) rs g) h
 due-spelled (PutStart id name ∷ rs) due g h = due-spelled rs due (rest (PutStart id name) rs g) h
@@ -236,7 +236,7 @@ files-more (f ∷ fs) qs h g =
 name-short : (name : List ℕ) → is_name name ≡ true → length name ≤ 64
 name-short name h = grind (arith, nat_tests, h)
 
-counts-short : (number : ℕ) (counts : List ℕ) → IsTrue (is_spelled (RepairDue number counts)) →
+counts-short : (number : ℕ) (counts : List ℕ) → IsTrue (is_in_grammar (RepairDue number counts)) →
     length counts ≤ 16
 counts-short number counts h = grind (arith, nat_tests, h)
 

@@ -1,6 +1,6 @@
 -- The master key behind the numbers of a setup, by cases.
-use Rattle.std.proofs.Common.{◌≡◌, ◌≤◌, ◌<◌, ℕ, true, false, List, length, take, drop, Some, None, refl}
-use Rattle.std.proofs.lemmas.Bool.{le-ltb, lt-ltb}
+use Rattle.std.proofs.Common.{◌≡◌, ◌≤◌, ℕ, true, false, List, length, take, drop, Some, None, refl}
+use Rattle.std.proofs.lemmas.Bool.{le-ltb}
 use Rattle.record_defs.specs.Records.{Setup, SetUp, is_setup}
 use Rattle.record_codec.specs.Reading.{keyed_at}
 

@@ -7,15 +7,14 @@ use Rattle.std.proofs.lemmas.Bool.{eqb-true, leb-true, ltb-false, le-ltb, lt-ltb
 use Rattle.std.proofs.lemmas.Bool.Decides.{nat_tests}
 use Rattle.std.proofs.lemmas.List.{take_at, drop_at as drop-front}
 use Rattle.algebra_laws.proofs.Options.{cond-cases}
-use Rattle.record_defs.specs.Records.{Setup, Record, SetUp, PutStart, PutDone, Drop, AuditStart, AuditDone, RepairDone, is_name, is_setup, is_master, is_byte, is_in_grammar, PutDoneIn, Version, Resume, InEffect, RepairDue, is_spelled, is_held}
+use Rattle.record_defs.specs.Records.{Setup, Record, SetUp, PutStart, PutDone, Drop, AuditStart, AuditDone, RepairDone, is_name, is_setup, is_master, is_byte, is_in_grammar, PutDoneIn, Version, Resume, InEffect, RepairDue}
 use Rattle.record_defs.specs.Spellings.{name_bytes, setup_bytes, counts_bytes, spelling}
-use Rattle.record_codec.specs.Reading.{◌>>=◌, number_at, name_at, counts_at, keyed_at, setup_at, put_start_at, put_done_at, drop_at, audit_start_at, audit_done_at, repair_done_at, record_at, profile_at, object_at, put_done_in_at, version_at, resume_at, in_effect_at, repair_due_at, spelled_at}
+use Rattle.record_codec.specs.Reading.{◌>>=◌, number_at, name_at, counts_at, keyed_at, setup_at, put_start_at, put_done_at, drop_at, audit_start_at, audit_done_at, repair_done_at, profile_at, object_at, put_done_in_at, version_at, resume_at, in_effect_at, repair_due_at, record_at}
 use Rattle.record_codec.proofs.Fields.{IsBytes, IsBytes-rest, IsBytes-take, IsBytes-drop, bind_some, passed, passed_to, stopped, some_is, Takes, Takes-then, wide16, wide32, wide64, number_takes, number_again, name_takes, name_again}
-use Rattle.record_defs.proofs.Grammar.{grammar-held, grammar-spelled, grammar-from}
 use Rattle.record_codec.proofs.CountsLemmas.{counts_takes, counts_again}
 
 abbrev Found : List ℕ → Record × List ℕ → Type 0
-Found bytes x = Takes bytes (spelling x.0) x.1 × (is_spelled x.0 ≡ true)
+Found bytes x = Takes bytes (spelling x.0) x.1 × (is_in_grammar x.0 ≡ true)
 
 -- bytes pass the test of each
 pub IsBytes-all : (bytes : List ℕ) → IsBytes bytes → list_all is_byte bytes ≡ true
@@ -73,9 +72,9 @@ setup_takes (n ∷ l ∷ b ∷ profile ∷ rounds ∷ picks ∷ low ∷ high ∷
     (λ i. 1 ∷ n ∷ l ∷ b ∷ profile ∷ rounds ∷ picks ∷ (sym (wide16.back two refl two_fit) i ++ k.2.parts i))
     ∙ (λ i. 1 ∷ n ∷ l ∷ b ∷ profile ∷ rounds ∷ picks ∷ sym
     (append_assoc (to_le_bytes w16 (from_le_bytes w16 two)) k.0 x.1) i) in
-    let good : is_spelled (SetUp (record s { master = k.0 })) ≡ true = (λ i. k.3 i && k.4 i) in (
+    let good : is_in_grammar (SetUp (record s { master = k.0 })) ≡ true = (λ i. k.3 i && k.4 i) in (
       record { parts = parts ∙ ap (λ (r : Record). spelling r ++ x.1) (sym k.1); rest_fits = k.2.rest_fits },
-      ap is_spelled k.1 ∙ good,
+      ap is_in_grammar k.1 ∙ good,
     )
 setup_takes bytes x fits e = absurd cc
 
@@ -172,7 +171,7 @@ audit_done_takes rest x fits e =
     (to_le_bytes w32 b.0.0) b.0.1 first.0 second.0 in
     let all = Takes-then rest (to_le_bytes w64 a.0.0 ++ to_le_bytes w32 b.0.0) b.0.1
     (counts_bytes d.0.0) d.0.1 front third.0 in
-    let good : is_spelled (AuditDone a.0.0 b.0.0 d.0.0) ≡ true =
+    let good : is_in_grammar (AuditDone a.0.0 b.0.0 d.0.0) ≡ true =
     grind (arith, lt-ltb _ _ first.1, lt-ltb _ _ second.1, third.1, third.2) in
     subst (Found (6 ∷ rest)) (some_is made x d.2)
     (record { parts = ap (λ (l : List ℕ). 6 ∷ l) all.parts; rest_fits = all.rest_fits }, good)
@@ -305,7 +304,7 @@ in_effect_takes rest x fits e =
     let grouped : object_bytes a.0.0 ++ name_bytes b.0.0
     ≡ to_le_bytes w64 a.0.0.0 ++ to_le_bytes w32 a.0.0.1 ++ a.0.0.2 ∷ name_bytes b.0.0 =
     append_assoc (to_le_bytes w64 a.0.0.0 ++ to_le_bytes w32 a.0.0.1) (a.0.0.2 ∷ []) (name_bytes b.0.0) in
-    let good : is_spelled (InEffect a.0.0.0 a.0.0.1 a.0.0.2 b.0.0) ≡ true = (λ i. first.1 i && second.1 i) in
+    let good : is_in_grammar (InEffect a.0.0.0 a.0.0.1 a.0.0.2 b.0.0) ≡ true = (λ i. first.1 i && second.1 i) in
     subst (Found (11 ∷ rest)) (some_is made x b.2) (
       record {
         parts = ap (λ (l : List ℕ). 11 ∷ l) (both.parts ∙ ap (λ (l : List ℕ). l ++ b.0.1) grouped);
@@ -325,7 +324,7 @@ repair_due_takes rest x fits e =
     let first = number_takes w64 (2 ^ 64) wide64 rest a.0 fits a.1 in
     let second = counts_takes a.0.1 b.0 first.0.rest_fits b.1 in
     let both = Takes-then rest (to_le_bytes w64 a.0.0) a.0.1 (counts_bytes b.0.0) b.0.1 first.0 second.0 in
-    let good : is_spelled (RepairDue a.0.0 b.0.0) ≡ true =
+    let good : is_in_grammar (RepairDue a.0.0 b.0.0) ≡ true =
     grind (arith, lt-ltb _ _ first.1, second.1, second.2) in
     subst (Found (12 ∷ rest)) (some_is made x b.2)
     (record { parts = ap (λ (l : List ℕ). 12 ∷ l) both.parts; rest_fits = both.rest_fits }, good)
@@ -339,11 +338,11 @@ of_kind kind k rest found others x here on e =
     (cond-cases (eqb kind k) found others (Some x) e)
 
 -- a record of any kind that is read stands at the front, and has a spelling
-pub spelled_takes : (bytes : List ℕ) (x : Record × List ℕ) → IsBytes bytes → spelled_at bytes ≡ Some x →
-    Takes bytes (spelling x.0) x.1 × (is_spelled x.0 ≡ true)
-unfolding spelled_at
-spelled_takes [] x fits e = absurd cc
-spelled_takes (kind ∷ rest) x fits e =
+pub record_takes : (bytes : List ℕ) (x : Record × List ℕ) → IsBytes bytes → record_at bytes ≡ Some x →
+    Takes bytes (spelling x.0) x.1 × (is_in_grammar x.0 ≡ true)
+unfolding record_at
+record_takes [] x fits e = absurd cc
+record_takes (kind ∷ rest) x fits e =
     let inner = IsBytes-rest kind rest fits in
     of_kind kind 1 rest _ _ x (setup_takes rest x inner)
     (of_kind kind 2 rest _ _ x (put_start_takes rest x inner) (
@@ -363,17 +362,17 @@ spelled_takes (kind ∷ rest) x fits e =
     none_is y h = cc
 
 -- a record of any kind is read back from its spelling
-pub spelled_again : (r : Record) (rest : List ℕ) → is_spelled r ≡ true →
-    spelled_at (spelling r ++ rest) ≡ Some (r, rest)
-unfolding spelled_at put_start_at put_done_at drop_at audit_start_at audit_done_at repair_done_at put_done_in_at version_at resume_at in_effect_at repair_due_at spelling
-spelled_again (SetUp s) rest fits = setup_again s rest (grind (arith, fits)) (grind (arith, fits))
-spelled_again (PutStart id name) rest fits =
+pub record_again : (r : Record) (rest : List ℕ) → is_in_grammar r ≡ true →
+    record_at (spelling r ++ rest) ≡ Some (r, rest)
+unfolding record_at put_start_at put_done_at drop_at audit_start_at audit_done_at repair_done_at put_done_in_at version_at resume_at in_effect_at repair_due_at spelling
+record_again (SetUp s) rest fits = setup_again s rest (grind (arith, fits)) (grind (arith, fits))
+record_again (PutStart id name) rest fits =
     let id_fits : id < 2 ^ 64 = grind (arith, nat_tests, fits) in
     let good : is_name name ≡ true = grind (arith, fits) in
     ap (λ (l : List ℕ). put_start_at l) (append_assoc (to_le_bytes w64 id) (name_bytes name) rest)
     ∙ rw (number_again w64 (2 ^ 64) wide64 id (name_bytes name ++ rest) id_fits, name_again name rest good)
     refl
-spelled_again (PutDone id size) rest fits =
+record_again (PutDone id size) rest fits =
     let id_fits : id < 2 ^ 64 = grind (arith, nat_tests, fits) in
     let short : leb size 4194304 ≡ true = grind (arith, fits) in
     ap (λ (l : List ℕ). put_done_at l) (append_assoc (to_le_bytes w64 id) (to_le_bytes w32 size) rest)
@@ -382,11 +381,11 @@ spelled_again (PutDone id size) rest fits =
       number_again w32 (2 ^ 32) wide32 size rest (omega (arith, leb-true _ _ short)),
       short,
     ) refl
-spelled_again (Drop name) rest fits = rw (name_again name rest fits) refl
-spelled_again (AuditStart number) rest fits =
+record_again (Drop name) rest fits = rw (name_again name rest fits) refl
+record_again (AuditStart number) rest fits =
     let number_fits : number < 2 ^ 64 = grind (arith, nat_tests, fits) in
     rw (number_again w64 (2 ^ 64) wide64 number rest number_fits) refl
-spelled_again (AuditDone number undecided counts) rest fits =
+record_again (AuditDone number undecided counts) rest fits =
     let a = to_le_bytes w64 number in
     let b = to_le_bytes w32 undecided in
     let d = counts_bytes counts in
@@ -402,12 +401,12 @@ spelled_again (AuditDone number undecided counts) rest fits =
       number_again w32 (2 ^ 32) wide32 undecided (d ++ rest) undecided_fits,
       counts_again counts rest range each,
     ) refl
-spelled_again (RepairDone number) rest fits =
+record_again (RepairDone number) rest fits =
     let number_fits : number < 2 ^ 64 = grind (arith, nat_tests, fits) in
     rw (number_again w64 (2 ^ 64) wide64 number rest number_fits) refl
-spelled_again (PutDoneIn id size profile) rest fits = rw (object_again id size profile rest fits) refl
-spelled_again Version rest fits = refl
-spelled_again (Resume id audit) rest fits =
+record_again (PutDoneIn id size profile) rest fits = rw (object_again id size profile rest fits) refl
+record_again Version rest fits = refl
+record_again (Resume id audit) rest fits =
     let id_fits : id < 2 ^ 64 = grind (arith, nat_tests, fits) in
     let audit_fits : audit < 2 ^ 64 = grind (arith, nat_tests, fits) in
     ap (λ (l : List ℕ). resume_at l) (append_assoc (to_le_bytes w64 id) (to_le_bytes w64 audit) rest)
@@ -415,7 +414,7 @@ spelled_again (Resume id audit) rest fits =
       number_again w64 (2 ^ 64) wide64 id (to_le_bytes w64 audit ++ rest) id_fits,
       number_again w64 (2 ^ 64) wide64 audit rest audit_fits,
     ) refl
-spelled_again (InEffect id size profile name) rest fits =
+record_again (InEffect id size profile name) rest fits =
     let a = to_le_bytes w64 id ++ to_le_bytes w32 size in
     let object : is_object (id, size, profile) ≡ true = grind (arith, fits) in
     let good : is_name name ≡ true = grind (arith, fits) in
@@ -425,7 +424,7 @@ spelled_again (InEffect id size profile name) rest fits =
     ∙ sym (append_assoc a (profile ∷ []) (name_bytes name ++ rest)) in
     ap (λ (l : List ℕ). in_effect_at l) regrouped
     ∙ rw (object_again id size profile (name_bytes name ++ rest) object, name_again name rest good) refl
-spelled_again (RepairDue number counts) rest fits =
+record_again (RepairDue number counts) rest fits =
     let number_fits : number < 2 ^ 64 = grind (arith, nat_tests, fits) in
     let range : (leb 4 (length counts) && leb (length counts) 16) ≡ true = grind (arith, fits) in
     let each : list_all (λ k. ltb k (2 ^ 32)) counts ≡ true = grind (arith, fits) in
@@ -435,35 +434,10 @@ spelled_again (RepairDue number counts) rest fits =
       counts_again counts rest range each,
     ) refl
 
--- and where a journal may hold the kind
-
--- a record that is read stands at the front, and is one of the grammar
-pub record_takes : (bytes : List ℕ) (x : Record × List ℕ) → IsBytes bytes → record_at bytes ≡ Some x →
-    Takes bytes (spelling x.0) x.1 × (is_in_grammar x.0 ≡ true)
-unfolding record_at
-record_takes bytes x fits e =
-    let a = bind_some (spelled_at bytes) (λ y. cond (is_held y.0) (Some y) None) x e in
-    let g = passed (is_held a.0.0) a.0 x a.2 in
-    let took = spelled_takes bytes a.0 fits a.1 in
-    subst (λ (y : Record × List ℕ). Takes bytes (spelling y.0) y.1 × (is_in_grammar y.0 ≡ true)) g.1
-    (took.0, grammar-from a.0.0 g.0 took.1)
-
--- a record of the grammar is read back from its spelling
-pub record_again : (r : Record) (rest : List ℕ) → is_in_grammar r ≡ true →
-    record_at (spelling r ++ rest) ≡ Some (r, rest)
-unfolding record_at
-record_again r rest fits = rw (spelled_again r rest (grammar-spelled r fits), grammar-held r fits) refl
-
 -- no spelling begins another
-pub one_spelled : (a b : Record) (x y : List ℕ) → is_spelled a ≡ true → is_spelled b ≡ true →
-    spelling a ++ x ≡ spelling b ++ y → (a ≡ b) × (x ≡ y)
-one_spelled a b x y fits_a fits_b e =
-    let same = some_is (a, x) (b, y) (sym (spelled_again a x fits_a) ∙ ap spelled_at e
-    ∙ spelled_again b y fits_b) in
-    (ap (λ (p : Record × List ℕ). p.0) same, ap (λ (p : Record × List ℕ). p.1) same)
-
--- no spelling is a front of another
 pub one_front : (a b : Record) (x y : List ℕ) → is_in_grammar a ≡ true → is_in_grammar b ≡ true →
     spelling a ++ x ≡ spelling b ++ y → (a ≡ b) × (x ≡ y)
 one_front a b x y fits_a fits_b e =
-    one_spelled a b x y (grammar-spelled a fits_a) (grammar-spelled b fits_b) e
+    let same = some_is (a, x) (b, y) (sym (record_again a x fits_a) ∙ ap record_at e
+    ∙ record_again b y fits_b) in
+    (ap (λ (p : Record × List ℕ). p.0) same, ap (λ (p : Record × List ℕ). p.1) same)

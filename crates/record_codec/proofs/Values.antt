@@ -2,11 +2,10 @@
 use Rattle.std.proofs.Common.{◌≡◌, ℕ, ◌-◌, ◌+◌, ◌*◌, subst, List, ◌++◌, length, take, replicate, refl, sym, ap, ◌∙◌, arith, length-take, take-append-drop}
 use Rattle.record_defs.specs.Records.{SetUp, PutStart, PutDone, Drop, AuditStart, AuditDone, RepairDone, PutDoneIn, Version, Resume, InEffect, RepairDue, record_size}
 use Rattle.record_defs.specs.Records.{Record as Entry}
-use Rattle.record_defs.proofs.Grammar.{grammar-spelled}
 use Rattle.record_codec.specs.declared.counts.Counts.{Counts}
 use Rattle.record_codec.specs.declared.records.Record.{Record}
 use Rattle.record_codec.specs.declared.records.Record.TheVariants as kind
-use Rattle.record_codec.specs.Entries.{entry_of, counted, IsPadded, HasPadding, HasSpelling, IsInGrammar}
+use Rattle.record_codec.specs.Entries.{entry_of, counted, IsPadded, HasPadding, IsInGrammar}
 
 abbrev padded : List ℕ → Counts
 padded ks = record { n = length ks; by = ks ++ replicate (16 - length ks) 0 }
@@ -64,7 +63,7 @@ one_value r s is_r is_s e = sym (again r is_r) ∙ ap value_of e ∙ again s is_
 
 -- the size of the end of an audit follows from how many counts it has
 pub size_of_counts : (r : Record) (number undecided : ℕ) (counts : Counts) →
-    r ≡ kind.AuditDone number undecided counts → HasSpelling r → 14 + 4 * counts.n ≡ record_size (entry_of r)
+    r ≡ kind.AuditDone number undecided counts → IsInGrammar r → 14 + 4 * counts.n ≡ record_size (entry_of r)
 size_of_counts r number undecided counts is good =
     let p : IsPadded counts = subst HasPadding is good.padded in
     let len : length (take counts.n counts.by) ≡ counts.n =
@@ -73,7 +72,7 @@ size_of_counts r number undecided counts is good =
     size ∙ ap (λ (x : Record). record_size (entry_of x)) (sym is)
 
 -- so does that of a due audit
-pub size_of_due : (r : Record) (number : ℕ) (counts : Counts) → r ≡ kind.Due number counts → HasSpelling r →
+pub size_of_due : (r : Record) (number : ℕ) (counts : Counts) → r ≡ kind.Due number counts → IsInGrammar r →
     10 + 4 * counts.n ≡ record_size (entry_of r)
 size_of_due r number counts is good =
     let p : IsPadded counts = subst HasPadding is good.padded in
@@ -81,7 +80,3 @@ size_of_due r number counts is good =
     omega (arith, length-take counts.n counts.by, p.room, p.at_most) in
     let size : 10 + 4 * counts.n ≡ 10 + 4 * length (take counts.n counts.by) = omega (arith, len) in
     size ∙ ap (λ (x : Record). record_size (entry_of x)) (sym is)
-
--- a record of the grammar has a spelling
-pub has_spelling : (r : Record) → IsInGrammar r → HasSpelling r
-has_spelling r is = record { spelled = grammar-spelled (entry_of r) is.spelled; padded = is.padded }

@@ -4,10 +4,9 @@
 --   counted counts        == the numbers of the n providers
 --   IsPadded counts       == at most 16 numbers, and 0 at the places from n on
 --   entry_of r            == the record of the definitions
---   HasSpelling r         == each field is within its limits, and the counts are padded
---   IsInGrammar r         == so it is, and a journal may hold the record's kind
+--   IsInGrammar r         == each field is within its limits, and the counts are padded
 use Rattle.std.specs.Prelude.{◌≡◌, ◌≤◌, ◌-◌, ℕ, List, length, take, drop, replicate, IsTrue}
-use Rattle.record_defs.specs.Records.{SetUp, PutStart, PutDone, Drop, AuditStart, AuditDone, RepairDone, PutDoneIn, Version, Resume, InEffect, RepairDue, is_spelled, is_in_grammar}
+use Rattle.record_defs.specs.Records.{SetUp, PutStart, PutDone, Drop, AuditStart, AuditDone, RepairDone, PutDoneIn, Version, Resume, InEffect, RepairDue, is_in_grammar}
 use Rattle.record_defs.specs.Records.{Setup as SetupData, Record as Entry}
 use Rattle.record_codec.specs.declared.setup.Setup.{Setup}
 use Rattle.record_codec.specs.declared.counts.Counts.{Counts}
@@ -68,12 +67,7 @@ HasPadding (kind.Resume id audit) = Unit {0}
 HasPadding (kind.File id length profile name) = Unit {0}
 HasPadding (kind.Due number counts) = IsPadded counts
 
--- each field of a record is within its limits, so that the record has a spelling
-pub record HasSpelling (r : Record) : Type 0 where
-  pub spelled : IsTrue (is_spelled (entry_of r))
-  pub padded : HasPadding r
-
--- a record is in the grammar
+-- a record is in the grammar: each field is within its limits, and the counts are padded
 pub record IsInGrammar (r : Record) : Type 0 where
   pub spelled : IsTrue (is_in_grammar (entry_of r))
   pub padded : HasPadding r

@@ -3,7 +3,7 @@
 use Rattle.std.specs.Prelude.{ℕ, ◌&&◌, List, [], ◌∷◌, length, take, drop, Option, Some, None, nat_lt, nat_le, ◌==◌, if◌then◌else◌}
 use Rattle.std.specs.Int.{Width, w16, w32, w64, byte_len, from_le_bytes}
 use Rattle.std.proofs.Common.{zero, suc}
-use Rattle.record_defs.specs.Records.{Setup, Record, SetUp, PutStart, PutDone, Drop, AuditStart, AuditDone, RepairDone, PutDoneIn, Version, Resume, InEffect, RepairDue, is_name, is_setup, is_held}
+use Rattle.record_defs.specs.Records.{Setup, Record, SetUp, PutStart, PutDone, Drop, AuditStart, AuditDone, RepairDone, PutDoneIn, Version, Resume, InEffect, RepairDue, is_name, is_setup}
 
 infixl 10 ◌>>=◌
 -- a step that reads on where the one before found something
@@ -143,10 +143,10 @@ repair_due_at bytes = do
   counts ← counts_at number.1
   Some (RepairDue number.0 counts.0, counts.1)
 
--- a record behind its kind, also of a kind that no journal holds
-unfoldable pub spelled_at : List ℕ → Option (Record × List ℕ)
-spelled_at [] = None
-spelled_at (kind ∷ rest) =
+-- a record behind its kind
+unfoldable pub record_at : List ℕ → Option (Record × List ℕ)
+record_at [] = None
+record_at (kind ∷ rest) =
     if kind == 1 then setup_at rest else (if kind == 2 then put_start_at rest else
     (if kind == 3 then put_done_at rest else (
     if kind == 4 then drop_at rest else (if kind == 5 then audit_start_at rest else
@@ -156,9 +156,3 @@ spelled_at (kind ∷ rest) =
     if kind == 10 then resume_at rest
     else (if kind == 11 then in_effect_at rest
     else (if kind == 12 then repair_due_at rest else None)))))))))))
-
--- a record behind its kind, where a journal may hold that kind
-unfoldable pub record_at : List ℕ → Option (Record × List ℕ)
-record_at bytes = do
-  x ← spelled_at bytes
-  if is_held x.0 then Some x else None

@@ -11,6 +11,5 @@ mod writing;
 
 pub use counts::Counts;
 pub use name::Name;
-pub use reading::read_spelled;
 pub use records::Record;
 pub use setup::Setup;

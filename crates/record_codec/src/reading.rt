@@ -2,10 +2,10 @@ ghost use Rattle.std.specs.Prelude.{◌≡◌, ◌++◌, ◌∷◌, ◌≤◌, �
 ghost use Rattle.std.specs.Prelude.{IfSome, IfNone, IsTrue};
 ghost use Rattle.std.specs.Option.{option_map};
 ghost use Rattle.std.specs.Int.{w32, w64};
-ghost use Rattle.record_defs.specs.Records.{Record as Entry, is_spelled, is_held};
-ghost use Rattle.record_defs.specs.Spellings.{spelling, Spells};
-ghost use Rattle.record_codec.specs.Entries.{entry_of, with_master, counted, IsPadded, HasPadding, HasSpelling, IsInGrammar};
-ghost use Rattle.record_codec.specs.Reading.{number_at, name_at, keyed_at, setup_at, put_start_at, put_done_at, drop_at, audit_start_at, numbers_at, counts_at, audit_done_at, repair_done_at, profile_at, object_at, put_done_in_at, version_at, resume_at, in_effect_at, repair_due_at, spelled_at};
+ghost use Rattle.record_defs.specs.Records.{Record as Entry};
+ghost use Rattle.record_defs.specs.Spellings.{Spells};
+ghost use Rattle.record_codec.specs.Entries.{entry_of, with_master, counted, IsPadded, HasPadding, IsInGrammar};
+ghost use Rattle.record_codec.specs.Reading.{number_at, name_at, keyed_at, setup_at, put_start_at, put_done_at, drop_at, audit_start_at, numbers_at, counts_at, audit_done_at, repair_done_at, profile_at, object_at, put_done_in_at, version_at, resume_at, in_effect_at, repair_due_at, record_at};
 
 use crate::counts::Counts;
 use crate::name::Name;
@@ -15,9 +15,6 @@ use crate::setup::Setup;
 const LARGEST_FILE: u32 = 1 << 22;
 
 const PROFILES: u8 = 5;
-
-/// Whether a journal may hold the kinds of a packed one: off until journals are packed.
-const HOLDS_PACKED_RECORDS: bool = false;
 
 fn u32_at(bytes: &[u8]) -> Option<(u32, &[u8])>
     ensures { option_map (λ x. (x.0, x.1.now)) result ≡ number_at w32 bytes.now }
@@ -300,9 +297,9 @@ fn due_of(bytes: &[u8]) -> Option<(Record, &[u8])>
 }
 
 /// Reads a record behind its kind.
-#[tactic(auto, unfolding(crate::specs::Reading::spelled_at))]
+#[tactic(auto, unfolding(crate::specs::Reading::record_at))]
 fn kind_of(kind: u8, bytes: &[u8]) -> Option<(Record, &[u8])>
-    ensures value { option_map (λ x. (entry_of x.0, x.1.now)) result ≡ spelled_at (kind ∷ bytes.now) }
+    ensures value { option_map (λ x. (entry_of x.0, x.1.now)) result ≡ record_at (kind ∷ bytes.now) }
     ensures padded { IfSome result (λ x. HasPadding x.0) }
 {
     match kind {
@@ -322,10 +319,10 @@ fn kind_of(kind: u8, bytes: &[u8]) -> Option<(Record, &[u8])>
     }
 }
 
-/// Reads a record of any kind.
-#[tactic(auto, unfolding(crate::specs::Reading::spelled_at))]
-fn spelled_of(bytes: &[u8]) -> Option<(Record, &[u8])>
-    ensures value { option_map (λ x. (entry_of x.0, x.1.now)) result ≡ spelled_at bytes.now }
+/// Reads a record.
+#[tactic(auto, unfolding(crate::specs::Reading::record_at))]
+fn record_of(bytes: &[u8]) -> Option<(Record, &[u8])>
+    ensures value { option_map (λ x. (entry_of x.0, x.1.now)) result ≡ record_at bytes.now }
     ensures padded { IfSome result (λ x. HasPadding x.0) }
 {
     match bytes {
@@ -334,35 +331,9 @@ fn spelled_of(bytes: &[u8]) -> Option<(Record, &[u8])>
     }
 }
 
-/// The record of any kind at the front of the bytes, also one of a kind that no journal holds, and how many
-/// bytes it takes; None exactly where no record is spelled there.
-pub fn read_spelled(bytes: &[u8]) -> Option<(Record, usize)>
-    ensures size { IfSome result (λ x. x.1 ≤ length bytes.now) }
-    ensures found { IfSome result (λ x. take x.1 bytes.now ≡ spelling (entry_of x.0)) }
-    ensures spelled { IfSome result (λ x. HasSpelling x.0) }
-    ensures none { IfNone result ((entry : Entry) (rest : List ℕ) → IsTrue (is_spelled entry) → bytes.now
-        ≡ spelling entry ++ rest → ⊥) }
-{
-    match spelled_of(bytes) {
-        Some((entry, rest)) => Some((entry, bytes.len() - rest.len())),
-        None => None,
-    }
-}
-
 impl Record {
-    /// Whether a journal may hold records of this kind.
-    fn is_held(&self) -> bool
-        ensures { result ≡ is_held (entry_of self.now) }
-    {
-        match self {
-            Record::Resume { .. } | Record::File { .. } | Record::Due { .. } =>
-                HOLDS_PACKED_RECORDS,
-            _ => true,
-        }
-    }
-
     /// The record at the front of the bytes, and how many bytes it takes; None exactly where none stands
-    /// there that a journal may hold. Bytes may be any, and what stands behind the record does not count.
+    /// there. Bytes may be any, and what stands behind the record does not count.
     pub fn read(bytes: &[u8]) -> Option<(Record, usize)>
         ensures size { IfSome result (λ x. x.1 ≤ length bytes.now) }
         ensures found { IfSome result (λ x. Spells (take x.1 bytes.now) (entry_of x.0)) }
@@ -370,14 +341,8 @@ impl Record {
         ensures none { IfNone result
             ((entry : Entry) (front rest : List ℕ) → Spells front entry → bytes.now ≡ front ++ rest → ⊥) }
     {
-        match read_spelled(bytes) {
-            Some((entry, size)) => {
-                if entry.is_held() {
-                    Some((entry, size))
-                } else {
-                    None
-                }
-            }
+        match record_of(bytes) {
+            Some((entry, rest)) => Some((entry, bytes.len() - rest.len())),
             None => None,
         }
     }

@@ -3,7 +3,7 @@ ghost use Rattle.std.specs.Int.{w32, w64, to_le_bytes};
 ghost use Rattle.std.specs.List.{flat_map};
 ghost use Rattle.record_defs.specs.Records.{record_size};
 ghost use Rattle.record_defs.specs.Spellings.{spelling, setup_bytes, name_bytes, counts_bytes};
-ghost use Rattle.record_codec.specs.Entries.{entry_of, with_master, counted, HasSpelling};
+ghost use Rattle.record_codec.specs.Entries.{entry_of, with_master, counted, IsInGrammar};
 
 use crate::counts::Counts;
 use crate::name::Name;
@@ -112,7 +112,7 @@ impl Record {
     /// them is not promised. Condition: each field is within its limits.
     #[tactic(auto, unfolding(record_defs::specs::Spellings::spelling))]
     pub fn write(&self, out: &mut [u8; 80]) -> usize
-        requires { HasSpelling self.now }
+        requires { IsInGrammar self.now }
         ensures size { result ≡ record_size (entry_of self.now) }
         ensures bytes { take result out.new ≡ spelling (entry_of self.now) }
     {
@@ -165,7 +165,7 @@ impl Record {
 
     /// How many bytes the record takes, its kind included. Condition: each field is within its limits.
     pub fn size(&self) -> usize
-        requires { HasSpelling self.now }
+        requires { IsInGrammar self.now }
         ensures { result ≡ record_size (entry_of self.now) }
     {
         match self {

@@ -1,10 +1,11 @@
 -- Texts in the two areas of a disk.
-use Rattle.std.specs.Prelude.{◌≡◌, ◌⊎◌, ℕ, suc, List, [], ◌∷◌, ◌++◌, length, take, drop}
+use Rattle.std.specs.Prelude.{◌≡◌, ◌⊎◌, ℕ, IsTrue, suc, List, [], ◌∷◌, ◌++◌, length, take, drop}
 use Rattle.std.proofs.Common.{refl, sym, ap, ◌∙◌, arith, inl, inr, append_assoc, take-append-drop}
 use Rattle.std.proofs.lemmas.List.{drop-drop}
-use Rattle.record_defs.specs.Records.{Record}
+use Rattle.std.specs.List.{list_all}
+use Rattle.record_defs.specs.Records.{Record, is_in_grammar}
 use Rattle.record_defs.specs.Spellings.{spelling}
-use Rattle.record_defs.specs.Journal.{magic, before_gate, text_size, StandsFor}
+use Rattle.record_defs.specs.Journal.{magic, before_gate, text, text_size}
 use Rattle.record_defs.specs.Areas.{Area, A, B, other_area, base_of, magic_front, area_of, entries, end_in, HoldsIn, StandsActive}
 
 -- what stands before the closing gate is the magic and then the entries
@@ -18,36 +19,21 @@ pub text_size-end : (rs : List Record) → end_in A rs ≡ text_size rs
 text_size-end [] = refl
 text_size-end (r ∷ rs) = omega (arith, text_size-end rs)
 
--- a journal of before is one in area A
-pub old_is_active : (bytes : List ℕ) (rs : List Record) → StandsFor bytes rs → StandsActive bytes A rs
-old_is_active bytes rs s = record {
+-- the text of records in the grammar stands for them in area A
+pub text-active : (rs : List Record) → IsTrue (list_all is_in_grammar rs) → StandsActive (text rs) A rs
+text-active rs all = record {
   active = record { switch = 49; front = ap (take 8) is; names = refl };
   holds = record {
-    in_grammar = s.in_grammar;
-    gate = s.gate;
-    rest = s.rest;
-    closed = s.closed;
+    in_grammar = all;
+    gate = 0;
+    rest = [];
+    closed = λ e. omega (arith, e);
     bytes_are = ap (drop 8) is;
   };
 }
   where
-    is : bytes ≡ magic ++ (entries rs ++ s.gate ∷ s.rest)
-    is = s.bytes_are ∙ (ap (λ l. l ++ s.gate ∷ s.rest) (before_gate-entries rs)
-        ∙ append_assoc magic (entries rs) (s.gate ∷ s.rest))
-
--- and one in area A whose switch byte is the digit 1 is a journal of before
-pub active_is_old : (bytes : List ℕ) (rs : List Record) → take 8 bytes ≡ magic → HoldsIn bytes A rs →
-    StandsFor bytes rs
-active_is_old bytes rs front h = record {
-  in_grammar = h.in_grammar;
-  gate = h.gate;
-  rest = h.rest;
-  closed = h.closed;
-  bytes_are = sym (take-append-drop 8 bytes)
-      ∙ (ap (λ l. l ++ drop 8 bytes) front ∙ (ap (λ l. magic ++ l) h.bytes_are
-      ∙ (sym (append_assoc magic (entries rs) (h.gate ∷ h.rest))
-      ∙ ap (λ l. l ++ h.gate ∷ h.rest) (sym (before_gate-entries rs)))));
-}
+    is : text rs ≡ magic ++ (entries rs ++ 0 ∷ [])
+    is = ap (λ l. l ++ 0 ∷ []) (before_gate-entries rs) ∙ append_assoc magic (entries rs) (0 ∷ [])
 
 -- two disks agree on the front and on the text of an area, its closed gate included
 pub record Agree (area : Area) (rs : List Record) (a b : List ℕ) : Type 0 where

@@ -1,4 +1,3 @@
-pub mod Grammar
 pub mod Standing
 pub mod FilesLaws
 pub mod OrderLaws

@@ -4,10 +4,10 @@ use Rattle.std.specs.Int.{w32, to_le_bytes}
 use Rattle.std.specs.List.{list_all, flat_map}
 use Rattle.std.proofs.Common.{refl, arith, length-append}
 use Rattle.std.proofs.lemmas.Bool.Decides.{nat_tests}
-use Rattle.record_defs.specs.Records.{Record, SetUp, PutStart, PutDone, Drop, AuditStart, AuditDone, RepairDone, PutDoneIn, Version, Resume, InEffect, RepairDue, is_spelled, is_in_grammar, record_size}
+use Rattle.record_defs.specs.Records.{Record, SetUp, PutStart, PutDone, Drop, AuditStart, AuditDone, RepairDone, PutDoneIn, Version, Resume, InEffect, RepairDue, is_in_grammar, record_size}
 use Rattle.record_defs.specs.Spellings.{spelling}
-use Rattle.record_defs.proofs.Grammar.{grammar-spelled}
 use Rattle.record_defs.specs.Journal.{before_gate, text, text_size}
+use Rattle.record_defs.specs.Areas.{entries, entries_size}
 
 length-counts : (counts : List ℕ) → length (flat_map (to_le_bytes w32) counts) ≡ 4 * length counts
 length-counts [] = refl
@@ -15,25 +15,21 @@ length-counts (k ∷ counts) =
     omega (arith, length-append (to_le_bytes w32 k) (flat_map (to_le_bytes w32) counts), length-counts counts)
 
 -- a spelling has as many bytes as its record is said to take
-pub spelled-length : (r : Record) → IsTrue (is_spelled r) → length (spelling r) ≡ record_size r
-unfolding spelling
-spelled-length (SetUp s) p =
-    let key : length s.master ≡ 32 = grind (arith, nat_tests, p) in omega (arith, key)
-spelled-length (PutStart id name) p = omega arith
-spelled-length (PutDone id size) p = omega arith
-spelled-length (Drop name) p = omega arith
-spelled-length (AuditStart number) p = omega arith
-spelled-length (AuditDone number undecided counts) p = omega (arith, length-counts counts)
-spelled-length (RepairDone number) p = omega arith
-spelled-length (PutDoneIn id size profile) p = omega arith
-spelled-length Version p = omega arith
-spelled-length (Resume id audit) p = omega arith
-spelled-length (InEffect id size profile name) p = omega arith
-spelled-length (RepairDue number counts) p = omega (arith, length-counts counts)
-
--- a record in the grammar is spelled with as many bytes as it is said to take
 pub length-spelling : (r : Record) → IsTrue (is_in_grammar r) → length (spelling r) ≡ record_size r
-length-spelling r p = spelled-length r (grammar-spelled r p)
+unfolding spelling
+length-spelling (SetUp s) p =
+    let key : length s.master ≡ 32 = grind (arith, nat_tests, p) in omega (arith, key)
+length-spelling (PutStart id name) p = omega arith
+length-spelling (PutDone id size) p = omega arith
+length-spelling (Drop name) p = omega arith
+length-spelling (AuditStart number) p = omega arith
+length-spelling (AuditDone number undecided counts) p = omega (arith, length-counts counts)
+length-spelling (RepairDone number) p = omega arith
+length-spelling (PutDoneIn id size profile) p = omega arith
+length-spelling Version p = omega arith
+length-spelling (Resume id audit) p = omega arith
+length-spelling (InEffect id size profile name) p = omega arith
+length-spelling (RepairDue number counts) p = omega (arith, length-counts counts)
 
 -- what stands before the closing gate is one byte shorter than the text
 pub length-before_gate : (rs : List Record) → IsTrue (list_all is_in_grammar rs) →
@@ -52,3 +48,22 @@ length-before_gate (r ∷ rs) p =
 -- the text of records in the grammar has the size that is told of it
 pub length-text : (rs : List Record) → IsTrue (list_all is_in_grammar rs) → length (text rs) ≡ text_size rs
 length-text rs p = omega (arith, length-append (before_gate rs) (0 ∷ []), length-before_gate rs p)
+
+-- the entries of records in the grammar take as many bytes as is told of them
+pub length-entries : (rs : List Record) → IsTrue (list_all is_in_grammar rs) →
+    length (entries rs) ≡ entries_size rs
+length-entries [] p = refl
+length-entries (r ∷ rs) p =
+    let first : IsTrue (is_in_grammar r) = grind (arith, p) in
+    let others : IsTrue (list_all is_in_grammar rs) = grind (arith, p) in
+    omega (
+      arith,
+      length-append (entries rs) (1 ∷ spelling r),
+      length-spelling r first,
+      length-entries rs others,
+    )
+
+-- a text in the first area has nine bytes beside its entries
+pub text_size-entries : (rs : List Record) → text_size rs ≡ 9 + entries_size rs
+text_size-entries [] = refl
+text_size-entries (r ∷ rs) = omega (arith, text_size-entries rs)

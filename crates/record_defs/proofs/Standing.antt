@@ -1,57 +1,86 @@
 -- What bytes that stand for records say of their length and of their front.
-use Rattle.std.proofs.Common.{◌≡◌, ℕ, suc, ◌+◌, ◌-◌, ◌≤◌, List, [], ◌∷◌, ◌++◌, length, take, drop, refl, sym, ap, ◌∙◌, arith, append_assoc, length-append, take-append-drop, ◌≢◌, ◌<◌}
-use Rattle.std.specs.Prelude.{IsTrue}
+use Rattle.std.specs.Prelude.{◌≡◌, ◌≢◌, ℕ, suc, ◌+◌, ◌-◌, ◌≤◌, ◌<◌, IsTrue, List, [], ◌∷◌, length, take, drop}
 use Rattle.std.specs.List.{list_all}
-use Rattle.std.proofs.Math.Seq.{take-append-add}
+use Rattle.std.proofs.Common.{refl, sym, ap, ◌∙◌, subst, arith, length-append}
+use Rattle.std.proofs.lemmas.List.{length-take, length-drop, take-take, drop-take}
 use Rattle.record_defs.specs.Records.{Record, is_in_grammar}
-use Rattle.record_defs.specs.Journal.{before_gate, text_size, StandsFor, text}
-use Rattle.record_defs.proofs.Sizes.{length-before_gate}
+use Rattle.record_defs.specs.Spellings.{spelling}
+use Rattle.record_defs.specs.Journal.{text_size, StandsFor, text}
+use Rattle.record_defs.specs.Areas.{Area, A, B, base_of, entries, end_in, StandsActive}
+use Rattle.record_defs.proofs.Sizes.{length-entries}
+use Rattle.record_defs.proofs.AreaLaws.{Agree, active_again, text-active}
 
 -- a text has nine bytes at least
 pub text_size-least : (rs : List Record) → 9 ≤ text_size rs
 text_size-least [] = omega arith
 text_size-least (r ∷ rs) = (let l = text_size-least rs in omega (arith, l))
 
+-- each area lies behind the switch byte
+pub base-least : (area : Area) → 8 ≤ base_of area
+base-least A = omega arith
+base-least B = omega arith
+
+-- bytes that stand for records have the first eight bytes, and those of the text
+pub active-long : (bytes : List ℕ) (area : Area) (rs : List Record) → StandsActive bytes area rs →
+    base_of area + suc (length (entries rs)) ≤ length bytes
+active-long bytes area rs s =
+    let cut = length-drop (base_of area) bytes in
+    let text = ap length s.holds.bytes_are in
+    let sum = length-append (entries rs) (s.holds.gate ∷ s.holds.rest) in
+    omega (arith, cut, text, sum)
+
+-- the text of records ends within the bytes that stand for them
+pub active-end : (bytes : List ℕ) (area : Area) (rs : List Record) → StandsActive bytes area rs →
+    end_in area rs ≤ length bytes
+active-end bytes area rs s =
+    omega (arith, active-long bytes area rs s, length-entries rs s.holds.in_grammar)
+
+-- bytes and their front agree on what the front reaches
+agree-take : (n : ℕ) (bytes : List ℕ) (area : Area) (rs : List Record) →
+    base_of area + suc (length (entries rs)) ≤ n → Agree area rs bytes (take n bytes)
+agree-take n bytes area rs fits =
+    let base = base_of area in
+    let m : ℕ = n - base in
+    let n_is : n ≡ base + m = omega (arith, fits) in
+    record {
+      front = sym (take-take 8 n bytes (omega (arith, fits, base-least area)));
+      text = sym (take-take (suc (length (entries rs))) m (drop base bytes) (omega (arith, fits)))
+          ∙ ap (take (suc (length (entries rs))))
+          (sym (ap (λ (k : ℕ). drop base (take k bytes)) n_is ∙ drop-take base m bytes));
+    }
+
+-- bytes whose front stands for records in an area stand for them there
+pub active-front : (n : ℕ) (bytes : List ℕ) (area : Area) (rs : List Record) →
+    StandsActive (take n bytes) area rs → StandsActive bytes area rs
+active-front n bytes area rs s =
+    let agree = agree-take n bytes area rs
+    (omega (arith, active-long (take n bytes) area rs s, length-take n bytes)) in
+    active_again area rs (take n bytes) bytes (record { front = sym agree.front; text = sym agree.text }) s
+
 -- bytes whose front stands for records stand for them
 pub stands-front : (n : ℕ) (bytes : List ℕ) (rs : List Record) → StandsFor (take n bytes) rs →
     StandsFor bytes rs
-stands-front n bytes rs is = record {
-  in_grammar = is.in_grammar;
-  gate = is.gate;
-  rest = is.rest ++ drop n bytes;
-  closed = is.closed;
-  bytes_are = sym (take-append-drop n bytes) ∙ ap (λ (l : List ℕ). l ++ drop n bytes) is.bytes_are
-      ∙ append_assoc (before_gate rs) (is.gate ∷ is.rest) (drop n bytes);
-}
+stands-front n bytes rs s = (s.0, active-front n bytes s.0 rs s.1)
 
 -- a text that fits stands at the front
-pub stands-take : (n : ℕ) (bytes : List ℕ) (rs : List Record) → StandsFor bytes rs → text_size rs ≤ n →
-    StandsFor (take n bytes) rs
-stands-take n bytes rs is fits =
-    let front = before_gate rs in
-    let size : length front + 1 ≡ text_size rs = length-before_gate rs is.in_grammar in
-    let m : ℕ = n - (length front + 1) in
-    let n_is : n ≡ length front + suc m = omega (arith, size, fits) in
-    record {
-      in_grammar = is.in_grammar;
-      gate = is.gate;
-      rest = take m is.rest;
-      closed = is.closed;
-      bytes_are = ap (take n) is.bytes_are ∙ ap (λ (k : ℕ). take k (front ++ is.gate ∷ is.rest)) n_is
-          ∙ take-append-add front (is.gate ∷ is.rest) (suc m);
-    }
+pub active-take : (n : ℕ) (bytes : List ℕ) (area : Area) (rs : List Record) → StandsActive bytes area rs →
+    end_in area rs ≤ n → StandsActive (take n bytes) area rs
+active-take n bytes area rs s fits =
+    active_again area rs bytes (take n bytes)
+    (agree-take n bytes area rs (omega (arith, fits, length-entries rs s.holds.in_grammar))) s
 
--- a text stands for its records
+-- a text in the first area stands for its records
 pub stands-text : (rs : List Record) → IsTrue (list_all is_in_grammar rs) → (image : List ℕ) →
     image ≡ text rs → StandsFor image rs
-stands-text rs all image is =
-    record { in_grammar = all; gate = 0; rest = []; closed = λ e. omega (arith, e); bytes_are = is }
+stands-text rs all image is = (A, subst (λ (l : List ℕ). StandsActive l A rs) (sym is) (text-active rs all))
 
 -- bytes that stand for a record are longer than those of an empty disk
 pub stands-long : (bytes : List ℕ) (rs : List Record) → rs ≢ [] → StandsFor bytes rs → 9 < length bytes
-stands-long bytes [] some is = absurd (some refl)
-stands-long bytes (r ∷ rs) some is =
-    (let size = length-before_gate (r ∷ rs) is.in_grammar in
-    let long = text_size-least rs in
-    let sum = length-append (before_gate (r ∷ rs)) (is.gate ∷ is.rest) in
-    let e = ap length is.bytes_are in omega (arith, size, long, sum, e))
+stands-long bytes [] some s = absurd (some refl)
+stands-long bytes (r ∷ rs) some s =
+    omega (
+      arith,
+      active-long bytes s.0 (r ∷ rs) s.1,
+      base-least s.0,
+      length-append (entries rs) (1 ∷ spelling r),
+    )

@@ -1,7 +1,7 @@
 -- A disk with a text in each of its two areas.
 use Rattle.std.specs.Prelude.{◌≡◌, ◌≢◌, ℕ, ◌-◌, ◌^◌, List, [], ◌∷◌, ◌++◌, length, drop}
 use Rattle.std.proofs.Common.{refl, sym, ap, ◌∙◌, arith, append_assoc, length-append}
-use Rattle.record_defs.specs.Journal.{magic, text, StandsFor}
+use Rattle.record_defs.specs.Journal.{magic, text}
 use Rattle.record_defs.proofs.Sizes.{length-text}
 use Rattle.record_defs.proofs.AreaLaws.{before_gate-entries}
 use Rattle.record_defs.specs.Areas.{A, B, entries, HoldsIn}
@@ -27,14 +27,6 @@ text-is = ap (λ (l : List ℕ). l ++ 0 ∷ []) (before_gate-entries four_set_up
 -- it has 51 bytes
 text-size : length (text four_set_up) ≡ 51
 text-size = length-text four_set_up refl
-
--- the text of the store that was set up stands for its one record
-pub first-stands : StandsFor (text four_set_up) four_set_up
-first-stands = record { in_grammar = refl; gate = 0; rest = []; closed = open-not; bytes_are = refl }
-
--- area A of that text holds the record
-pub first-holds : HoldsIn (text four_set_up) A four_set_up
-first-holds = record { in_grammar = refl; gate = 0; rest = []; closed = open-not; bytes_are = refl }
 
 -- with a filling behind it, area A still holds that record
 pub filled-first : (filling : List ℕ) → HoldsIn (two_areas filling) A four_set_up

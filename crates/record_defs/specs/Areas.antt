@@ -11,12 +11,11 @@
 --   HoldsIn bytes area rs      == the area's text is that of records, with any closed gate, and then any
 --                                 bytes
 --   StandsActive bytes area rs == bytes stand for records: this area is active, and holds them
---   IsBadActiveAt bytes at     == the first place at which bytes fail to be a journal of two areas
+--   IsBadAt bytes at           == the first place at which bytes fail to be a journal of two areas
 use Rattle.std.specs.Prelude.{◌≡◌, ◌≢◌, ◌⊎◌, ℕ, ◌+◌, ◌==◌, ◌^◌, IsTrue, List, [], ◌∷◌, ◌++◌, length, take, drop, if◌then◌else◌}
 use Rattle.std.specs.List.{list_all}
 use Rattle.record_defs.specs.Records.{Record, record_size, is_in_grammar}
-use Rattle.record_defs.specs.Spellings.{spelling}
-use Rattle.record_defs.specs.Journal.{SpellsNone}
+use Rattle.record_defs.specs.Spellings.{spelling, SpellsNone}
 
 -- the half of a disk that a journal stands in
 pub data Area : Type 0 where
@@ -112,5 +111,5 @@ HasNoFront bytes = (switch : ℕ) → take 8 bytes ≡ magic_front ++ switch ∷
 
 -- the first place at which bytes fail to be a journal: at 0 where the first seven bytes are wrong or there
 -- is no eighth
-abbrev pub IsBadActiveAt : List ℕ → ℕ → Type 0
-IsBadActiveAt bytes at = (HasNoFront bytes × (at ≡ 0)) ⊎ FailsIn bytes at
+abbrev pub IsBadAt : List ℕ → ℕ → Type 0
+IsBadAt bytes at = (HasNoFront bytes × (at ≡ 0)) ⊎ FailsIn bytes at

@@ -5,11 +5,8 @@
 --                      a dash
 --   is_setup s      == every number of a setup is within its limits; of the master key it says nothing
 --   is_master key   == 32 bytes
---   is_spelled r    == each field is within its limits, so that the record has a spelling
+--   is_in_grammar r == each field is within its limits, so that the record has a spelling
 --   is_appended r   == a job appends records of this kind; the other kinds come in a packed journal alone
---   is_held r       == a journal may hold the record's kind; those of a packed journal are out while
---                      holds_packed_records is off
---   is_in_grammar r == the record has a spelling, and a journal may hold its kind
 --   record_size r   == how many bytes the record takes, its kind included
 --
 -- Limits: largest_file (bytes of a file), largest_journal (bytes of a journal), most_files (files in effect).
@@ -94,28 +91,24 @@ are_counts counts =
     && list_all (λ count. nat_lt count (2 ^ 32)) counts
 
 -- each field of a record is within its limits, so that the record has a spelling
-abbrev pub is_spelled : Record → Bool
-is_spelled (SetUp s) = is_setup s && is_master s.master
-is_spelled (PutStart id name) = nat_lt id (2 ^ 64) && is_name name
-is_spelled (PutDone id size) = nat_lt id (2 ^ 64) && nat_le size largest_file
-is_spelled (Drop name) = is_name name
-is_spelled (AuditStart number) = nat_lt number (2 ^ 64)
-is_spelled (AuditDone number undecided counts) =
+abbrev pub is_in_grammar : Record → Bool
+is_in_grammar (SetUp s) = is_setup s && is_master s.master
+is_in_grammar (PutStart id name) = nat_lt id (2 ^ 64) && is_name name
+is_in_grammar (PutDone id size) = nat_lt id (2 ^ 64) && nat_le size largest_file
+is_in_grammar (Drop name) = is_name name
+is_in_grammar (AuditStart number) = nat_lt number (2 ^ 64)
+is_in_grammar (AuditDone number undecided counts) =
     nat_lt number (2 ^ 64) && nat_lt undecided (2 ^ 32) && nat_le 4 (length counts)
     && nat_le (length counts) 16
     && list_all (λ count. nat_lt count (2 ^ 32)) counts
-is_spelled (RepairDone number) = nat_lt number (2 ^ 64)
-is_spelled (PutDoneIn id size profile) =
+is_in_grammar (RepairDone number) = nat_lt number (2 ^ 64)
+is_in_grammar (PutDoneIn id size profile) =
     nat_lt id (2 ^ 64) && nat_le size largest_file && nat_lt profile all_profiles
-is_spelled Version = true
-is_spelled (Resume id audit) = nat_lt id (2 ^ 64) && nat_lt audit (2 ^ 64)
-is_spelled (InEffect id size profile name) =
+is_in_grammar Version = true
+is_in_grammar (Resume id audit) = nat_lt id (2 ^ 64) && nat_lt audit (2 ^ 64)
+is_in_grammar (InEffect id size profile name) =
     nat_lt id (2 ^ 64) && nat_le size largest_file && nat_lt profile all_profiles && is_name name
-is_spelled (RepairDue number counts) = nat_lt number (2 ^ 64) && are_counts counts
-
--- whether a journal may hold what is packed: one switch, off until journals are packed
-abbrev pub holds_packed_records : Bool
-holds_packed_records = false
+is_in_grammar (RepairDue number counts) = nat_lt number (2 ^ 64) && are_counts counts
 
 -- whether a job appends records of this kind; the others come in a packed journal alone
 abbrev pub is_appended : Record → Bool
@@ -131,37 +124,6 @@ is_appended Version = true
 is_appended (Resume id audit) = false
 is_appended (InEffect id size profile name) = false
 is_appended (RepairDue number counts) = false
-
--- whether a journal may hold the kind of a record
-abbrev pub is_held : Record → Bool
-is_held (SetUp s) = true
-is_held (PutStart id name) = true
-is_held (PutDone id size) = true
-is_held (Drop name) = true
-is_held (AuditStart number) = true
-is_held (AuditDone number undecided counts) = true
-is_held (RepairDone number) = true
-is_held (PutDoneIn id size profile) = true
-is_held Version = true
-is_held (Resume id audit) = holds_packed_records
-is_held (InEffect id size profile name) = holds_packed_records
-is_held (RepairDue number counts) = holds_packed_records
-
--- a record is in the grammar: it has a spelling, and a journal may hold its kind
-abbrev pub is_in_grammar : Record → Bool
-is_in_grammar (SetUp s) = is_spelled (SetUp s)
-is_in_grammar (PutStart id name) = is_spelled (PutStart id name)
-is_in_grammar (PutDone id size) = is_spelled (PutDone id size)
-is_in_grammar (Drop name) = is_spelled (Drop name)
-is_in_grammar (AuditStart number) = is_spelled (AuditStart number)
-is_in_grammar (AuditDone number undecided counts) = is_spelled (AuditDone number undecided counts)
-is_in_grammar (RepairDone number) = is_spelled (RepairDone number)
-is_in_grammar (PutDoneIn id size profile) = is_spelled (PutDoneIn id size profile)
-is_in_grammar Version = is_spelled Version
-is_in_grammar (Resume id audit) = holds_packed_records && is_spelled (Resume id audit)
-is_in_grammar (InEffect id size profile name) =
-    holds_packed_records && is_spelled (InEffect id size profile name)
-is_in_grammar (RepairDue number counts) = holds_packed_records && is_spelled (RepairDue number counts)
 
 -- how many bytes a record takes
 abbrev pub record_size : Record → ℕ

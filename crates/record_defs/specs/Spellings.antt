@@ -37,3 +37,7 @@ spelling (RepairDue number counts) = 12 ∷ to_le_bytes w64 number ++ counts_byt
 pub record Spells (bytes : List ℕ) (r : Record) : Type 0 where
   pub in_grammar : IsTrue (is_in_grammar r)
   pub bytes_are : bytes ≡ spelling r
+
+-- no record is spelled at the front of bytes
+abbrev pub SpellsNone : List ℕ → Type 0
+SpellsNone bytes = (r : Record) (front rest : List ℕ) → Spells front r → bytes ≡ front ++ rest → ⊥

@@ -1,23 +1,17 @@
 //! What holds of every list of records.
-ghost use Rattle.std.specs.Prelude.{◌≡◌, ◌≤◌, ◌<◌, ◌-◌, ◌^◌, replicate, ◌⊎◌, ◌&&◌, List, ℕ, length, IsTrue, [], ◌∷◌, ◌++◌, take, drop, Some, None};
+ghost use Rattle.std.specs.Prelude.{◌≡◌, ◌≤◌, ◌<◌, ◌-◌, ◌^◌, replicate, ◌⊎◌, List, ℕ, length, IsTrue, [], ◌∷◌, ◌++◌, take, drop, Some, None};
 ghost use Rattle.std.specs.List.{list_all};
-ghost use Rattle.record_defs.specs.Records.{Record, Setup, is_spelled, is_held, is_in_grammar, record_size, most_files};
+ghost use Rattle.record_defs.specs.Records.{Record, Setup, is_in_grammar, record_size, most_files};
 ghost use Rattle.record_defs.specs.Spellings.{spelling};
-ghost use Rattle.record_defs.specs.Journal.{magic, text, text_size, StandsFor};
+ghost use Rattle.record_defs.specs.Journal.{text, text_size};
 ghost use Rattle.record_defs.specs.Table.{setup_of, version_of, next_id, next_audit, started_as, running_audit, file_of, files_of, find_file, are_ordered};
 ghost use Rattle.record_defs.specs.Acceptance.{AreAccepted};
 ghost use Rattle.record_defs.specs.Packed.{AreAlike, packed};
 ghost use Rattle.record_defs.specs.Areas.{Area, A, other_area, magic_front, end_in, HoldsIn, StandsActive};
 ghost use Rattle.record_defs.specs.Examples.{four, audited, raised, four_set_up, two_areas};
 
-/// A record is in the grammar where it has a spelling, and a journal may hold its kind.
-pub fn grammar_is()
-    ensures { (r : Record) → is_in_grammar r ≡ (is_held r && is_spelled r) }
-{}
-
 /// A spelling has as many bytes as its record takes, and a text as many as are told.
 pub fn sizes()
-    ensures spelled { (r : Record) → IsTrue (is_spelled r) → length (spelling r) ≡ record_size r }
     ensures record { (r : Record) → IsTrue (is_in_grammar r) → length (spelling r) ≡ record_size r }
     ensures text { (rs : List Record) → IsTrue (list_all is_in_grammar rs) → length (text rs) ≡ text_size rs }
 {}
@@ -66,12 +60,9 @@ pub fn packed_journals_are_alike()
     ensures idle { (rs : List Record) → running_audit (packed rs) ≡ None }
 {}
 
-/// A journal of before stands for the same records in area A, and one in area A whose switch byte is the
-/// digit 1 is a journal of before.
-pub fn journals_of_before_stay()
-    ensures active { (bytes : List ℕ) (rs : List Record) → StandsFor bytes rs → StandsActive bytes A rs }
-    ensures before { (bytes : List ℕ) (rs : List Record) → take 8 bytes ≡ magic → HoldsIn bytes A rs
-        → StandsFor bytes rs }
+/// The text of records in the grammar stands for them, in area A, and its size is where their text ends there.
+pub fn texts_stand()
+    ensures active { (rs : List Record) → IsTrue (list_all is_in_grammar rs) → StandsActive (text rs) A rs }
     ensures end { (rs : List Record) → end_in A rs ≡ text_size rs }
 {}
 
@@ -94,12 +85,11 @@ pub fn raised_records_are_packed()
     ensures alike { AreAlike (packed raised) raised }
 {}
 
-/// An instance: the text of a store that was set up is a journal of before, also behind which a filling and
-/// the text of no record stand; with that filling both areas hold a text, and the first of them is active.
+/// An instance: the text of a store that was set up stands for it, in area A. Where a filling and the text of
+/// no record stand behind it, both areas hold a text, and the first of them is active.
 pub fn two_areas_hold_texts()
-    ensures before { StandsFor (text four_set_up) four_set_up }
-    ensures first { take 8 (text four_set_up) ≡ magic }
-    ensures first_area { HoldsIn (text four_set_up) A four_set_up }
+    ensures in_grammar { IsTrue (list_all is_in_grammar four_set_up) }
+    ensures active { StandsActive (text four_set_up) A four_set_up }
     ensures filled { length {A = ℕ} (replicate (2 ^ 23 - 51) 0) ≡ 2 ^ 23 - 51 }
     ensures front { (filling : List ℕ) → take 8 (two_areas filling) ≡ magic_front ++ 49 ∷ [] }
     ensures area { (filling : List ℕ) → HoldsIn (two_areas filling) A four_set_up }

@@ -1,6 +1,6 @@
 //! Worked rows: values of the definitions that were computed by hand.
 ghost use Rattle.std.specs.Prelude.{◌≡◌, true, false, List, [], ◌∷◌, ◌++◌, replicate, codes, Some, None};
-ghost use Rattle.record_defs.specs.Records.{Setup, Record, SetUp, PutStart, PutDone, Drop, AuditStart, AuditDone, RepairDone, PutDoneIn, Version, Resume, InEffect, RepairDue, is_setup, is_spelled, is_in_grammar};
+ghost use Rattle.record_defs.specs.Records.{Setup, Record, SetUp, PutStart, PutDone, Drop, AuditStart, AuditDone, RepairDone, PutDoneIn, Version, Resume, InEffect, RepairDue, is_setup, is_in_grammar};
 ghost use Rattle.record_defs.specs.Spellings.{spelling};
 ghost use Rattle.record_defs.specs.Journal.{text, text_size};
 ghost use Rattle.record_defs.specs.Table.{next_id, next_audit, file_of, files_of, running_audit, due_of};
@@ -52,12 +52,14 @@ pub fn grammar()
     ensures setup { is_in_grammar (SetUp four) ≡ true }
     ensures two_of_five { is_setup (record four { n = 5; l = 2; b = 2 }) ≡ false }
     ensures no_profile { is_setup (record four { profile = 5 }) ≡ false }
-    ensures spelled { is_spelled Version ≡ true }
-    ensures held { is_in_grammar Version ≡ true }
+    ensures version { is_in_grammar Version ≡ true }
     ensures profile { is_in_grammar (PutDoneIn 1 4194304 4) ≡ true }
     ensures sixth_profile { is_in_grammar (PutDoneIn 1 0 5) ≡ false }
-    ensures not_packed { is_in_grammar (Resume 1 1) ≡ false }
-    ensures spelled_packed { is_spelled (Resume 1 1) ≡ true }
+    ensures resume { is_in_grammar (Resume 1 1) ≡ true }
+    ensures in_effect { is_in_grammar (InEffect 1 4194304 4 (codes "a")) ≡ true }
+    ensures in_effect_sixth { is_in_grammar (InEffect 1 0 5 (codes "a")) ≡ false }
+    ensures four_due { is_in_grammar (RepairDue 1 (replicate 4 0)) ≡ true }
+    ensures three_due { is_in_grammar (RepairDue 1 (replicate 3 0)) ≡ false }
     ensures tolerance { is_setup (record four { tolerance = 4097 }) ≡ false }
 {}
 

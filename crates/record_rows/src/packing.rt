@@ -1,15 +1,16 @@
 ghost use Rattle.std.specs.Prelude.{◌≡◌, ◌⊎◌, ◌^◌, IfSome, IsTrue, OnOk, List};
 ghost use Rattle.std.specs.List.{list_all};
-ghost use Rattle.record_defs.specs.Records.{Record as Entry, is_spelled};
+ghost use Rattle.record_defs.specs.Records.{Record as Entry, is_in_grammar};
 ghost use Rattle.record_defs.specs.Acceptance.{AreAccepted};
 ghost use Rattle.vault_table.specs.Values.{IsFoldOf};
 ghost use Rattle.journal_pack.specs.Packs.{moves_of};
 
 use crate::given::{AUDIT_DONE, DUE, no_other};
+use crate::journal::append;
 use disk_model::{Disk, MemDisk};
 use journal_core::JournalFault;
 use journal_pack::*;
-use record_codec::read_spelled;
+use record_codec::Record;
 use std::alloc::Global;
 use stream_model::WriteFault;
 use vault_table::Table;
@@ -117,13 +118,13 @@ static PACKS: [Packed; 2] = [
 /// The table of the records that these bytes spell.
 fn table_of(alloc: Global, rows: &[&'static [u8]]) -> Option<Table>
     ensures { IfSome result (λ t. (rs : List Entry) × IsFoldOf rs t × AreAccepted rs
-        × IsTrue (list_all is_spelled rs)) }
+        × IsTrue (list_all is_in_grammar rs)) }
 {
     let Ok(mut table) = Table::new(alloc) else {
         return None;
     };
     for row in rows {
-        let (entry, _) = read_spelled(row)?;
+        let (entry, _) = Record::read(row)?;
         if let Err(_why) = table.apply(&entry) {
             return None;
         }
@@ -214,12 +215,12 @@ fn a_journal_is_packed_into_the_other_area(rt: HostRuntime) {
     no_other(&rt, first_other_pack(rt.alloc()));
 }
 
-/// The byte that a stop after three moves leaves at the switch, and what then is read: of the packed journal
-/// the setup and the version, since no journal holds its other records yet.
+/// The byte that a stop after three moves leaves at the switch, and what then is read: the old journal, or the
+/// packed one.
 static STOPPED: [(u8, Result<(u64, u64, usize), u64>); 4] = [
     (0, Ok((8, 9, 0))),
     (b'1', Ok((8, 9, 0))),
-    (b'2', Err(8388654)),
+    (b'2', Ok((8388608, 8388697, 4))),
     (255, Ok((8, 9, 0))),
 ];
 
@@ -245,4 +246,22 @@ fn first_other_stop(alloc: Global) -> Option<usize> {
 #[test]
 fn a_stop_at_the_switch_leaves_one_of_the_two(rt: HostRuntime) {
     no_other(&rt, first_other_stop(rt.alloc()));
+}
+
+/// What is read once a record is appended behind a packed journal, in the second area.
+fn read_behind_a_pack(alloc: Global) -> Option<Result<(u64, u64, usize), u64>> {
+    let mut disk = MemDisk::new(alloc, b"HAILJRN1\x00", &[]).ok()?;
+    let mut pack = pack_of(alloc, 8, &TWO_PUTS)?;
+    three_moves(&mut pack, &mut disk).ok()?;
+    pack.turn(&mut disk).ok()?;
+    append(8388696, b"\x04\x09notes.txt", &mut disk).ok()?;
+    Some(active_of(alloc, disk.bytes()))
+}
+
+#[test]
+fn a_record_is_appended_in_the_second_area(rt: HostRuntime) {
+    assert_eq!(rt;
+        read_behind_a_pack(rt.alloc()),
+        Some(Ok((8388608, 8388709, 5)))
+    );
 }

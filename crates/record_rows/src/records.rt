@@ -24,18 +24,6 @@ fn is_record(bytes: &[u8]) -> bool {
     }
 }
 
-/// Whether one record of any kind is spelled by all of these bytes, and written as these bytes again.
-fn is_spelled(bytes: &[u8]) -> bool {
-    match read_spelled(bytes) {
-        Some((record, size)) => {
-            let mut out = [0u8; 80];
-            let n = record.write(&mut out);
-            n == size && n == record.size() && out[..n] == bytes[..]
-        }
-        None => false,
-    }
-}
-
 /// Five providers, two of them primary and two of them bad.
 const TWO_OF_FIVE: [u8; 41] = [
     1, 5, 2, 2, 0, 1, 1, 0, 16, 0, 0, 0, 0, 0, 0, 0, 0, 0, 0, 0, 0, 0, 0, 0, 0, 0, 0, 0, 0, 0, 0,
@@ -71,8 +59,8 @@ const AT_LIMITS: Setup = Setup {
     tolerance: 4096,
 };
 
-/// A record of each kind that a journal may hold.
-static READ: [&[u8]; 10] = [
+/// A record of each kind.
+static READ: [&[u8]; 13] = [
     &SETUP,
     &PUT_START,
     &[3, 1, 0, 0, 0, 0, 0, 0, 0, 100, 0, 0, 0],
@@ -83,10 +71,6 @@ static READ: [&[u8]; 10] = [
     &[7, 1, 0, 0, 0, 0, 0, 0, 0],
     &[8, 1, 0, 0, 0, 0, 0, 0, 0, 100, 0, 0, 0, 4],
     &[9, 2],
-];
-
-/// Kinds 10 to 12 have their spellings, and no journal holds them yet.
-static SPELLED: [&[u8]; 3] = [
     &[10, 3, 0, 0, 0, 0, 0, 0, 0, 2, 0, 0, 0, 0, 0, 0, 0],
     &[11, 1, 0, 0, 0, 0, 0, 0, 0, 100, 0, 0, 0, 0, 1, 97],
     &DUE,
@@ -112,7 +96,7 @@ static NONE: [&[u8]; 13] = [
 /// The place of the first of these rows that is not read, or not written as it was.
 fn first_not_read() -> Option<usize> {
     for (place, bytes) in READ.iter().enumerate() {
-        if !is_record(bytes) || !is_spelled(bytes) {
+        if !is_record(bytes) {
             return Some(place);
         }
     }
@@ -124,25 +108,10 @@ fn each_record_is_read_and_written(rt: HostRuntime) {
     no_other(&rt, first_not_read());
 }
 
-/// The place of the first of these rows that is not spelled, or is read.
-fn first_not_spelled() -> Option<usize> {
-    for (place, bytes) in SPELLED.iter().enumerate() {
-        if !is_spelled(bytes) || Record::read(bytes).is_some() {
-            return Some(place);
-        }
-    }
-    None
-}
-
-#[test]
-fn each_record_of_a_packed_journal_is_spelled(rt: HostRuntime) {
-    no_other(&rt, first_not_spelled());
-}
-
-/// The place of the first of these rows that is read or spelled.
+/// The place of the first of these rows that is read.
 fn first_read() -> Option<usize> {
     for (place, bytes) in NONE.iter().enumerate() {
-        if Record::read(bytes).is_some() || read_spelled(bytes).is_some() {
+        if Record::read(bytes).is_some() {
             return Some(place);
         }
     }

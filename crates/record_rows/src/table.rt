@@ -1,5 +1,5 @@
 use crate::given::*;
-use record_codec::{Name, read_spelled};
+use record_codec::{Name, Record};
 use std::alloc::Global;
 use vault_table::*;
 
@@ -105,7 +105,7 @@ static PUTS_WHEN_FULL: [Row; 4] = [
 
 /// Why the table refuses the record that these bytes spell.
 fn why(table: &mut Table, bytes: &[u8]) -> Option<Refused> {
-    match read_spelled(bytes) {
+    match Record::read(bytes) {
         Some((record, _)) => table.apply(&record).err(),
         None => Some(Refused::Memory),
     }

@@ -1,49 +1,21 @@
 use Rattle.std.proofs.Common.{◌+◌, arith, length-drop}
 use Rattle.std.proofs.lemmas.List.{take_rest}
 use Rattle.record_codec.specs.Entries.{entry_of}
-use Rattle.journal_core.proofs.JournalLemmas.{StandsFor-at, stops-end, stops-behind, read-more}
 use Rattle.journal_core.proofs.AreaGates.{ends-in, holds-in, breaks-in, more-in}
 use Rattle.journal_core.proofs.gates.next_record.Goals as goal
 
 pub returns-then-gate-bytes-clause-bad : goal.returns-then-gate-bytes-clause-bad
 returns-then-gate-bytes-clause-bad c =
-    λ rs is. stops-end c.args.bytes.now rs c.args.gate is c.if-gate-bytes.true
-
-pub returns-then-bytes-gate-ne1-clause-taken : goal.returns-then-bytes-gate-ne1-clause-taken
-returns-then-bytes-gate-ne1-clause-taken c = λ rs is. (
-  c.if-gate-bytes.false,
-  StandsFor-at c.args.bytes.now rs c.args.gate is c.if-gate-bytes.false c.if-bytes-gate-ne1.true,
-)
-
-pub returns-in-Some-clause-taken : goal.returns-in-Some-clause-taken
-returns-in-Some-clause-taken c = λ rs is.
-    let size_le = rw (take_rest c.args.bytes.now (c.args.gate + 1)) at c.in-Some.ensures.size in
-    let found = rw (take_rest c.args.bytes.now (c.args.gate + 1)) at c.in-Some.ensures.found in (
-      omega arith,
-      c.in-Some.ensures.in_grammar,
-      read-more c.args.bytes.now rs c.args.gate is c.if-gate-bytes.false
-          (entry_of c.in-Some.entry) c.in-Some.size c.if-bytes-gate-ne1.false size_le found,
-    )
-
-pub returns-in-None-clause-bad : goal.returns-in-None-clause-bad
-returns-in-None-clause-bad c = λ rs is.
-    let none = rw (take_rest c.args.bytes.now (c.args.gate + 1)) at c.in-None.ensures.none in
-    stops-behind c.args.bytes.now rs c.args.gate is c.if-gate-bytes.false c.if-bytes-gate-ne1.false none
-
--- ---- the text of an area
-
-pub returns-then-gate-bytes-clause-bad_in : goal.returns-then-gate-bytes-clause-bad_in
-returns-then-gate-bytes-clause-bad_in c =
     λ area rs is. ends-in c.args.bytes.now area rs c.args.gate is c.if-gate-bytes.true
 
-pub returns-then-bytes-gate-ne1-clause-taken_in : goal.returns-then-bytes-gate-ne1-clause-taken_in
-returns-then-bytes-gate-ne1-clause-taken_in c = λ area rs is. (
+pub returns-then-bytes-gate-ne1-clause-taken : goal.returns-then-bytes-gate-ne1-clause-taken
+returns-then-bytes-gate-ne1-clause-taken c = λ area rs is. (
   c.if-gate-bytes.false,
   holds-in c.args.bytes.now area rs c.args.gate is c.if-gate-bytes.false c.if-bytes-gate-ne1.true,
 )
 
-pub returns-in-Some-clause-taken_in : goal.returns-in-Some-clause-taken_in
-returns-in-Some-clause-taken_in c = λ area rs is.
+pub returns-in-Some-clause-taken : goal.returns-in-Some-clause-taken
+returns-in-Some-clause-taken c = λ area rs is.
     let size_le = rw (take_rest c.args.bytes.now (c.args.gate + 1)) at c.in-Some.ensures.size in
     let found = rw (take_rest c.args.bytes.now (c.args.gate + 1)) at c.in-Some.ensures.found in
     let inside = c.if-gate-bytes.false in (
@@ -54,7 +26,7 @@ returns-in-Some-clause-taken_in c = λ area rs is.
           (entry_of c.in-Some.entry) c.in-Some.size c.if-bytes-gate-ne1.false size_le found,
     )
 
-pub returns-in-None-clause-bad_in : goal.returns-in-None-clause-bad_in
-returns-in-None-clause-bad_in c = λ area rs is.
+pub returns-in-None-clause-bad : goal.returns-in-None-clause-bad
+returns-in-None-clause-bad c = λ area rs is.
     let none = rw (take_rest c.args.bytes.now (c.args.gate + 1)) at c.in-None.ensures.none in
     breaks-in c.args.bytes.now area rs c.args.gate is c.if-gate-bytes.false c.if-bytes-gate-ne1.false none

@@ -1,9 +1,8 @@
-use Rattle.std.proofs.Common.{suc, sym, subst, arith}
+use Rattle.std.proofs.Common.{suc, refl, sym, subst, arith}
 use Rattle.record_defs.specs.Journal.{text}
 use Rattle.record_defs.specs.Areas.{A, StandsActive}
 use Rattle.record_defs.specs.Examples.{four_set_up}
-use Rattle.record_defs.proofs.AreaLaws.{old_is_active}
-use Rattle.record_defs.proofs.TwoAreas.{first-stands}
+use Rattle.record_defs.proofs.AreaLaws.{text-active}
 use Rattle.device_defs.proofs.Lasting.{reads-firm}
 use Rattle.journal_core.proofs.AreaStands.{read-firm}
 use Rattle.journal_core.proofs.FirmCells.{all-firm}
@@ -11,7 +10,7 @@ use Rattle.journal_core.proofs.laws.firm_text_is_firm.Goals as goal
 
 pub returns-clause-active : goal.returns-clause-active
 returns-clause-active c = subst (λ bytes. StandsActive bytes A four_set_up)
-    (sym (reads-firm (text four_set_up))) (old_is_active (text four_set_up) four_set_up first-stands)
+    (sym (reads-firm (text four_set_up))) (text-active four_set_up refl)
 
 pub returns-clause-front : goal.returns-clause-front
 returns-clause-front c = all-firm (text four_set_up) 0 8
@@ -21,4 +20,4 @@ returns-clause-text c = λ k below. all-firm (text four_set_up) 8 (suc k) k (ome
 
 pub returns-clause-stands : goal.returns-clause-stands
 returns-clause-stands c =
-    read-firm (text four_set_up) A four_set_up (old_is_active (text four_set_up) four_set_up first-stands)
+    read-firm (text four_set_up) A four_set_up (text-active four_set_up refl)

@@ -1,7 +1,7 @@
 use Rattle.std.proofs.Common.{◌≤◌, ◌^◌, List, subst, sym, ap, ◌∙◌}
 use Rattle.std.specs.Prelude.{IsTrue}
 use Rattle.std.specs.List.{list_all}
-use Rattle.record_defs.specs.Records.{Record as Entry, is_spelled}
+use Rattle.record_defs.specs.Records.{Record as Entry, is_in_grammar}
 use Rattle.record_defs.specs.Packed.{with_files, with_due}
 use Rattle.record_defs.specs.Areas.{entries_size}
 use Rattle.journal_pack.proofs.Tabled.{packed-folds, have-spellings}
@@ -22,7 +22,7 @@ pub returns-clause-spelled : goal.returns-clause-spelled
 returns-clause-spelled c = λ rs is accepted spelled.
     have-spellings c.add_due.new.records.items
     (c.in_ok-add_due.ensures.padded (c.in_ok-add_files.ensures.padded c.in_ok-records.ensures.padded))
-    (subst (λ (l : List Entry). IsTrue (list_all is_spelled l)) (sym (returns-clause-packed c rs is))
+    (subst (λ (l : List Entry). IsTrue (list_all is_in_grammar l)) (sym (returns-clause-packed c rs is))
     (packed-spelled rs accepted spelled))
 
 pub returns-clause-short : goal.returns-clause-short

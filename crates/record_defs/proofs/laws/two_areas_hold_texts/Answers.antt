@@ -1,13 +1,12 @@
 use Rattle.std.proofs.Common.{ℕ, ◌-◌, ◌^◌, refl}
 use Rattle.std.proofs.lemmas.List.{length-replicate}
-use Rattle.record_defs.proofs.TwoAreas.{first-stands, first-holds, filled-first, filled-other}
+use Rattle.record_defs.specs.Examples.{four_set_up}
+use Rattle.record_defs.proofs.AreaLaws.{text-active}
+use Rattle.record_defs.proofs.TwoAreas.{filled-first, filled-other}
 use Rattle.record_defs.proofs.laws.two_areas_hold_texts.Goals as goal
 
-pub returns-clause-before : goal.returns-clause-before
-returns-clause-before c = first-stands
-
-pub returns-clause-first_area : goal.returns-clause-first_area
-returns-clause-first_area c = first-holds
+pub returns-clause-active : goal.returns-clause-active
+returns-clause-active c = text-active four_set_up refl
 
 pub returns-clause-filled : goal.returns-clause-filled
 returns-clause-filled c = length-replicate {A = ℕ} (2 ^ 23 - 51) 0

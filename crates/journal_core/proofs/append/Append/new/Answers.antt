@@ -1,11 +1,10 @@
 use Rattle.std.proofs.Common.{◌≡◌, ℕ, List, [], ◌∷◌, ◌++◌, length, take, ap, sym, ◌∙◌, arith, length-take}
 use Rattle.record_defs.proofs.Sizes.{length-spelling}
-use Rattle.record_codec.proofs.Values.{has_spelling}
 use Rattle.journal_core.proofs.JournalLemmas.{body_made}
 use Rattle.journal_core.proofs.append.Append.new.Goals as goal
 
 pub write-n-requires : goal.write-n-requires
-write-n-requires c = has_spelling _ c.requires.in_grammar
+write-n-requires c = c.requires.in_grammar
 
 pub returns-clause-body : goal.returns-clause-body
 returns-clause-body c =

@@ -1,22 +1,39 @@
-use Rattle.std.proofs.Common.{◌≡◌, ◌++◌, List, ℕ, false, drop, ap, sym, ◌∙◌, take-append-drop}
-use Rattle.record_defs.specs.Records.{Record, is_held}
+use Rattle.std.proofs.Common.{◌≡◌, ◌-◌, ◌++◌, ℕ, List, length, take, ap, sym, ◌∙◌, arith, length-append}
+use Rattle.std.proofs.lemmas.List.{take_at}
 use Rattle.record_defs.specs.Spellings.{spelling}
-use Rattle.record_defs.proofs.Grammar.{grammar-held, grammar-spelled}
 use Rattle.record_codec.specs.Entries.{entry_of}
-use Rattle.record_codec.proofs.Takes.{one_spelled}
+use Rattle.record_codec.specs.Reading.{record_at}
+use Rattle.record_codec.proofs.Takes.{record_takes, record_again}
 use Rattle.record_codec.proofs.records.Record.read.Goals as goal
 
--- the record that is spelled there is the one that was read, and a journal may not hold its kind
-pub returns-else-is_held-clause-none : goal.returns-else-is_held-clause-none
-returns-else-is_held-clause-none c = λ entry front rest s e.
+pub overflow_sub-result : goal.overflow_sub-result
+overflow_sub-result c =
+    let text = spelling (entry_of c.in-Some.entry) in
+    let took = record_takes c.args.bytes.now (entry_of c.in-Some.entry, c.in-Some.rest.now)
+    (λ i. omega (arith, c.type_inv.bytes i)) (sym c.in-Some.ensures.value) in
+    omega (arith, ap length took.0.parts, length-append text c.in-Some.rest.now)
+
+pub returns-in-Some-clause-found : goal.returns-in-Some-clause-found
+returns-in-Some-clause-found c =
     let bytes = c.args.bytes.now in
-    let size = c.in-Some.size in
-    let found : Record = entry_of c.in-Some.entry in
-    let whole : spelling found ++ drop size bytes ≡ bytes =
-    ap (λ (l : List ℕ). l ++ drop size bytes) (sym c.in-Some.ensures.found) ∙ take-append-drop size bytes in
-    let other : bytes ≡ spelling entry ++ rest = e ∙ ap (λ (l : List ℕ). l ++ rest) s.bytes_are in
-    let same = one_spelled found entry (drop size bytes) rest c.in-Some.ensures.spelled.spelled
-    (grammar-spelled entry s.in_grammar) (whole ∙ other) in
-    let out : false ≡ is_held found = c.if-is_held.ensures in
-    let not_held : false ≡ is_held entry = out ∙ ap is_held same.0 in
-    let held = grammar-held entry s.in_grammar in cc
+    let rest = c.in-Some.rest.now in
+    let text = spelling (entry_of c.in-Some.entry) in
+    let took = record_takes bytes (entry_of c.in-Some.entry, rest) (λ i. omega (arith, c.type_inv.bytes i))
+    (sym c.in-Some.ensures.value) in
+    let n = length bytes - length rest in
+    let len : length text ≡ n = omega (arith, ap length took.0.parts, length-append text rest) in
+    record {
+      in_grammar = took.1;
+      bytes_are = ap (λ (l : List ℕ). take n l) took.0.parts ∙ take_at text rest n len;
+    }
+
+pub returns-in-Some-clause-in_grammar : goal.returns-in-Some-clause-in_grammar
+returns-in-Some-clause-in_grammar c =
+    let took = record_takes c.args.bytes.now (entry_of c.in-Some.entry, c.in-Some.rest.now)
+    (λ i. omega (arith, c.type_inv.bytes i)) (sym c.in-Some.ensures.value) in
+    record { spelled = took.1; padded = c.in-Some.ensures.padded }
+
+pub returns-in-None-clause-none : goal.returns-in-None-clause-none
+returns-in-None-clause-none c = λ entry front rest s e.
+    let parts = e ∙ ap (λ (l : List ℕ). l ++ rest) s.bytes_are in
+    let both = c.in-None.ensures.value ∙ ap record_at parts ∙ record_again entry rest s.in_grammar in cc
