@@ -2,9 +2,7 @@
 -- and length.
 use Rattle.std.proofs.Common.{◌≡◌, List, [], ◌∷◌, ◌++◌, map, refl, ap}
 use Rattle.std.specs.List.{flat_map}
-use Rattle.record_defs.specs.Records.{Setup}
-use Rattle.machine_defs.specs.Jobs.{Aim, ToPut, ToGet, ToDrop, ToAudit, ToRepair, ToUpgrade}
-use Rattle.machine_defs.specs.Actions.{End, append_actions, PinsOf, Plan, plan_actions}
+use Rattle.machine_defs.specs.Actions.{PinsOf, Plan}
 
 flat_map-map : {A B X : Type 0} (f : B → List X) (g : A → B) (xs : List A) →
     flat_map f (map g xs) ≡ flat_map (λ x. f (g x)) xs

@@ -8,7 +8,7 @@ use Rattle.device_defs.specs.ProviderCalls.{Stores}
 use Rattle.machine_defs.specs.Jobs.{Kind, GetJob, Job, job_of, advanced}
 use Rattle.machine_defs.specs.Answers.{Answer}
 use Rattle.machine_defs.specs.Events.{Step, Outcome, Ended, More}
-use Rattle.machine_defs.specs.States.{State, Append, Doubt, ProviderCall, DiskCall, going_on, given_up, with_provider}
+use Rattle.machine_defs.specs.States.{State, Append, Doubt, ProviderCall, going_on, given_up, with_provider}
 use Rattle.machine_defs.specs.Appends.{moved, doubted}
 use Rattle.machine_defs.specs.Begins.{new_job}
 use Rattle.machine_defs.specs.Steps.{block_to_store}

@@ -1,3 +1,4 @@
 pub mod Resyncs
 pub mod Readings
+pub mod SetUps
 pub mod Opened

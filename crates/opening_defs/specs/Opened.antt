@@ -1,19 +1,17 @@
 -- States whose vault was just opened. Records have the newest first.
 --
---   AreHanded ps w                    == the providers handed in are those of a state
---   IsOpenAtRest w first              == a vault is open in a state at rest, and the next job has this number
---   IsJustOpened w rs first faults ps == the same over these records, this count of faults of the disk and
---                                        these providers
---   IsOpenedOver w rs faults ps       == a state whose vault was just opened over these records, told by its
---                                        parts; the files in effect have some bytes of the recorded lengths,
---                                        and the next job has the number 1
-use Rattle.std.specs.Prelude.{◌≡◌, ℕ, ◌<◌, true, false, List, [], length, slice_get, None, Some}
+--   AreHanded ps w               == the providers handed in are those of a state
+--   IsOpenAtRest w first         == a vault is open in a state at rest, and the next job has this number
+--   IsJustOpened w area rs first faults ps
+--                                == the same where the disk holds these records in this area, with this count
+--                                   of faults of the disk and these providers; the history, and the bytes of
+--                                   the files in effect, may be any that go with these records
+use Rattle.std.specs.Prelude.{◌≡◌, ℕ, ◌<◌, true, List, length, slice_get, Some}
 use Rattle.device_defs.specs.Providers.{Provider}
 use Rattle.record_defs.specs.Records.{Record}
-use Rattle.record_defs.specs.Table.{File, file_of}
-use Rattle.machine_defs.specs.Events.{AreBytes}
+use Rattle.record_defs.specs.Areas.{Area}
 use Rattle.machine_defs.specs.States.{State}
-use Rattle.state_laws.specs.Sound.{IsWholeJournal, IsAtRest}
+use Rattle.state_laws.specs.Sound.{IsAtRest}
 
 -- the providers handed in are those of a state
 pub record AreHanded (providers : List Provider) (w : State) : Type 0 where
@@ -27,25 +25,10 @@ pub record IsOpenAtRest (w : State) (first : ℕ) : Type 0 where
   pub next : w.next_job ≡ first
 
 -- a state at rest whose vault was just opened over these records
-pub record IsJustOpened (w : State) (rs : List Record) (first faults : ℕ)
+pub record IsJustOpened (w : State) (area : Area) (rs : List Record) (first faults : ℕ)
     (providers : List Provider) : Type 0 where
   pub at_rest : IsOpenAtRest w first
-  pub records : w.records ≡ rs
-  pub faults_are : w.disk_faults ≡ faults
-  pub handed : AreHanded providers w
-
--- a state whose vault was just opened over these records, told by its parts
-pub record IsOpenedOver (w : State) (rs : List Record) (faults : ℕ) (providers : List Provider) : Type 0 where
-  pub records : w.records ≡ rs
-  pub whole : IsWholeJournal w
-  pub jobs : w.jobs ≡ []
-  pub next_job : w.next_job ≡ 1
-  pub none_alone : w.alone ≡ None
-  pub append : w.append ≡ None
-  pub doubt : w.doubt ≡ None
-  pub is_open : w.is_open ≡ true
-  pub unbarred : w.is_barred ≡ false
-  pub bytes : (name : List ℕ) (file : File) → file_of rs name ≡ Some file
-      → AreBytes (w.bytes file.id) × (length (w.bytes file.id) ≡ file.size)
+  pub journal : w.journal ≡ rs
+  pub area_is : w.area ≡ area
   pub faults_are : w.disk_faults ≡ faults
   pub handed : AreHanded providers w

@@ -25,7 +25,7 @@ use Rattle.state_laws.specs.Orders.{AreNumbered}
 use Rattle.state_laws.specs.Follows.{AreHeld}
 use Rattle.state_laws.specs.Sound.{IsDoubtOf, starts_left, IsSoundJournal, IsSwitchable, IsSound}
 use Rattle.state_laws.proofs.NamesTaken.{taken_by, length-names_in}
-use Rattle.state_laws.proofs.Records.{AreSpelled, version-either}
+use Rattle.state_laws.proofs.Records.{AreInGrammar, version-either}
 use Rattle.state_laws.proofs.Packs.{journal-same, journal-packed, switched-room}
 use Rattle.state_laws.proofs.Begun.{none-applies}
 
@@ -60,7 +60,7 @@ module _ (limit : ℕ) (old : State) (S : IsSound limit old) (opened : old.is_op
       let undoubted : new.doubt ≡ None = B.doubt ∙ no-doubt in
       record {
         accepted = subst AreAccepted (sym B.records) S.accepted;
-        spelled = subst AreSpelled (sym B.records) S.spelled;
+        spelled = subst AreInGrammar (sym B.records) S.spelled;
         journal = J;
         room = (let a = ap (sum_by (reserved (version_of new.records) (setup_in new))) none in
             omega (arith, a, room));

@@ -28,7 +28,7 @@ use Rattle.state_laws.specs.Sound.{IsSoundAppend, IsPutUnderWay, starts_left, Is
 use Rattle.state_laws.proofs.Orders.{put_rest, audit_rest, put-list, audit-list, put-first, put-later, audit-later, drop-first, repair-first, upgrade-first}
 use Rattle.state_laws.proofs.JobLists.{sum-with, length-with, numbered-with, only-with, only-number, mine, other}
 use Rattle.state_laws.proofs.NamesTaken.{are_put, puts_name, put-in, taken-fewer}
-use Rattle.state_laws.proofs.Records.{is_some-at, up-more, setup-more, next_id-grows, sound-accepted, spelled-more, held-more, Came, file-came, version-before}
+use Rattle.state_laws.proofs.Records.{is_some-at, up-more, setup-more, next_id-grows, sound-accepted, grammar-more, held-more, Came, file-came, version-before}
 use Rattle.state_laws.proofs.Packs.{journal-brought}
 use Rattle.state_laws.proofs.Rooms.{room_of, room-step, put-writes_first, put-writes_later, audit-writes_first, audit-writes_later}
 use Rattle.state_laws.proofs.Written.{starts-first, starts-later, starts-on, runs-open, sizes}
@@ -644,8 +644,8 @@ module _ (limit : ℕ) (old : State) (S : IsSound limit old) (job : Job)
   pub done-sound : IsSound limit new
   done-sound = record {
     accepted = accepted;
-    spelled = spelled-more a.entry old.records (S.append a flight).follows.spelled S.spelled;
-    journal = journal-brought old new a.entry refl refl refl (S.append a flight).follows.spelled
+    spelled = grammar-more a.entry old.records (S.append a flight).follows.spelled S.spelled;
+    journal = journal-brought old new a.entry refl refl (S.append a flight).follows.spelled
         (S.append a flight).follows.in_journal S.journal;
     room = (let e = ap (λ t. sum_by (reserved (version_of rs_now) t) (with_job old.jobs after)) setup-stays in
         let r = done-room in let d = done-reserved in omega (arith, e, r, d));

@@ -7,7 +7,7 @@ use Rattle.std.proofs.lemmas.Bool.{cases_Bool, false≢true, and_from, lt-ltb}
 use Rattle.std.proofs.lemmas.Bool.Decides.{nat_tests}
 use Rattle.algebra_laws.specs.Lists.{In}
 use Rattle.algebra_laws.proofs.Options.{some-not-none}
-use Rattle.record_defs.specs.Records.{Setup, Record, SetUp, PutStart, PutDone, Drop, AuditStart, AuditDone, RepairDone, PutDoneIn, Version, Resume, InEffect, RepairDue, is_name, is_appended, is_spelled, largest_file, largest_journal, most_files, all_profiles}
+use Rattle.record_defs.specs.Records.{Setup, Record, SetUp, PutStart, PutDone, Drop, AuditStart, AuditDone, RepairDone, PutDoneIn, Version, Resume, InEffect, RepairDue, is_name, is_appended, is_in_grammar, largest_file, largest_journal, most_files, all_profiles}
 use Rattle.record_defs.specs.Table.{File, Due, setup_of, version_of, next_id, next_audit, started_as, with_put, file_of, files_of, find_file, due_of}
 use Rattle.record_defs.specs.Acceptance as no
 use Rattle.record_defs.specs.Acceptance.{refused, put_done_refused, is_crowded, AreAccepted}
@@ -20,22 +20,22 @@ use Rattle.machine_defs.specs.States.{State}
 use Rattle.machine_defs.proofs.Journals.{StartsAlike, alike-more, packed-alike}
 use Rattle.machine_defs.proofs.RecordFacts.{listed_file}
 use Rattle.machine_defs.proofs.JobLists.{cond_true, cond_false, same_value}
-use Rattle.state_laws.specs.Sound.{IsWholeJournal, IsSoundJournal}
-use Rattle.state_laws.proofs.Records.{is_some-at, AreSpelled, spelled-more, IsFit, file-spelled, due-spelled, setup-spelled, second-set_up, sound-accepted, AreAppended, appended-first, appended-rest}
+use Rattle.state_laws.specs.Sound.{IsSoundJournal}
+use Rattle.state_laws.proofs.Records.{is_some-at, AreInGrammar, grammar-more, IsFit, file-spelled, due-spelled, setup-spelled, second-set_up, sound-accepted, AreAppended, appended-first, appended-rest}
 
 -- ---- the packed journal is spelled
 
 spelled-files : (fs : List File) (rs : List Record) →
-    ((f : File) → In f fs → IsTrue (is_spelled (as_record f))) → AreSpelled rs → AreSpelled (with_files fs rs)
+    ((f : File) → In f fs → IsTrue (is_in_grammar (as_record f))) → AreInGrammar rs → AreInGrammar (with_files fs rs)
 spelled-files [] rs each g = g
 spelled-files (f ∷ fs) rs each g = spelled-files fs (as_record f ∷ rs) (λ x i. each x (inr i))
-    (spelled-more (as_record f) rs (each f (inl refl)) g)
+    (grammar-more (as_record f) rs (each f (inl refl)) g)
 
-module _ (rs : List Record) (a : AreAccepted rs) (g : AreSpelled rs) where
+module _ (rs : List Record) (a : AreAccepted rs) (g : AreInGrammar rs) where
   file-fits : (f : File) → In f (files_of rs) → IsFit f.name f
   file-fits f i = file-spelled rs f.name f g (listed_file rs f i)
 
-  file-record : (f : File) → In f (files_of rs) → IsTrue (is_spelled (as_record f))
+  file-record : (f : File) → In f (files_of rs) → IsTrue (is_in_grammar (as_record f))
   file-record f i =
       (let t = file-fits f i in
       let below = ((sound-accepted rs a).file f.name f (listed_file rs f i)).0 in
@@ -43,32 +43,32 @@ module _ (rs : List Record) (a : AreAccepted rs) (g : AreSpelled rs) where
       fit f.id f.size f.profile f.name (omega (arith, below, l)) t.1 t.2 t.0)
     where
       fit : (id size profile : ℕ) (name : List ℕ) → id < 2 ^ 64 → size ≤ largest_file →
-          profile < all_profiles → is_name name ≡ true → IsTrue (is_spelled (InEffect id size profile name))
+          profile < all_profiles → is_name name ≡ true → IsTrue (is_in_grammar (InEffect id size profile name))
       fit id size profile name l s p n = grind (arith, nat_tests, l, s, p, n)
 
   abbrev base : List Record
   base = Resume (next_id rs) (next_audit rs) ∷ Version ∷ with_setup (setup_of rs)
 
-  base-spelled : AreSpelled base
-  base-spelled = spelled-more (Resume (next_id rs) (next_audit rs)) (Version ∷ with_setup (setup_of rs))
+  base-spelled : AreInGrammar base
+  base-spelled = grammar-more (Resume (next_id rs) (next_audit rs)) (Version ∷ with_setup (setup_of rs))
       (and_from (nat_lt (next_id rs) (2 ^ 64)) (nat_lt (next_audit rs) (2 ^ 64))
       (lt-ltb (next_id rs) (2 ^ 64) (next_id-fits rs a))
       (lt-ltb (next_audit rs) (2 ^ 64) (next_audit-fits rs a)))
-      (spelled-more Version (with_setup (setup_of rs)) refl (set_up (setup_of rs) refl))
+      (grammar-more Version (with_setup (setup_of rs)) refl (set_up (setup_of rs) refl))
     where
-      set_up : (o : Option Setup) → setup_of rs ≡ o → AreSpelled (with_setup o)
+      set_up : (o : Option Setup) → setup_of rs ≡ o → AreInGrammar (with_setup o)
       set_up None e = refl
-      set_up (Some s) e = spelled-more (SetUp s) [] (setup-spelled rs s g e) refl
+      set_up (Some s) e = grammar-more (SetUp s) [] (setup-spelled rs s g e) refl
 
-  packed-spelled : AreSpelled (packed rs)
+  packed-spelled : AreInGrammar (packed rs)
   packed-spelled = on_top (due_of rs) refl
     where
-      files : AreSpelled (with_files (files_of rs) base)
+      files : AreInGrammar (with_files (files_of rs) base)
       files = spelled-files (files_of rs) base file-record base-spelled
 
-      on_top : (o : Option Due) → due_of rs ≡ o → AreSpelled (with_due o (with_files (files_of rs) base))
+      on_top : (o : Option Due) → due_of rs ≡ o → AreInGrammar (with_due o (with_files (files_of rs) base))
       on_top None e = files
-      on_top (Some d) e = spelled-more (RepairDue d.number d.counts) (with_files (files_of rs) base)
+      on_top (Some d) e = grammar-more (RepairDue d.number d.counts) (with_files (files_of rs) base)
           (due-spelled rs d g e) files
 
   -- ---- and short
@@ -101,7 +101,7 @@ module _ (rs : List Record) (a : AreAccepted rs) (g : AreSpelled rs) where
       files = (let b = base-size in let f = files-size (files_of rs) base name-short in
           let n = few-files_of rs a in omega (arith, b, f, n))
 
-      few : (d : Due) → IsTrue (is_spelled (RepairDue d.number d.counts)) → length d.counts ≤ 16
+      few : (d : Due) → IsTrue (is_in_grammar (RepairDue d.number d.counts)) → length d.counts ≤ 16
       few d h = grind (arith, nat_tests, h)
 
       on_top : (o : Option Due) → due_of rs ≡ o →
@@ -219,27 +219,28 @@ pub journal-same : (old new : State) → new.records ≡ old.records → new.jou
     new.area ≡ old.area → IsSoundJournal old → IsSoundJournal new
 journal-same old new er ej ea J = record {
   accepted = subst AreAccepted (sym ej) J.accepted;
-  spelled = subst AreSpelled (sym ej) J.spelled;
+  spelled = subst AreInGrammar (sym ej) J.spelled;
   alike = subst (λ l. AreAlike l new.records) (sym ej) (subst (λ l. AreAlike old.journal l) (sym er) J.alike);
   started = λ id name h. ap (λ l. started_as l id) er
       ∙ J.started id name (sym (ap (λ l. started_as l id) ej) ∙ h);
-  whole = λ v. (let W = J.whole (sym (ap (list_all is_appended) ej) ∙ v) in
-      record { journal = ej ∙ (W.journal ∙ sym er); area = ea ∙ W.area });
+  whole = λ v. ej ∙ (J.whole (sym (ap (list_all is_appended) ej) ∙ v) ∙ sym er);
+  first = λ e. ea ∙ J.first (sym ej ∙ e);
 }
 
 -- one more record on both
 pub journal-brought : (old new : State) (r : Record) → new.records ≡ r ∷ old.records →
-    new.journal ≡ r ∷ old.journal → new.area ≡ old.area → IsTrue (is_spelled r) →
-    refused old.journal r ≡ None → IsSoundJournal old → IsSoundJournal new
-journal-brought old new r er ej ea g a J = record {
+    new.journal ≡ r ∷ old.journal → IsTrue (is_in_grammar r) → refused old.journal r ≡ None →
+    IsSoundJournal old → IsSoundJournal new
+journal-brought old new r er ej g a J = record {
   accepted = subst AreAccepted (sym ej) (a, J.accepted);
-  spelled = subst AreSpelled (sym ej) (spelled-more r old.journal g J.spelled);
+  spelled = subst AreInGrammar (sym ej) (grammar-more r old.journal g J.spelled);
   alike = subst (λ l. AreAlike l new.records) (sym ej) (subst (λ l. AreAlike (r ∷ old.journal) l) (sym er)
       (alike-any old.journal old.records r (starts-alike old.journal old.records r a J.started) J.alike));
   started = λ id name h. ap (λ l. started_as l id) er
       ∙ started-any old.journal old.records r J.started id name (sym (ap (λ l. started_as l id) ej) ∙ h);
   whole = λ v. (let W = J.whole (appended-rest r old.journal (sym (ap (list_all is_appended) ej) ∙ v)) in
-      record { journal = ej ∙ (ap (λ l. r ∷ l) W.journal ∙ sym er); area = ea ∙ W.area });
+      ej ∙ (ap (λ l. r ∷ l) W ∙ sym er));
+  first = λ e. absurd (let none : r ∷ old.journal ≡ [] = sym ej ∙ e in cc);
 }
 
 -- with files on top of records that are not all appended there are such still
@@ -272,28 +273,30 @@ journal-packed old new er ej second J =
     let s = is_some-at (setup_of old.journal) (second-set_up old.journal J.accepted second_too) in
     record {
       accepted = subst AreAccepted (sym ej) (packed_are old.journal J.accepted s.0 s.1 second_too).0;
-      spelled = subst AreSpelled (sym ej) (packed-spelled old.journal J.accepted J.spelled);
+      spelled = subst AreInGrammar (sym ej) (packed-spelled old.journal J.accepted J.spelled);
       alike = subst (λ l. AreAlike l new.records) (sym ej)
           (subst (λ l. AreAlike (packed old.journal) l) (sym er)
           (packed-alike old.journal old.records s.0 J.accepted s.1 second_too J.alike));
       started = λ id name h. absurd
           (some-not-none _ name h (ap (λ l. started_as l id) ej ∙ (packed_is_idle old.journal).0 id));
       whole = λ v. absurd (packed-not-appended old.journal (sym (ap (list_all is_appended) ej) ∙ v));
+      first = λ e. absurd (packed-not-appended old.journal (ap (list_all is_appended) (sym ej ∙ e)));
     })
 
--- a disk that holds the whole history
-pub journal-whole : (w : State) → IsWholeJournal w → AreAccepted w.records → AreSpelled w.records →
-    IsSoundJournal w
-journal-whole w W a g = record {
-  accepted = subst AreAccepted (sym W.journal) a;
-  spelled = subst AreSpelled (sym W.journal) g;
-  alike = subst (λ l. AreAlike l w.records) (sym W.journal)
+-- a disk that holds the whole history, and none in the second area
+pub journal-whole : (w : State) → w.journal ≡ w.records → (w.journal ≡ [] → w.area ≡ A) →
+    AreAccepted w.records → AreInGrammar w.records → IsSoundJournal w
+journal-whole w same first a g = record {
+  accepted = subst AreAccepted (sym same) a;
+  spelled = subst AreInGrammar (sym same) g;
+  alike = subst (λ l. AreAlike l w.records) (sym same)
       (record { setup = refl; version = refl; id = refl; audit = refl; files = refl; due = refl });
-  started = λ id name h. ap (λ l. started_as l id) (sym W.journal) ∙ h;
-  whole = λ v. record { journal = W.journal; area = W.area };
+  started = λ id name h. ap (λ l. started_as l id) (sym same) ∙ h;
+  whole = λ v. same;
+  first = first;
 }
 
 -- what a disk may hold that is read again fits in its area
-pub switched-room : (journal : List Record) (area : Area) → AreAccepted journal → AreSpelled journal →
+pub switched-room : (journal : List Record) (area : Area) → AreAccepted journal → AreInGrammar journal →
     end_in (other_area area) (packed journal) ≤ largest_journal
 switched-room journal area a g = packed-room journal a g (other_area area)

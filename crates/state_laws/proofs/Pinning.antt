@@ -22,7 +22,7 @@ use Rattle.state_laws.specs.Orders.{AreAscending}
 use Rattle.state_laws.specs.Follows.{AreHeld}
 use Rattle.state_laws.specs.SoundJobs.{HasPins, IsPin}
 use Rattle.state_laws.proofs.NamesTaken.{AreOnce, once-files}
-use Rattle.state_laws.proofs.Records.{is_some-at, AreSpelled, sound-accepted, file-spelled, file-plain}
+use Rattle.state_laws.proofs.Records.{is_some-at, AreInGrammar, sound-accepted, file-spelled, file-plain}
 
 length-pin : (p : Pinned) (qs : List Pinned) → length (pin_by machine_pins p qs) ≡ suc (length qs)
 length-pin p [] = refl
@@ -79,7 +79,7 @@ ascending-all w (f ∷ fs) S once held = ascending-pin 0 (pinned_file w f) (pin_
     (S.one_name f.name r.0.name f r.0 (held f (inl refl)) (held r.0 (inr r.1))
     (e ∙ ap (λ (x : Pinned). x.id) r.2))))
 
-module _ (w : State) (accepted : AreAccepted w.records) (spelled : AreSpelled w.records)
+module _ (w : State) (accepted : AreAccepted w.records) (spelled : AreInGrammar w.records)
     (files : AreHeld w.bytes w.records) where
   all-ascending : AreAscending 0 (pin_all w (files_of w.records))
   all-ascending = ascending-all w (files_of w.records) (sound-accepted w.records accepted)

@@ -5,12 +5,11 @@ use Rattle.std.specs.List.{list_all}
 use Rattle.std.proofs.lemmas.Bool.{cases_Bool, false≢true, and_parts, and_from}
 use Rattle.std.proofs.lemmas.Bool.Decides.{nat_tests}
 use Rattle.algebra_laws.proofs.Options.{some-not-none}
-use Rattle.record_defs.specs.Records.{Setup, Record, SetUp, PutStart, PutDone, Drop, AuditStart, AuditDone, RepairDone, is_name, is_appended, is_spelled, is_in_grammar, largest_file, all_profiles, PutDoneIn, Version, Resume, InEffect, RepairDue}
-use Rattle.record_defs.specs.Journal.{text_size}
+use Rattle.record_defs.specs.Records.{Setup, Record, SetUp, PutStart, PutDone, Drop, AuditStart, AuditDone, RepairDone, is_name, is_appended, is_in_grammar, largest_file, all_profiles, PutDoneIn, Version, Resume, InEffect, RepairDue}
 use Rattle.record_defs.specs.Table.{File, Due, file_as, profile_in, setup_of, version_of, next_id, next_audit, started_as, is_same_name, is_start_of, file_of, due_of, exceeds}
 use Rattle.record_defs.specs.Acceptance as no
+use Rattle.record_defs.specs.Areas.{entries_size}
 use Rattle.record_defs.proofs.FilesLaws.{same-eq}
-use Rattle.record_defs.proofs.Grammar.{grammar-spelled}
 use Rattle.record_defs.specs.Acceptance.{refused, AreAccepted, Refused}
 use Rattle.record_defs.proofs.SoundLaws.{are_sound, next_id-more}
 use Rattle.machine_defs.specs.Events.{AreBytes}
@@ -23,22 +22,7 @@ pub is_some-at : {X : Type 0} (o : Option X) → is_some o ≡ true → (x : X) 
 is_some-at None h = absurd (false≢true h)
 is_some-at (Some x) h = (x, refl)
 
--- ---- spellings and grammar
-
--- each record has a spelling
-abbrev pub AreSpelled : List Record → Type 0
-AreSpelled rs = IsTrue (list_all is_spelled rs)
-
-spelled-first : (r : Record) (rs : List Record) → AreSpelled (r ∷ rs) → IsTrue (is_spelled r)
-spelled-first r rs h = (and_parts (is_spelled r) (list_all is_spelled rs) h).0
-
-spelled-rest : (r : Record) (rs : List Record) → AreSpelled (r ∷ rs) → AreSpelled rs
-spelled-rest r rs h = (and_parts (is_spelled r) (list_all is_spelled rs) h).1
-
--- records with a spelling, and one more with one, have spellings
-pub spelled-more : (r : Record) (rs : List Record) → IsTrue (is_spelled r) → AreSpelled rs →
-    AreSpelled (r ∷ rs)
-spelled-more r rs g h = and_from (is_spelled r) (list_all is_spelled rs) g h
+-- ---- the grammar
 
 -- each record is in the grammar
 abbrev pub AreInGrammar : List Record → Type 0
@@ -51,11 +35,10 @@ grammar-first r rs h = (and_parts (is_in_grammar r) (list_all is_in_grammar rs) 
 pub grammar-rest : (r : Record) (rs : List Record) → AreInGrammar (r ∷ rs) → AreInGrammar rs
 grammar-rest r rs h = (and_parts (is_in_grammar r) (list_all is_in_grammar rs) h).1
 
--- records in the grammar have a spelling
-pub all-spelled : (rs : List Record) → AreInGrammar rs → AreSpelled rs
-all-spelled [] g = refl
-all-spelled (r ∷ rs) g =
-    spelled-more r rs (grammar-spelled r (grammar-first r rs g)) (all-spelled rs (grammar-rest r rs g))
+-- records in the grammar, and one more in it, are in it
+pub grammar-more : (r : Record) (rs : List Record) → IsTrue (is_in_grammar r) → AreInGrammar rs →
+    AreInGrammar (r ∷ rs)
+grammar-more r rs g h = and_from (is_in_grammar r) (list_all is_in_grammar rs) g h
 
 -- each record is one that a job appends
 abbrev pub AreAppended : List Record → Type 0
@@ -73,49 +56,6 @@ appended-rest r rs h = (and_parts (is_appended r) (list_all is_appended rs) h).1
 pub appended-more : (r : Record) (rs : List Record) → IsTrue (is_appended r) → AreAppended rs →
     AreAppended (r ∷ rs)
 appended-more r rs g h = and_from (is_appended r) (list_all is_appended rs) g h
-
--- what a journal may hold today is appended
-pub grammar-appended : (r : Record) → IsTrue (is_in_grammar r) → IsTrue (is_appended r)
-grammar-appended (SetUp s) g = refl
-grammar-appended (PutStart id name) g = refl
-grammar-appended (PutDone id size) g = refl
-grammar-appended (Drop name) g = refl
-grammar-appended (AuditStart number) g = refl
-grammar-appended (AuditDone number undecided counts) g = refl
-grammar-appended (RepairDone number) g = refl
-grammar-appended (PutDoneIn id size profile) g = refl
-grammar-appended Version g = refl
-grammar-appended (Resume id audit) g = g
-grammar-appended (InEffect id size profile name) g = g
-grammar-appended (RepairDue number counts) g = g
-
--- so it is with all records of a journal of today
-pub all-appended : (rs : List Record) → AreInGrammar rs → AreAppended rs
-all-appended [] g = refl
-all-appended (r ∷ rs) g = appended-more r rs (grammar-appended r (grammar-first r rs g))
-    (all-appended rs (grammar-rest r rs g))
-
--- an appended record that has a spelling is in the grammar
-pub appended-grammar : (r : Record) → IsTrue (is_appended r) → IsTrue (is_spelled r) → IsTrue (is_in_grammar r)
-appended-grammar (SetUp s) h g = g
-appended-grammar (PutStart id name) h g = g
-appended-grammar (PutDone id size) h g = g
-appended-grammar (Drop name) h g = g
-appended-grammar (AuditStart number) h g = g
-appended-grammar (AuditDone number undecided counts) h g = g
-appended-grammar (RepairDone number) h g = g
-appended-grammar (PutDoneIn id size profile) h g = g
-appended-grammar Version h g = g
-appended-grammar (Resume id audit) h g = h
-appended-grammar (InEffect id size profile name) h g = h
-appended-grammar (RepairDue number counts) h g = h
-
--- appended records that have spellings are in the grammar
-pub all-grammar : (rs : List Record) → AreAppended rs → AreSpelled rs → AreInGrammar rs
-all-grammar [] h g = refl
-all-grammar (r ∷ rs) h g = and_from (is_in_grammar r) (list_all is_in_grammar rs)
-    (appended-grammar r (appended-first r rs h) (spelled-first r rs g))
-    (all-grammar rs (appended-rest r rs h) (spelled-rest r rs g))
 
 -- the first version now was so before
 pub version-before : (r : Record) (rs : List Record) → version_of (r ∷ rs) ≡ 1 → version_of rs ≡ 1
@@ -150,7 +90,7 @@ version-either (RepairDue number counts ∷ rs) = version-either rs
 
 -- ---- numbers
 
-next_id-one : (r : Record) (rs : List Record) → IsTrue (is_in_grammar r) → next_id (r ∷ rs) ≤ next_id rs + 1
+next_id-one : (r : Record) (rs : List Record) → IsTrue (is_appended r) → next_id (r ∷ rs) ≤ next_id rs + 1
 next_id-one (SetUp s) rs g = omega arith
 next_id-one (PutStart id name) rs g = omega arith
 next_id-one (PutDone id size) rs g = omega arith
@@ -164,15 +104,15 @@ next_id-one (Resume next audit) rs g = absurd (false≢true g)
 next_id-one (InEffect id size profile kept) rs g = omega arith
 next_id-one (RepairDue number counts) rs g = omega arith
 
--- the next object number is at most the length of the text
-pub next_id-le : (rs : List Record) → AreInGrammar rs → next_id rs ≤ text_size rs
+-- the next object number of appended records is at most the length of their text
+pub next_id-le : (rs : List Record) → AreAppended rs → next_id rs ≤ 1 + entries_size rs
 next_id-le [] g = omega arith
 next_id-le (r ∷ rs) g =
-    let l = next_id-le rs (grammar-rest r rs g) in
-    let one = next_id-one r rs (grammar-first r rs g) in
+    let l = next_id-le rs (appended-rest r rs g) in
+    let one = next_id-one r rs (appended-first r rs g) in
     omega (arith, l, one)
 
-next_audit-one : (r : Record) (rs : List Record) → IsTrue (is_in_grammar r) →
+next_audit-one : (r : Record) (rs : List Record) → IsTrue (is_appended r) →
     next_audit (r ∷ rs) ≤ next_audit rs + 1
 next_audit-one (SetUp s) rs g = omega arith
 next_audit-one (PutStart id name) rs g = omega arith
@@ -187,12 +127,12 @@ next_audit-one (Resume next audit) rs g = absurd (false≢true g)
 next_audit-one (InEffect id size profile kept) rs g = omega arith
 next_audit-one (RepairDue number counts) rs g = omega arith
 
--- the next audit number is at most the length of the text
-pub next_audit-le : (rs : List Record) → AreInGrammar rs → next_audit rs ≤ text_size rs
+-- the next audit number of appended records is at most the length of their text
+pub next_audit-le : (rs : List Record) → AreAppended rs → next_audit rs ≤ 1 + entries_size rs
 next_audit-le [] g = omega arith
 next_audit-le (r ∷ rs) g =
-    let l = next_audit-le rs (grammar-rest r rs g) in
-    let one = next_audit-one r rs (grammar-first r rs g) in
+    let l = next_audit-le rs (appended-rest r rs g) in
+    let one = next_audit-one r rs (appended-first r rs g) in
     omega (arith, l, one)
 
 -- no accepted record makes the next object number smaller
@@ -309,62 +249,62 @@ second-set_up rs a v = elim (cases_Bool (is_some (setup_of rs))) [
 -- ---- setups, names, sizes and numbers of records that have a spelling
 
 -- the setup in effect is in the grammar
-pub setup-spelled : (rs : List Record) (s : Setup) → AreSpelled rs → setup_of rs ≡ Some s →
+pub setup-spelled : (rs : List Record) (s : Setup) → AreInGrammar rs → setup_of rs ≡ Some s →
     IsTrue (is_in_grammar (SetUp s))
 setup-spelled [] s g h = absurd (some-not-none _ s h refl)
 setup-spelled (SetUp t ∷ rs) s g h =
-    (let e : t ≡ s = cc in subst (λ x. IsTrue (is_in_grammar (SetUp x))) e (spelled-first (SetUp t) rs g))
-setup-spelled (PutStart id name ∷ rs) s g h = setup-spelled rs s (spelled-rest (PutStart id name) rs g) h
-setup-spelled (PutDone id size ∷ rs) s g h = setup-spelled rs s (spelled-rest (PutDone id size) rs g) h
-setup-spelled (Drop name ∷ rs) s g h = setup-spelled rs s (spelled-rest (Drop name) rs g) h
-setup-spelled (AuditStart number ∷ rs) s g h = setup-spelled rs s (spelled-rest (AuditStart number) rs g) h
+    (let e : t ≡ s = cc in subst (λ x. IsTrue (is_in_grammar (SetUp x))) e (grammar-first (SetUp t) rs g))
+setup-spelled (PutStart id name ∷ rs) s g h = setup-spelled rs s (grammar-rest (PutStart id name) rs g) h
+setup-spelled (PutDone id size ∷ rs) s g h = setup-spelled rs s (grammar-rest (PutDone id size) rs g) h
+setup-spelled (Drop name ∷ rs) s g h = setup-spelled rs s (grammar-rest (Drop name) rs g) h
+setup-spelled (AuditStart number ∷ rs) s g h = setup-spelled rs s (grammar-rest (AuditStart number) rs g) h
 setup-spelled (AuditDone number undecided counts ∷ rs) s g h =
-    setup-spelled rs s (spelled-rest (AuditDone number undecided counts) rs g) h
-setup-spelled (RepairDone number ∷ rs) s g h = setup-spelled rs s (spelled-rest (RepairDone number) rs g) h
+    setup-spelled rs s (grammar-rest (AuditDone number undecided counts) rs g) h
+setup-spelled (RepairDone number ∷ rs) s g h = setup-spelled rs s (grammar-rest (RepairDone number) rs g) h
 setup-spelled (PutDoneIn id size profile ∷ rs) s g h =
-    setup-spelled rs s (spelled-rest (PutDoneIn id size profile) rs g) h
-setup-spelled (Version ∷ rs) s g h = setup-spelled rs s (spelled-rest Version rs g) h
-setup-spelled (Resume next audit ∷ rs) s g h = setup-spelled rs s (spelled-rest (Resume next audit) rs g) h
+    setup-spelled rs s (grammar-rest (PutDoneIn id size profile) rs g) h
+setup-spelled (Version ∷ rs) s g h = setup-spelled rs s (grammar-rest Version rs g) h
+setup-spelled (Resume next audit ∷ rs) s g h = setup-spelled rs s (grammar-rest (Resume next audit) rs g) h
 setup-spelled (InEffect id size profile kept ∷ rs) s g h =
-    setup-spelled rs s (spelled-rest (InEffect id size profile kept) rs g) h
+    setup-spelled rs s (grammar-rest (InEffect id size profile kept) rs g) h
 setup-spelled (RepairDue number counts ∷ rs) s g h =
-    setup-spelled rs s (spelled-rest (RepairDue number counts) rs g) h
+    setup-spelled rs s (grammar-rest (RepairDue number counts) rs g) h
 
 -- a name that a put was started under is a name
-started-spelled : (rs : List Record) (id : ℕ) (name : List ℕ) → AreSpelled rs → started_as rs id ≡ Some name →
+started-spelled : (rs : List Record) (id : ℕ) (name : List ℕ) → AreInGrammar rs → started_as rs id ≡ Some name →
     is_name name ≡ true
 started-spelled [] id name g h = absurd (some-not-none _ name h refl)
-started-spelled (SetUp s ∷ rs) id name g h = started-spelled rs id name (spelled-rest (SetUp s) rs g) h
+started-spelled (SetUp s ∷ rs) id name g h = started-spelled rs id name (grammar-rest (SetUp s) rs g) h
 started-spelled (PutStart k n ∷ rs) id name g h = elim (cases_Bool (k == id)) [
   | inl t ↦ (let e : n ≡ name = same_value _ n name (cond_true (k == id) (Some n) (started_as rs id) t) h in
-      subst (λ x. is_name x ≡ true) e (grind (arith, spelled-first (PutStart k n) rs g)))
-  | inr f ↦ started-spelled rs id name (spelled-rest (PutStart k n) rs g)
+      subst (λ x. is_name x ≡ true) e (grind (arith, grammar-first (PutStart k n) rs g)))
+  | inr f ↦ started-spelled rs id name (grammar-rest (PutStart k n) rs g)
       (sym (cond_false (k == id) (Some n) (started_as rs id) f) ∙ h)
 ]
 started-spelled (PutDone k size ∷ rs) id name g h = elim (cases_Bool (k == id)) [
   | inl t ↦ absurd (some-not-none _ name h (cond_true (k == id) None (started_as rs id) t))
-  | inr f ↦ started-spelled rs id name (spelled-rest (PutDone k size) rs g)
+  | inr f ↦ started-spelled rs id name (grammar-rest (PutDone k size) rs g)
       (sym (cond_false (k == id) None (started_as rs id) f) ∙ h)
 ]
-started-spelled (Drop n ∷ rs) id name g h = started-spelled rs id name (spelled-rest (Drop n) rs g) h
+started-spelled (Drop n ∷ rs) id name g h = started-spelled rs id name (grammar-rest (Drop n) rs g) h
 started-spelled (AuditStart number ∷ rs) id name g h =
-    started-spelled rs id name (spelled-rest (AuditStart number) rs g) h
+    started-spelled rs id name (grammar-rest (AuditStart number) rs g) h
 started-spelled (AuditDone number undecided counts ∷ rs) id name g h =
-    started-spelled rs id name (spelled-rest (AuditDone number undecided counts) rs g) h
+    started-spelled rs id name (grammar-rest (AuditDone number undecided counts) rs g) h
 started-spelled (RepairDone number ∷ rs) id name g h =
-    started-spelled rs id name (spelled-rest (RepairDone number) rs g) h
+    started-spelled rs id name (grammar-rest (RepairDone number) rs g) h
 started-spelled (PutDoneIn k size profile ∷ rs) id name g h = elim (cases_Bool (k == id)) [
   | inl t ↦ absurd (some-not-none _ name h (cond_true (k == id) None (started_as rs id) t))
-  | inr f ↦ started-spelled rs id name (spelled-rest (PutDoneIn k size profile) rs g)
+  | inr f ↦ started-spelled rs id name (grammar-rest (PutDoneIn k size profile) rs g)
       (sym (cond_false (k == id) None (started_as rs id) f) ∙ h)
 ]
-started-spelled (Version ∷ rs) id name g h = started-spelled rs id name (spelled-rest Version rs g) h
+started-spelled (Version ∷ rs) id name g h = started-spelled rs id name (grammar-rest Version rs g) h
 started-spelled (Resume next audit ∷ rs) id name g h =
-    started-spelled rs id name (spelled-rest (Resume next audit) rs g) h
+    started-spelled rs id name (grammar-rest (Resume next audit) rs g) h
 started-spelled (InEffect k size profile kept ∷ rs) id name g h =
-    started-spelled rs id name (spelled-rest (InEffect k size profile kept) rs g) h
+    started-spelled rs id name (grammar-rest (InEffect k size profile kept) rs g) h
 started-spelled (RepairDue number counts ∷ rs) id name g h =
-    started-spelled rs id name (spelled-rest (RepairDue number counts) rs g) h
+    started-spelled rs id name (grammar-rest (RepairDue number counts) rs g) h
 
 -- the start that a put's end is of
 start-named : (q : List ℕ) (o : Option (List ℕ)) → is_start_of q o ≡ true → o ≡ Some q
@@ -425,7 +365,7 @@ file-came (InEffect k size profile n) rs name file h =
 file-came (RepairDue number counts) rs name file h = inl h
 
 -- the profile of a setup that has a spelling
-profile-fits : (rs : List Record) → AreSpelled rs → profile_in (setup_of rs) < all_profiles
+profile-fits : (rs : List Record) → AreInGrammar rs → profile_in (setup_of rs) < all_profiles
 profile-fits rs g = by (setup_of rs) refl
   where
     fits : (s : Setup) → IsTrue (is_in_grammar (SetUp s)) → s.profile < all_profiles
@@ -440,32 +380,32 @@ abbrev pub IsFit : List ℕ → File → Type 0
 IsFit name file = (is_name name ≡ true) × (file.size ≤ largest_file) × (file.profile < all_profiles)
 
 -- each file in effect is within the limits
-pub file-spelled : (rs : List Record) (name : List ℕ) (file : File) → AreSpelled rs →
+pub file-spelled : (rs : List Record) (name : List ℕ) (file : File) → AreInGrammar rs →
     file_of rs name ≡ Some file → IsFit name file
 file-spelled [] name file g h = absurd (some-not-none _ file h refl)
 file-spelled (r ∷ rs) name file g h = elim (file-came r rs name file h) [
-  | inl was ↦ file-spelled rs name file (spelled-rest r rs g) was
+  | inl was ↦ file-spelled rs name file (grammar-rest r rs g) was
   | inr new ↦ elim new [
     | Came.done is started profile ↦ (
-      started-spelled rs file.id name (spelled-rest r rs g) started,
-      done-size (subst (λ x. IsTrue (is_spelled x)) is (spelled-first r rs g)),
-      (let l = profile-fits rs (spelled-rest r rs g) in omega (arith, l, profile)),
+      started-spelled rs file.id name (grammar-rest r rs g) started,
+      done-size (subst (λ x. IsTrue (is_in_grammar x)) is (grammar-first r rs g)),
+      (let l = profile-fits rs (grammar-rest r rs g) in omega (arith, l, profile)),
     )
     | Came.done_in is started ↦
-        (let f = in-fits (subst (λ x. IsTrue (is_spelled x)) is (spelled-first r rs g)) in
-        (started-spelled rs file.id name (spelled-rest r rs g) started, f.0, f.1))
-    | Came.brought is ↦ kept-fits (subst (λ x. IsTrue (is_spelled x)) is (spelled-first r rs g))
+        (let f = in-fits (subst (λ x. IsTrue (is_in_grammar x)) is (grammar-first r rs g)) in
+        (started-spelled rs file.id name (grammar-rest r rs g) started, f.0, f.1))
+    | Came.brought is ↦ kept-fits (subst (λ x. IsTrue (is_in_grammar x)) is (grammar-first r rs g))
   ]
 ]
   where
-    done-size : IsTrue (is_spelled (PutDone file.id file.size)) → file.size ≤ largest_file
+    done-size : IsTrue (is_in_grammar (PutDone file.id file.size)) → file.size ≤ largest_file
     done-size h = grind (arith, nat_tests, h)
 
-    in-fits : IsTrue (is_spelled (PutDoneIn file.id file.size file.profile)) →
+    in-fits : IsTrue (is_in_grammar (PutDoneIn file.id file.size file.profile)) →
         (file.size ≤ largest_file) × (file.profile < all_profiles)
     in-fits h = (grind (arith, nat_tests, h), grind (arith, nat_tests, h))
 
-    kept-fits : IsTrue (is_spelled (InEffect file.id file.size file.profile name)) →
+    kept-fits : IsTrue (is_in_grammar (InEffect file.id file.size file.profile name)) →
         (is_name name ≡ true) × (file.size ≤ largest_file) × (file.profile < all_profiles)
     kept-fits h = (grind (arith, nat_tests, h), grind (arith, nat_tests, h), grind (arith, nat_tests, h))
 
@@ -496,46 +436,46 @@ file-plain (r ∷ rs) name file a v h = elim (file-came r rs name file h) [
     ]
 
 -- a due audit has a number and counts within their limits
-pub due-spelled : (rs : List Record) (due : Due) → AreSpelled rs → due_of rs ≡ Some due →
-    IsTrue (is_spelled (RepairDue due.number due.counts))
+pub due-spelled : (rs : List Record) (due : Due) → AreInGrammar rs → due_of rs ≡ Some due →
+    IsTrue (is_in_grammar (RepairDue due.number due.counts))
 due-spelled [] due g h = absurd (some-not-none _ due h refl)
-due-spelled (SetUp s ∷ rs) due g h = due-spelled rs due (spelled-rest (SetUp s) rs g) h
-due-spelled (PutStart id name ∷ rs) due g h = due-spelled rs due (spelled-rest (PutStart id name) rs g) h
-due-spelled (PutDone id size ∷ rs) due g h = due-spelled rs due (spelled-rest (PutDone id size) rs g) h
-due-spelled (Drop name ∷ rs) due g h = due-spelled rs due (spelled-rest (Drop name) rs g) h
-due-spelled (AuditStart number ∷ rs) due g h = due-spelled rs due (spelled-rest (AuditStart number) rs g) h
+due-spelled (SetUp s ∷ rs) due g h = due-spelled rs due (grammar-rest (SetUp s) rs g) h
+due-spelled (PutStart id name ∷ rs) due g h = due-spelled rs due (grammar-rest (PutStart id name) rs g) h
+due-spelled (PutDone id size ∷ rs) due g h = due-spelled rs due (grammar-rest (PutDone id size) rs g) h
+due-spelled (Drop name ∷ rs) due g h = due-spelled rs due (grammar-rest (Drop name) rs g) h
+due-spelled (AuditStart number ∷ rs) due g h = due-spelled rs due (grammar-rest (AuditStart number) rs g) h
 due-spelled (AuditDone number undecided counts ∷ rs) due g h =
     elim (cases_Bool (exceeds (setup_of rs) counts)) [
       | inl t ↦ (let same : record { number = number; counts = counts } ≡ due =
           same_value _ (record { number = number; counts = counts }) due
           (cond_true (exceeds (setup_of rs) counts) (Some (record { number = number; counts = counts }))
           (due_of rs) t) h in
-          subst (λ (d : Due). IsTrue (is_spelled (RepairDue d.number d.counts))) same
-          (fits (spelled-first (AuditDone number undecided counts) rs g)))
-      | inr f ↦ due-spelled rs due (spelled-rest (AuditDone number undecided counts) rs g)
+          subst (λ (d : Due). IsTrue (is_in_grammar (RepairDue d.number d.counts))) same
+          (fits (grammar-first (AuditDone number undecided counts) rs g)))
+      | inr f ↦ due-spelled rs due (grammar-rest (AuditDone number undecided counts) rs g)
           (sym (cond_false (exceeds (setup_of rs) counts) (Some (record { number = number; counts = counts }))
           (due_of rs) f) ∙ h)
     ]
   where
-    fits : IsTrue (is_spelled (AuditDone number undecided counts)) →
-        IsTrue (is_spelled (RepairDue number counts))
+    fits : IsTrue (is_in_grammar (AuditDone number undecided counts)) →
+        IsTrue (is_in_grammar (RepairDue number counts))
     fits h = grind (arith, nat_tests, h)
 due-spelled (RepairDone number ∷ rs) due g h = absurd (some-not-none _ due h refl)
 due-spelled (PutDoneIn id size profile ∷ rs) due g h =
-    due-spelled rs due (spelled-rest (PutDoneIn id size profile) rs g) h
-due-spelled (Version ∷ rs) due g h = due-spelled rs due (spelled-rest Version rs g) h
-due-spelled (Resume next audit ∷ rs) due g h = due-spelled rs due (spelled-rest (Resume next audit) rs g) h
+    due-spelled rs due (grammar-rest (PutDoneIn id size profile) rs g) h
+due-spelled (Version ∷ rs) due g h = due-spelled rs due (grammar-rest Version rs g) h
+due-spelled (Resume next audit ∷ rs) due g h = due-spelled rs due (grammar-rest (Resume next audit) rs g) h
 due-spelled (InEffect id size profile kept ∷ rs) due g h =
-    due-spelled rs due (spelled-rest (InEffect id size profile kept) rs g) h
+    due-spelled rs due (grammar-rest (InEffect id size profile kept) rs g) h
 due-spelled (RepairDue number counts ∷ rs) due g h =
     (let same : record { number = number; counts = counts } ≡ due =
     same_value (Some (record { number = number; counts = counts }))
     (record { number = number; counts = counts }) due refl h in
-    subst (λ (d : Due). IsTrue (is_spelled (RepairDue d.number d.counts))) same
-    (spelled-first (RepairDue number counts) rs g))
+    subst (λ (d : Due). IsTrue (is_in_grammar (RepairDue d.number d.counts))) same
+    (grammar-first (RepairDue number counts) rs g))
 
 -- the number of a due audit fits 64 bits
-pub due-number : (due : Due) → IsTrue (is_spelled (RepairDue due.number due.counts)) → due.number < 2 ^ 64
+pub due-number : (due : Due) → IsTrue (is_in_grammar (RepairDue due.number due.counts)) → due.number < 2 ^ 64
 due-number due h = grind (arith, nat_tests, h)
 
 -- ---- files and their bytes

@@ -5,12 +5,10 @@ use Rattle.std.specs.Prelude.{is_some, IsTrue}
 use Rattle.std.proofs.lemmas.Bool.{false≢true, and_from}
 use Rattle.algebra_laws.proofs.Options.{some-not-none}
 use Rattle.record_defs.specs.Records.{Setup, Record, SetUp, is_setup, is_master, is_in_grammar, largest_journal}
-use Rattle.record_defs.specs.Journal.{text_size}
 use Rattle.record_defs.specs.Table.{setup_of, version_of, files_of}
 use Rattle.record_defs.specs.Acceptance.{AreAccepted}
 use Rattle.record_defs.specs.Areas.{Area, A, other_area, end_in}
 use Rattle.record_defs.proofs.OrderLaws.{few-files_of}
-use Rattle.record_defs.proofs.AreaLaws.{text_size-end}
 use Rattle.machine_defs.specs.Refusals as refusal
 use Rattle.machine_defs.specs.Events.{Outcome, Ready, Refused, Opened, Stopped, Continued}
 use Rattle.machine_defs.specs.States.{State, Doubt, Packing, AreFirst, IsStart, setup_in, journal_end, brought, given_up, continued, Settles}
@@ -20,15 +18,15 @@ use Rattle.machine_defs.proofs.JobLists.{cond_false, same_value, found_none}
 use Rattle.machine_defs.proofs.PinFacts.{setup_same}
 use Rattle.state_laws.specs.Orders.{AreNumbered}
 use Rattle.state_laws.specs.Follows.{AreHeld, MayFollow, MayFollowIn}
-use Rattle.state_laws.specs.Sound.{IsDoubtOf, IsIdle, starts_left, IsWholeJournal, IsSoundJournal, IsSwitchable, IsSound, IsAtRest}
+use Rattle.state_laws.specs.Sound.{IsDoubtOf, IsIdle, starts_left, IsSoundJournal, IsSwitchable, IsSound, IsAtRest}
 use Rattle.state_laws.proofs.NamesTaken.{taken_by, length-names_in}
-use Rattle.state_laws.proofs.Records.{AreSpelled, none-set_up, second-set_up, all-spelled, spelled-more, held-more, first-appended}
+use Rattle.state_laws.proofs.Records.{AreInGrammar, none-set_up, second-set_up, grammar-more, held-more}
 use Rattle.state_laws.proofs.Packs.{journal-same, journal-brought, journal-packed, journal-whole, switched-room}
 
 -- what is kept of a state whatever runs: its records and its journal, with what may be in doubt
 pub record IsKept (w : State) : Type 0 where
   pub accepted : AreAccepted w.records
-  pub spelled : AreSpelled w.records
+  pub spelled : AreInGrammar w.records
   pub files : AreHeld w.bytes w.records
   pub journal : IsSoundJournal w
   pub room : journal_end w ≤ largest_journal
@@ -41,10 +39,10 @@ kept-brought : (w v : State) (r : Record) → v.records ≡ r ∷ w.records → 
     (w.is_switching ≡ true → ⊥) → MayFollowIn w r → IsKept w → IsKept v
 kept-brought w v r er ej ea es eb none still m K = record {
   accepted = subst AreAccepted (sym er) (m.accepted, K.accepted);
-  spelled = subst AreSpelled (sym er) (spelled-more r w.records m.spelled K.spelled);
+  spelled = subst AreInGrammar (sym er) (grammar-more r w.records m.spelled K.spelled);
   files = subst (λ b. AreHeld b v.records) (sym eb)
       (subst (AreHeld w.bytes) (sym er) (held-more w.bytes r w.records m.held K.files));
-  journal = journal-brought w v r er ej ea m.spelled m.in_journal K.journal;
+  journal = journal-brought w v r er ej m.spelled m.in_journal K.journal;
   room = (let e = ap (λ area. end_in area v.journal) ea ∙ ap (end_in w.area) ej in let a = m.room in
       omega (arith, a, e));
   switching = λ e. absurd (still (sym es ∙ e));
@@ -58,11 +56,9 @@ setup-follows w s K none valid = record {
   spelled = valid;
   accepted = cond_false (is_some (setup_of w.records)) _ _ none;
   in_journal = cond_false (is_some (setup_of w.journal)) _ _ (ap is_some K.journal.alike.setup ∙ none);
-  room = (let empty = none-set_up w.records K.accepted none in
-      let W = K.journal.whole (first-appended w.journal K.journal.accepted
-      (K.journal.alike.version ∙ ap version_of empty)) in
-      let e : journal_end w ≡ end_in A [] = ap (λ area. end_in area w.journal) W.area
-      ∙ ap (end_in A) (W.journal ∙ empty) in omega (arith, e));
+  room = (let empty = none-set_up w.journal K.journal.accepted (ap is_some K.journal.alike.setup ∙ none) in
+      let e : journal_end w ≡ end_in A [] = ap (λ area. end_in area w.journal) (K.journal.first empty)
+      ∙ ap (end_in A) empty in omega (arith, e));
   held = tt;
 }
 
@@ -104,42 +100,41 @@ module _ (limit : ℕ) where
     doubt = K.doubt;
   }
 
-  -- a state over a whole journal in which nothing is in doubt
-  whole-kept : (w : State) → IsWholeJournal w → AreAccepted w.records → AreSpelled w.records →
-      text_size w.records ≤ largest_journal → AreHeld w.bytes w.records → w.doubt ≡ None → IsKept w
-  whole-kept w W accepted spelled room files none = record {
-    accepted = accepted;
-    spelled = spelled;
-    files = files;
-    journal = journal-whole w W accepted spelled;
-    room = (let e = ap (λ area. end_in area w.journal) W.area
-        ∙ (ap (end_in A) W.journal ∙ text_size-end w.records) in omega (arith, e, room));
-    switching = λ e. absurd (false≢true (sym W.unswitched ∙ e));
-    doubt = λ d h. absurd (some-not-none w.doubt d h none);
-  }
-
   -- a state at rest is sound
   pub rest-sound : (w : State) → IsAtRest w → IsSound limit w
-  rest-sound w r = idle-sound w r.idle
-      (whole-kept w r.whole r.accepted (all-spelled w.records r.in_grammar) r.room r.files r.undoubted)
-      r.set_up r.handed (λ o. r.undoubted)
+  rest-sound w r = idle-sound w r.idle (record {
+    accepted = r.accepted;
+    spelled = r.in_grammar;
+    files = r.files;
+    journal = r.journal;
+    room = r.room;
+    switching = λ e. absurd (false≢true (sym r.unswitched ∙ e));
+    doubt = λ d h. absurd (some-not-none w.doubt d h r.undoubted);
+  }) r.set_up r.handed (λ o. r.undoubted)
 
   first-kept : (w : State) → IsStart w → IsKept w
-  first-kept w r = whole-kept w
-      (record { journal = r.journal; area = r.first_area; unswitched = r.unswitched }) (accepted r.records)
-      (spelled r.records) (room r.records) (held r.records) r.doubt
+  first-kept w r = record {
+    accepted = accepted r.records;
+    spelled = spelled r.records;
+    files = held r.records;
+    journal = journal-whole w r.journal (λ e. r.first_area) (accepted r.records) (spelled r.records);
+    room = (let e = ap (λ area. end_in area w.journal) r.first_area ∙ ap (end_in A) r.journal in
+        let l = room r.records in omega (arith, e, l));
+    switching = λ e. absurd (false≢true (sym r.unswitched ∙ e));
+    doubt = λ d h. absurd (some-not-none w.doubt d h r.doubt);
+  }
     where
       accepted : AreFirst w.records → AreAccepted w.records
       accepted (inl e) = subst AreAccepted (sym e) tt
       accepted (inr (s, valid, e)) = subst AreAccepted (sym e) (refl, tt)
 
-      spelled : AreFirst w.records → AreSpelled w.records
-      spelled (inl e) = subst AreSpelled (sym e) refl
-      spelled (inr (s, valid, e)) = subst AreSpelled (sym e) (spelled-more (SetUp s) [] valid refl)
+      spelled : AreFirst w.records → AreInGrammar w.records
+      spelled (inl e) = subst AreInGrammar (sym e) refl
+      spelled (inr (s, valid, e)) = subst AreInGrammar (sym e) (grammar-more (SetUp s) [] valid refl)
 
-      room : AreFirst w.records → text_size w.records ≤ largest_journal
-      room (inl e) = (let f = ap text_size e in omega (arith, f))
-      room (inr (s, valid, e)) = (let f = ap text_size e in omega (arith, f))
+      room : AreFirst w.records → end_in A w.records ≤ largest_journal
+      room (inl e) = (let f = ap (end_in A) e in omega (arith, f))
+      room (inr (s, valid, e)) = (let f = ap (end_in A) e in omega (arith, f))
 
       held : AreFirst w.records → AreHeld w.bytes w.records
       held (inl e) = subst (AreHeld w.bytes) (sym e) (λ name file h. absurd (some-not-none _ file h refl))
@@ -172,7 +167,7 @@ module _ (limit : ℕ) where
         v.is_open ≡ false → IsKept v
     kept-closed v er ej ea es eb ed none closed = record {
       accepted = subst AreAccepted (sym er) S.accepted;
-      spelled = subst AreSpelled (sym er) S.spelled;
+      spelled = subst AreInGrammar (sym er) S.spelled;
       files = subst (λ b. AreHeld b v.records) (sym eb) (subst (AreHeld old.bytes) (sym er) S.files);
       journal = journal-same old v er ej ea S.journal;
       room = (let e = ap (λ area. end_in area v.journal) ea ∙ ap (end_in old.area) ej in let a = S.room in

@@ -1,21 +1,18 @@
 -- The record that a job writes with its next action may come into effect next.
-use Rattle.std.proofs.Common.{◌≡◌, ℕ, ◌+◌, ◌-◌, ◌<◌, ◌≤◌, ◌==◌, ◌^◌, Bool, true, false, not, List, [], ◌∷◌, ◌++◌, length, drop, Option, Some, None, refl, ap, sym, subst, ◌∙◌, inl, inr, arith, sum_by}
+use Rattle.std.proofs.Common.{◌≡◌, ℕ, ◌+◌, ◌-◌, ◌<◌, ◌≤◌, ◌==◌, ◌^◌, Bool, true, false, not, List, [], ◌∷◌, ◌++◌, length, drop, Option, Some, None, refl, ap, sym, subst, ◌∙◌, inl, inr, arith}
 use Rattle.std.specs.Prelude.{is_some, IsTrue, nat_lt, slice_get}
 use Rattle.std.specs.List.{list_all}
 use Rattle.std.proofs.lemmas.Bool.{cases_Bool, cases_lt, false≢true, and_from, eq-eqb, eqb-true, ne_eqb, lt-ltb}
 use Rattle.std.proofs.lemmas.Bool.Decides.{nat_tests}
 use Rattle.algebra_laws.specs.Lists.{Each}
 use Rattle.column_defs.specs.Verdicts.{Sums}
-use Rattle.record_defs.specs.Records.{Setup, Record, SetUp, PutStart, PutDone, Drop, AuditStart, AuditDone, RepairDone, PutDoneIn, Version, is_name, is_spelled, is_in_grammar, record_size, largest_file, largest_journal, most_files, all_profiles}
-use Rattle.record_defs.specs.Journal.{text_size}
+use Rattle.record_defs.specs.Records.{Setup, Record, SetUp, PutStart, PutDone, Drop, AuditStart, AuditDone, RepairDone, PutDoneIn, Version, is_name, is_in_grammar, record_size, largest_file, largest_journal, most_files, all_profiles}
 use Rattle.record_defs.specs.Table.{File, setup_of, version_of, profile_in, next_id, next_audit, started_as, file_of, files_of, is_same_name, running_audit, due_of}
 use Rattle.record_defs.specs.Acceptance as no
 use Rattle.record_defs.specs.Acceptance.{refused, put_done_refused, is_crowded}
 use Rattle.record_defs.specs.Packed.{AreAlike}
-use Rattle.record_defs.specs.Areas.{end_in}
 use Rattle.record_defs.proofs.FilesLaws.{same-eq, same-refl}
 use Rattle.record_defs.proofs.OrderLaws.{next_id-fits, next_audit-fits}
-use Rattle.record_defs.proofs.AreaLaws.{text_size-end}
 use Rattle.machine_defs.specs.Jobs.{Kind, PutJob, GetJob, DropJob, AuditJob, RepairJob, UpgradeJob, aim_of, Job, job_of}
 use Rattle.machine_defs.specs.Setups.{setup_or_none}
 use Rattle.machine_defs.specs.Actions.{WriteBody, End, append_actions, actions_of, appends_left, actions_left}
@@ -33,11 +30,11 @@ use Rattle.machine_defs.proofs.JobLists.{cond_true, cond_false, found_none}
 use Rattle.state_laws.specs.Orders.{moves_made, IsInOrder}
 use Rattle.state_laws.specs.Follows.{IsHeld, BringsHeld, MayFollowIn}
 use Rattle.state_laws.specs.SoundJobs.{IsWish, IsReady, IsSoundJob, HasDrawn}
-use Rattle.state_laws.specs.Sound.{starts_left, IsUnpacked, IsSound}
+use Rattle.state_laws.specs.Sound.{starts_left, IsSound}
 use Rattle.state_laws.proofs.Orders.{in_order-step, next-left, appends-cons, appends_in, appends-order, drop_rest, drop-body}
 use Rattle.state_laws.proofs.JobLists.{sum-member}
 use Rattle.state_laws.proofs.NamesTaken.{fewer, once-files, listed-files_of, listed-taken, length-names_in, are_put, puts_name, taken_by}
-use Rattle.state_laws.proofs.Records.{AreInGrammar, AreAppended, all-grammar, next_id-le, next_audit-le, first-appended, setup-spelled, file-plain}
+use Rattle.state_laws.proofs.Records.{AreAppended, next_id-le, next_audit-le, first-appended, setup-spelled, file-plain}
 use Rattle.state_laws.proofs.Packs.{file-alike, crowded-alike}
 use Rattle.state_laws.proofs.SumsLaws.{AreSmall, sums-small}
 use Rattle.state_laws.proofs.Rooms.{room_of, room-step, put-writes_first, put-writes_later, audit-writes_first, audit-writes_later}
@@ -99,18 +96,18 @@ crowded-short : (rs : List Record) (name : List ℕ) → length (files_of rs) + 
 crowded-short rs name l = grind (arith, nat_tests, l)
 
 spelled-start : (id : ℕ) (name : List ℕ) → id < 2 ^ 64 → IsTrue (is_name name) →
-    IsTrue (is_spelled (PutStart id name))
+    IsTrue (is_in_grammar (PutStart id name))
 spelled-start id name l h = and_from (nat_lt id (2 ^ 64)) (is_name name) (lt-ltb id (2 ^ 64) l) h
 
 spelled-done : (version id size profile : ℕ) → id < 2 ^ 64 → size ≤ largest_file → profile < all_profiles →
-    IsTrue (is_spelled (done_record version id size profile))
-spelled-done version id size profile l h p = by_version version id size profile (λ r. IsTrue (is_spelled r))
+    IsTrue (is_in_grammar (done_record version id size profile))
+spelled-done version id size profile l h p = by_version version id size profile (λ r. IsTrue (is_in_grammar r))
     (grind (arith, nat_tests, l, h, p)) (grind (arith, nat_tests, l, h))
 
-spelled-audit_start : (number : ℕ) → number < 2 ^ 64 → IsTrue (is_spelled (AuditStart number))
+spelled-audit_start : (number : ℕ) → number < 2 ^ 64 → IsTrue (is_in_grammar (AuditStart number))
 spelled-audit_start number l = lt-ltb number (2 ^ 64) l
 
-spelled-repair : (number : ℕ) → number < 2 ^ 64 → IsTrue (is_spelled (RepairDone number))
+spelled-repair : (number : ℕ) → number < 2 ^ 64 → IsTrue (is_in_grammar (RepairDone number))
 spelled-repair number l = lt-ltb number (2 ^ 64) l
 
 spelled-counts : (counts : List ℕ) → Each (λ count. count ≤ 2 ^ 16) counts →
@@ -121,7 +118,7 @@ spelled-counts (c ∷ cs) h = and_from (nat_lt c (2 ^ 32)) (list_all (λ count. 
 
 spelled-audit_done : (number undecided : ℕ) (counts : List ℕ) → number < 2 ^ 64 → undecided ≤ 2 ^ 16 →
     4 ≤ length counts → length counts ≤ 16 → Each (λ count. count ≤ 2 ^ 16) counts →
-    IsTrue (is_spelled (AuditDone number undecided counts))
+    IsTrue (is_in_grammar (AuditDone number undecided counts))
 spelled-audit_done number undecided counts a b c d e =
     grind (arith, nat_tests, a, b, c, d, spelled-counts counts e)
 
@@ -165,10 +162,6 @@ starts-on job next kind place = elim (cases_lt next.place 4) [
         by AuditJob e = rw (kind ∙ e, e) refl
         by RepairJob e = rw (kind ∙ e, e) refl
         by UpgradeJob e = rw (kind ∙ e, e) refl
-
--- the end of an unpacked journal is that of the history's text
-pub unpacked-end : (w : State) → IsUnpacked w → journal_end w ≡ text_size w.records
-unpacked-end w W = (λ i. end_in (W.area i) (W.journal i)) ∙ text_size-end w.records
 
 module _ (limit : ℕ) (w : State) (S : IsSound limit w) where
   -- a job runs while a vault is open
@@ -220,7 +213,7 @@ module _ (limit : ℕ) (w : State) (S : IsSound limit w) where
 
   module _ (number : ℕ) (job : Job) (runs : job_of w.jobs number ≡ Some job) where
     abbrev Good : Record → Type 0
-    Good entry = IsTrue (is_spelled entry) × (refused w.records entry ≡ None) ×
+    Good entry = IsTrue (is_in_grammar entry) × (refused w.records entry ≡ None) ×
         (refused w.journal entry ≡ None) × BringsHeld w.bytes entry
 
     J : IsSoundJob (setup_in w) w.records w.bytes (moves_made w.append number) job
@@ -448,30 +441,18 @@ module _ (limit : ℕ) (w : State) (S : IsSound limit w) where
 
   module _ (appended : AreAppended w.journal) where
     -- while nothing is packed the disk holds the whole history
-    pub unpacked-now : IsUnpacked w
+    pub unpacked-now : w.journal ≡ w.records
     unpacked-now = S.journal.whole appended
-
-    -- while nothing is packed each record is in the grammar of today
-    pub grammar-now : AreInGrammar w.records
-    grammar-now = all-grammar w.records
-        (subst (λ (rs : List Record). AreAppended rs) unpacked-now.journal appended) S.spelled
-
-    -- while nothing is packed the journal ends where the text of the history does
-    pub end-now : journal_end w ≡ text_size w.records
-    end-now = unpacked-end w unpacked-now
-
-    -- while nothing is packed the journal has room for all that running jobs have still to write
-    pub room-now : text_size w.records + sum_by (reserved (version_of w.records) (setup_in w)) w.jobs
-        ≤ largest_journal
-    room-now = (let r = S.room in let e = end-now in omega (arith, r, e))
 
     -- while nothing is packed the next object number is at most the largest length of a journal
     pub ids-small : next_id w.records ≤ largest_journal
-    ids-small = (let a = next_id-le w.records grammar-now in let b = room-now in omega (arith, a, b))
+    ids-small = (let a = next_id-le w.journal appended in let e = S.journal.alike.id in let b = S.room in
+        omega (arith, a, e, b))
 
     -- while nothing is packed the next audit number is at most the largest length of a journal
     pub audits-small : next_audit w.records ≤ largest_journal
-    audits-small = (let a = next_audit-le w.records grammar-now in let b = room-now in omega (arith, a, b))
+    audits-small = (let a = next_audit-le w.journal appended in let e = S.journal.alike.audit in
+        let b = S.room in omega (arith, a, e, b))
 
   -- ---- until the journal has its second version
 

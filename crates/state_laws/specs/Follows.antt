@@ -9,7 +9,7 @@
 --                                           file that it brings in has its bytes
 --   MayFollowIn w entry                  == so it may in a state
 use Rattle.std.specs.Prelude.{◌≡◌, ℕ, ◌+◌, ◌≤◌, IsTrue, List, length, None, Some}
-use Rattle.record_defs.specs.Records.{Record, SetUp, PutStart, PutDone, Drop, AuditStart, AuditDone, RepairDone, PutDoneIn, Version, Resume, InEffect, RepairDue, is_spelled, record_size, largest_journal}
+use Rattle.record_defs.specs.Records.{Record, SetUp, PutStart, PutDone, Drop, AuditStart, AuditDone, RepairDone, PutDoneIn, Version, Resume, InEffect, RepairDue, is_in_grammar, record_size, largest_journal}
 use Rattle.record_defs.specs.Table.{File, file_of}
 use Rattle.record_defs.specs.Acceptance.{refused}
 use Rattle.machine_defs.specs.Events.{AreBytes}
@@ -41,7 +41,7 @@ AreHeld bytes rs =
 
 -- a record may come into effect on top of a history and of the journal that the disk holds
 pub record MayFollow (rs journal : List Record) (end : ℕ) (bytes : ℕ → List ℕ) (entry : Record) : Type 0 where
-  pub spelled : IsTrue (is_spelled entry)
+  pub spelled : IsTrue (is_in_grammar entry)
   pub accepted : refused rs entry ≡ None
   pub in_journal : refused journal entry ≡ None
   pub room : end + (1 + record_size entry) ≤ largest_journal

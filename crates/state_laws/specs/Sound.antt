@@ -11,19 +11,16 @@
 --   starts_left job          == how many object numbers a job has still to draw: 1 for a put whose first
 --                               append is not done
 --   IsLimit limit            == a limit of running jobs
---   IsUnpacked w             == what the disk holds is the whole history, in area A
---   IsWholeJournal w         == the same, and the byte that names the area is not in doubt
 --   IsSoundJournal w         == the journal that the disk holds is accepted, and its table is that of the
---                               history; with no packed record it is the whole history
+--                               history; with no packed record it is the whole history, and with no record it
+--                               is in area A
 --   IsSwitchable w           == what holds while the byte that names the area may name the other one
 --   IsSound limit w          == a sound state, with this limit of running jobs
---   IsAtRest w               == a state in which nothing runs, is appended or in doubt, over the whole
---                               history, of records that a journal may hold and that the fold accepts, whose
---                               files have their bytes
+--   IsAtRest w               == a state in which nothing runs, is appended or in doubt, over a journal and a
+--                               history that the fold accepts, whose files have their bytes
 use Rattle.std.specs.Prelude.{◌≡◌, ℕ, ◌+◌, ◌-◌, ◌^◌, ◌<◌, ◌≤◌, ◌==◌, Bool, true, false, IsTrue, List, [], ◌∷◌, length, sum_by, Option, None, Some, if◌then◌else◌}
 use Rattle.std.specs.List.{list_all}
-use Rattle.record_defs.specs.Records.{is_spelled, is_in_grammar, is_appended, largest_journal, most_files}
-use Rattle.record_defs.specs.Journal.{text_size}
+use Rattle.record_defs.specs.Records.{is_in_grammar, is_appended, largest_journal, most_files}
 use Rattle.record_defs.specs.Table.{version_of, next_id, next_audit, started_as}
 use Rattle.record_defs.specs.Acceptance.{AreAccepted}
 use Rattle.record_defs.specs.Packed.{AreAlike}
@@ -80,26 +77,16 @@ starts_left job = by_kind job.kind
 abbrev pub IsLimit : ℕ → Type 0
 IsLimit limit = (1 ≤ limit) × (limit ≤ 31)
 
--- what the disk holds is the whole history, in area A
-pub record IsUnpacked (w : State) : Type 0 where
-  pub journal : w.journal ≡ w.records
-  pub area : w.area ≡ A
-
--- the disk holds the whole history, in area A, and the byte that names the area is not in doubt
-pub record IsWholeJournal (w : State) : Type 0 where
-  pub journal : w.journal ≡ w.records
-  pub area : w.area ≡ A
-  pub unswitched : w.is_switching ≡ false
-
 -- the journal that the disk holds is accepted, its table is that of the history, and what is started in it is
--- so in the history; with no packed record it is the whole history
+-- so in the history; with no packed record it is the whole history, and with no record it is in area A
 pub record IsSoundJournal (w : State) : Type 0 where
   pub accepted : AreAccepted w.journal
-  pub spelled : IsTrue (list_all is_spelled w.journal)
+  pub spelled : IsTrue (list_all is_in_grammar w.journal)
   pub alike : AreAlike w.journal w.records
   pub started : (id : ℕ) (name : List ℕ) → started_as w.journal id ≡ Some name
       → started_as w.records id ≡ Some name
-  pub whole : IsTrue (list_all is_appended w.journal) → IsUnpacked w
+  pub whole : IsTrue (list_all is_appended w.journal) → w.journal ≡ w.records
+  pub first : w.journal ≡ [] → w.area ≡ A
 
 -- while the byte that names the area may name the other one, the journal has its second version, nothing is
 -- in doubt and no job runs; where a vault goes on, it is a pack after its third move that does
@@ -113,7 +100,7 @@ pub record IsSwitchable (w : State) : Type 0 where
 -- a sound state
 pub record IsSound (limit : ℕ) (w : State) : Type 0 where
   pub accepted : AreAccepted w.records
-  pub spelled : IsTrue (list_all is_spelled w.records)
+  pub spelled : IsTrue (list_all is_in_grammar w.records)
   pub journal : IsSoundJournal w
   pub room : journal_end w + sum_by (reserved (version_of w.records) (setup_in w)) w.jobs ≤ largest_journal
   pub files : AreHeld w.bytes w.records
@@ -149,10 +136,11 @@ pub record IsSound (limit : ℕ) (w : State) : Type 0 where
 pub record IsAtRest (w : State) : Type 0 where
   pub idle : IsIdle w
   pub undoubted : w.doubt ≡ None
-  pub whole : IsWholeJournal w
+  pub unswitched : w.is_switching ≡ false
+  pub journal : IsSoundJournal w
   pub accepted : AreAccepted w.records
   pub in_grammar : IsTrue (list_all is_in_grammar w.records)
-  pub room : text_size w.records ≤ largest_journal
+  pub room : journal_end w ≤ largest_journal
   pub files : AreHeld w.bytes w.records
   pub set_up : w.is_open ≡ true → IsSetUp w
   pub handed : w.is_open ≡ true → (setup_in w).n ≤ w.handed

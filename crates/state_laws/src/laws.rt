@@ -1,10 +1,9 @@
 //! Laws of sound states: events leave them sound, and what they give to a core and a vault.
-ghost use Rattle.std.specs.Prelude.{◌≡◌, ℕ, ◌+◌, ◌^◌, ◌<◌, ◌≤◌, true, false, IsTrue, List, [], ◌∷◌, length, sum_by, None, Some};
+ghost use Rattle.std.specs.Prelude.{◌≡◌, ℕ, ◌^◌, ◌<◌, ◌≤◌, true, false, IsTrue, List, [], ◌∷◌, length, None, Some};
 ghost use Rattle.std.specs.List.{All, list_all};
 ghost use Rattle.hail_field.specs.Shape.{IsShape};
 ghost use Rattle.column_defs.specs.Verdicts.{Sums};
-ghost use Rattle.record_defs.specs.Records.{Record, Setup, SetUp, Version, Resume, is_name, is_appended, is_in_grammar, record_size, largest_file, largest_journal, most_files};
-ghost use Rattle.record_defs.specs.Journal.{text_size};
+ghost use Rattle.record_defs.specs.Records.{Record, Setup, SetUp, Version, Resume, is_name, is_appended, is_in_grammar, largest_file, largest_journal, most_files};
 ghost use Rattle.record_defs.specs.Table.{File, setup_of, version_of, next_id, next_audit, files_of};
 ghost use Rattle.record_defs.specs.Acceptance.{AreAccepted};
 ghost use Rattle.record_defs.specs.Packed.{AreAlike};
@@ -13,8 +12,7 @@ ghost use Rattle.record_defs.specs.Examples.{four};
 ghost use Rattle.machine_defs.specs.Jobs.{Kind, aim_of, Job, job_of};
 ghost use Rattle.machine_defs.specs.Actions.{Action, WriteBody};
 ghost use Rattle.machine_defs.specs.Events.{Event, Outcome, IsSpelled, AreBytes};
-ghost use Rattle.machine_defs.specs.States.{State, Append, IsStart, setup_in, file_in, journal_end};
-ghost use Rattle.machine_defs.specs.Space.{reserved};
+ghost use Rattle.machine_defs.specs.States.{State, Append, IsStart, setup_in, file_in};
 ghost use Rattle.machine_defs.specs.Sights.{sight_of, are_numbers_used_up};
 ghost use Rattle.machine_defs.specs.Audits.{HasSums};
 ghost use Rattle.machine_defs.specs.Appends.{Writes, IsAt};
@@ -25,7 +23,7 @@ ghost use Rattle.machine_defs.specs.Examples.{set_up};
 ghost use Rattle.state_laws.specs.Orders.{moves_before};
 ghost use Rattle.state_laws.specs.Follows.{MayFollowIn};
 ghost use Rattle.state_laws.specs.SoundJobs.{IsPlainJob};
-ghost use Rattle.state_laws.specs.Sound.{IsLimit, IsUnpacked, IsSound, IsAtRest};
+ghost use Rattle.state_laws.specs.Sound.{IsLimit, IsSound, IsAtRest};
 
 /// A state before the first event is sound.
 pub fn start_is_sound()
@@ -134,20 +132,11 @@ pub fn journals_are_alike()
         → IsRun limit start ms → AreAlike (now start ms).journal (now start ms).records }
 {}
 
-/// While no record of a journal is a packed one, the disk holds the whole history, in area A and with that
-/// text's end, and each record is in the grammar; and so it is with all that the grammar of today holds. Until
-/// the second version nothing is packed, and each job and each file that it works on has the setup's profile.
+/// While no record of a journal is a packed one, the disk holds the whole history. Until the second version
+/// nothing is packed, and each job and each file that it works on has the setup's profile.
 pub fn unpacked_journals_are_whole()
     ensures whole { (limit : ℕ) (w : State) → IsSound limit w → IsTrue (list_all is_appended w.journal)
-        → IsUnpacked w }
-    ensures end { (limit : ℕ) (w : State) → IsSound limit w → IsTrue (list_all is_appended w.journal)
-        → journal_end w ≡ text_size w.records }
-    ensures in_grammar { (limit : ℕ) (w : State) → IsSound limit w → IsTrue (list_all is_appended w.journal)
-        → IsTrue (list_all is_in_grammar w.records) }
-    ensures room { (limit : ℕ) (w : State) → IsSound limit w → IsTrue (list_all is_appended w.journal)
-        → text_size w.records + sum_by (reserved (version_of w.records) (setup_in w)) w.jobs
-        ≤ largest_journal }
-    ensures held { (rs : List Record) → IsTrue (list_all is_in_grammar rs) → IsTrue (list_all is_appended rs) }
+        → w.journal ≡ w.records }
     ensures first { (limit : ℕ) (w : State) → IsSound limit w → version_of w.records ≡ 1
         → IsTrue (list_all is_appended w.journal) }
     ensures files { (limit : ℕ) (w : State) (name : List ℕ) (file : File) → IsSound limit w
