@@ -9,6 +9,7 @@ use Rattle.std.specs.Prelude.{◌≡◌, ◌≢◌, ◌⊎◌, ℕ, ◌<◌, ◌
 use Rattle.device_defs.specs.Cells.{Cells}
 use Rattle.record_defs.specs.Records.{Record}
 use Rattle.record_defs.specs.Journal.{StandsFor}
+use Rattle.record_defs.specs.Areas.{Area}
 use Rattle.record_defs.specs.Reading.{HasNoSetup}
 use Rattle.record_defs.specs.Acceptance.{AreAccepted}
 use Rattle.opening_defs.specs.Journals.{journal_read, IsRead, IsBadStart, IsBadInit, BeginsWithSetup}
@@ -34,7 +35,7 @@ pub data AnsweredFor (cells : Cells) (old : Seen) (end : Ending) : Type 0 where
   not_set_up : HasNoSetup (journal_read cells) → end.status ≡ 9 → AnsweredFor cells old end
   bad_journal : (at : ℕ) → IsBadStart (journal_read cells) at → end.status ≡ 8 → end.at ≡ at
       → AnsweredFor cells old end
-  too_few_providers : (records : List Record) → IsRead old.disk records
+  too_few_providers : (area : Area) (records : List Record) → IsRead old.disk area records
       → length old.providers < (setup_in_effect records).n → end.status ≡ 22 →
       AnsweredFor cells old end
   opened : (records : List Record) → IsOpened old records → AnsweredFor cells old end

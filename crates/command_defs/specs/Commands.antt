@@ -2,7 +2,7 @@
 --
 --   AnswersRow of Row               == `row`; it looks at no device but the sink
 --   AnswersInit of Inits            == `init`
---   MayBeWhole name bytes own records answers
+--   MayBeWhole name bytes own area records answers
 --                                   == the job of a put has ended with its last record in effect, or in doubt
 --   AnswersPut name own old new end == `put`, with the profile that it names: it opens the store, and reads its
 --                                      source stripe by stripe, the first one before its job begins
@@ -10,14 +10,16 @@
 --                                      run their job
 --   AnswersList old new end         == `list`: it opens the store and writes the files in effect
 --   AnswersScrub of Scrubs          == `scrub`
+--   AnswersPack of Packs            == `pack`
 --   Answers command old new end     == how a command ends, by its words
 --   IsUsage old new end             == words that are no form of a command: status 2, or that of no memory
 use Rattle.std.specs.Prelude.{◌≡◌, ℕ, ◌+◌, ◌≤◌, false, IsTrue, List, [], length, Option, None, Some, IfSome}
 use Rattle.device_defs.specs.Faults.{Rose}
 use Rattle.record_defs.specs.Records.{Record, largest_file}
+use Rattle.record_defs.specs.Areas.{Area}
 use Rattle.record_defs.specs.Table.{files_of}
 use Rattle.machine_defs.specs.Jobs.{Kind, PutJob, GetJob, DropJob, AuditJob, RepairJob, UpgradeJob}
-use Rattle.command_defs.specs.Forms.{Command, RowOf, InitWith, PutUnder, PutAt, GetOf, DropOf, ListAll, AuditAll, RepairDue, UpgradeJournal, ScrubAll}
+use Rattle.command_defs.specs.Forms.{Command, RowOf, InitWith, PutUnder, PutAt, GetOf, DropOf, ListAll, AuditAll, RepairDue, UpgradeJournal, ScrubAll, PackJournal}
 use Rattle.command_defs.specs.Seen.{Seen, Ending, IsSynced, SameSource, ReadsAtMost, ReadsFront, IsRefused, sinking}
 use Rattle.command_defs.specs.Sinking.{Refuses, WritesLine}
 use Rattle.command_defs.specs.Opens.{IsOpened, Unstarted}
@@ -29,6 +31,7 @@ use Rattle.command_defs.specs.Jobs.{AnswersJob}
 use Rattle.command_defs.specs.GivenUp.{put_stripe, StopsReading, PartRuns, PartLeft}
 use Rattle.command_defs.specs.Inits.{AnswersInit}
 use Rattle.command_defs.specs.Scrubs.{AnswersScrub}
+use Rattle.command_defs.specs.Packs.{AnswersPack}
 
 -- no device but the sink was touched, and nothing was heard
 pub record TouchesSink (old new : Seen) (end : Ending) : Type 0 where
@@ -40,11 +43,11 @@ pub record TouchesSink (old new : Seen) (end : Ending) : Type 0 where
   pub heard : end.heard ≡ []
 
 -- the job of a put has ended with its last record in effect, or in doubt
-abbrev pub MayBeWhole : (name bytes : List ℕ) (own : Option ℕ) (records : List Record) {old new : Seen}
-    {end : Ending} → AnswersJob (PutJob name bytes) own records old new end → Type 0
-MayBeWhole name bytes own records (AnswersJob.refused why is synced refused) = ⊥
-MayBeWhole name bytes own records (AnswersJob.no_memory synced refused) = ⊥
-MayBeWhole name bytes own records (AnswersJob.ended answer unrefused runs left ends) =
+abbrev pub MayBeWhole : (name bytes : List ℕ) (own : Option ℕ) (area : Area) (records : List Record)
+    {old new : Seen} {end : Ending} → AnswersJob (PutJob name bytes) own area records old new end → Type 0
+MayBeWhole name bytes own area records (AnswersJob.refused why is synced refused) = ⊥
+MayBeWhole name bytes own area records (AnswersJob.no_memory synced refused) = ⊥
+MayBeWhole name bytes own area records (AnswersJob.ended answer unrefused runs left ends) =
     MayHaveEnd records left.after left.doubt name (length bytes) own
 
 -- A `put`, with the profile that it names; where there is none of its number, the source is not read. The job
@@ -60,22 +63,24 @@ pub data AnswersPut (name : List ℕ) (own : Option ℕ) (old new : Seen) (end :
       → AnswersPut name own old new end
   no_memory : ReadsAtMost (largest_file + 1) old.source new.source → IsRefused 70 0 old new end
       → AnswersPut name own old new end
-  begun : (records : List Record) (bytes : List ℕ) → IsOpened old records → is_unknown own ≡ false
+  begun : (records : List Record) (bytes : List ℕ) → (opened : IsOpened old records)
+      → is_unknown own ≡ false
       → ReadsFront old.source new.source bytes → length bytes ≤ largest_file →
-      (answers : AnswersJob (PutJob name bytes) own records old new end)
-      → (MayBeWhole name bytes own records answers → IfSome new.source (λ left. left ≡ []))
+      (answers : AnswersJob (PutJob name bytes) own opened.area records old new end)
+      → (MayBeWhole name bytes own opened.area records answers → IfSome new.source (λ left. left ≡ []))
       → AnswersPut name own old new end
-  given_up : (records : List Record) (bytes : List ℕ) → IsOpened old records → is_unknown own ≡ false
-      → refusal_over records (PutJob name bytes) own ≡ None →
+  given_up : (records : List Record) (bytes : List ℕ) → (opened : IsOpened old records)
+      → is_unknown own ≡ false → refusal_over opened.area records (PutJob name bytes) own ≡ None →
       StopsReading (put_stripe records own) bytes old new end
-      → PartRuns records name bytes own old new → PartLeft records name bytes own old new
+      → PartRuns opened.area records name bytes own old new
+      → PartLeft opened.area records name bytes own old new
       → AnswersPut name own old new end
 
 -- a command that runs a job and reads no source
 pub data AnswersAlone (kind : Kind) (old new : Seen) (end : Ending) : Type 0 where
   unstarted : Unstarted old new end → AnswersAlone kind old new end
-  begun : (records : List Record) → IsOpened old records → AnswersJob kind None records old new end
-      → AnswersAlone kind old new end
+  begun : (records : List Record) → (opened : IsOpened old records)
+      → AnswersJob kind None opened.area records old new end → AnswersAlone kind old new end
 
 -- the files in effect are written, or a part of them
 pub record ListsFiles (records : List Record) (old new : Seen) (end : Ending) : Type 0 where
@@ -106,6 +111,7 @@ Answers AuditAll old new end = AnswersAlone AuditJob old new end × SameSource o
 Answers RepairDue old new end = AnswersAlone RepairJob old new end × SameSource old new
 Answers UpgradeJournal old new end = AnswersAlone UpgradeJob old new end × SameSource old new
 Answers ScrubAll old new end = AnswersScrub old new end × SameSource old new
+Answers PackJournal old new end = AnswersPack old new end × SameSource old new
 
 -- the words are no command
 pub record IsUsage (old new : Seen) (end : Ending) : Type 0 where

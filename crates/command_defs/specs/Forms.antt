@@ -5,7 +5,7 @@
 --                                                  profile, rounds, picks, tolerance
 --   IsPutForm words name, IsGetForm, IsDropForm == the words are the command and a name, whatever it is
 --   IsPutAtForm words name profile              == `put`, a name and a number below 256
---   IsListForm words, IsAuditForm, IsRepairForm, IsUpgradeForm, IsScrubForm
+--   IsListForm words, IsAuditForm, IsRepairForm, IsUpgradeForm, IsScrubForm, IsPackForm
 --                                               == the one word is the command
 --   Command                                     == a command as plain data
 --   IsForm words command                        == the words spell the command
@@ -89,6 +89,10 @@ IsUpgradeForm words = IsBareForm (codes "upgrade") words
 abbrev pub IsScrubForm : List (String Global) → Type 0
 IsScrubForm words = IsBareForm (codes "scrub") words
 
+-- `pack`
+abbrev pub IsPackForm : List (String Global) → Type 0
+IsPackForm words = IsBareForm (codes "pack") words
+
 -- a command
 pub data Command : Type 0 where
   RowOf : (n l b : ℕ) (seen : List (Option ℕ)) → Command
@@ -102,6 +106,7 @@ pub data Command : Type 0 where
   RepairDue : Command
   UpgradeJournal : Command
   ScrubAll : Command
+  PackJournal : Command
 
 -- the words spell a command
 abbrev pub IsForm : List (String Global) → Command → Type 0
@@ -116,3 +121,4 @@ IsForm words AuditAll = IsAuditForm words
 IsForm words RepairDue = IsRepairForm words
 IsForm words UpgradeJournal = IsUpgradeForm words
 IsForm words ScrubAll = IsScrubForm words
+IsForm words PackJournal = IsPackForm words

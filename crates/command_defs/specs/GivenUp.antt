@@ -6,10 +6,10 @@
 --                                        stripes; then a read failed, or they were more than a file may have
 --   steps_of_part records own bytes   == how many steps store all stripes of these bytes: four moves, and a
 --                                        store of each stripe on each provider
---   PartRuns records name bytes own old new
+--   PartRuns area records name bytes own old new
 --                                     == the job of a put of these bytes ran alone over these records and
 --                                        devices, as a run of the machine that makes these steps and no more
---   PartLeft records name bytes own old new
+--   PartLeft area records name bytes own old new
 --                                     == what it left: its start is in effect, and each stripe of these bytes
 --                                        is stored on every provider, under a number that is not used again
 --
@@ -22,17 +22,17 @@ use Rattle.device_defs.specs.Images.{EachImage}
 use Rattle.device_defs.specs.Told.{then_told}
 use Rattle.record_defs.specs.Records.{Record, PutStart, largest_file}
 use Rattle.record_defs.specs.Table.{next_id}
-use Rattle.record_defs.specs.Journal.{StandsOrIsEmpty}
+use Rattle.record_defs.specs.Areas.{Area, StandsActive}
 use Rattle.machine_defs.specs.Jobs.{PutJob}
 use Rattle.machine_defs.specs.Begins.{chosen}
 use Rattle.machine_defs.specs.Events.{AreBytes}
 use Rattle.machine_defs.specs.Setups.{profiled, object_of, stripes_of}
 use Rattle.machine_defs.specs.Stands.{StandsForState}
 use Rattle.machine_defs.specs.States.{State}
-use Rattle.opening_defs.specs.Opened.{AreHanded, IsOpenedOver}
+use Rattle.opening_defs.specs.Opened.{AreHanded, IsJustOpened}
 use Rattle.command_defs.specs.Seen.{Seen, Ending}
 use Rattle.command_defs.specs.Opens.{setup_in_effect}
-use Rattle.command_defs.specs.Ran.{Ran, ran_alone, setup_at_begin, CountsRise, NoFetches}
+use Rattle.command_defs.specs.Ran.{Ran, ran_alone, CountsRise, NoFetches}
 use Rattle.command_defs.specs.JobRuns.{RunsPart}
 use Rattle.command_defs.specs.Jobs.{past}
 use Rattle.command_defs.specs.Puts.{StoresAll}
@@ -77,22 +77,22 @@ steps_of_part records own bytes =
 -- a put that ran alone up to its last append: it is a run of the machine from any state just opened over
 -- these records and devices, after any number of events, and the devices are those of its last state; past
 -- the text of its records the disk reads as before
-pub record PartRan (records : List Record) (name bytes : List ℕ) (own : Option ℕ) (old new : Seen)
-    (faults : ℕ) (w : State) (moment : ℕ) : Type 0 where
+pub record PartRan (area : Area) (records : List Record) (name bytes : List ℕ) (own : Option ℕ)
+    (old new : Seen) (faults : ℕ) (w : State) (moment : ℕ) : Type 0 where
   pub last : State
   pub runs : RunsPart w moment (PutJob name bytes) own (steps_of_part records own bytes) last
   pub images : StandsForState new.disk last
   pub faults_are : last.disk_faults ≡ new.disk_faults
   pub handed : AreHanded new.providers last
-  pub past_text : option_map (past last.records) new.disk ≡ option_map (past last.records) old.disk
+  pub past_text : option_map (past area last.journal) new.disk ≡ option_map (past area last.journal) old.disk
 
 -- so it is from every such state and moment, with what the disk's count of faults was once it was opened
-pub record PartRuns (records : List Record) (name bytes : List ℕ) (own : Option ℕ)
+pub record PartRuns (area : Area) (records : List Record) (name bytes : List ℕ) (own : Option ℕ)
     (old new : Seen) : Type 0 where
   pub faults : ℕ
   pub before : old.disk_faults ≤ faults
-  pub ran : (w : State) (moment : ℕ) → IsOpenedOver w records faults old.providers
-      → PartRan records name bytes own old new faults w moment
+  pub ran : (w : State) (moment : ℕ) → IsJustOpened w area records 1 faults old.providers
+      → PartRan area records name bytes own old new faults w moment
 
 -- what it began with, and what it left
 abbrev pub ran_part : List Record → List ℕ → Seen → Seen → ℕ → Ran
@@ -100,7 +100,7 @@ ran_part records name old new faults =
     ran_alone records old new [] faults (after_begin records name) None
 
 -- what such a put left: providers that it does not use stay as they are
-pub record PartLeft (records : List Record) (name bytes : List ℕ) (own : Option ℕ)
+pub record PartLeft (area : Area) (records : List Record) (name bytes : List ℕ) (own : Option ℕ)
     (old new : Seen) : Type 0 where
   pub faults : ℕ
   pub before : old.disk_faults ≤ faults
@@ -109,6 +109,6 @@ pub record PartLeft (records : List Record) (name bytes : List ℕ) (own : Optio
   pub counts : CountsRise (ran_part records name old new faults)
   pub others : (j : ℕ) → (setup_in_effect records).n ≤ j
       → (ran_part records name old new faults).new j ≡ (ran_part records name old new faults).old j
-  pub images : EachImage new.disk (λ image. StandsOrIsEmpty image (after_begin records name))
-  pub past_text : option_map (past (after_begin records name)) new.disk
-      ≡ option_map (past (after_begin records name)) old.disk
+  pub images : EachImage new.disk (λ image. StandsActive image area (after_begin records name))
+  pub past_text : option_map (past area (after_begin records name)) new.disk
+      ≡ option_map (past area (after_begin records name)) old.disk

@@ -1,19 +1,20 @@
 -- What a command leaves and says that runs one job.
 --
 --   Leaves x kind own answer                  == what a job of this kind leaves that ended with this answer
---   SamePast kind own answer before after old new
+--   SamePast area kind own answer before after old new
 --                                             == past the text of the records in effect, with the one that
 --                                                was being appended where the job was cut short, the disk
 --                                                reads as before
---   RunsAlone records kind own answer old new heard
---                                             == a job of this kind ran alone over these records and devices,
---                                                as a run of the machine
---   LeftAlone records kind own answer old new heard
+--   RunsAlone area records kind own answer old new heard
+--                                             == a job of this kind ran alone over these records, in this
+--                                                area, and devices, as a run of the machine
+--   LeftAlone area records kind own answer old new heard
 --                                             == the same without its run: the records then in effect, what
 --                                                is left and heard
 --   EndsByAnswer text answer old new end      == how the command ends: the answer is told by its text, or by
 --                                                the status of its fault
---   AnswersJob kind own records old new end   == the job is refused, or ends, over these records
+--   AnswersJob kind own area records old new end
+--                                             == the job is refused, or ends, over these records
 --
 -- own is the profile that a put names; None where it has the setup's, and of every other job.
 use Rattle.std.specs.Prelude.{◌≡◌, ◌⊎◌, ℕ, ◌≤◌, List, [], ◌∷◌, ◌++◌, length, reverse, drop, Option, None, Some, IfSome, IsSomeAnd}
@@ -22,7 +23,7 @@ use Rattle.device_defs.specs.Cells.{Cells, reads}
 use Rattle.device_defs.specs.Images.{EachImage}
 use Rattle.record_defs.specs.Records.{Record, Drop, RepairDone, Version}
 use Rattle.record_defs.specs.Table.{due_of}
-use Rattle.record_defs.specs.Journal.{text_size, StandsFor, StandsOrIsEmpty}
+use Rattle.record_defs.specs.Areas.{Area, end_in, StandsActive}
 use Rattle.machine_defs.specs.Jobs.{Kind, PutJob, GetJob, DropJob, AuditJob, RepairJob, UpgradeJob}
 use Rattle.machine_defs.specs.Begins.{due_number}
 use Rattle.machine_defs.specs.Answers.{Answer, Lost, ProviderFault, DiskFault, Memory}
@@ -36,7 +37,7 @@ use Rattle.command_defs.specs.Opens.{setup_in_effect}
 use Rattle.command_defs.specs.Refusals.{refusal_over, status_of}
 use Rattle.command_defs.specs.Lines.{text_of}
 use Rattle.command_defs.specs.Ran.{Ran, ran_alone, setup_at_begin, CountsRise, NoFetches}
-use Rattle.opening_defs.specs.Opened.{AreHanded, IsOpenedOver}
+use Rattle.opening_defs.specs.Opened.{AreHanded, IsJustOpened}
 use Rattle.command_defs.specs.JobRuns.{RunsJob}
 use Rattle.command_defs.specs.Puts.{PutLeaves, put_records}
 use Rattle.command_defs.specs.Gets.{GetLeaves}
@@ -62,9 +63,9 @@ pub record Leaves (x : Ran) (kind : Kind) (own : Option ℕ) (answer : Answer) :
   pub counts : CountsRise x
   pub others : (j : ℕ) → (setup_at_begin x).n ≤ j → x.new j ≡ x.old j
 
--- the bytes that a disk reads past the text of records
-abbrev pub past : List Record → Cells → List ℕ
-past records cells = drop (text_size records) (reads cells)
+-- the bytes that a disk reads past the text of records in an area
+abbrev pub past : Area → List Record → Cells → List ℕ
+past area records cells = drop (end_in area records) (reads cells)
 
 -- of these records, given the oldest first, the first ones are in effect behind those before, and this one
 -- comes next
@@ -94,53 +95,55 @@ with_next (Some next) after = next ∷ after
 
 -- the disk reads as before past the text of the records in effect, with the job's next one where that was
 -- being appended
-pub record SameBehind (kind : Kind) (own : Option ℕ) (before after : List Record)
+pub record SameBehind (area : Area) (kind : Kind) (own : Option ℕ) (before after : List Record)
     (old new : Option Cells) : Type 0 where
   pub next : Option Record
   pub is_next : IfSome next (IsNext kind own before after)
-  pub same : option_map (past (with_next next after)) new ≡ option_map (past (with_next next after)) old
+  pub same : option_map (past area (with_next next after)) new
+      ≡ option_map (past area (with_next next after)) old
 
 -- the disk reads as before past the text of the records in effect; where the job ended in a fault of the
 -- disk or for want of memory, past that text with the record that was being appended
-abbrev pub SamePast : Kind → Option ℕ → Answer → List Record → List Record → Option Cells → Option Cells →
-    Type 0
-SamePast kind own DiskFault before after old new = SameBehind kind own before after old new
-SamePast kind own Memory before after old new = SameBehind kind own before after old new
-SamePast kind own answer before after old new = option_map (past after) new ≡ option_map (past after) old
+abbrev pub SamePast : Area → Kind → Option ℕ → Answer → List Record → List Record → Option Cells
+    → Option Cells → Type 0
+SamePast area kind own DiskFault before after old new = SameBehind area kind own before after old new
+SamePast area kind own Memory before after old new = SameBehind area kind own before after old new
+SamePast area kind own answer before after old new =
+    option_map (past area after) new ≡ option_map (past area after) old
 
--- a job that ran alone, whatever bytes of the recorded lengths the files have: it is a run of the machine
--- from any state just opened over these records and devices, after any number of events, and the devices
--- are those of its last state; past the text of its records, with the one that was being appended where it
--- was cut short, the disk reads as before
-pub record RanAlone (records : List Record) (kind : Kind) (own : Option ℕ) (answer : Answer)
+-- a job that ran alone, whatever the history and bytes of the recorded lengths the files have: it is a run of
+-- the machine from any state just opened over these records and devices, after any number of events, and the
+-- devices are those of its last state; past the text of its records, with the one that was being appended
+-- where it was cut short, the disk reads as before
+pub record RanAlone (area : Area) (records : List Record) (kind : Kind) (own : Option ℕ) (answer : Answer)
     (old new : Seen) (heard : List Entry) (faults : ℕ) (w : State) (moment : ℕ) : Type 0 where
   pub last : State
   pub runs : RunsJob w moment kind own answer heard last
   pub images : StandsForState new.disk last
   pub faults_are : last.disk_faults ≡ new.disk_faults
   pub handed : AreHanded new.providers last
-  pub past_text : SamePast kind own answer records last.records old.disk new.disk
+  pub past_text : SamePast area kind own answer records last.journal old.disk new.disk
 
 -- so it is from every such state and moment, with what the disk's count of faults was once it was opened
-pub record RunsAlone (records : List Record) (kind : Kind) (own : Option ℕ) (answer : Answer)
+pub record RunsAlone (area : Area) (records : List Record) (kind : Kind) (own : Option ℕ) (answer : Answer)
     (old new : Seen) (heard : List Entry) : Type 0 where
   pub faults : ℕ
   pub before : old.disk_faults ≤ faults
-  pub ran : (w : State) (moment : ℕ) → IsOpenedOver w records faults old.providers
-      → RanAlone records kind own answer old new heard faults w moment
+  pub ran : (w : State) (moment : ℕ) → IsJustOpened w area records 1 faults old.providers
+      → RanAlone area records kind own answer old new heard faults w moment
 
 -- what a job left that ran alone over these records, without its run: the records then in effect, and the
--- one in doubt, for which the disk's images stand
-pub record LeftAlone (records : List Record) (kind : Kind) (own : Option ℕ) (answer : Answer)
+-- one in doubt, for which the disk's images stand, in the same area
+pub record LeftAlone (area : Area) (records : List Record) (kind : Kind) (own : Option ℕ) (answer : Answer)
     (old new : Seen) (heard : List Entry) : Type 0 where
   pub faults : ℕ
   pub before : old.disk_faults ≤ faults
   pub after : List Record
   pub doubt : Option Record
   pub leaves : Leaves (ran_alone records old new heard faults after doubt) kind own answer
-  pub images : EachImage new.disk (λ image. StandsOrIsEmpty image after ⊎ IsSomeAnd doubt
-      (λ entry. StandsFor image (entry ∷ after)))
-  pub past_text : SamePast kind own answer records after old.disk new.disk
+  pub images : EachImage new.disk (λ image. StandsActive image area after ⊎ IsSomeAnd doubt
+      (λ entry. StandsActive image area (entry ∷ after)))
+  pub past_text : SamePast area kind own answer records after old.disk new.disk
 
 -- nothing was written
 pub record IsSilent (status at : ℕ) (old new : Seen) (end : Ending) : Type 0 where
@@ -162,14 +165,14 @@ EndsByAnswer text Memory old new end = IsSilent 70 0 old new end
 EndsByAnswer text answer old new end = IsTold text old new end
 
 -- a command whose begin comes over these records
-pub data AnswersJob (kind : Kind) (own : Option ℕ) (records : List Record) (old new : Seen)
+pub data AnswersJob (kind : Kind) (own : Option ℕ) (area : Area) (records : List Record) (old new : Seen)
     (end : Ending) : Type 0 where
-  refused : (why : Refusal) → refusal_over records kind own ≡ Some why → IsSynced old new
+  refused : (why : Refusal) → refusal_over area records kind own ≡ Some why → IsSynced old new
       → IsRefused (status_of why) 0 old new end →
-      AnswersJob kind own records old new end
-  no_memory : IsSynced old new → IsRefused 70 0 old new end → AnswersJob kind own records old new end
-  ended : (answer : Answer) → refusal_over records kind own ≡ None
-      → RunsAlone records kind own answer old new end.heard →
-      LeftAlone records kind own answer old new end.heard
+      AnswersJob kind own area records old new end
+  no_memory : IsSynced old new → IsRefused 70 0 old new end → AnswersJob kind own area records old new end
+  ended : (answer : Answer) → refusal_over area records kind own ≡ None
+      → RunsAlone area records kind own answer old new end.heard →
+      LeftAlone area records kind own answer old new end.heard
       → EndsByAnswer (text_of (setup_in_effect records).tolerance kind answer) answer old new end
-      → AnswersJob kind own records old new end
+      → AnswersJob kind own area records old new end

@@ -19,6 +19,7 @@ pub mod Audits
 pub mod Repairs
 pub mod Upgrades
 pub mod Scrubs
+pub mod Packs
 pub mod Jobs
 pub mod GivenUp
 pub mod Inits

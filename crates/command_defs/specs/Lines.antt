@@ -13,13 +13,16 @@
 --                                                    for each provider
 --   scrub_text answer                             == what a scrub writes that ended with this answer; nothing
 --                                                    at a fault
+--   packed_line before after                      == `packed BEFORE AFTER`
+--   pack_text answer                              == what a pack writes that ended with this answer; nothing
+--                                                    at a fault
 --   text_of tolerance kind answer                 == what a job of this kind writes that ended with this
 --                                                    answer; nothing at a fault
 use Rattle.std.specs.Prelude.{ℕ, ◌+◌, List, [], ◌∷◌, ◌++◌, length, codes, nat_lt, if◌then◌else◌}
 use Rattle.std.specs.List.{flat_map}
 use Rattle.record_defs.specs.Table.{File}
 use Rattle.machine_defs.specs.Jobs.{Kind, PutJob, GetJob, DropJob, AuditJob, RepairJob, UpgradeJob}
-use Rattle.machine_defs.specs.Answers.{Answer, Scrubbed, Put, Got, Dropped, Audited, Repaired, Upgraded}
+use Rattle.machine_defs.specs.Answers.{Answer, Scrubbed, Packed, Put, Got, Dropped, Audited, Repaired, Upgraded}
 use Rattle.machine_defs.specs.Lines.{line, then_number, file_line}
 
 -- after an init
@@ -84,6 +87,15 @@ scrub_lines stripes symbols blocks =
 abbrev pub scrub_text : Answer → List ℕ
 scrub_text (Scrubbed stripes symbols blocks) = scrub_lines stripes symbols blocks
 scrub_text answer = []
+
+-- after a pack
+abbrev pub packed_line : ℕ → ℕ → List ℕ
+packed_line before after = line (codes "packed" ++ then_number before ++ then_number after)
+
+-- what a pack writes that ended with an answer
+abbrev pub pack_text : Answer → List ℕ
+pack_text (Packed before after) = packed_line before after
+pack_text answer = []
 
 -- what a job writes that ended with an answer
 abbrev pub text_of : ℕ → Kind → Answer → List ℕ

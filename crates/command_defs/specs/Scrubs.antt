@@ -11,23 +11,25 @@
 --   ScrubLeaves x answer                == what a scrub leaves where it ended with this answer
 --   RunsScrub w moment answer new       == a scrub begins in the state, after so many events, and its steps
 --                                          come to this answer and leave the new state
---   ScrubsAlone records answer old new  == a scrub ran alone over these records and devices, as a run of the
---                                          machine
+--   ScrubsAlone area records answer old new
+--                                       == a scrub ran alone over these records, in this area, and devices,
+--                                          as a run of the machine
 --   ScrubbedAlone records answer old new
 --                                       == the same without its run: what is left
 --   AnswersScrub old new end            == how the command ends: it opens the store and scrubs all files
-use Rattle.std.specs.Prelude.{◌≡◌, ℕ, ◌<◌, ◌≤◌, ◌+◌, ◌==◌, Bool, true, false, List, [], ◌∷◌, length, map, All, sum_by, None, if◌then◌else◌}
+use Rattle.std.specs.Prelude.{◌≡◌, ℕ, ◌<◌, ◌≤◌, ◌+◌, ◌==◌, Bool, true, List, [], length, map, All, sum_by, None, if◌then◌else◌}
 use Rattle.code_defs.specs.Points.{upto}
 use Rattle.column_defs.specs.Columns.{column_of_symbols}
 use Rattle.device_defs.specs.Faults.{Rose}
 use Rattle.record_defs.specs.Records.{Record}
+use Rattle.record_defs.specs.Areas.{Area}
 use Rattle.machine_defs.specs.Alone.{differs}
 use Rattle.machine_defs.specs.Answers.{Answer, Scrubbed, Lost, ProviderFault, Memory}
 use Rattle.machine_defs.specs.Events.{BeginScrub, Begun}
 use Rattle.machine_defs.specs.Machine.{Happens}
 use Rattle.machine_defs.specs.Stands.{StandsForState}
 use Rattle.machine_defs.specs.States.{State}
-use Rattle.opening_defs.specs.Opened.{AreHanded, IsOpenedOver}
+use Rattle.opening_defs.specs.Opened.{AreHanded, IsJustOpened}
 use Rattle.command_defs.specs.JobRuns.{GoesOnTo}
 use Rattle.command_defs.specs.Jobs.{EndsByAnswer}
 use Rattle.command_defs.specs.Lines.{scrub_text}
@@ -101,10 +103,10 @@ pub record RanScrub (records : List Record) (answer : Answer) (old new : Seen) (
   pub handed : AreHanded new.providers last
 
 -- so it is from every such state and moment, with what the disk's count of faults was once it was opened
-pub record ScrubsAlone (records : List Record) (answer : Answer) (old new : Seen) : Type 0 where
+pub record ScrubsAlone (area : Area) (records : List Record) (answer : Answer) (old new : Seen) : Type 0 where
   pub faults : ℕ
   pub before : old.disk_faults ≤ faults
-  pub ran : (w : State) (moment : ℕ) → IsOpenedOver w records faults old.providers
+  pub ran : (w : State) (moment : ℕ) → IsJustOpened w area records 1 faults old.providers
       → RanScrub records answer old new faults w moment
 
 -- what a scrub left that ran alone over these records, without its run
@@ -118,6 +120,6 @@ pub data AnswersScrub (old new : Seen) (end : Ending) : Type 0 where
   unstarted : Unstarted old new end → AnswersScrub old new end
   no_memory : (records : List Record) → IsOpened old records → IsSynced old new → IsRefused 70 0 old new end
       → AnswersScrub old new end
-  ended : (records : List Record) (answer : Answer) → IsOpened old records → IsSynced old new
-      → end.heard ≡ [] → ScrubsAlone records answer old new → ScrubbedAlone records answer old new
+  ended : (records : List Record) (answer : Answer) → (opened : IsOpened old records) → IsSynced old new
+      → end.heard ≡ [] → ScrubsAlone opened.area records answer old new → ScrubbedAlone records answer old new
       → EndsByAnswer (scrub_text answer) answer old new end → AnswersScrub old new end

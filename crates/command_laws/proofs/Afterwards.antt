@@ -7,12 +7,12 @@ use Rattle.device_defs.specs.Cells.{Cells, reads, firm}
 use Rattle.device_defs.specs.Disks.{synced, Stopped}
 use Rattle.device_defs.specs.Images.{IsImage, EachImage}
 use Rattle.device_defs.specs.Told.{Goes}
-use Rattle.device_defs.proofs.Lasting.{reads-firm, image-firm}
+use Rattle.device_defs.proofs.Lasting.{reads-firm, image-firm, each_image-mono}
 use Rattle.device_defs.proofs.PickLaws.{IsImage-reads}
 use Rattle.record_defs.specs.Records.{Record, Setup, largest_journal}
-use Rattle.record_defs.specs.Journal.{StandsFor}
+use Rattle.record_defs.specs.Areas.{Area, StandsActive}
 use Rattle.machine_defs.specs.Jobs.{Kind, PutJob, GetJob, DropJob, AuditJob, RepairJob, UpgradeJob}
-use Rattle.command_defs.specs.Forms.{Command, Numbers, RowOf, InitWith, PutUnder, PutAt, GetOf, DropOf, ListAll, AuditAll, RepairDue, UpgradeJournal, ScrubAll}
+use Rattle.command_defs.specs.Forms.{Command, Numbers, RowOf, InitWith, PutUnder, PutAt, GetOf, DropOf, ListAll, AuditAll, RepairDue, UpgradeJournal, ScrubAll, PackJournal}
 use Rattle.command_defs.specs.Sinking.{WritesLine, TellsLine}
 use Rattle.opening_defs.specs.Journals.{IsResynced, IsRead}
 use Rattle.command_defs.specs.Seen.{Seen, Ending, IsRefused, sinking}
@@ -20,6 +20,7 @@ use Rattle.command_defs.specs.Opens.{Unstarted, setup_in_effect}
 use Rattle.command_defs.specs.Inits.{setup_with, AnswersInit, InitsDisk}
 use Rattle.command_defs.specs.Jobs.{AnswersJob}
 use Rattle.command_defs.specs.Scrubs.{AnswersScrub}
+use Rattle.command_defs.specs.Packs.{AnswersPack}
 use Rattle.command_defs.specs.Commands.{AnswersPut, AnswersAlone, AnswersList, Answers}
 use Rattle.state_laws.proofs.Records.{is_some-at}
 use Rattle.opening_defs.proofs.Resyncs.{resynced-equal}
@@ -37,48 +38,47 @@ reads-resynced old new (inl same) = ap reads same
 reads-resynced old new (inr after) = ap reads after ∙ reads-firm (reads old)
 
 -- a disk that was at most synced still tells, and reads the same records
-pub read-kept : (a b : Option Cells) (records : List Record) → Goes IsResynced a b → is_some a ≡ true →
-    IsRead a records → (is_some b ≡ true) × IsRead b records
-read-kept None b records g tells R = absurd (false≢true tells)
-read-kept (Some a) None records g tells R = absurd g
-read-kept (Some a) (Some b) records g tells R = (
+pub read-kept : (a b : Option Cells) (area : Area) (records : List Record) → Goes IsResynced a b →
+    is_some a ≡ true → IsRead a area records → (is_some b ≡ true) × IsRead b area records
+read-kept None b area records g tells R = absurd (false≢true tells)
+read-kept (Some a) None area records g tells R = absurd g
+read-kept (Some a) (Some b) area records g tells R = (
   refl,
   record {
     some = R.some;
     in_grammar = R.in_grammar;
     accepted = R.accepted;
     room = R.room;
-    reads_are = subst (λ bytes. (9 < length bytes) × StandsFor (take largest_journal bytes) records)
+    reads_are = subst (λ bytes. (9 < length bytes) × StandsActive (take largest_journal bytes) area records)
         (sym (reads-resynced a b g)) R.reads_are;
   },
 )
 
 -- a store that is known is so after a refusal
-pub known-refused : (status at : ℕ) (records : List Record) (old new : Seen) (end : Ending) →
+abbrev pub known-refused : (status at : ℕ) (records : List Record) (old new : Seen) (end : Ending) →
     IsRefused status at old new end → IsKnown old records → IsKnown new records
 known-refused status at records old new end r K =
-    (let kept = read-kept old.disk new.disk records r.disk K.tells K.opened.read in record {
+    (let kept = read-kept old.disk new.disk K.opened.area records r.disk K.tells K.opened.read in record {
       tells = kept.0;
       opened = record {
+        area = K.opened.area;
         read = kept.1;
         enough = subst (λ ps. (setup_in_effect records).n ≤ length ps) (sym r.providers) K.opened.enough;
       };
     })
 
-images-kept : (a b : Option Cells) (records : List Record) → IfSome a (λ cells. EachImage b (IsImage cells)) →
-    is_some a ≡ true → EachImage a (λ image. StandsFor image records) →
-    EachImage b (λ image. StandsFor image records)
-images-kept None b records kept tells stand = absurd (false≢true tells)
-images-kept (Some a) None records kept tells stand = tt
-images-kept (Some a) (Some b) records kept tells stand = λ image is. stand image (kept image is)
+images-kept : (a b : Option Cells) (P : List ℕ → Type 0) → IfSome a (λ cells. EachImage b (IsImage cells)) →
+    is_some a ≡ true → EachImage a P → EachImage b P
+images-kept None b P kept tells stand = absurd (false≢true tells)
+images-kept (Some a) None P kept tells stand = tt
+images-kept (Some a) (Some b) P kept tells stand = λ image is. stand image (kept image is)
 
 -- a store that is sure is so after a refusal
 pub sure-refused : (status at : ℕ) (records : List Record) (old new : Seen) (end : Ending) →
     IsRefused status at old new end → IsSure old records → IsSure new records
 sure-refused status at records old new end r S = record {
   known = known-refused status at records old new end r S.known;
-  images = images-kept old.disk new.disk records (refused-keeps status at old new end r) S.known.tells
-      S.images;
+  images = images-kept old.disk new.disk _ (refused-keeps status at old new end r) S.known.tells S.images;
 }
 
 -- ---- which statuses are of refusals
@@ -123,8 +123,9 @@ unstarted-told : (old new : Seen) (end : Ending) → Unstarted old new end →
     IsRefused end.status end.at old new end
 unstarted-told old new end u = (let r = unstarted-refused old new end u in as-told r.0 r.1 old new end r.3)
 
-job-told : (kind : Kind) (records : List Record) (old new : Seen) (end : Ending) {own : Option ℕ} →
-    AnswersJob kind own records old new end → is_refusal end.status ≡ true →
+job-told : {area : Area} (kind : Kind) (records : List Record) (old new : Seen) (end : Ending)
+    {own : Option ℕ} →
+    AnswersJob kind own area records old new end → is_refusal end.status ≡ true →
     IsRefused end.status end.at old new end
 job-told kind records old new end (AnswersJob.refused why is synced r) refuses = as-told _ 0 old new end r
 job-told kind records old new end (AnswersJob.no_memory synced r) refuses = as-told 70 0 old new end r
@@ -166,6 +167,15 @@ scrub-told : (old new : Seen) (end : Ending) → AnswersScrub old new end → is
 scrub-told old new end (AnswersScrub.unstarted u) refuses = unstarted-told old new end u
 scrub-told old new end (AnswersScrub.no_memory records opened synced r) refuses = as-told 70 0 old new end r
 scrub-told old new end (AnswersScrub.ended records how opened synced heard runs left by) refuses =
+    absurd (no-end end.status (status-ended _ how old new end by) refuses)
+
+pack-told : (old new : Seen) (end : Ending) → AnswersPack old new end → is_refusal end.status ≡ true →
+    IsRefused end.status end.at old new end
+pack-told old new end (AnswersPack.unstarted u) refuses = unstarted-told old new end u
+pack-told old new end (AnswersPack.refused records why opened is synced r) refuses =
+    as-told _ 0 old new end r
+pack-told old new end (AnswersPack.no_memory records opened synced r) refuses = as-told 70 0 old new end r
+pack-told old new end (AnswersPack.ended records how opened none heard runs left by) refuses =
     absurd (no-end end.status (status-ended _ how old new end by) refuses)
 
 disk-told : (s : Setup) (old new : Seen) (end : Ending) → InitsDisk s old new end →
@@ -221,16 +231,21 @@ refusal-told AuditAll old new end A refuses = alone-told AuditJob old new end A.
 refusal-told RepairDue old new end A refuses = alone-told RepairJob old new end A.0 refuses
 refusal-told UpgradeJournal old new end A refuses = alone-told UpgradeJob old new end A.0 refuses
 refusal-told ScrubAll old new end A refuses = scrub-told old new end A.0 refuses
+refusal-told PackJournal old new end A refuses = pack-told old new end A.0 refuses
 
 -- ---- a stop, and the next command
 
-known-sure : (s : Seen) (records : List Record) (cells : Cells) (told : Seen) → IsSure s records →
-    told.disk ≡ Some cells → StandsFor (reads cells) records → length told.providers ≡ length s.providers →
-    IsKnown told records
+abbrev known-sure : (s : Seen) (records : List Record) (cells : Cells) (told : Seen) (S : IsSure s records) →
+    told.disk ≡ Some cells → StandsActive (reads cells) S.known.opened.area records →
+    length told.providers ≡ length s.providers → IsKnown told records
 known-sure s records cells told S is stands handed = (let R = S.known.opened.read in
-    known-good (setup_in_effect records) told cells records is
+    known-good (setup_in_effect records) told cells S.known.opened.area records is
     (record { some = R.some; accepted = R.accepted; room = R.room; setup = refl; stands = stands })
     (let e = S.known.opened.enough in omega (arith, e, handed)))
+
+-- an image stands for these records, in this area
+abbrev StandsIn : Area → List Record → List ℕ → Type 0
+StandsIn area records image = StandsActive image area records
 
 -- a store that is sure is so where the next command finds it
 pub sure-next : (records : List Record) (new next : Seen) → IsSure new records → Follows new next →
@@ -238,23 +253,24 @@ pub sure-next : (records : List Record) (new next : Seen) → IsSure new records
 sure-next records new next S N = elim N.disk [
   | inl same ↦ (let c = is_some-at new.disk S.known.tells in record {
     known = known-sure new records c.0 next S (same ∙ c.1)
-        (subst (λ d. EachImage d (λ image. StandsFor image records)) c.1 S.images (reads c.0)
+        (subst (λ d. EachImage d (StandsIn S.known.opened.area records)) c.1 S.images (reads c.0)
         (IsImage-reads c.0)) N.handed;
-    images = subst (λ d. EachImage d (λ image. StandsFor image records)) (sym same) S.images;
+    images = subst (λ d. EachImage d (StandsIn S.known.opened.area records)) (sym same) S.images;
   })
-  | inr stopped ↦ (let c = stopped-at new.disk next.disk S.known.tells S.images stopped in record {
-    known = known-sure new records (firm c.0) next S c.1
-        (subst (λ bytes. StandsFor bytes records) (sym (reads-firm c.0)) c.2) N.handed;
-    images = subst (λ d. EachImage d (λ image. StandsFor image records)) (sym c.1)
-        (λ image is. subst (λ bytes. StandsFor bytes records) (sym (image-firm c.0 image is)) c.2);
-  })
+  | inr stopped ↦ (let c = stopped-at new.disk next.disk (StandsIn S.known.opened.area records)
+      S.known.tells S.images stopped in record {
+        known = known-sure new records (firm c.0) next S c.1
+            (subst (StandsIn S.known.opened.area records) (sym (reads-firm c.0)) c.2) N.handed;
+        images = subst (λ d. EachImage d (StandsIn S.known.opened.area records)) (sym c.1)
+            (λ image is. subst (StandsIn S.known.opened.area records) (sym (image-firm c.0 image is)) c.2);
+      })
 ]
   where
-    stopped-at : (a b : Option Cells) → is_some a ≡ true → EachImage a (λ image. StandsFor image records) →
-        Goes Stopped a b → (image : List ℕ) × (b ≡ Some (firm image)) × StandsFor image records
-    stopped-at None b tells stand g = absurd (false≢true tells)
-    stopped-at (Some a) None tells stand g = absurd g
-    stopped-at (Some a) (Some b) tells stand (image, of, is) = (image, ap Some is, stand image of)
+    stopped-at : (a b : Option Cells) (P : List ℕ → Type 0) → is_some a ≡ true → EachImage a P →
+        Goes Stopped a b → (image : List ℕ) × (b ≡ Some (firm image)) × P image
+    stopped-at None b P tells stand g = absurd (false≢true tells)
+    stopped-at (Some a) None P tells stand g = absurd g
+    stopped-at (Some a) (Some b) P tells stand (image, of, is) = (image, ap Some is, stand image of)
 
 -- ---- commands that leave the store alone
 
@@ -265,12 +281,14 @@ sure-same records old new same providers S = record {
   known = record {
     tells = ap is_some same ∙ S.known.tells;
     opened = record {
-      read = subst (λ d. IsRead d records) (sym same) S.known.opened.read;
+      area = S.known.opened.area;
+      read = subst (λ d. IsRead d S.known.opened.area records) (sym same) S.known.opened.read;
       enough = subst (λ ps. (setup_in_effect records).n ≤ length ps)
           (sym providers) S.known.opened.enough;
     };
   };
-  images = subst (λ d. EachImage d (λ image. StandsFor image records)) (sym same) S.images;
+  images = subst (λ d. EachImage d (λ image. StandsActive image S.known.opened.area records)) (sym same)
+      S.images;
 }
 
 init-providers : (numbers : Numbers) (old new : Seen) (end : Ending) → AnswersInit numbers old new end →
@@ -296,11 +314,14 @@ pub sure-init : (numbers : Numbers) (records : List Record) (old new : Seen) (en
     AnswersInit numbers old new end → IsSure old records → is_some new.disk ≡ is_some old.disk →
     IsSure new records
 sure-init numbers records old new end A S tells =
-    (let images = images-kept old.disk new.disk records
-    (init-kept numbers records old new end A S.known.opened.read.some S.images) S.known.tells S.images in
+    (let images = images-kept old.disk new.disk (λ image. StandsActive image S.known.opened.area records)
+    (init-kept numbers records old new end A S.known.opened.read.some
+    (each_image-mono old.disk _ _ (λ image stands. (S.known.opened.area, stands)) S.images))
+    S.known.tells S.images in
     let c = is_some-at new.disk (tells ∙ S.known.tells) in
-    let stands : StandsFor (reads c.0) records = subst
-    (λ d. EachImage d (λ image. StandsFor image records)) c.1 images (reads c.0) (IsImage-reads c.0) in
+    let stands : StandsActive (reads c.0) S.known.opened.area records = subst
+    (λ d. EachImage d (λ image. StandsActive image S.known.opened.area records)) c.1 images (reads c.0)
+    (IsImage-reads c.0) in
     record {
       known = known-sure old records c.0 new S c.1 stands
           (ap length (init-providers numbers old new end A));

@@ -2,6 +2,7 @@
 use Rattle.std.proofs.Common.{◌≡◌, ℕ, ◌⊎◌, List, refl, inl, inr, None}
 use Rattle.device_defs.specs.Faults.{Rose}
 use Rattle.record_defs.specs.Records.{Record}
+use Rattle.record_defs.specs.Areas.{Area}
 use Rattle.machine_defs.specs.Jobs.{GetJob, RepairJob}
 use Rattle.machine_defs.specs.Answers as answer
 use Rattle.machine_defs.specs.Answers.{Answer}
@@ -24,8 +25,9 @@ use Rattle.command_laws.proofs.Failed.{get-loses, repair-loses}
 abbrev Comes : Ending → Type 0
 Comes end = ((end.status ≡ 0) ⊎ (end.status ≡ 70)) ⊎ (end.status ≡ 4)
 
-get-comes : (name : List ℕ) (records : List Record) (old new : Seen) (end : Ending) (how : Answer)
-    (left : LeftAlone records (GetJob name) None how old new end.heard) →
+get-comes : {area : Area} (name : List ℕ) (records : List Record) (old new : Seen) (end : Ending)
+    (how : Answer)
+    (left : LeftAlone area records (GetJob name) None how old new end.heard) →
     GetLeaves (ran_left records (GetJob name) how old new end.heard left) name how →
     (Rose old.sink_faults new.sink_faults → ⊥) →
     EndsByAnswer (text_of (setup_in_effect records).tolerance (GetJob name) how) how old new end → Comes end
@@ -63,7 +65,8 @@ module _ (records : List Record) (old new : Seen) (end : Ending)
     (stores : (j : ℕ) → Rose (provider_at old.providers j).store_faults
     (provider_at new.providers j).store_faults → ⊥)
     (sink : Rose old.sink_faults new.sink_faults → ⊥) where
-  repair-comes : (how : Answer) (left : LeftAlone records RepairJob None how old new end.heard) →
+  repair-comes : {area : Area} (how : Answer)
+      (left : LeftAlone area records RepairJob None how old new end.heard) →
       RepairGives (ran_left records RepairJob how old new end.heard left) left.leaves.by_kind.0.due how →
       EndsByAnswer (text_of (setup_in_effect records).tolerance RepairJob how) how old new end → Comes end
   repair-comes (answer.Repaired number) left L by =

@@ -1,15 +1,16 @@
 -- However an audit ended: where the next command finds its end in effect, its counts are the verdicts on what
 -- it heard.
-use Rattle.std.proofs.Common.{◌≡◌, ◌≢◌, ℕ, ◌+◌, ◌<◌, ◌≤◌, ◌⊎◌, List, [], ◌∷◌, length, reverse, Option, None, Some, refl, ap, sym, subst, ◌∙◌, inl, inr, arith, length-append}
+use Rattle.std.proofs.Common.{◌≡◌, ℕ, ◌+◌, ◌<◌, ◌≤◌, ◌⊎◌, List, [], ◌∷◌, length, reverse, Option, None, Some, refl, ap, sym, subst, ◌∙◌, inl, inr, arith, length-append}
 use Rattle.std.specs.Prelude.{IfSome, IsSomeAnd}
 use Rattle.std.proofs.lemmas.List.{length-reverse}
 use Rattle.device_defs.specs.Cells.{Cells, reads}
 use Rattle.device_defs.specs.Images.{EachImage}
 use Rattle.record_defs.specs.Records.{Record, AuditDone, largest_journal}
-use Rattle.record_defs.specs.Journal.{StandsFor, StandsOrIsEmpty}
+use Rattle.record_defs.specs.Areas.{Area, StandsActive}
+use Rattle.record_defs.specs.Journal.{StandsFor}
 use Rattle.record_defs.specs.Table.{next_audit}
-use Rattle.record_defs.proofs.Standing.{stands-front}
-use Rattle.journal_core.proofs.Meanings.{one_meaning}
+use Rattle.record_defs.proofs.Standing.{active-front}
+use Rattle.journal_core.proofs.Meanings.{one_list}
 use Rattle.machine_defs.specs.Jobs.{AuditJob}
 use Rattle.machine_defs.specs.Answers as answer
 use Rattle.machine_defs.specs.Answers.{Answer}
@@ -22,7 +23,7 @@ use Rattle.command_defs.specs.Jobs.{AnswersJob, LeftAlone}
 use Rattle.command_defs.specs.Commands.{AnswersAlone}
 use Rattle.command_laws.specs.Ends.{IsKnown, after_audit, ran_to}
 use Rattle.command_laws.specs.After.{IsSure, Follows}
-use Rattle.command_laws.proofs.Known.{known-once}
+use Rattle.command_laws.proofs.Known.{known-both}
 use Rattle.command_laws.proofs.GetEnds.{ran_left}
 use Rattle.command_laws.proofs.JobEnds.{unstarted-refused}
 use Rattle.command_laws.proofs.Afterwards.{sure-refused}
@@ -58,47 +59,50 @@ module _ (records : List Record) (undecided : ℕ) (counts : List ℕ) (old new 
   judged h =
       (let c = next-image new next (tells-back new next N F.tells) N in
       let g : Judged (reads c.0) = c.2 Judged h in
-      let looked : (9 < length (reads c.0)) × StandsFor (journal_read c.0)
+      let looked : (9 < length (reads c.0)) × StandsActive (journal_read c.0) F.opened.area
       (after_audit records undecided counts) =
       subst (λ d. IfSome d (λ cells. (9 < length (reads cells)) ×
-      StandsFor (journal_read cells) (after_audit records undecided counts))) c.1
+      StandsActive (journal_read cells) F.opened.area (after_audit records undecided counts))) c.1
       F.opened.read.reads_are in
-      g.2 (one_meaning (reads c.0) g.0 (after_audit records undecided counts) g.1
-      (stands-front largest_journal (reads c.0) (after_audit records undecided counts) looked.1)))
+      g.2 (one_list (reads c.0) g.0 (after_audit records undecided counts) g.1 (
+        F.opened.area,
+        active-front largest_journal (reads c.0) F.opened.area
+            (after_audit records undecided counts) looked.1,
+      )))
 
   too-few : (rs : List Record) → length rs ≤ length records + 1 → rs ≡ after_audit records undecided counts →
       ⊥
   too-few rs few same = (let size = ap length same in omega (arith, few, size))
 
-  of-records : (told : Option Cells) → EachImage told (λ image. StandsFor image records) →
-      EachImage told Judged
-  of-records None h = tt
-  of-records (Some cells) h =
-      λ image is. (records, h image is, λ same. absurd (too-few records (omega arith) same))
+  of-records : (area : Area) (told : Option Cells) →
+      EachImage told (λ image. StandsActive image area records) → EachImage told Judged
+  of-records area None h = tt
+  of-records area (Some cells) h =
+      λ image is. (records, (area, h image is), λ same. absurd (too-few records (omega arith) same))
 
   by-refused : (status at : ℕ) → IsRefused status at old new end → Counted
   by-refused status at r =
-      judged (of-records new.disk (sure-refused status at records old new end r S).images)
+      (let T = sure-refused status at records old new end r S in
+      judged (of-records T.known.opened.area new.disk T.images))
 
-  image-judged : (image : List ℕ) (after : List Record) (doubt : Option Record) → after ≢ [] →
+  image-judged : (area : Area) (image : List ℕ) (after : List Record) (doubt : Option Record) →
       (after ≡ after_audit records undecided counts → Counted) →
       ((entry : Record) → doubt ≡ Some entry → entry ∷ after ≡ after_audit records undecided counts →
-      Counted) → StandsOrIsEmpty image after ⊎ IsSomeAnd doubt
-      (λ entry. StandsFor image (entry ∷ after)) → Judged image
-  image-judged image after doubt some one two (inl (inl stands)) = (after, stands, one)
-  image-judged image after doubt some one two (inl (inr empty)) = absurd (some empty.0)
-  image-judged image after None some one two (inr h) = absurd h
-  image-judged image after (Some entry) some one two (inr h) = (entry ∷ after, h, two entry refl)
+      Counted) → StandsActive image area after ⊎ IsSomeAnd doubt
+      (λ entry. StandsActive image area (entry ∷ after)) → Judged image
+  image-judged area image after doubt one two (inl stands) = (after, (area, stands), one)
+  image-judged area image after None one two (inr h) = absurd h
+  image-judged area image after (Some entry) one two (inr h) = (entry ∷ after, (area, h), two entry refl)
 
-  images-judged : (told : Option Cells) (after : List Record) (doubt : Option Record) → after ≢ [] →
+  images-judged : (area : Area) (told : Option Cells) (after : List Record) (doubt : Option Record) →
       (after ≡ after_audit records undecided counts → Counted) →
       ((entry : Record) → doubt ≡ Some entry → entry ∷ after ≡ after_audit records undecided counts →
       Counted) →
-      EachImage told (λ image. StandsOrIsEmpty image after ⊎
-      IsSomeAnd doubt (λ entry. StandsFor image (entry ∷ after))) → EachImage told Judged
-  images-judged None after doubt some one two h = tt
-  images-judged (Some cells) after doubt some one two h =
-      λ image is. image-judged image after doubt some one two (h image is)
+      EachImage told (λ image. StandsActive image area after ⊎
+      IsSomeAnd doubt (λ entry. StandsActive image area (entry ∷ after))) → EachImage told Judged
+  images-judged area None after doubt one two h = tt
+  images-judged area (Some cells) after doubt one two h =
+      λ image is. image-judged area image after doubt one two (h image is)
 
   -- the same audit's end has the same counts
   same-counts : (u : ℕ) (c : List ℕ) → Heard u c →
@@ -106,7 +110,8 @@ module _ (records : List Record) (undecided : ℕ) (counts : List ℕ) (old new 
   same-counts u c H same =
       subst (λ k. Heard undecided k) (ap counts_in same) (subst (λ n. Heard n c) (ap undecided_in same) H)
 
-  module _ (how : Answer) (left : LeftAlone records AuditJob None how old new end.heard) where
+  module _ (area : Area) (how : Answer)
+      (left : LeftAlone area records AuditJob None how old new end.heard) where
     abbrev x : Ran
     x = ran_left records AuditJob how old new end.heard left
 
@@ -115,18 +120,12 @@ module _ (records : List Record) (undecided : ℕ) (counts : List ℕ) (old new 
 
     -- what the images of the disk say, by what stands for sure and what is in doubt
     by-images : (length x.after ≤ length records + 1) ⊎
-        (x.after ≡ after_audit records undecided counts → Counted) → length records ≤ length x.after →
+        (x.after ≡ after_audit records undecided counts → Counted) →
         ((entry : Record) → x.doubt ≡ Some entry → entry ∷ x.after ≡ after_audit records undecided counts →
         Counted) → Counted
-    by-images one long two =
-        judged (images-judged new.disk x.after x.doubt
-        (λ none. let e = ap length none in let some = first-record records S.known.opened.read.some in
-        omega (arith, e, some, long)) (known one) two left.images)
+    by-images one two =
+        judged (images-judged area new.disk x.after x.doubt (known one) two left.images)
       where
-        first-record : (rs : List Record) → rs ≢ [] → 1 ≤ length rs
-        first-record [] some = absurd (some refl)
-        first-record (r ∷ rs) some = omega arith
-
         known : (length x.after ≤ length records + 1) ⊎
             (x.after ≡ after_audit records undecided counts → Counted) →
             x.after ≡ after_audit records undecided counts → Counted
@@ -135,12 +134,12 @@ module _ (records : List Record) (undecided : ℕ) (counts : List ℕ) (old new 
 
     by-cut : AuditIsCut x → Counted
     by-cut (AuditIsCut.at_start after doubt none) = (let size = ap length after in
-        by-images (inl (omega (arith, size))) (omega (arith, size))
+        by-images (inl (omega (arith, size)))
         (λ entry is same. absurd (too-few (entry ∷ x.after) (omega (arith, size)) same)))
     by-cut (AuditIsCut.before_done after sure hears) = (let size = ap length after in
-        by-images (inl (omega (arith, size))) (omega (arith, size)) (λ entry is same. sure-off entry sure is))
+        by-images (inl (omega (arith, size))) (λ entry is same. sure-off entry sure is))
     by-cut (AuditIsCut.at_done u c after doubt hears counted) = (let size = ap length after in
-        by-images (inl (omega (arith, size))) (omega (arith, size))
+        by-images (inl (omega (arith, size)))
         (λ entry is same. same-counts u c (record { heard = hears.heard; truthful = hears.truthful }, counted)
         ((λ i. same_value x.doubt (AuditDone (next_audit records) u c) entry doubt is i ∷ sym after i)
         ∙ same)))
@@ -150,10 +149,9 @@ module _ (records : List Record) (undecided : ℕ) (counts : List ℕ) (old new 
         (let W = L.1 in
         let hears = subst (λ n. HearsRounds x n) L.0 L.2 in
         let counted = subst (λ n. CountsHeard x n u c) L.0 L.3 in
-        let size = ap length W.after in
         by-images (inr (λ same. same-counts u c
         (record { heard = hears.heard; truthful = hears.truthful }, counted) (sym W.after ∙ same)))
-        (omega (arith, size)) (λ entry is same. sure-off entry W.sure is))
+        (λ entry is same. sure-off entry W.sure is))
     by-answer answer.DiskFault L = by-cut L.1
     by-answer answer.Memory L =
         (let C = L.2 in
@@ -162,19 +160,19 @@ module _ (records : List Record) (undecided : ℕ) (counts : List ℕ) (old new 
         let after = ap length C.after in
         let more = length-append (reverse C.done) records in
         let back = length-reverse C.done in
-        by-images (inl (omega (arith, parts, sum, after, more, back))) (omega (arith, after, more, back))
+        by-images (inl (omega (arith, parts, sum, after, more, back)))
         (λ entry is same. sure-off entry C.sure is))
     by-answer h L = absurd L
 
-  by-job : AnswersJob AuditJob None records old new end → Counted
-  by-job (AnswersJob.refused why is synced r) = by-refused _ 0 r
-  by-job (AnswersJob.no_memory synced r) = by-refused 70 0 r
-  by-job (AnswersJob.ended how none runs left by) = by-answer how left how left.leaves.by_kind.gives
+  by-job : (area : Area) → AnswersJob AuditJob None area records old new end → Counted
+  by-job area (AnswersJob.refused why is synced r) = by-refused _ 0 r
+  by-job area (AnswersJob.no_memory synced r) = by-refused 70 0 r
+  by-job area (AnswersJob.ended how none runs left by) = by-answer area how left how left.leaves.by_kind.gives
 
   -- the counts that the next command finds in effect are the verdicts on what the audit heard
   pub audit-in-effect : AnswersAlone AuditJob old new end → Counted
   audit-in-effect (AnswersAlone.unstarted u) =
       (let r = unstarted-refused old new end u in by-refused r.0 r.1 r.3)
   audit-in-effect (AnswersAlone.begun rs opened A) =
-      by-job (subst (λ l. AnswersJob AuditJob None l old new end)
-      (known-once old records rs S.known opened.read) A)
+      by-job S.known.opened.area (known-both old records rs S.known opened
+      (λ a l. AnswersJob AuditJob None a l old new end) A)

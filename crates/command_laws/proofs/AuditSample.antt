@@ -1,7 +1,8 @@
 -- An audit of a store with no file, from every state that was just opened: four moves, four moves, and its
 -- end.
-use Rattle.std.proofs.Common.{ℕ, ◌+◌, List, [], ◌∷◌, refl, sym, subst, inl, arith, None}
+use Rattle.std.proofs.Common.{ℕ, ◌+◌, List, [], ◌∷◌, refl, subst, inl, arith, None}
 use Rattle.record_defs.specs.Records.{AuditStart, AuditDone}
+use Rattle.record_defs.specs.Areas.{A}
 use Rattle.record_defs.specs.Spellings.{spelling}
 use Rattle.column_defs.specs.Verdicts.{Sums}
 use Rattle.machine_defs.specs.Answers.{Audited}
@@ -14,7 +15,7 @@ use Rattle.machine_defs.specs.Machine.{Happens}
 use Rattle.machine_defs.specs.Runs.{Moment}
 use Rattle.machine_defs.specs.States.{State, Append, setup_in, going_on, ended}
 use Rattle.command_defs.specs.Forms.{AuditAll}
-use Rattle.opening_defs.specs.Opened.{AreHanded}
+use Rattle.opening_defs.specs.Opened.{AreHanded, IsOpenAtRest}
 use Rattle.command_defs.specs.JobRuns.{AreSteps}
 use Rattle.command_defs.specs.Jobs.{RanAlone, RunsAlone, AnswersJob}
 use Rattle.command_defs.specs.Commands.{AnswersAlone, Answers}
@@ -24,14 +25,14 @@ use Rattle.lone_laws.specs.Walked.{MayName}
 use Rattle.command_laws.specs.Instances.{store, idle_providers, no_counts, set_up_records, audited_records, audited_store, ends}
 use Rattle.job_laws.proofs.Telling.{left-alone, jobs-leave}
 use Rattle.job_laws.proofs.BeginRefusals.{refusal-of}
-use Rattle.command_laws.proofs.Samples.{store-sure, set_up-sure}
-use Rattle.command_laws.proofs.PutSample.{formed, form-is}
+use Rattle.command_laws.proofs.Samples.{form-is, form-rests, form-handed, store-sure, set_up-sure}
+use Rattle.command_laws.proofs.PutSample.{formed}
 
-audited-sure : IsSure (store audited_records) audited_records
+abbrev audited-sure : IsSure (store audited_records) audited_records
 audited-sure = store-sure audited_records (λ e. cc) refl (refl, (refl, (refl, tt))) (omega arith)
     (omega arith)
 
-module _ (w : State) (n : ℕ) (H : AreHanded idle_providers (formed w)) where
+module _ (w : State) (n : ℕ) (H : AreHanded idle_providers (formed w)) (O : IsOpenAtRest (formed w) 1) where
   abbrev v : State
   v = formed w
 
@@ -146,7 +147,7 @@ module _ (w : State) (n : ℕ) (H : AreHanded idle_providers (formed w)) where
     ),
   )
 
-  ran-formed : RanAlone set_up_records AuditJob None (Audited 1 0 no_counts)
+  ran-formed : RanAlone A set_up_records AuditJob None (Audited 1 0 no_counts)
       (store set_up_records) audited_store
       [] 0 v n
   unfolding steps spelling
@@ -157,28 +158,28 @@ module _ (w : State) (n : ℕ) (H : AreHanded idle_providers (formed w)) where
       job = 1;
       begins = (
         refl,
-        refusal-of v AuditJob None refl refl refl
-            (record { journal = refl; area = refl; unswitched = refl }),
+        refusal-of v O AuditJob None,
         refl,
         refl,
       );
       goes_on = record { steps = steps; are_steps = steps-are; ends = nine 0; heard_is = refl };
     };
-    images = λ image is. inl (inl (refl, audited-sure.images image is));
+    images = λ image is. inl (inl (audited-sure.images image is));
     faults_are = refl;
     handed = record { count = H.count; each = H.each };
     past_text = refl;
   }
 
-audit-alone : RunsAlone set_up_records AuditJob None (Audited 1 0 no_counts)
+audit-alone : RunsAlone A set_up_records AuditJob None (Audited 1 0 no_counts)
     (store set_up_records) audited_store
     []
 audit-alone = record {
   faults = 0;
   before = omega arith;
-  ran = λ w n V. subst (λ u. RanAlone set_up_records AuditJob None (Audited 1 0 no_counts)
-      (store set_up_records) audited_store [] 0 u n) (form-is w V)
-      (ran-formed w n (subst (AreHanded idle_providers) (sym (form-is w V)) V.handed));
+  ran = λ w n V. subst (λ u. RanAlone A set_up_records AuditJob None (Audited 1 0 no_counts)
+      (store set_up_records) audited_store [] 0 u n) (form-is set_up_records w refl V)
+      (ran-formed w n (form-handed set_up_records w idle_providers refl V)
+      (form-rests set_up_records w refl V));
 }
 
 -- an audit of the store with no file is done

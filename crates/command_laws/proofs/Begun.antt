@@ -1,41 +1,42 @@
--- When an upgrade, and a put with a profile of its own, are not refused.
+-- When an upgrade, a put with a profile of its own, and a pack are not refused.
 use Rattle.std.proofs.Common.{◌≡◌, ℕ, ◌+◌, ◌-◌, ◌^◌, ◌<◌, ◌≤◌, ◌==◌, ◌||◌, true, false, cond, not, List, length, sum, None, Some, ap, ◌∙◌, arith}
 use Rattle.std.specs.Prelude.{nat_lt, nat_le}
 use Rattle.std.proofs.lemmas.Bool.{le-ltb}
 use Rattle.std.proofs.lemmas.Bool.Decides.{nat_tests}
 use Rattle.record_defs.specs.Records.{Record, is_name, largest_file, largest_journal, all_profiles}
-use Rattle.record_defs.specs.Journal.{text_size}
+use Rattle.record_defs.specs.Areas.{Area, end_in}
 use Rattle.record_defs.specs.Table.{version_of, next_id}
 use Rattle.machine_defs.specs.Jobs.{PutJob, UpgradeJob, ToPut}
 use Rattle.machine_defs.specs.Refusals as refusal
 use Rattle.machine_defs.specs.Space.{append_sizes}
 use Rattle.command_defs.specs.Opens.{setup_in_effect}
-use Rattle.command_defs.specs.Refusals.{takes_too_much, has_no_number, is_crowded_by, refusal_over}
+use Rattle.command_defs.specs.Refusals.{takes_too_much, has_no_number, is_crowded_by, refusal_over, reaches_over, pack_refusal_over}
 
 -- an upgrade of a journal of the first version with room for its record is not refused
-pub upgrade-begins : (records : List Record) → version_of records ≡ 1 →
-    text_size records + 3 ≤ largest_journal → refusal_over records UpgradeJob None ≡ None
-upgrade-begins records one fits =
+pub upgrade-begins : (area : Area) (records : List Record) → version_of records ≡ 1 →
+    end_in area records + 3 ≤ largest_journal → refusal_over area records UpgradeJob None ≡ None
+upgrade-begins area records one fits =
     (let first : (version_of records == 2) ≡ false = ap (λ v. v == 2) one in
-    let room : takes_too_much records UpgradeJob ≡ false = ap (nat_lt largest_journal) (omega arith)
-    ∙ le-ltb largest_journal (text_size records + 3) fits in
+    let room : takes_too_much area records UpgradeJob ≡ false = ap (nat_lt largest_journal) (omega arith)
+    ∙ le-ltb largest_journal (end_in area records + 3) fits in
     (λ i. cond (first i) (Some refusal.NewVersion) (cond (room i || false) (Some refusal.JournalFull) None)))
 
 -- a put with a profile of its own in a journal of the second version with room is not refused
-pub own-begins : (name bytes : List ℕ) (own : ℕ) (records : List Record) → version_of records ≡ 2 →
+pub own-begins : (name bytes : List ℕ) (own : ℕ) (area : Area) (records : List Record) →
+    version_of records ≡ 2 →
     own < all_profiles → is_name name ≡ true → length bytes ≤ largest_file →
     is_crowded_by records name ≡ false →
-    text_size records + 26 + length name ≤ largest_journal → next_id records ≤ 2 ^ 64 - 32 →
-    refusal_over records (PutJob name bytes) (Some own) ≡ None
-own-begins name bytes own records two known named short crowded fits number =
+    end_in area records + 26 + length name ≤ largest_journal → next_id records ≤ 2 ^ 64 - 32 →
+    refusal_over area records (PutJob name bytes) (Some own) ≡ None
+own-begins name bytes own area records two known named short crowded fits number =
     (let one : nat_le all_profiles own ≡ false = grind (arith, nat_tests, known) in
     let long : nat_lt largest_file (length bytes) ≡ false = le-ltb largest_file (length bytes) short in
     let old : (version_of records == 1) ≡ false = ap (λ v. v == 1) two in
-    let room : takes_too_much records (PutJob name bytes) ≡ false =
+    let room : takes_too_much area records (PutJob name bytes) ≡ false =
     ap (λ v. nat_lt largest_journal
-    (text_size records + sum (append_sizes v (setup_in_effect records) (ToPut name (length bytes))))) two
+    (end_in area records + sum (append_sizes v (setup_in_effect records) (ToPut name (length bytes))))) two
     ∙ (ap (nat_lt largest_journal) (omega arith)
-    ∙ le-ltb largest_journal (text_size records + 26 + length name) fits) in
+    ∙ le-ltb largest_journal (end_in area records + 26 + length name) fits) in
     let left : has_no_number records (PutJob name bytes) ≡ false =
     le-ltb (2 ^ 64 - 32) (next_id records) number in
     (λ i. cond (not (named i)) (Some refusal.BadName)
@@ -44,3 +45,10 @@ own-begins name bytes own records two known named short crowded fits number =
     (cond (old i) (Some refusal.OldVersion)
     (cond (crowded i) (Some refusal.TooManyFiles)
     (cond (room i || left i) (Some refusal.JournalFull) None)))))))
+
+-- a pack of a journal of the second version that does not reach over is not refused
+pub pack-begins : (area : Area) (records : List Record) → version_of records ≡ 2 →
+    reaches_over area records ≡ false → pack_refusal_over area records ≡ None
+pack-begins area records two within =
+    (let old : (version_of records == 1) ≡ false = ap (λ v. v == 1) two in
+    (λ i. cond (old i) (Some refusal.OldVersion) (cond (within i) (Some refusal.PackTooLong) None)))

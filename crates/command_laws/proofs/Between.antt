@@ -12,7 +12,7 @@ use Rattle.device_defs.specs.ProviderCalls.{Replaces}
 use Rattle.device_defs.specs.Told.{Goes}
 use Rattle.device_defs.proofs.Lasting.{image-firm, each_image-mono}
 use Rattle.record_defs.specs.Records.{Record}
-use Rattle.record_defs.specs.Reading.{HasNoSetup}
+use Rattle.record_defs.specs.Areas.{Area}
 use Rattle.machine_defs.specs.Events.{Event, Alter, Lose, Stop, Outcome, Replaced, NothingHeld, Stopped as HasStopped}
 use Rattle.machine_defs.specs.Machine.{Happens}
 use Rattle.machine_defs.specs.Replacements.{ReplacesIf}
@@ -26,7 +26,7 @@ use Rattle.command_defs.specs.Seen.{Seen}
 use Rattle.opening_defs.specs.Opened.{AreHanded}
 use Rattle.command_laws.specs.After.{IsSure}
 use Rattle.command_laws.specs.Pieces.{IsStore, IsCall, moment, ReplacesHeld, AreReplaced, IsLater, AreBetween, Call, last_seen, IsChain, AreCalls}
-use Rattle.job_laws.proofs.Telling.{opened_state, state-over, over-opened}
+use Rattle.job_laws.proofs.Telling.{opened_state, state-over}
 use Rattle.command_laws.proofs.Knowing.{StandsInState}
 use Rattle.command_laws.proofs.GoingOn.{now-more, run-sound, settled, SettlesOn, MaySettle, settled-by, command-on}
 
@@ -187,13 +187,14 @@ later-on start ms new next R S L = elim L.disk [
 ]
   where
     -- the disk that the stop left reads these records
-    stopped-on : (image : List ℕ) → next.disk ≡ Some (firm image) → (rs : List Record) →
-        SettlesOn (now start ms) rs → StandsPlain (settled (now start ms) rs) image → GoesBetween start ms next
-    stopped-on image disk rs settles stands =
+    stopped-on : (image : List ℕ) → next.disk ≡ Some (firm image) → (records journal : List Record)
+        (area : Area) → SettlesOn (now start ms) records journal area →
+        StandsPlain (settled (now start ms) records journal area) image → GoesBetween start ms next
+    stopped-on image disk records journal area settles stands =
         (let w : State = now start ms in
-        let v : State = settled w rs in
+        let v : State = settled w records journal area in
         let m : Moment = moment (Stop []) HasStopped v in
-        let run : IsRun 8 start (m ∷ ms) = (refl, settles w refl refl refl refl, R) in
+        let run : IsRun 8 start (m ∷ ms) = (refl, settles w refl refl refl refl refl, R) in
         let mid : Seen = record new { disk = next.disk } in
         let stood : IsStore v mid = record {
           sound = run-sound start (m ∷ []) ms S.sound run;
@@ -211,14 +212,12 @@ later-on start ms new next R S L = elim L.disk [
           subst (λ l. IsStore (now start l) next) same more.3,
         ))
 
-    none-stands : (image : List ℕ) → HasNoSetup image → StandsPlain (settled (now start ms) []) image
-    none-stands image (inl short) = inr (refl, short)
-    none-stands image (inr stands) = inl (refl, stands)
-
     stopped-by : (image : List ℕ) → next.disk ≡ Some (firm image) → MaySettle (now start ms) image →
         GoesBetween start ms next
-    stopped-by image disk (MaySettle.some rs F) = stopped-on image disk rs F.settles (inl (refl, F.good.stands))
-    stopped-by image disk (MaySettle.none N) = stopped-on image disk [] N.settles (none-stands image N.none)
+    stopped-by image disk (MaySettle.some records journal area F) =
+        stopped-on image disk records journal area F.settles (inl F.good.stands)
+    stopped-by image disk (MaySettle.none N) = stopped-on image disk (now start ms).records
+        (now start ms).journal (now start ms).area N.settles N.plain
 
 -- ---- commands one after the other
 
@@ -258,14 +257,13 @@ chain-on start ms first (c ∷ cs) R S (later, A, C) =
 -- a sound state stands for each store that is sure
 pub sure-store : (s : Seen) (records : List Record) → IsSure s records → (w : State) × IsStore w s
 sure-store s records K =
-    (let w : State = opened_state records s.disk_faults s.providers in
-    let V = state-over records s.disk_faults s.providers K.known.opened.read.accepted in
-    let O = over-opened w s records s.disk_faults K.known.opened V in (
+    (let w : State = opened_state K.known.opened.area records s.disk_faults s.providers in
+    let V = state-over records s.disk_faults s K.known.opened in (
       w,
       record {
-        sound = rest-sound 8 w O.rest;
+        sound = rest-sound 8 w V.at_rest.rest;
         tells = K.known.tells;
-        images = each_image-mono s.disk _ _ (λ image stands. inl (inl (refl, stands))) K.images;
+        images = each_image-mono s.disk _ _ (λ image stands. inl (inl stands)) K.images;
         faults_are = refl;
         handed = V.handed;
       },

@@ -5,12 +5,13 @@ use Rattle.std.proofs.lemmas.Bool.{false≢true}
 use Rattle.device_defs.specs.Faults.{Rose}
 use Rattle.device_defs.proofs.Lasting.{rose-before}
 use Rattle.record_defs.specs.Records.{Record}
+use Rattle.record_defs.specs.Areas.{Area}
 use Rattle.machine_defs.specs.Jobs.{Kind, PutJob, GetJob, DropJob, AuditJob, RepairJob, UpgradeJob}
 use Rattle.machine_defs.specs.Answers as answer
 use Rattle.machine_defs.specs.Answers.{Answer}
 use Rattle.machine_defs.specs.Refusals as refusal
 use Rattle.machine_defs.specs.Refusals.{Refusal}
-use Rattle.command_defs.specs.Forms.{Command, Numbers, RowOf, InitWith, PutUnder, PutAt, GetOf, DropOf, ListAll, AuditAll, RepairDue, UpgradeJournal, ScrubAll}
+use Rattle.command_defs.specs.Forms.{Command, Numbers, RowOf, InitWith, PutUnder, PutAt, GetOf, DropOf, ListAll, AuditAll, RepairDue, UpgradeJournal, ScrubAll, PackJournal}
 use Rattle.command_defs.specs.Sinking.{WritesLine}
 use Rattle.command_defs.specs.Seen.{Seen, Ending, provider_at, sinking}
 use Rattle.command_defs.specs.Opens.{Unstarted}
@@ -19,6 +20,7 @@ use Rattle.command_defs.specs.Ran.{Ran}
 use Rattle.command_defs.specs.Jobs.{AnswersJob, EndsByAnswer, LeavesBy, LeftAlone}
 use Rattle.command_defs.specs.Inits.{AnswersInit, InitsDisk}
 use Rattle.command_defs.specs.Scrubs.{ScrubbedAlone, AnswersScrub}
+use Rattle.command_defs.specs.Packs.{PackLeaves, AnswersPack}
 use Rattle.command_defs.specs.Commands.{AnswersPut, AnswersAlone, AnswersList, Answers}
 use Rattle.command_laws.specs.Ends.{FaultsHaveCauses, opens_store}
 use Rattle.command_laws.proofs.GetEnds.{ran_left}
@@ -86,7 +88,8 @@ module _ (old new : Seen) (end : Ending) where
   unstarted-causes (Unstarted.disk_fault rose r) = disk-rose r.status_is rose
   unstarted-causes (Unstarted.not_set_up is sync r) = none-rose 9 refl r.status_is
   unstarted-causes (Unstarted.bad_journal at is r) = none-rose 8 refl r.status_is
-  unstarted-causes (Unstarted.too_few_providers records read few synced r) = none-rose 22 refl r.status_is
+  unstarted-causes (Unstarted.too_few_providers area records read few synced r) =
+      none-rose 22 refl r.status_is
   unstarted-causes (Unstarted.no_memory r) = none-rose 70 refl r.status_is
 
   refused-none : (why : Refusal) → is_fault (status_of why) ≡ false
@@ -132,8 +135,9 @@ module _ (old new : Seen) (end : Ending) where
   provider-by x RepairJob own j L = L.0.gives.2
   provider-by x UpgradeJob own j L = absurd L.0
 
-  ended-causes : (kind : Kind) (own : Option ℕ) (records : List Record) (text : List ℕ) (how : Answer) →
-      LeftAlone records kind own how old new end.heard → EndsByAnswer text how old new end →
+  ended-causes : {area : Area} (kind : Kind) (own : Option ℕ) (records : List Record) (text : List ℕ)
+      (how : Answer) →
+      LeftAlone area records kind own how old new end.heard → EndsByAnswer text how old new end →
       FaultsHaveCauses old new end
   ended-causes kind own records text (answer.Lost stripe row) left by = none-rose 4 refl by.status_is
   ended-causes kind own records text (answer.ProviderFault j) left by =
@@ -158,8 +162,8 @@ module _ (old new : Seen) (end : Ending) where
       written-causes text by.written
   ended-causes kind own records text (answer.Packed before after) left by = written-causes text by.written
 
-  job-causes : (kind : Kind) (records : List Record) {own : Option ℕ} →
-      AnswersJob kind own records old new end →
+  job-causes : {area : Area} (kind : Kind) (records : List Record) {own : Option ℕ} →
+      AnswersJob kind own area records old new end →
       FaultsHaveCauses old new end
   job-causes kind records (AnswersJob.refused why is synced r) =
       none-rose (status_of why) (refused-none why) r.status_is
@@ -206,6 +210,21 @@ module _ (old new : Seen) (end : Ending) where
   scrub-causes (AnswersScrub.ended records how opened synced heard runs left by) =
       scrub-by records _ how left by
 
+  pack-by : (area : Area) (records : List Record) (text : List ℕ) (how : Answer) →
+      PackLeaves area records how old new → EndsByAnswer text how old new end → FaultsHaveCauses old new end
+  pack-by area records text (answer.Packed before after) L by = written-causes text by.written
+  pack-by area records text answer.DiskFault L by = disk-rose by.status_is L.0
+  pack-by area records text answer.Memory L by = none-rose 70 refl by.status_is
+  pack-by area records text how L by = absurd L
+
+  pack-causes : AnswersPack old new end → FaultsHaveCauses old new end
+  pack-causes (AnswersPack.unstarted u) = unstarted-causes u
+  pack-causes (AnswersPack.refused records why opened is synced r) =
+      none-rose (status_of why) (refused-none why) r.status_is
+  pack-causes (AnswersPack.no_memory records opened synced r) = none-rose 70 refl r.status_is
+  pack-causes (AnswersPack.ended records how opened none heard runs left by) =
+      pack-by opened.area records _ how left.leaves by
+
   -- an init ends with a status of a fault only where the count of that device rose
   pub init-causes : (numbers : Numbers) → AnswersInit numbers old new end → FaultsHaveCauses old new end
   init-causes numbers (AnswersInit.bad_setup bad same r) = none-rose 20 refl r.status_is
@@ -238,3 +257,4 @@ module _ (old new : Seen) (end : Ending) where
   store-causes RepairDue A opens = alone-causes RepairJob A.0
   store-causes UpgradeJournal A opens = alone-causes UpgradeJob A.0
   store-causes ScrubAll A opens = scrub-causes A.0
+  store-causes PackJournal A opens = pack-causes A.0

@@ -9,6 +9,8 @@ use Rattle.device_defs.specs.Cells.{Cells}
 use Rattle.device_defs.specs.Faults.{Rose}
 use Rattle.device_defs.specs.Told.{told_then}
 use Rattle.record_defs.specs.Records.{Record, Setup, SetUp, AuditStart, is_name, largest_file, largest_journal}
+use Rattle.record_defs.specs.Areas as areas
+use Rattle.record_defs.specs.Areas.{Area}
 use Rattle.record_defs.specs.Table.{Due, next_audit, setup_of, file_of, due_of, exceeds}
 use Rattle.record_defs.specs.Acceptance.{refused}
 use Rattle.record_defs.proofs.FilesLaws.{same-refl}
@@ -28,7 +30,7 @@ use Rattle.command_defs.specs.Inits.{AnswersInit, setup_with}
 use Rattle.command_defs.specs.Refusals.{refusal_over, takes_too_much}
 use Rattle.command_defs.specs.Scrubs.{AnswersScrub}
 use Rattle.command_defs.specs.Commands.{AnswersPut, AnswersAlone, Answers}
-use Rattle.state_laws.proofs.Records.{all-spelled, file-spelled}
+use Rattle.state_laws.proofs.Records.{file-spelled}
 use Rattle.command_laws.specs.Ends.{IsDone, IsKnown, GivesText, GivesUnlessMemory, after_put, after_drop, after_audit, after_repair}
 use Rattle.command_laws.specs.After.{Follows, IsThen, HasRightFile, IsUntouched, IsSteady, spoilt_below, IsFaultless}
 use Rattle.command_laws.specs.Opened.{IsKeyed}
@@ -67,9 +69,10 @@ get-right name bytes records spoilt old new end A K H steady few zero =
     (seen-right name bytes records H.file old new end K H.in_effect H.are_bytes H.size A
     (let b = bad-few name bytes records spoilt old new H steady in omega (arith, b, few))).1 zero
 
-get-refused : (name : List ℕ) (records : List Record) → is_name name ≡ true → file_of records name ≡ None →
-    refusal_over records (GetJob name) None ≡ Some refusal.NoSuchName
-get-refused name records named none =
+get-refused : (area : Area) (name : List ℕ) (records : List Record) → is_name name ≡ true →
+    file_of records name ≡ None →
+    refusal_over area records (GetJob name) None ≡ Some refusal.NoSuchName
+get-refused area name records named none =
     (λ i. cond (not (named i)) (Some refusal.BadName)
     (cond (not (is_some (none i))) (Some refusal.NoSuchName) None))
 
@@ -80,7 +83,7 @@ pub get-missing : (name : List ℕ) (records : List Record) (old new : Seen) (en
     (Rose old.disk_faults new.disk_faults → ⊥) → (end.status ≡ 3) ⊎ (end.status ≡ 70)
 get-missing name records old new end A K named none disk =
     elim (known-always (GetJob name) records old new end refusal.NoSuchName A K disk
-    (get-refused name records named none)) [
+    (get-refused K.opened.area name records named none)) [
       | inl r ↦ inl r.status_is
       | inr r ↦ inr r.status_is
     ]
@@ -140,17 +143,20 @@ ends-zero text old new end (inl gives) some = gives
 ends-zero text old new end (inr (memory, front)) some = absurd (some memory)
 
 -- over a store that was just set up a put that names no profile is not refused
-pub first-begins : (s : Setup) (name bytes : List ℕ) → is_name name ≡ true → length bytes ≤ largest_file →
-    refusal_over (SetUp s ∷ []) (PutJob name bytes) None ≡ None
-first-begins s name bytes named short =
+pub first-begins : (area : Area) (s : Setup) (name bytes : List ℕ) → is_name name ≡ true →
+    length bytes ≤ largest_file → refusal_over area (SetUp s ∷ []) (PutJob name bytes) None ≡ None
+first-begins area s name bytes named short =
     (let long : nat_lt largest_file (length bytes) ≡ false = le-ltb largest_file (length bytes) short in
-    let full : nat_lt largest_journal (51 + (11 + (length name + 14))) ≡ false =
-    le-ltb largest_journal (51 + (11 + (length name + 14)))
-    (let l = is_name-short name named in omega (arith, l)) in
-    let room : takes_too_much (SetUp s ∷ []) (PutJob name bytes) ≡ false =
-    ap (nat_lt largest_journal) (omega arith) ∙ full in
     (λ i. cond (not (named i)) (Some refusal.BadName)
-    (cond (long i) (Some refusal.TooLong) (cond (room i || false) (Some refusal.JournalFull) None))))
+    (cond (long i) (Some refusal.TooLong) (cond (room area i || false) (Some refusal.JournalFull) None))))
+  where
+    room : (area : Area) → takes_too_much area (SetUp s ∷ []) (PutJob name bytes) ≡ false
+    room areas.A = ap (nat_lt largest_journal) (omega arith)
+        ∙ le-ltb largest_journal (51 + (11 + (length name + 14)))
+        (let l = is_name-short name named in omega (arith, l))
+    room areas.B = ap (nat_lt largest_journal) (omega arith)
+        ∙ le-ltb largest_journal (8388651 + (11 + (length name + 14)))
+        (let l = is_name-short name named in omega (arith, l))
 
 -- an init, a put and a get with no fault and with memory are done, and give the bytes that were put
 pub all-whole : (numbers : Numbers) (key name bytes : List ℕ) (spoilt : ℕ → Bool) (cells : Cells)
@@ -169,7 +175,7 @@ all-whole numbers key name bytes spoilt cells a b c d e f first second last I P 
     (init-well numbers key cells a b first I K disk free calm.source calm.disk calm.sink) some).0 in
     let sure = sure-next records b c
     (init-sure numbers key a b first I (inl zero) (ap is_some disk) (K.bytes, K.source, K.form)) N in
-    let begins = first-begins (setup_with numbers key) name bytes named short in
+    let begins = first-begins sure.known.opened.area (setup_with numbers key) name bytes named short in
     let put = (ends-zero (stored_line name (length bytes)) c d second
     (put-well name bytes None records c d second P sure.known source begins quiet.disk
     (λ j below. quiet.stores j) quiet.source quiet.sink) more).0 in
@@ -190,7 +196,7 @@ pub drop-get : (name : List ℕ) (records : List Record) (c d e f : Seen) (secon
 drop-get name records c d e f second last D G N K done disk =
     (let P = drop-done name c d second D done in
     let named : is_name name ≡ true =
-    (file-spelled P.records name P.file (all-spelled P.records P.opened.read.in_grammar) P.was_in_effect).0 in
+    (file-spelled P.records name P.file P.opened.read.in_grammar P.was_in_effect).0 in
     let sure = sure-next (after_drop records name) d e (drop-sure name records c d second D done K) N in
     get-missing name (after_drop records name) e f last G sure.known named (dropped-none records name) disk)
 
@@ -301,7 +307,7 @@ none-due rs number h = is_some-none (due_of rs) (grind (arith, nat_tests, h))
 audit-then : (records : List Record) (undecided : ℕ) (counts : List ℕ) (c d : Seen) →
     IsThen AuditAll records c d (after_audit records undecided counts)
 audit-then records undecided counts c d =
-    inr (record {
+    inr (inl (record {
       kind = AuditJob;
       of_command = refl;
       own = audit_records records undecided counts;
@@ -309,7 +315,7 @@ audit-then records undecided counts c d =
       count = 2;
       whole = λ l. tt;
       after_is = refl;
-    })
+    }))
 
 -- what an audit, its repair and a get give over a store with this setup, whose next audit has this number
 abbrev Mends : Setup → ℕ → List ℕ → (ℕ → Bool) → Seen → Seen → Seen → Seen → Seen → Seen → Ending → Ending →

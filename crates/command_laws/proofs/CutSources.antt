@@ -1,18 +1,20 @@
 -- Commands whose source failed, or has more bytes than a file may have: which end so, and what they leave.
 use Rattle.std.proofs.Common.{◌≡◌, ◌⊎◌, ℕ, Bool, true, false, cond, List, Option, Some, None, refl, sym, ◌∙◌, inl, inr, arith}
 use Rattle.record_defs.specs.Records.{Record}
+use Rattle.record_defs.specs.Areas.{Area}
 use Rattle.machine_defs.specs.Jobs.{Kind, PutJob, GetJob, DropJob, AuditJob, RepairJob, UpgradeJob}
 use Rattle.machine_defs.specs.Refusals as refusal
 use Rattle.machine_defs.specs.Refusals.{Refusal}
-use Rattle.command_defs.specs.Forms.{Command, Numbers, RowOf, InitWith, PutUnder, PutAt, GetOf, DropOf, ListAll, AuditAll, RepairDue, UpgradeJournal, ScrubAll}
+use Rattle.command_defs.specs.Forms.{Command, Numbers, RowOf, InitWith, PutUnder, PutAt, GetOf, DropOf, ListAll, AuditAll, RepairDue, UpgradeJournal, ScrubAll, PackJournal}
 use Rattle.command_defs.specs.Seen.{Seen, Ending, IsRefused, sinking}
 use Rattle.command_defs.specs.Sinking.{WritesLine}
-use Rattle.command_defs.specs.Refusals.{refusal_over}
+use Rattle.command_defs.specs.Refusals.{refusal_over, pack_refusal_over}
 use Rattle.command_defs.specs.Inits.{AnswersInit, InitsDisk}
 use Rattle.command_defs.specs.Scrubs.{AnswersScrub}
+use Rattle.command_defs.specs.Packs.{AnswersPack}
 use Rattle.command_defs.specs.Commands.{AnswersPut, AnswersAlone, AnswersList, Answers}
 use Rattle.command_laws.specs.Ends.{put_of, GivesUpPut}
-use Rattle.command_laws.proofs.Known.{status-written, status-ended}
+use Rattle.command_laws.proofs.Known.{refused-not, told-refusal, status-written, status-ended}
 use Rattle.command_laws.proofs.RowCauses.{none-at}
 use Rattle.command_laws.proofs.JobEnds.{short-never, cut-not, unstarted-cut, ended-cut, job-cut, given-gives}
 use Rattle.command_laws.proofs.Images.{ReadsNone}
@@ -29,26 +31,26 @@ never true x rest here there e = here e
 never false x rest here there e = there e
 
 -- only a put is refused for a length
-kind-short : (kind : Kind) (records : List Record) → ReadsNone kind →
-    refusal_over records kind None ≡ Some refusal.TooLong → ⊥
-kind-short (PutJob name bytes) records none = absurd none
-kind-short (GetJob name) records none =
+kind-short : (area : Area) (kind : Kind) (records : List Record) → ReadsNone kind →
+    refusal_over area records kind None ≡ Some refusal.TooLong → ⊥
+kind-short area (PutJob name bytes) records none = absurd none
+kind-short area (GetJob name) records none =
     never _ refusal.BadName _ (λ e. cc) (never _ refusal.NoSuchName None (λ e. cc) (λ e. cc))
-kind-short (DropJob name) records none =
+kind-short area (DropJob name) records none =
     never _ refusal.BadName _ (λ e. cc) (never _ refusal.NoSuchName _ (λ e. cc)
     (never _ refusal.JournalFull None (λ e. cc) (λ e. cc)))
-kind-short AuditJob records none =
+kind-short area AuditJob records none =
     never _ refusal.RepairDue _ (λ e. cc) (never _ refusal.JournalFull None (λ e. cc) (λ e. cc))
-kind-short RepairJob records none =
+kind-short area RepairJob records none =
     never _ refusal.NothingDue _ (λ e. cc) (never _ refusal.JournalFull None (λ e. cc) (λ e. cc))
-kind-short UpgradeJob records none =
+kind-short area UpgradeJob records none =
     never _ refusal.NewVersion _ (λ e. cc) (never _ refusal.JournalFull None (λ e. cc) (λ e. cc))
 
 alone-cut : (kind : Kind) (old new : Seen) (end : Ending) → ReadsNone kind → AnswersAlone kind old new end →
     IsCut end.status → ⊥
 alone-cut kind old new end none (AnswersAlone.unstarted u) cut = unstarted-cut old new end u cut
 alone-cut kind old new end none (AnswersAlone.begun records opened A) cut =
-    job-cut kind None records old new end (kind-short kind records none) A cut
+    job-cut kind None records old new end (kind-short opened.area kind records none) A cut
 
 written-cut : (text : List ℕ) (old new : Seen) (end : Ending) →
     WritesLine text end.status (sinking old new) → IsCut end.status → ⊥
@@ -65,6 +67,25 @@ scrub-cut old new end (AnswersScrub.unstarted u) cut = unstarted-cut old new end
 scrub-cut old new end (AnswersScrub.no_memory records opened synced r) cut =
     cut-not end.status 70 r.status_is (λ e. omega (arith, e)) (λ e. omega (arith, e)) cut
 scrub-cut old new end (AnswersScrub.ended records how opened synced heard runs left by) cut =
+    ended-cut end.status (status-ended _ how old new end by) cut
+
+-- nor is a pack
+pack-short : (area : Area) (records : List Record) →
+    pack_refusal_over area records ≡ Some refusal.TooLong → ⊥
+pack-short area records =
+    never _ refusal.OldVersion _ (λ e. cc) (never _ refusal.PackTooLong None (λ e. cc) (λ e. cc))
+
+pack-cut : (old new : Seen) (end : Ending) → AnswersPack old new end → IsCut end.status → ⊥
+pack-cut old new end (AnswersPack.unstarted u) cut = unstarted-cut old new end u cut
+pack-cut old new end (AnswersPack.refused records why opened is synced r) (inl e) =
+    refused-not why 14 refl (λ k. omega (arith, k)) (sym r.status_is ∙ e)
+pack-cut old new end (AnswersPack.refused records why opened is synced r) (inr e) =
+    pack-short opened.area records (is ∙ told-refusal end why refusal.TooLong
+    (λ k. let f : 16 ≡ 70 = sym e ∙ (r.status_is ∙ k) in omega (arith, f)) r.status_is
+    (λ k. omega (arith, k)) e)
+pack-cut old new end (AnswersPack.no_memory records opened synced r) cut =
+    cut-not end.status 70 r.status_is (λ e. omega (arith, e)) (λ e. omega (arith, e)) cut
+pack-cut old new end (AnswersPack.ended records how opened none heard runs left by) cut =
     ended-cut end.status (status-ended _ how old new end by) cut
 
 row-cut : (n l b : ℕ) (seen : List (Option ℕ)) (old new : Seen) (end : Ending) →
@@ -113,7 +134,8 @@ put-cut name own old new end (AnswersPut.source_fault records opened known rose 
 put-cut name own old new end (AnswersPut.no_memory taken r) cut =
     absurd (cut-not end.status 70 r.status_is (λ e. omega (arith, e)) (λ e. omega (arith, e)) cut)
 put-cut name own old new end (AnswersPut.begun records bytes opened known read few A whole) cut =
-    absurd (job-cut (PutJob name bytes) own records old new end (short-never records name bytes own few) A
+    absurd (job-cut (PutJob name bytes) own records old new end
+    (short-never opened.area records name bytes own few) A
     cut)
 put-cut name own old new end (AnswersPut.given_up records bytes opened known none stops runs left) cut =
     inr (given-gives name bytes own records old new end opened known none stops left)
@@ -145,6 +167,7 @@ command-cut AuditAll old new end A cut = absurd (alone-cut AuditJob old new end 
 command-cut RepairDue old new end A cut = absurd (alone-cut RepairJob old new end tt A.0 cut)
 command-cut UpgradeJournal old new end A cut = absurd (alone-cut UpgradeJob old new end tt A.0 cut)
 command-cut ScrubAll old new end A cut = absurd (scrub-cut old new end A.0 cut)
+command-cut PackJournal old new end A cut = absurd (pack-cut old new end A.0 cut)
 
 -- a command whose source failed has changed nothing, or is a put that was given up
 pub source-told : (command : Command) (old new : Seen) (end : Ending) → Answers command old new end →

@@ -1,6 +1,6 @@
 -- The records of a store after a command that is done, and after any command.
-use Rattle.std.proofs.Common.{◌≡◌, ◌≢◌, ℕ, ◌+◌, ◌<◌, ◌≤◌, ◌⊎◌, true, List, [], ◌∷◌, ◌++◌, length, Option, None, Some, refl, ap, sym, subst, ◌∙◌, inl, inr, arith, append_assoc}
-use Rattle.std.specs.Prelude.{is_some, IfSome}
+use Rattle.std.proofs.Common.{◌≡◌, ◌≢◌, ℕ, ◌+◌, ◌<◌, ◌≤◌, ◌⊎◌, Bool, true, false, List, [], ◌∷◌, length, Option, None, Some, refl, ap, sym, subst, ◌∙◌, inl, inr, arith}
+use Rattle.std.specs.Prelude.{is_some, IfSome, IsTrue}
 use Rattle.std.specs.Option.{option_map}
 use Rattle.std.proofs.lemmas.Bool.{and_from, false≢true}
 use Rattle.std.proofs.lemmas.Bool.Decides.{nat_tests}
@@ -10,46 +10,53 @@ use Rattle.device_defs.specs.Cells.{Cells, reads, firm}
 use Rattle.device_defs.specs.Disks.{synced, Stopped}
 use Rattle.device_defs.specs.Images.{EachImage}
 use Rattle.device_defs.specs.Told.{Goes}
-use Rattle.device_defs.proofs.Lasting.{reads-firm, image-firm}
+use Rattle.device_defs.proofs.Lasting.{reads-firm, image-firm, each_image-mono}
 use Rattle.device_defs.proofs.PickLaws.{IsImage-reads}
-use Rattle.record_defs.specs.Records.{Record, Setup, SetUp, is_master, is_setup, largest_file, largest_journal}
-use Rattle.record_defs.specs.Journal.{text, before_gate, StandsFor}
+use Rattle.record_defs.specs.Records.{Record, Setup, SetUp, is_master, is_setup, is_in_grammar, largest_file, largest_journal}
+use Rattle.record_defs.specs.Areas as areas
+use Rattle.record_defs.specs.Areas.{Area, other_area, StandsActive}
+use Rattle.record_defs.specs.Journal.{StandsFor}
+use Rattle.record_defs.specs.Packed.{AreAlike, packed}
 use Rattle.record_defs.specs.Table.{Due, next_audit, due_of}
-use Rattle.record_defs.proofs.Standing.{stands-front}
+use Rattle.record_defs.proofs.Standing.{active-front}
 use Rattle.record_codec.proofs.Takes.{IsBytes-all}
-use Rattle.journal_core.proofs.Meanings.{one_meaning}
+use Rattle.journal_core.proofs.Meanings.{one_list}
 use Rattle.machine_defs.specs.Jobs.{Kind, PutJob, GetJob, DropJob, AuditJob, RepairJob, UpgradeJob}
 use Rattle.machine_defs.specs.Answers as answer
 use Rattle.machine_defs.specs.Answers.{Answer}
 use Rattle.machine_defs.specs.Refusals.{Refusal}
 use Rattle.machine_defs.proofs.JobLists.{same_value}
-use Rattle.command_defs.specs.Forms.{Command, Numbers, RowOf, InitWith, PutUnder, PutAt, GetOf, DropOf, ListAll, AuditAll, RepairDue, UpgradeJournal, ScrubAll}
+use Rattle.command_defs.specs.Forms.{Command, Numbers, RowOf, InitWith, PutUnder, PutAt, GetOf, DropOf, ListAll, AuditAll, RepairDue, UpgradeJournal, ScrubAll, PackJournal}
 use Rattle.command_defs.specs.Keys.{IsKeyForm}
 use Rattle.command_defs.specs.Seen.{Seen, Ending, IsRefused, IsSynced, ReadsUpTo}
 use Rattle.opening_defs.specs.Journals.{journal_read, IsSetUpOn}
 use Rattle.command_defs.specs.Opens.{IsOpened, Unstarted, setup_in_effect}
-use Rattle.command_defs.specs.Refusals.{status_of, refusal_over}
+use Rattle.command_defs.specs.Refusals.{status_of, refusal_over, pack_refusal_over}
 use Rattle.command_defs.specs.Lines.{audit_lines}
 use Rattle.command_defs.specs.Inits.{setup_with, AnswersInit}
 use Rattle.command_defs.specs.Gets.{GetLeaves}
 use Rattle.command_defs.specs.Jobs.{AnswersJob, SamePast, past, with_next, IsTold}
 use Rattle.command_defs.specs.GivenUp.{put_stripe, after_begin, StopsReading, PartRuns, PartLeft}
 use Rattle.command_defs.specs.Scrubs.{ScrubsAlone, AnswersScrub}
+use Rattle.command_defs.specs.Packs.{PackedAlone, AnswersPack}
 use Rattle.command_defs.specs.Commands.{AnswersPut, AnswersAlone, AnswersList, Answers}
 use Rattle.state_laws.proofs.Records.{is_some-at}
 use Rattle.command_defs.proofs.Keys.{IsKeyForm-once}
+use Rattle.opening_defs.proofs.SetUps.{set_up-firm, set_up-stands}
 use Rattle.lone_laws.specs.Walked.{MayName}
 use Rattle.command_laws.specs.Ends.{IsDone, IsKnown, profile_named, RunsKind, DiskHas, opens_store, after_put, after_drop, after_audit, after_repair, after_upgrade}
 use Rattle.command_laws.specs.Kept.{IsAfter}
 use Rattle.command_laws.specs.After.{IsSure, Follows, IsThen}
-use Rattle.command_laws.proofs.Known.{known-once, alone-known, unstarted-known, refused-not}
-use Rattle.command_laws.proofs.JobEnds.{put-done, drop-done, audit-done, repair-done, upgrade-done, read-all, given-status, given-kind, images-stand, cut-not, unstarted-cut, job-cut, short-never}
+use Rattle.command_laws.proofs.Known.{known-once, known-both, alone-known, unstarted-known, refused-not}
+use Rattle.command_laws.proofs.JobEnds.{unstarted-refused, put-done, drop-done, audit-done, repair-done, upgrade-done, read-all, given-status, given-kind, images-have, cut-not, unstarted-cut, job-cut, short-never}
 use Rattle.command_laws.proofs.GetEnds.{ran_left}
 use Rattle.command_laws.proofs.InitEnds.{form-all, init-done, list-done}
 use Rattle.command_laws.proofs.Images.{known-images}
-use Rattle.command_laws.proofs.Failed.{images-same, put-fails, repair-fails, repair-loses}
+use Rattle.command_laws.proofs.Failed.{put-fails, repair-fails, repair-loses}
 use Rattle.command_laws.proofs.ScrubRuns.{scrub-handed}
-use Rattle.command_laws.proofs.Knowing.{IsGood, sure-good, known-good, LeavesGood, HasBytes, ran-good, part-good, spelled-kind}
+use Rattle.command_laws.proofs.PackEnds.{pack-done, pack-alike}
+use Rattle.command_laws.proofs.PackStores.{pack-good}
+use Rattle.command_laws.proofs.Knowing.{IsGood, MayBeGood, sure-good, known-good, LeavesGood, HasBytes, ran-good, part-good, spelled-kind}
 use Rattle.command_laws.proofs.Afterwards.{sure-refused, sure-next}
 
 -- ---- statuses of a job that came to its end by itself
@@ -81,35 +88,35 @@ over-refused why status is (inr (inr e)) = refused-not why 13 refl (λ k. omega 
 -- ---- a disk that told tells on
 
 -- a disk tells after a job where it told before, past what the job appended
-pub tells-past : (kind : Kind) (own : Option ℕ) (how : Answer) (before rs : List Record)
+pub tells-past : (area : Area) (kind : Kind) (own : Option ℕ) (how : Answer) (before rs : List Record)
     (a b : Option Cells) →
-    SamePast kind own how before rs a b → is_some b ≡ is_some a
-tells-past kind own answer.Put before rs a b h =
-    sym (is_some-option_map (past rs) b) ∙ (ap is_some h ∙ is_some-option_map (past rs) a)
-tells-past kind own (answer.Got bytes) before rs a b h =
-    sym (is_some-option_map (past rs) b) ∙ (ap is_some h ∙ is_some-option_map (past rs) a)
-tells-past kind own answer.Dropped before rs a b h =
-    sym (is_some-option_map (past rs) b) ∙ (ap is_some h ∙ is_some-option_map (past rs) a)
-tells-past kind own (answer.Audited number undecided counts) before rs a b h =
-    sym (is_some-option_map (past rs) b) ∙ (ap is_some h ∙ is_some-option_map (past rs) a)
-tells-past kind own (answer.Repaired number) before rs a b h =
-    sym (is_some-option_map (past rs) b) ∙ (ap is_some h ∙ is_some-option_map (past rs) a)
-tells-past kind own answer.Upgraded before rs a b h =
-    sym (is_some-option_map (past rs) b) ∙ (ap is_some h ∙ is_some-option_map (past rs) a)
-tells-past kind own (answer.Scrubbed stripes symbols blocks) before rs a b h =
-    sym (is_some-option_map (past rs) b) ∙ (ap is_some h ∙ is_some-option_map (past rs) a)
-tells-past kind own (answer.Packed shorter longer) before rs a b h =
-    sym (is_some-option_map (past rs) b) ∙ (ap is_some h ∙ is_some-option_map (past rs) a)
-tells-past kind own (answer.Lost stripe row) before rs a b h =
-    sym (is_some-option_map (past rs) b) ∙ (ap is_some h ∙ is_some-option_map (past rs) a)
-tells-past kind own (answer.ProviderFault j) before rs a b h =
-    sym (is_some-option_map (past rs) b) ∙ (ap is_some h ∙ is_some-option_map (past rs) a)
-tells-past kind own answer.DiskFault before rs a b h =
-    (let all = with_next h.next rs in sym (is_some-option_map (past all) b)
-    ∙ (ap is_some h.same ∙ is_some-option_map (past all) a))
-tells-past kind own answer.Memory before rs a b h =
-    (let all = with_next h.next rs in sym (is_some-option_map (past all) b)
-    ∙ (ap is_some h.same ∙ is_some-option_map (past all) a))
+    SamePast area kind own how before rs a b → is_some b ≡ is_some a
+tells-past area kind own answer.Put before rs a b h =
+    sym (is_some-option_map (past area rs) b) ∙ (ap is_some h ∙ is_some-option_map (past area rs) a)
+tells-past area kind own (answer.Got bytes) before rs a b h =
+    sym (is_some-option_map (past area rs) b) ∙ (ap is_some h ∙ is_some-option_map (past area rs) a)
+tells-past area kind own answer.Dropped before rs a b h =
+    sym (is_some-option_map (past area rs) b) ∙ (ap is_some h ∙ is_some-option_map (past area rs) a)
+tells-past area kind own (answer.Audited number undecided counts) before rs a b h =
+    sym (is_some-option_map (past area rs) b) ∙ (ap is_some h ∙ is_some-option_map (past area rs) a)
+tells-past area kind own (answer.Repaired number) before rs a b h =
+    sym (is_some-option_map (past area rs) b) ∙ (ap is_some h ∙ is_some-option_map (past area rs) a)
+tells-past area kind own answer.Upgraded before rs a b h =
+    sym (is_some-option_map (past area rs) b) ∙ (ap is_some h ∙ is_some-option_map (past area rs) a)
+tells-past area kind own (answer.Scrubbed stripes symbols blocks) before rs a b h =
+    sym (is_some-option_map (past area rs) b) ∙ (ap is_some h ∙ is_some-option_map (past area rs) a)
+tells-past area kind own (answer.Packed shorter longer) before rs a b h =
+    sym (is_some-option_map (past area rs) b) ∙ (ap is_some h ∙ is_some-option_map (past area rs) a)
+tells-past area kind own (answer.Lost stripe row) before rs a b h =
+    sym (is_some-option_map (past area rs) b) ∙ (ap is_some h ∙ is_some-option_map (past area rs) a)
+tells-past area kind own (answer.ProviderFault j) before rs a b h =
+    sym (is_some-option_map (past area rs) b) ∙ (ap is_some h ∙ is_some-option_map (past area rs) a)
+tells-past area kind own answer.DiskFault before rs a b h =
+    (let all = with_next h.next rs in sym (is_some-option_map (past area all) b)
+    ∙ (ap is_some h.same ∙ is_some-option_map (past area all) a))
+tells-past area kind own answer.Memory before rs a b h =
+    (let all = with_next h.next rs in sym (is_some-option_map (past area all) b)
+    ∙ (ap is_some h.same ∙ is_some-option_map (past area all) a))
 
 -- ---- what a job leaves that came to its end
 
@@ -117,16 +124,18 @@ tells-past kind own answer.Memory before rs a b h =
 abbrev Left : List Record → Seen → Seen → Type 0
 Left records old new = LeavesGood records old new × (is_some new.disk ≡ is_some old.disk)
 
-left-over : (kind : Kind) (records : List Record) (old new : Seen) (end : Ending) → IsOpened old records →
-    HasBytes kind → {own : Option ℕ} → MayName kind own → AnswersJob kind own records old new end →
+left-over : (kind : Kind) (records : List Record) (old new : Seen) (end : Ending) →
+    (opened : IsOpened old records) →
+    HasBytes kind →
+    {own : Option ℕ} → MayName kind own → AnswersJob kind own opened.area records old new end →
     IsOver end.status → Left records old new
 left-over kind records old new end R are named (AnswersJob.refused why is synced r) over =
     absurd (over-refused why end.status r.status_is over)
 left-over kind records old new end R are named (AnswersJob.no_memory synced r) over =
     absurd (over-memory end.status r.status_is over)
 left-over kind records old new end R are named (AnswersJob.ended how none runs left by) over = (
-  ran-good records kind how old new end.heard R (spelled-kind records kind _ are none) named runs,
-  tells-past kind _ how records left.after old.disk new.disk left.past_text,
+  ran-good records kind how old new end.heard R (spelled-kind R.area records kind _ are none) named runs,
+  tells-past R.area kind _ how records left.after old.disk new.disk left.past_text,
 )
 
 alone-over : (kind : Kind) (records : List Record) (old new : Seen) (end : Ending) → IsKnown old records →
@@ -165,11 +174,11 @@ put-over name records old new end K (AnswersPut.begun other bytes opened known r
     (left-over (PutJob name bytes) other old new end opened read.are_bytes
     (MayName.put name bytes refl) A over)
 
-sure-left : (records after : List Record) (old new : Seen) → IsKnown old records → Left records old new →
-    DiskHas after new → IsSure new after
-sure-left records after old new K L has =
+sure-left : (records : List Record) (area : Area) (after : List Record) (old new : Seen) →
+    IsKnown old records → Left records old new → DiskHas area after new → IsSure new after
+sure-left records area after old new K L has =
     (let c = is_some-at new.disk (L.1 ∙ K.tells) in
-    sure-good (setup_in_effect records) new c.0 after c.1 L.0.0 L.0.1 has)
+    sure-good (setup_in_effect records) new c.0 area after c.1 L.0.0 L.0.1 has)
 
 -- ---- what was read of a source that tells
 
@@ -188,12 +197,11 @@ pub put-sure : (name bytes : List ℕ) (own : Option ℕ) (records : List Record
     IsSure new (after_put records name (length bytes) own)
 put-sure name bytes own records old new end A done K source =
     (let P = put-done name own old new end A done in
-    let same = known-once old records P.records K P.opened.read in
     let read = whole-read (largest_file + 1) old.source new.source bytes P.bytes source P.read P.whole in
-    let has : DiskHas (after_put records name (length bytes) own) new =
-    subst (λ rs. DiskHas (after_put rs name (length bytes) own) new) same
-    (subst (λ bs. DiskHas (after_put P.records name (length bs) own) new) read P.disk) in
-    sure-left records (after_put records name (length bytes) own) old new K
+    let has : DiskHas K.opened.area (after_put records name (length bytes) own) new =
+    known-both old records P.records K P.opened (λ a rs. DiskHas a (after_put rs name (length bytes) own) new)
+    (subst (λ bs. DiskHas P.opened.area (after_put P.records name (length bs) own) new) read P.disk) in
+    sure-left records K.opened.area (after_put records name (length bytes) own) old new K
     (put-over name records old new end K A (inl done)) has)
 
 -- after a done drop the store is sure, with the drop's record
@@ -202,10 +210,9 @@ pub drop-sure : (name : List ℕ) (records : List Record) (old new : Seen) (end 
     IsSure new (after_drop records name)
 drop-sure name records old new end A done K =
     (let P = drop-done name old new end A done in
-    let same = known-once old records P.records K P.opened.read in
-    sure-left records (after_drop records name) old new K
+    sure-left records K.opened.area (after_drop records name) old new K
     (alone-over (DropJob name) records old new end K tt A (inl done))
-    (subst (λ rs. DiskHas (after_drop rs name) new) same P.disk))
+    (known-both old records P.records K P.opened (λ a rs. DiskHas a (after_drop rs name) new) P.disk))
 
 -- after a done audit the store is sure, with the audit's two records, whose counts it told
 pub audit-sure : (records : List Record) (old new : Seen) (end : Ending) → AnswersAlone AuditJob old new end →
@@ -218,9 +225,10 @@ audit-sure records old new end A done K =
     let same = known-once old records P.records K P.opened.read in (
       P.undecided,
       P.counts,
-      sure-left records (after_audit records P.undecided P.counts) old new K
+      sure-left records K.opened.area (after_audit records P.undecided P.counts) old new K
           (alone-over AuditJob records old new end K tt A (inl done))
-          (subst (λ rs. DiskHas (after_audit rs P.undecided P.counts) new) same P.disk),
+          (known-both old records P.records K P.opened
+          (λ a rs. DiskHas a (after_audit rs P.undecided P.counts) new) P.disk),
       subst (λ rs. IsTold (audit_lines (setup_in_effect rs).tolerance (next_audit rs) P.undecided P.counts)
           old new end) same P.told,
     ))
@@ -234,10 +242,10 @@ repair-sure records due old new end A done K is_due =
     let same = known-once old records P.records K P.opened.read in
     let due_is : P.due ≡ due = same_value (due_of records) P.due due
     (ap due_of (sym same) ∙ P.is_due) is_due in
-    let has : DiskHas (after_repair records due) new =
-    subst (λ rs. DiskHas (after_repair rs due) new) same
-    (subst (λ d. DiskHas (after_repair P.records d) new) due_is P.disk) in
-    sure-left records (after_repair records due) old new K
+    let has : DiskHas K.opened.area (after_repair records due) new =
+    known-both old records P.records K P.opened (λ a rs. DiskHas a (after_repair rs due) new)
+    (subst (λ d. DiskHas P.opened.area (after_repair P.records d) new) due_is P.disk) in
+    sure-left records K.opened.area (after_repair records due) old new K
     (alone-over RepairJob records old new end K tt A (inl done)) has)
 
 -- after a done upgrade the store is sure, with the upgrade's record
@@ -246,14 +254,15 @@ pub upgrade-sure : (records : List Record) (old new : Seen) (end : Ending) →
     IsSure new (after_upgrade records)
 upgrade-sure records old new end A done K =
     (let P = upgrade-done old new end A done in
-    let same = known-once old records P.records K P.opened.read in
-    sure-left records (after_upgrade records) old new K
+    sure-left records K.opened.area (after_upgrade records) old new K
     (alone-over UpgradeJob records old new end K tt A (inl done))
-    (subst (λ rs. DiskHas (after_upgrade rs) new) same P.disk))
+    (known-both old records P.records K P.opened (λ a rs. DiskHas a (after_upgrade rs) new) P.disk))
 
 -- a get appends nothing
-get-has : (name : List ℕ) (records : List Record) (old new : Seen) (end : Ending) → IsOpened old records →
-    AnswersJob (GetJob name) None records old new end → IsOver end.status → DiskHas records new
+get-has : (name : List ℕ) (records : List Record) (old new : Seen) (end : Ending) →
+    (opened : IsOpened old records) →
+    AnswersJob (GetJob name) None opened.area records old new end → IsOver end.status →
+    DiskHas opened.area records new
 get-has name records old new end R (AnswersJob.refused why is synced r) over =
     absurd (over-refused why end.status r.status_is over)
 get-has name records old new end R (AnswersJob.no_memory synced r) over =
@@ -261,7 +270,7 @@ get-has name records old new end R (AnswersJob.no_memory synced r) over =
 get-has name records old new end R (AnswersJob.ended how none runs left by) over =
     (let L : GetLeaves (ran_left records (GetJob name) how old new end.heard left) name how =
     left.leaves.by_kind in
-    images-same new.disk left.after records left.doubt R.read.some L.records L.sure left.images)
+    images-have R.area new.disk left.after left.doubt records L.records L.sure left.images)
 
 -- after a get that is over the store is sure, with the same records
 pub get-sure : (name : List ℕ) (records : List Record) (old new : Seen) (end : Ending) →
@@ -269,7 +278,7 @@ pub get-sure : (name : List ℕ) (records : List Record) (old new : Seen) (end :
 get-sure name records old new end A over K = elim (alone-known (GetJob name) old new end records K A) [
   | inl (inl (rose, r)) ↦ absurd (over-twelve end.status r.status_is over)
   | inl (inr r) ↦ absurd (over-memory end.status r.status_is over)
-  | inr job ↦ sure-left records records old new K
+  | inr job ↦ sure-left records K.opened.area records old new K
       (left-over (GetJob name) records old new end K.opened tt (MayName.none refl) job over)
       (get-has name records old new end K.opened job over)
 ]
@@ -283,22 +292,23 @@ pub failed-put-sure : (name : List ℕ) {own : Option ℕ} (records : List Recor
     IsSure new (after_begin records name)
 failed-put-sure name records old new end A failed K =
     (let P = put-fails name old new end A failed in
-    let same = known-once old records P.records K P.opened.read in
-    sure-left records (after_begin records name) old new K
+    sure-left records K.opened.area (after_begin records name) old new K
     (put-over name records old new end K A (inr (inr failed)))
-    (subst (λ rs. DiskHas (after_begin rs name) new) same P.disk))
+    (known-both old records P.records K P.opened (λ a rs. DiskHas a (after_begin rs name) new) P.disk))
 
 -- a put that was given up leaves what is good
 given-left : (name bytes : List ℕ) (own : Option ℕ) (records : List Record) (old new : Seen) (end : Ending) →
-    IsOpened old records → refusal_over records (PutJob name bytes) own ≡ None →
-    StopsReading (put_stripe records own) bytes old new end → PartRuns records name bytes own old new →
-    PartLeft records name bytes own old new → Left records old new
+    (opened : IsOpened old records) → refusal_over opened.area records (PutJob name bytes) own ≡ None →
+    StopsReading (put_stripe records own) bytes old new end →
+    PartRuns opened.area records name bytes own old new →
+    PartLeft opened.area records name bytes own old new → Left records old new
 given-left name bytes own records old new end R none stops runs left = (
   part-good records name bytes own old new R
-      (spelled-kind records (PutJob name bytes) own
-      (given-kind name bytes own records old new end none stops).0 none) (MayName.put name bytes refl) runs,
-  sym (is_some-option_map (past (after_begin records name)) new.disk)
-      ∙ (ap is_some left.past_text ∙ is_some-option_map (past (after_begin records name)) old.disk),
+      (spelled-kind R.area records (PutJob name bytes) own
+      (given-kind R.area name bytes own records old new end none stops).0 none) (MayName.put name bytes refl)
+      runs,
+  sym (is_some-option_map (past R.area (after_begin records name)) new.disk)
+      ∙ (ap is_some left.past_text ∙ is_some-option_map (past R.area (after_begin records name)) old.disk),
 )
 
 -- after a put whose source failed, or was too long, the store is sure, with the put's first record alone;
@@ -315,13 +325,13 @@ cut-put-sure name own records old new end (AnswersPut.source_fault other opened 
 cut-put-sure name own records old new end (AnswersPut.no_memory taken r) cut K =
     absurd (cut-not end.status 70 r.status_is (λ e. omega (arith, e)) (λ e. omega (arith, e)) cut)
 cut-put-sure name own records old new end (AnswersPut.begun other bytes opened known read few A whole) cut K =
-    absurd (job-cut (PutJob name bytes) own other old new end (short-never other name bytes own few) A cut)
+    absurd (job-cut (PutJob name bytes) own other old new end
+    (short-never opened.area other name bytes own few) A cut)
 cut-put-sure name own records old new end (AnswersPut.given_up other bytes opened known none stops runs left) cut K =
-    inr (let same = known-once old records other K opened.read in
-    sure-left records (after_begin records name) old new K
-    (subst (λ rs. Left rs old new) same
+    inr (sure-left records K.opened.area (after_begin records name) old new K
+    (subst (λ rs. Left rs old new) (known-once old records other K opened.read)
     (given-left name bytes own other old new end opened none stops runs left))
-    (subst (λ rs. DiskHas (after_begin rs name) new) same (images-stand new.disk _ _ left.images)))
+    (known-both old records other K opened (λ a rs. DiskHas a (after_begin rs name) new) left.images))
 
 -- so it is after one whose source was too long
 pub long-put-sure : (name : List ℕ) (own : Option ℕ) (records : List Record) (old new : Seen) (end : Ending) →
@@ -338,14 +348,15 @@ pub failed-repair-sure : (records : List Record) (old new : Seen) (end : Ending)
     AnswersAlone RepairJob old new end → (end.status ≡ 4) ⊎ (end.status ≡ 13) → IsKnown old records →
     IsSure new records
 failed-repair-sure records old new end A failed K =
-    sure-left records records old new K (alone-over RepairJob records old new end K tt A (inr failed))
+    sure-left records K.opened.area records old new K (alone-over RepairJob records old new end K tt A
+    (inr failed))
     (has failed)
   where
-    has : (end.status ≡ 4) ⊎ (end.status ≡ 13) → DiskHas records new
+    has : (end.status ≡ 4) ⊎ (end.status ≡ 13) → DiskHas K.opened.area records new
     has (inl lost) = (let P = repair-loses old new end A lost in
-        subst (λ rs. DiskHas rs new) (known-once old records P.records K P.opened.read) P.disk)
+        known-both old records P.records K P.opened (λ a rs. DiskHas a rs new) P.disk)
     has (inr store) = (let P = repair-fails old new end A store in
-        subst (λ rs. DiskHas rs new) (known-once old records P.records K P.opened.read) P.disk)
+        known-both old records P.records K P.opened (λ a rs. DiskHas a rs new) P.disk)
 
 -- a disk that was synced, over known records
 synced-sure : (records : List Record) (old new : Seen) → IsKnown old records →
@@ -354,22 +365,24 @@ synced-sure records old new K after same =
     (let c = is_some-at old.disk K.tells in
     let told : new.disk ≡ Some (firm (reads c.0)) = after ∙ ap (option_map synced) c.1 in
     let R = K.opened.read in
-    let looked : (9 < length (reads c.0)) × StandsFor (journal_read c.0) records =
-    subst (λ d. IfSome d (λ cells. (9 < length (reads cells)) × StandsFor (journal_read cells) records)) c.1
-    R.reads_are in
-    let stands : StandsFor (reads c.0) records = stands-front largest_journal (reads c.0) records looked.1 in
+    let area = K.opened.area in
+    let looked : (9 < length (reads c.0)) × StandsActive (journal_read c.0) area records =
+    subst (λ d. IfSome d (λ cells. (9 < length (reads cells)) × StandsActive (journal_read cells) area
+    records)) c.1 R.reads_are in
+    let stands : StandsActive (reads c.0) area records =
+    active-front largest_journal (reads c.0) area records looked.1 in
     record {
-      known = known-good (setup_in_effect records) new (firm (reads c.0)) records told
+      known = known-good (setup_in_effect records) new (firm (reads c.0)) area records told
           (record {
             some = R.some;
             accepted = R.accepted;
             room = R.room;
             setup = refl;
-            stands = subst (λ bytes. StandsFor bytes records) (sym (reads-firm (reads c.0))) stands;
+            stands = subst (λ bytes. StandsActive bytes area records) (sym (reads-firm (reads c.0))) stands;
           })
           (let e = K.opened.enough in omega (arith, e, same));
-      images = subst (λ d. EachImage d (λ image. StandsFor image records)) (sym told)
-          (λ image is. subst (λ bytes. StandsFor bytes records)
+      images = subst (λ d. EachImage d (λ image. StandsActive image area records)) (sym told)
+          (λ image is. subst (λ bytes. StandsActive bytes area records)
           (sym (image-firm (reads c.0) image is)) stands);
     })
 
@@ -382,7 +395,8 @@ list-sure records old new end A done K =
 
 -- after a scrub that came to its end the store is sure, with the same records
 ended-sure : (records other : List Record) (how : Answer) (old new : Seen) → IsKnown old records →
-    IsOpened old other → IsSynced old new → ScrubsAlone other how old new → IsSure new records
+    (opened : IsOpened old other) → IsSynced old new → ScrubsAlone opened.area other how old new →
+    IsSure new records
 ended-sure records other how old new K opened sync runs =
     synced-sure records old new K sync (scrub-handed other how old new opened runs)
 
@@ -406,36 +420,43 @@ key-master text key F = (let d = decode_of-ok F.digits key F.spelled in
     let long : length key ≡ 32 = (let a = d.2 in let b = F.size in omega (arith, a, b)) in
     let fits = IsBytes-all key d.3 in grind (arith, nat_tests, long, fits))
 
-init-good : (s : Setup) (rest : List ℕ) → is_setup s ≡ true → is_master s.master ≡ true →
-    IsGood s (text (SetUp s ∷ []) ++ rest) (SetUp s ∷ [])
-init-good s rest good master = record {
+init-good : (s : Setup) (area : Area) (bytes : List ℕ) → StandsActive bytes area (SetUp s ∷ []) →
+    IsGood s bytes area (SetUp s ∷ [])
+init-good s areas.A bytes stands = record {
   some = λ e. cc;
   accepted = (refl, tt);
   room = omega arith;
   setup = refl;
-  stands = record {
-    in_grammar = (let both = and_from (is_setup s) (is_master s.master) good master in grind (arith, both));
-    gate = 0;
-    rest = rest;
-    closed = λ e. omega (arith, e);
-    bytes_are = append_assoc (before_gate (SetUp s ∷ [])) (0 ∷ []) rest;
-  };
+  stands = stands;
+}
+init-good s areas.B bytes stands = record {
+  some = λ e. cc;
+  accepted = (refl, tt);
+  room = omega arith;
+  setup = refl;
+  stands = stands;
 }
 
-firm-sure : (s : Setup) (new : Seen) (bytes : List ℕ) (rs : List Record) → new.disk ≡ Some (firm bytes) →
-    IsGood s bytes rs → s.n ≤ length new.providers → IsSure new rs
-firm-sure s new bytes rs told G enough = record {
-  known = known-good s new (firm bytes) rs told (subst (λ b. IsGood s b rs) (sym (reads-firm bytes)) G)
-      enough;
-  images = subst (λ d. EachImage d (λ image. StandsFor image rs)) (sym told)
-      (λ image is. subst (λ b. StandsFor b rs) (sym (image-firm bytes image is)) G.stands);
+firm-sure : (s : Setup) (new : Seen) (bytes : List ℕ) (area : Area) (rs : List Record) →
+    new.disk ≡ Some (firm bytes) → IsGood s bytes area rs → s.n ≤ length new.providers → IsSure new rs
+firm-sure s new bytes area rs told G enough = record {
+  known = known-good s new (firm bytes) area rs told
+      (subst (λ b. IsGood s b area rs) (sym (reads-firm bytes)) G) enough;
+  images = subst (λ d. EachImage d (λ image. StandsActive image area rs)) (sym told)
+      (λ image is. subst (λ b. StandsActive b area rs) (sym (image-firm bytes image is)) G.stands);
 }
 
 set_up-at : (s : Setup) (a b : Option Cells) → is_some a ≡ true → Goes (IsSetUpOn s) a b →
-    (rest : List ℕ) × (b ≡ Some (firm (text (SetUp s ∷ []) ++ rest)))
-set_up-at s None b tells g = absurd (false≢true tells)
-set_up-at s (Some a) None tells g = absurd g
-set_up-at s (Some a) (Some b) tells g = (_, ap Some g.reads_are)
+    IsTrue (is_in_grammar (SetUp s)) →
+    (area : Area) × (bytes : List ℕ) × (b ≡ Some (firm bytes)) × IsGood s bytes area (SetUp s ∷ [])
+set_up-at s None b tells g fits = absurd (false≢true tells)
+set_up-at s (Some a) None tells g fits = absurd g
+set_up-at s (Some a) (Some b) tells g fits = (
+  g.area,
+  reads b,
+  ap Some (set_up-firm s a b g),
+  init-good s g.area (reads b) (set_up-stands s a b g fits),
+)
 
 -- after a done init the store is sure, and its one record is the setup
 pub init-sure : (numbers : Numbers) (key : List ℕ) (old new : Seen) (end : Ending) →
@@ -447,9 +468,11 @@ init-sure numbers key old new end A done tells (bytes, source, form) =
     let same : I.key ≡ key = IsKeyForm-once bytes I.key key
     (form-all old.source new.source bytes I.bytes I.key source I.read I.form) form in
     let set_up = set_up-at (setup_with numbers key) old.disk new.disk tells
-    (subst (λ k. Goes (IsSetUpOn (setup_with numbers k)) old.disk new.disk) same I.disk) in
-    firm-sure (setup_with numbers key) new _ (SetUp (setup_with numbers key) ∷ []) set_up.1
-    (init-good (setup_with numbers key) set_up.0 I.good (key-master bytes key form))
+    (subst (λ k. Goes (IsSetUpOn (setup_with numbers k)) old.disk new.disk) same I.disk)
+    (let both = and_from (is_setup (setup_with numbers key)) (is_master key) I.good
+    (key-master bytes key form) in grind (arith, both)) in
+    firm-sure (setup_with numbers key) new set_up.1 set_up.0 (SetUp (setup_with numbers key) ∷ []) set_up.2
+    set_up.3
     (subst (λ ps. numbers.n ≤ length ps) (sym I.providers) I.enough))
 
 -- ---- whatever comes of a command
@@ -458,16 +481,18 @@ init-sure numbers key old new end A done tells (bytes, source, form) =
 abbrev Comes : List Record → Seen → Seen → Ending → Type 0
 Comes records old new end = ((status : ℕ) × (at : ℕ) × IsRefused status at old new end) ⊎ Left records old new
 
-job-comes : (kind : Kind) (records : List Record) (old new : Seen) (end : Ending) → IsOpened old records →
-    HasBytes kind → {own : Option ℕ} → MayName kind own → AnswersJob kind own records old new end →
+job-comes : (kind : Kind) (records : List Record) (old new : Seen) (end : Ending) →
+    (opened : IsOpened old records) →
+    HasBytes kind →
+    {own : Option ℕ} → MayName kind own → AnswersJob kind own opened.area records old new end →
     Comes records old new end
 job-comes kind records old new end R are named (AnswersJob.refused why is synced r) =
     inl (status_of why, 0, r)
 job-comes kind records old new end R are named (AnswersJob.no_memory synced r) = inl (70, 0, r)
 job-comes kind records old new end R are named (AnswersJob.ended how none runs left by) =
     inr (
-      ran-good records kind how old new end.heard R (spelled-kind records kind _ are none) named runs,
-      tells-past kind _ how records left.after old.disk new.disk left.past_text,
+      ran-good records kind how old new end.heard R (spelled-kind R.area records kind _ are none) named runs,
+      tells-past R.area kind _ how records left.after old.disk new.disk left.past_text,
     )
 
 unstarted-comes : (records : List Record) (old new : Seen) (end : Ending) → IsKnown old records →
@@ -513,6 +538,53 @@ scrub-comes records old new end K (AnswersScrub.no_memory other opened sync r) =
 scrub-comes records old new end K (AnswersScrub.ended other how opened sync heard runs left by) =
     inl (ended-sure records other how old new K opened sync runs)
 
+pack-left : (records : List Record) (how : Answer) (old new : Seen) (opened : IsOpened old records) →
+    pack_refusal_over opened.area records ≡ None → PackedAlone opened.area records how old new →
+    Left records old new
+pack-left records how old new opened none left = (pack-good records old new opened none how left, left.tells)
+
+pack-comes : (records : List Record) (old new : Seen) (end : Ending) → IsKnown old records →
+    AnswersPack old new end → Comes records old new end
+pack-comes records old new end K (AnswersPack.unstarted u) = unstarted-comes records old new end K u
+pack-comes records old new end K (AnswersPack.refused other why opened is synced r) =
+    inl (status_of why, 0, r)
+pack-comes records old new end K (AnswersPack.no_memory other opened synced r) = inl (70, 0, r)
+pack-comes records old new end K (AnswersPack.ended other how opened none heard runs left by) =
+    inr (subst (λ rs. Left rs old new) (known-once old records other K opened.read)
+    (pack-left other how old new opened none left))
+
+-- after a done pack the store is sure, with the packed records
+pub pack-sure : (records : List Record) (old new : Seen) (end : Ending) → AnswersPack old new end →
+    IsDone end → IsKnown old records → IsSure new (packed records)
+pack-sure records old new end (AnswersPack.unstarted u) done K =
+    elim (unstarted-known old new end records K u) [
+      | inl (rose, r) ↦ absurd (over-twelve end.status r.status_is (inl done))
+      | inr r ↦ absurd (over-memory end.status r.status_is (inl done))
+    ]
+pack-sure records old new end (AnswersPack.refused other why opened is synced r) done K =
+    absurd (over-refused why end.status r.status_is (inl done))
+pack-sure records old new end (AnswersPack.no_memory other opened synced r) done K =
+    absurd (over-memory end.status r.status_is (inl done))
+pack-sure records old new end (AnswersPack.ended other how opened none heard runs left by) done K =
+    (let P = pack-done old new end (AnswersPack.ended other how opened none heard runs left by) done in
+    sure-left records (other_area K.opened.area) (packed records) old new K
+    (subst (λ rs. Left rs old new) (known-once old records other K opened.read)
+    (pack-left other how old new opened none left))
+    (known-both old records P.records K P.opened (λ a rs. DiskHas (other_area a) (packed rs) new) P.disk))
+
+-- a pack that went on to its end put records in the place of others whose table is alike
+pack-alike-of : (records : List Record) (old new : Seen) (end : Ending) → IsKnown old records →
+    AnswersPack old new end →
+    ((status : ℕ) × (at : ℕ) × IsRefused status at old new end) ⊎ AreAlike (packed records) records
+pack-alike-of records old new end K (AnswersPack.unstarted u) =
+    (let r = unstarted-refused old new end u in inl (r.0, r.1, r.3))
+pack-alike-of records old new end K (AnswersPack.refused other why opened is synced r) =
+    inl (status_of why, 0, r)
+pack-alike-of records old new end K (AnswersPack.no_memory other opened synced r) = inl (70, 0, r)
+pack-alike-of records old new end K (AnswersPack.ended other how opened none heard runs left by) =
+    inr (subst (λ rs. AreAlike (packed rs) rs) (known-once old records other K opened.read)
+    (pack-alike opened.area other opened.read.accepted none).1)
+
 command-comes : (command : Command) (records : List Record) (old new : Seen) (end : Ending) →
     IsKnown old records → Answers command old new end → opens_store command ≡ true →
     IsSure new records ⊎ Comes records old new end
@@ -532,33 +604,79 @@ command-comes RepairDue records old new end K A opens =
 command-comes UpgradeJournal records old new end K A opens =
     inr (alone-comes UpgradeJob records old new end K tt A.0)
 command-comes ScrubAll records old new end K A opens = scrub-comes records old new end K A.0
+command-comes PackJournal records old new end K A opens = inr (pack-comes records old new end K A.0)
+
+-- a command is a pack
+abbrev is_pack : Command → Bool
+is_pack PackJournal = true
+is_pack command = false
+
+-- no other command is one
+no-pack : {X : Type 0} (command : Command) → is_pack command ≡ false → command ≡ PackJournal → X
+no-pack command other is = absurd (false≢true (sym other ∙ ap is_pack is))
+
+-- a command is refused, or where it is a pack the table of what it put in place is alike
+command-alike : (command : Command) (records : List Record) (old new : Seen) (end : Ending) →
+    IsKnown old records → Answers command old new end →
+    ((status : ℕ) × (at : ℕ) × IsRefused status at old new end)
+    ⊎ (command ≡ PackJournal → AreAlike (packed records) records)
+command-alike (RowOf n l b seen) records old new end K A = inr (no-pack (RowOf n l b seen) refl)
+command-alike (InitWith numbers) records old new end K A = inr (no-pack (InitWith numbers) refl)
+command-alike (PutUnder name) records old new end K A = inr (no-pack (PutUnder name) refl)
+command-alike (PutAt name profile) records old new end K A = inr (no-pack (PutAt name profile) refl)
+command-alike (GetOf name) records old new end K A = inr (no-pack (GetOf name) refl)
+command-alike (DropOf name) records old new end K A = inr (no-pack (DropOf name) refl)
+command-alike ListAll records old new end K A = inr (no-pack ListAll refl)
+command-alike AuditAll records old new end K A = inr (no-pack AuditAll refl)
+command-alike RepairDue records old new end K A = inr (no-pack RepairDue refl)
+command-alike UpgradeJournal records old new end K A = inr (no-pack UpgradeJournal refl)
+command-alike ScrubAll records old new end K A = inr (no-pack ScrubAll refl)
+command-alike PackJournal records old new end K A = elim (pack-alike-of records old new end K A.0) [
+  | inl refused ↦ inl refused
+  | inr alike ↦ inr (λ is. alike)
+]
 
 -- what is told of each image: it is good, and stands for the records or for these with some of the job's
 abbrev Told : Command → List Record → Seen → Seen → List ℕ → Type 0
 Told command records old new image =
-    (rs : List Record) × IsGood (setup_in_effect records) image rs × IsThen command records old new rs
+    (area : Area) × (rs : List Record) × IsGood (setup_in_effect records) image area rs
+    × IsThen command records old new rs
 
 image-told : (command : Command) (records : List Record) (old new : Seen) (image : List ℕ)
-    (rs : List Record) → IsGood (setup_in_effect records) image rs →
+    (area : Area) (rs : List Record) → IsGood (setup_in_effect records) image area rs →
+    (command ≡ PackJournal → AreAlike (packed records) records) →
     StandsFor image records
-    ⊎ ((kind : Kind) × RunsKind command old new kind
-    × IsAfter records kind (profile_named command) old new image) →
+    ⊎ (((kind : Kind) × RunsKind command old new kind
+    × IsAfter records kind (profile_named command) old new image)
+    ⊎ ((command ≡ PackJournal) × StandsFor image (packed records))) →
     Told command records old new image
-image-told command records old new image rs G (inl stands) =
-    (rs, G, inl (one_meaning image rs records G.stands stands))
-image-told command records old new image rs G (inr (kind, is, after)) = (
+image-told command records old new image area rs G alike (inl stands) =
+    (area, rs, G, inl (one_list image rs records (area, G.stands) stands))
+image-told command records old new image area rs G alike (inr (inl (kind, is, after))) = (
+  area,
   rs,
   G,
-  inr (record {
+  inr (inl (record {
     kind = kind;
     of_command = is;
     own = after.own;
     are_own = after.are_own;
     count = after.count;
     whole = after.whole;
-    after_is = one_meaning image rs _ G.stands after.stands;
-  }),
+    after_is = one_list image rs _ (area, G.stands) after.stands;
+  })),
 )
+image-told command records old new image area rs G alike (inr (inr (is, stands))) =
+    (let same = one_list image rs (packed records) (area, G.stands) stands in (
+      area,
+      rs,
+      G,
+      inr (inr (record {
+        of_command = is;
+        after_is = same;
+        alike = subst (λ l. AreAlike l records) (sym same) (alike is);
+      })),
+    ))
 
 -- the next command finds an image of the disk
 pub next-image : (new next : Seen) → is_some new.disk ≡ true → Follows new next →
@@ -577,25 +695,33 @@ next-image new next tells N = elim N.disk [
     stopped-at (Some a) (Some b) tells (image, of, is) =
         (firm image, ap Some is, λ P h. subst P (sym (reads-firm image)) (h image of))
 
--- after any command the next one finds the store known, with some of the records of its job
+-- after any command the next one finds the store known, with some of the records of its job, or packed
 pub known-always : (command : Command) (records : List Record) (old new next : Seen) (end : Ending) →
     Answers command old new end → opens_store command ≡ true → IsSure old records →
     Follows new next → (after : List Record) × IsKnown next after × IsThen command records old new after
 known-always command records old new next end A opens S N =
     elim (command-comes command records old new end S.known A opens) [
       | inl sure ↦ (records, (sure-next records new next sure N).known, inl refl)
-      | inr (inl (status, at, r)) ↦ (
-        records,
-        (sure-next records new next (sure-refused status at records old new end r S) N).known,
-        inl refl,
-      )
-      | inr (inr good) ↦ (let c = next-image new next (good.1 ∙ S.known.tells) N in
-          let g = c.2 (λ image. (rs : List Record) × IsGood (setup_in_effect records) image rs) good.0.0 in
-          let stands = c.2 _ (known-images command records old new end A opens S.known S.images) in
-          let told = image-told command records old new (reads c.0) g.0 g.1 stands in (
-            told.0,
-            known-good (setup_in_effect records) next c.0 told.0 c.1 told.1
-                (let e = good.0.1 in let h = N.handed in omega (arith, e, h)),
-            told.2,
-          ))
+      | inr (inl (status, at, r)) ↦ by-refused status at r
+      | inr (inr good) ↦ elim (command-alike command records old new end S.known A) [
+        | inl (status, at, r) ↦ by-refused status at r
+        | inr alike ↦ (let c = next-image new next (good.1 ∙ S.known.tells) N in
+            let g = c.2 (MayBeGood (setup_in_effect records)) good.0.0 in
+            let stands = c.2 _ (known-images command records old new end A opens S.known
+            (each_image-mono old.disk _ _ (λ image s. (S.known.opened.area, s)) S.images)) in
+            let told = image-told command records old new (reads c.0) g.0 g.1 g.2 alike stands in (
+              told.1,
+              known-good (setup_in_effect records) next c.0 told.0 told.1 c.1 told.2
+                  (let e = good.0.1 in let h = N.handed in omega (arith, e, h)),
+              told.3,
+            ))
+      ]
     ]
+  where
+    by-refused : (status at : ℕ) → IsRefused status at old new end →
+        (after : List Record) × IsKnown next after × IsThen command records old new after
+    by-refused status at r = (
+      records,
+      (sure-next records new next (sure-refused status at records old new end r S) N).known,
+      inl refl,
+    )

@@ -2,6 +2,7 @@
 -- empty file.
 use Rattle.std.proofs.Common.{◌≡◌, ◌≢◌, ℕ, List, [], ◌∷◌, take, Some, refl, ap, sym, ◌∙◌, inl, inr, arith, None}
 use Rattle.record_defs.specs.Records.{Record}
+use Rattle.record_defs.specs.Areas.{Area}
 use Rattle.record_defs.specs.Table.{File, file_of, files_of}
 use Rattle.machine_defs.specs.Jobs.{GetJob}
 use Rattle.machine_defs.specs.Answers as answer
@@ -57,7 +58,8 @@ list-empty records old new end (AnswersList.listed other opened L) K none sink =
 
 module _ (name : List ℕ) (records : List Record) (file : File) (old new : Seen) (end : Ending)
     (in_effect : file_of records name ≡ Some file) (none : file.size ≡ 0) where
-  by-answer : (how : Answer) (left : LeftAlone records (GetJob name) None how old new end.heard) →
+  by-answer : {area : Area} (how : Answer)
+      (left : LeftAlone area records (GetJob name) None how old new end.heard) →
       GetLeaves (ran_left records (GetJob name) how old new end.heard left) name how →
       EndsByAnswer (text_of (setup_in_effect records).tolerance (GetJob name) how) how old new end →
       end.status ≡ 15 → ⊥
@@ -70,7 +72,7 @@ module _ (name : List ℕ) (records : List Record) (file : File) (old new : Seen
       not-fifteen end.status 4 by.status_is (λ e. omega (arith, e)) sink
   by-answer how left L by sink = L.gives
 
-  get-job : AnswersJob (GetJob name) None records old new end → end.status ≡ 15 → ⊥
+  get-job : {area : Area} → AnswersJob (GetJob name) None area records old new end → end.status ≡ 15 → ⊥
   get-job (AnswersJob.refused why is synced r) sink =
       refused-not why 15 refl (λ e. omega (arith, e)) (sym r.status_is ∙ sink)
   get-job (AnswersJob.no_memory synced r) sink =

@@ -5,10 +5,11 @@ use Rattle.hail_field.specs.Shape.{IsShape}
 use Rattle.code_defs.specs.Points.{upto}
 use Rattle.code_defs.specs.DispersalCode.{AcceptsNone}
 use Rattle.record_defs.specs.Records.{Record}
+use Rattle.record_defs.specs.Areas.{Area}
 use Rattle.machine_defs.specs.Jobs.{Kind, PutJob, GetJob, DropJob, AuditJob, RepairJob, UpgradeJob}
 use Rattle.machine_defs.specs.Refusals as refusal
 use Rattle.machine_defs.specs.Refusals.{Refusal}
-use Rattle.command_defs.specs.Forms.{Command, Numbers, RowOf, InitWith, PutUnder, PutAt, GetOf, DropOf, ListAll, AuditAll, RepairDue, UpgradeJournal, ScrubAll}
+use Rattle.command_defs.specs.Forms.{Command, Numbers, RowOf, InitWith, PutUnder, PutAt, GetOf, DropOf, ListAll, AuditAll, RepairDue, UpgradeJournal, ScrubAll, PackJournal}
 use Rattle.command_defs.specs.Sinking.{WritesLine, TellsLine}
 use Rattle.command_defs.specs.Seen.{Seen, Ending, sinking}
 use Rattle.command_defs.specs.Opens.{Unstarted}
@@ -17,6 +18,7 @@ use Rattle.command_defs.specs.Row.{AnswersRow}
 use Rattle.command_defs.specs.Inits.{AnswersInit, InitsDisk}
 use Rattle.command_defs.specs.Jobs.{AnswersJob}
 use Rattle.command_defs.specs.Scrubs.{AnswersScrub}
+use Rattle.command_defs.specs.Packs.{AnswersPack}
 use Rattle.command_defs.specs.Commands.{AnswersPut, AnswersAlone, AnswersList, Answers}
 use Rattle.command_laws.specs.After.{is_ending}
 use Rattle.command_laws.proofs.Known.{EndStatus, status-ended}
@@ -29,7 +31,7 @@ unstarted-ending : (old new : Seen) (end : Ending) → Unstarted old new end →
 unstarted-ending old new end (Unstarted.disk_fault rose r) = ap is_ending r.status_is
 unstarted-ending old new end (Unstarted.not_set_up is sync r) = ap is_ending r.status_is
 unstarted-ending old new end (Unstarted.bad_journal at is r) = ap is_ending r.status_is
-unstarted-ending old new end (Unstarted.too_few_providers records read few synced r) =
+unstarted-ending old new end (Unstarted.too_few_providers area records read few synced r) =
     ap is_ending r.status_is
 unstarted-ending old new end (Unstarted.no_memory r) = ap is_ending r.status_is
 
@@ -70,8 +72,9 @@ written-ending line old new end (inl w) = ap is_ending w.0
 written-ending line old new end (inr (inl w)) = ap is_ending w.1
 written-ending line old new end (inr (inr w)) = ap is_ending w.0
 
-job-ending : (kind : Kind) (records : List Record) (old new : Seen) (end : Ending) {own : Option ℕ} →
-    AnswersJob kind own records old new end → is_ending end.status ≡ true
+job-ending : {area : Area} (kind : Kind) (records : List Record) (old new : Seen) (end : Ending)
+    {own : Option ℕ} →
+    AnswersJob kind own area records old new end → is_ending end.status ≡ true
 job-ending kind records old new end (AnswersJob.refused why is synced r) =
     ap is_ending r.status_is ∙ refused-ending why
 job-ending kind records old new end (AnswersJob.no_memory synced r) = ap is_ending r.status_is
@@ -106,6 +109,14 @@ scrub-ending : (old new : Seen) (end : Ending) → AnswersScrub old new end → 
 scrub-ending old new end (AnswersScrub.unstarted u) = unstarted-ending old new end u
 scrub-ending old new end (AnswersScrub.no_memory records opened synced r) = ap is_ending r.status_is
 scrub-ending old new end (AnswersScrub.ended records how opened synced heard runs left by) =
+    ended-ending end.status (status-ended _ how old new end by)
+
+pack-ending : (old new : Seen) (end : Ending) → AnswersPack old new end → is_ending end.status ≡ true
+pack-ending old new end (AnswersPack.unstarted u) = unstarted-ending old new end u
+pack-ending old new end (AnswersPack.refused records why opened is synced r) =
+    ap is_ending r.status_is ∙ refused-ending why
+pack-ending old new end (AnswersPack.no_memory records opened synced r) = ap is_ending r.status_is
+pack-ending old new end (AnswersPack.ended records how opened none heard runs left by) =
     ended-ending end.status (status-ended _ how old new end by)
 
 init-ending : (numbers : Numbers) (old new : Seen) (end : Ending) → AnswersInit numbers old new end →
@@ -217,6 +228,7 @@ command-ending AuditAll old new end A = alone-ending AuditJob old new end A.0
 command-ending RepairDue old new end A = alone-ending RepairJob old new end A.0
 command-ending UpgradeJournal old new end A = alone-ending UpgradeJob old new end A.0
 command-ending ScrubAll old new end A = scrub-ending old new end A.0
+command-ending PackJournal old new end A = pack-ending old new end A.0
 
 -- no command whose words have a form ends with status 2
 pub never-two : (command : Command) (old new : Seen) (end : Ending) → Answers command old new end →

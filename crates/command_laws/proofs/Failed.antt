@@ -1,32 +1,30 @@
 -- What a store that failed and a lost row leave, and that nothing is fetched by the other commands.
-use Rattle.std.proofs.Common.{◌≡◌, ◌≢◌, ℕ, ◌<◌, ◌≤◌, ◌⊎◌, true, List, [], ◌∷◌, length, Option, None, Some, refl, ap, sym, subst, ◌∙◌, inl, inr, arith}
-use Rattle.std.specs.Prelude.{IsSomeAnd}
+use Rattle.std.proofs.Common.{◌≡◌, ℕ, ◌<◌, ◌≤◌, ◌⊎◌, true, List, length, Option, None, Some, refl, ap, sym, subst, ◌∙◌, inl, inr, arith}
 use Rattle.std.proofs.lemmas.Bool.{cases_lt}
 use Rattle.algebra_laws.proofs.Numbers.{not_two}
 use Rattle.column_defs.specs.Verdicts.{is_flagged}
-use Rattle.device_defs.specs.Cells.{Cells}
 use Rattle.device_defs.specs.Faults.{Rose}
-use Rattle.device_defs.specs.Images.{EachImage}
 use Rattle.device_defs.specs.Providers.{Provider}
 use Rattle.record_defs.specs.Records.{Record, largest_file}
-use Rattle.record_defs.specs.Journal.{StandsFor, StandsOrIsEmpty}
+use Rattle.record_defs.specs.Areas.{Area}
 use Rattle.record_defs.specs.Table.{Due, due_of}
 use Rattle.machine_defs.specs.Jobs.{Kind, PutJob, GetJob, DropJob, AuditJob, RepairJob, UpgradeJob}
 use Rattle.machine_defs.specs.Answers as answer
 use Rattle.machine_defs.specs.Answers.{Answer}
 use Rattle.machine_defs.specs.Refusals.{Refusal}
-use Rattle.command_defs.specs.Forms.{Command, Numbers, RowOf, InitWith, PutUnder, PutAt, GetOf, DropOf, ListAll, AuditAll, RepairDue, UpgradeJournal, ScrubAll}
+use Rattle.command_defs.specs.Forms.{Command, Numbers, RowOf, InitWith, PutUnder, PutAt, GetOf, DropOf, ListAll, AuditAll, RepairDue, UpgradeJournal, ScrubAll, PackJournal}
 use Rattle.command_defs.specs.Sinking.{WritesLine}
 use Rattle.command_defs.specs.Seen.{Seen, Ending, ReadsFront, provider_at, sinking}
 use Rattle.command_defs.specs.Opens.{IsOpened, Unstarted, setup_in_effect}
 use Rattle.command_defs.specs.Refusals.{status_of}
 use Rattle.command_defs.specs.Ran.{Ran}
-use Rattle.command_defs.specs.Lines.{text_of}
+use Rattle.command_defs.specs.Lines.{text_of, pack_text}
 use Rattle.command_defs.specs.Puts.{PutLeaves}
 use Rattle.command_defs.specs.Gets.{GetLeaves, LosesStripe}
 use Rattle.command_defs.specs.Repairs.{flags, RepairGives, LosesAtPlace}
 use Rattle.command_defs.specs.Jobs.{AnswersJob, EndsByAnswer, LeavesBy, LeftAlone}
 use Rattle.command_defs.specs.Inits.{AnswersInit, InitsDisk}
+use Rattle.command_defs.specs.Packs.{PackLeaves, AnswersPack}
 use Rattle.command_defs.specs.Commands.{AnswersPut, AnswersAlone, AnswersList, Answers}
 use Rattle.command_laws.specs.Ends.{ran_to}
 use Rattle.command_laws.specs.Kept.{SameFetches, stores_blocks, opens_rows, FailsToPut, FailsToRepair, LosesFile, LosesRepair}
@@ -143,7 +141,7 @@ unstarted-own m old new end (Unstarted.not_set_up fresh sync r) is own =
 unstarted-own m old new end (Unstarted.bad_journal at bad r) is own =
     not_two end.status 8 m r.status_is is
     (λ e. elim own [ inl k ↦ omega (arith, k, e) | inr k ↦ omega (arith, k, e) ])
-unstarted-own m old new end (Unstarted.too_few_providers records read few after r) is own =
+unstarted-own m old new end (Unstarted.too_few_providers area records read few after r) is own =
     not_two end.status 22 m r.status_is is
     (λ e. elim own [ inl k ↦ omega (arith, k, e) | inr k ↦ omega (arith, k, e) ])
 unstarted-own m old new end (Unstarted.no_memory r) is own =
@@ -168,15 +166,6 @@ written-own m text old new end (inr (inl w)) is (inr k) =
     not_two end.status 15 m w.1 is (λ e. omega (arith, k, e))
 written-own m text old new end (inr (inr w)) is own = memory-own m end.status w.0 is own
 
--- images of a disk that gained these records, of which none is in doubt
-pub images-same : (told : Option Cells) (after records : List Record) (doubt : Option Record) → records ≢ [] →
-    after ≡ records → doubt ≡ None →
-    EachImage told (λ image. StandsOrIsEmpty image after ⊎
-    IsSomeAnd doubt (λ entry. StandsFor image (entry ∷ after))) →
-    EachImage told (λ image. StandsFor image records)
-images-same told after [] doubt some is sure h = absurd (some refl)
-images-same told after (first ∷ rest) doubt some is sure h = images-have told after doubt first rest is sure h
-
 -- what a command ends with, by the answer of its job
 abbrev EndsWith : List Record → Kind → Answer → Seen → Seen → Ending → Type 0
 EndsWith records kind how old new end =
@@ -185,8 +174,8 @@ EndsWith records kind how old new end =
 -- ---- puts
 
 put-by : (name bytes : List ℕ) (records : List Record) (old new : Seen) (end : Ending) {own : Option ℕ} →
-    IsOpened old records → ReadsFront old.source new.source bytes → length bytes ≤ largest_file →
-    (how : Answer) (left : LeftAlone records (PutJob name bytes) own how old new end.heard) →
+    (opened : IsOpened old records) → ReadsFront old.source new.source bytes → length bytes ≤ largest_file →
+    (how : Answer) (left : LeftAlone opened.area records (PutJob name bytes) own how old new end.heard) →
     PutLeaves (ran_left records (PutJob name bytes) how old new end.heard left) own name bytes how →
     EndsWith records (PutJob name bytes) how old new end → end.status ≡ 13 → FailsToPut name own old new end
 put-by name bytes records old new end opened read few (answer.ProviderFault j) left L by is = record {
@@ -200,7 +189,7 @@ put-by name bytes records old new end opened read few (answer.ProviderFault j) l
   rose = subst (λ k. Rose (provider_at old.providers k).store_faults
       (provider_at new.providers k).store_faults) (sym by.place) L.1;
   sink = by.sink;
-  disk = images-have new.disk left.after left.doubt _ _ L.2.after L.2.sure left.images;
+  disk = images-have opened.area new.disk left.after left.doubt _ L.2.after L.2.sure left.images;
   files = λ other. refl;
   due = refl;
   stored = L.3;
@@ -236,8 +225,9 @@ put-fails name old new end (AnswersPut.begun records bytes opened known read few
 
 -- ---- gets
 
-get-by : (name : List ℕ) (records : List Record) (old new : Seen) (end : Ending) → IsOpened old records →
-    (how : Answer) (left : LeftAlone records (GetJob name) None how old new end.heard) →
+get-by : (name : List ℕ) (records : List Record) (old new : Seen) (end : Ending) →
+    (opened : IsOpened old records) →
+    (how : Answer) (left : LeftAlone opened.area records (GetJob name) None how old new end.heard) →
     GetLeaves (ran_left records (GetJob name) how old new end.heard left) name how →
     EndsWith records (GetJob name) how old new end → end.status ≡ 4 → LosesFile name old new end
 get-by name records old new end opened (answer.Lost stripe row) left L by is =
@@ -256,7 +246,7 @@ get-by name records old new end opened (answer.Lost stripe row) left L by is =
             loses = G.loses;
           });
       sink = by.sink;
-      disk = images-same new.disk left.after records left.doubt opened.read.some L.records L.sure left.images;
+      disk = images-have opened.area new.disk left.after left.doubt records L.records L.sure left.images;
     })
 get-by name records old new end opened (answer.Got bytes) left L by is =
     absurd (written-own 4 _ old new end by.written is (inr refl))
@@ -276,8 +266,8 @@ get-loses name old new end (AnswersAlone.begun records opened (AnswersJob.ended 
 
 -- ---- repairs
 
-repair-by : (records : List Record) (old new : Seen) (end : Ending) → IsOpened old records →
-    (how : Answer) (left : LeftAlone records RepairJob None how old new end.heard) (due : Due) →
+repair-by : (records : List Record) (old new : Seen) (end : Ending) → (opened : IsOpened old records) →
+    (how : Answer) (left : LeftAlone opened.area records RepairJob None how old new end.heard) (due : Due) →
     due_of records ≡ Some due →
     RepairGives (ran_left records RepairJob how old new end.heard left) due how →
     EndsWith records RepairJob how old new end → end.status ≡ 13 → FailsToRepair old new end
@@ -294,7 +284,7 @@ repair-by records old new end opened (answer.ProviderFault j) left due is_due L 
       rose = subst (λ k. Rose (provider_at old.providers k).store_faults
           (provider_at new.providers k).store_faults) (sym by.place) L.2;
       sink = by.sink;
-      disk = images-same new.disk left.after records left.doubt opened.read.some L.3.after L.3.sure
+      disk = images-have opened.area new.disk left.after left.doubt records L.3.after L.3.sure
           left.images;
       part = record {
         done = S.done;
@@ -314,8 +304,8 @@ repair-by records old new end opened answer.Memory left due is_due L by is =
     absurd (memory-own 13 end.status by.status_is is (inl refl))
 repair-by records old new end opened how left due is_due L by is = absurd L
 
-lost-by : (records : List Record) (old new : Seen) (end : Ending) → IsOpened old records →
-    (how : Answer) (left : LeftAlone records RepairJob None how old new end.heard) (due : Due) →
+lost-by : (records : List Record) (old new : Seen) (end : Ending) → (opened : IsOpened old records) →
+    (how : Answer) (left : LeftAlone opened.area records RepairJob None how old new end.heard) (due : Due) →
     due_of records ≡ Some due →
     RepairGives (ran_left records RepairJob how old new end.heard left) due how →
     EndsWith records RepairJob how old new end → end.status ≡ 4 → LosesRepair old new end
@@ -341,7 +331,7 @@ lost-by records old new end opened (answer.Lost stripe row) left due is_due L by
             loses = S.loses;
           });
       sink = by.sink;
-      disk = images-same new.disk left.after records left.doubt opened.read.some L.0.after L.0.sure
+      disk = images-have opened.area new.disk left.after left.doubt records L.0.after L.0.sure
           left.images;
     })
 lost-by records old new end opened (answer.Repaired number) left due is_due L by is =
@@ -473,8 +463,8 @@ alone-13 kind old new end (AnswersAlone.begun records opened (AnswersJob.ended h
     left.leaves.by_kind by
     is
 
-job-4 : (kind : Kind) (records : List Record) (old new : Seen) (end : Ending) {own : Option ℕ} →
-    AnswersJob kind own records old new end → end.status ≡ 4 → Ends4 kind
+job-4 : {area : Area} (kind : Kind) (records : List Record) (old new : Seen) (end : Ending) {own : Option ℕ} →
+    AnswersJob kind own area records old new end → end.status ≡ 4 → Ends4 kind
 job-4 kind records old new end (AnswersJob.refused why applies after r) is =
     absurd (refused-own 4 why end.status r.status_is is (inr refl))
 job-4 kind records old new end (AnswersJob.no_memory after r) is =
@@ -537,6 +527,29 @@ init-own m numbers old new end (AnswersInit.keyed seen key good enough read form
     not_two end.status 10 m r.status_is is
     (λ e. elim own [ inl k ↦ omega (arith, k, e) | inr k ↦ omega (arith, k, e) ])
 
+pack-by : (m : ℕ) (area : Area) (records : List Record) (how : Answer) (old new : Seen) (end : Ending) →
+    PackLeaves area records how old new → EndsByAnswer (pack_text how) how old new end → end.status ≡ m →
+    IsOwn m → ⊥
+pack-by m area records (answer.Packed before after) old new end L by is own =
+    written-own m _ old new end by.written is own
+pack-by m area records answer.DiskFault old new end L by is (inl k) =
+    not_two end.status 12 m by.status_is is (λ e. omega (arith, k, e))
+pack-by m area records answer.DiskFault old new end L by is (inr k) =
+    not_two end.status 12 m by.status_is is (λ e. omega (arith, k, e))
+pack-by m area records answer.Memory old new end L by is own = memory-own m end.status by.status_is is own
+pack-by m area records how old new end L by is own = absurd L
+
+-- no pack ends in a failed store or at a lost row
+pub pack-own : (m : ℕ) (old new : Seen) (end : Ending) → AnswersPack old new end → end.status ≡ m →
+    IsOwn m → ⊥
+pack-own m old new end (AnswersPack.unstarted u) is own = unstarted-own m old new end u is own
+pack-own m old new end (AnswersPack.refused records why opened cause synced r) is own =
+    refused-own m why end.status r.status_is is own
+pack-own m old new end (AnswersPack.no_memory records opened synced r) is own =
+    memory-own m end.status r.status_is is own
+pack-own m old new end (AnswersPack.ended records how opened none heard runs left by) is own =
+    pack-by m opened.area records how old new end left.leaves by is own
+
 -- only a put, a repair and a scrub end in a failed store
 pub stores-only : (command : Command) (old new : Seen) (end : Ending) → Answers command old new end →
     end.status ≡ 13 → stores_blocks command ≡ true
@@ -553,6 +566,7 @@ stores-only AuditAll old new end A is = absurd (alone-13 AuditJob old new end A.
 stores-only RepairDue old new end A is = refl
 stores-only UpgradeJournal old new end A is = absurd (alone-13 UpgradeJob old new end A.0 is)
 stores-only ScrubAll old new end A is = refl
+stores-only PackJournal old new end A is = absurd (pack-own 13 old new end A.0 is (inl refl))
 
 -- only a row, a get, a repair and a scrub end at a lost row
 pub rows-only : (command : Command) (old new : Seen) (end : Ending) → Answers command old new end →
@@ -568,3 +582,4 @@ rows-only AuditAll old new end A is = absurd (alone-4 AuditJob old new end A.0 i
 rows-only RepairDue old new end A is = refl
 rows-only UpgradeJournal old new end A is = absurd (alone-4 UpgradeJob old new end A.0 is)
 rows-only ScrubAll old new end A is = refl
+rows-only PackJournal old new end A is = absurd (pack-own 4 old new end A.0 is (inr refl))

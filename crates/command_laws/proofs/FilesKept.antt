@@ -9,14 +9,15 @@ use Rattle.device_defs.specs.Providers.{Held}
 use Rattle.device_defs.specs.Told.{Goes}
 use Rattle.column_laws.proofs.Worked.{column-right}
 use Rattle.record_defs.specs.Records.{Record, Setup, PutStart, Drop, AuditStart, AuditDone, Version}
+use Rattle.record_defs.specs.Areas.{Area}
 use Rattle.record_defs.specs.Table.{File, Due, next_id, next_audit, file_of, due_of, started_as, is_start_of}
-use Rattle.machine_defs.specs.Setups.{profiled, object_of, stripes_of}
+use Rattle.machine_defs.specs.Setups.{setup_or_none, profiled, object_of, stripes_of}
 use Rattle.machine_defs.specs.Jobs.{PutJob, DropJob, RepairJob}
 use Rattle.machine_defs.specs.Answers as answer
 use Rattle.machine_defs.specs.Answers.{Answer}
 use Rattle.machine_defs.proofs.JobLists.{cond_true, cond_false, same_value}
 use Rattle.machine_defs.proofs.RecordFacts.{AreSound, other_name}
-use Rattle.command_defs.specs.Forms.{Command, RowOf, InitWith, PutUnder, PutAt, GetOf, DropOf, ListAll, AuditAll, RepairDue, UpgradeJournal, ScrubAll}
+use Rattle.command_defs.specs.Forms.{Command, RowOf, InitWith, PutUnder, PutAt, GetOf, DropOf, ListAll, AuditAll, RepairDue, UpgradeJournal, ScrubAll, PackJournal}
 use Rattle.machine_defs.specs.Begins.{chosen}
 use Rattle.command_defs.specs.Seen.{Seen, Ending, IsRefused, provider_at}
 use Rattle.command_defs.specs.Opens.{setup_in_effect, object_in_effect}
@@ -28,14 +29,16 @@ use Rattle.command_defs.specs.Jobs.{AnswersJob, LeftAlone}
 use Rattle.command_defs.specs.GivenUp.{PartLeft}
 use Rattle.command_defs.specs.Commands.{AnswersPut, AnswersAlone, Answers}
 use Rattle.state_laws.proofs.Records.{sound-accepted}
+use Rattle.state_laws.proofs.Packs.{file-alike}
 use Rattle.command_laws.specs.Ends.{IsDone, IsKnown, SameHolds, put_of, after_put, after_repair, IsRepaired}
 use Rattle.command_laws.specs.Kept.{AreAppended}
 use Rattle.command_laws.specs.After.{is_wrong_or_untold, HasRightFile, IsThen, HasGrown, IsSteady, spoilt_below, keeps_blocks, IsOfAnother}
 use Rattle.job_laws.proofs.Complete.{each-not-wrong, not-wrong-each}
-use Rattle.command_laws.proofs.Known.{known-once}
+use Rattle.command_laws.proofs.Known.{known-once, known-both}
 use Rattle.command_laws.proofs.GetEnds.{ran_left}
 use Rattle.command_laws.proofs.JobEnds.{unstarted-refused, get-holds, list-holds, audit-holds, repair-done, upgrade-holds, done-case}
 use Rattle.command_laws.proofs.Anew.{repair-right}
+use Rattle.command_laws.proofs.PackEnds.{pack-holds}
 use Rattle.command_laws.proofs.FilesStay.{bad-few}
 use Rattle.command_laws.proofs.Images.{take-none}
 
@@ -180,7 +183,9 @@ then-by : (command : Command) (name : List ℕ) (records after : List Record) (o
     IsThen command records old new after → Stays name records after
 then-by command name records after old new grown (inl same) =
     (ap (λ rs. file_of rs name) same, ap setup_in_effect same)
-then-by command name records after old new grown (inr G) = grown G
+then-by command name records after old new grown (inr (inl G)) = grown G
+then-by command name records after old new grown (inr (inr P)) =
+    (file-alike after records name P.alike, ap setup_or_none P.alike.setup)
 
 -- ---- commands that keep all blocks
 
@@ -192,7 +197,7 @@ reads-by command name bytes records after spoilt old new holds H S =
     (λ j below. same-told H.file.id (provider_at old.providers j).held (provider_at new.providers j).held
     (holds j))
 
--- a file that is right stays so over a get, a list, an audit and an upgrade
+-- a file that is right stays so over a get, a list, an audit, an upgrade and a pack
 pub reads-have : (command : Command) (name bytes : List ℕ) (records after : List Record) (spoilt : ℕ → Bool)
     (old new : Seen) (end : Ending) → Answers command old new end → keeps_blocks command ≡ true →
     HasRightFile old records name bytes spoilt → IsThen command records old new after →
@@ -209,6 +214,9 @@ reads-have AuditAll name bytes records after spoilt old new end A keeps H T =
 reads-have UpgradeJournal name bytes records after spoilt old new end A keeps H T =
     reads-by UpgradeJournal name bytes records after spoilt old new (upgrade-holds old new end A.0) H
     (then-by UpgradeJournal name records after old new (upgrade-grown name records after old new) T)
+reads-have PackJournal name bytes records after spoilt old new end A keeps H T =
+    reads-by PackJournal name bytes records after spoilt old new (pack-holds old new end A.0) H
+    (then-by PackJournal name records after old new (λ G. absurd G.of_command) T)
 reads-have (RowOf n l b seen) name bytes records after spoilt old new end A keeps H T =
     absurd (false≢true keeps)
 reads-have (InitWith numbers) name bytes records after spoilt old new end A keeps H T =
@@ -274,13 +282,13 @@ module _ (name other : List ℕ) (records : List Record) (file : File) (sound : 
       (record { stored = λ e. absurd (not-next e); removed = tt })
 
   -- so does a put that was given up
-  given-keeps : (bytes : List ℕ) (own : Option ℕ) (old new : Seen) →
-      PartLeft records other bytes own old new → KeepsObject records file.id old new
+  given-keeps : {area : Area} (bytes : List ℕ) (own : Option ℕ) (old new : Seen) →
+      PartLeft area records other bytes own old new → KeepsObject records file.id old new
   given-keeps bytes own old new left = λ j below. same-goes file.id _ (all-keeps bytes own j)
       (provider_at old.providers j).held (provider_at new.providers j).held (left.stored j below)
 
-  put-keeps : (bytes : List ℕ) (own : Option ℕ) (how : Answer) (old new : Seen) (end : Ending)
-      (left : LeftAlone records (PutJob other bytes) own how old new end.heard) →
+  put-keeps : {area : Area} (bytes : List ℕ) (own : Option ℕ) (how : Answer) (old new : Seen) (end : Ending)
+      (left : LeftAlone area records (PutJob other bytes) own how old new end.heard) →
       PutLeaves (ran_left records (PutJob other bytes) how old new end.heard left) own other bytes how →
       KeepsObject records file.id old new
   put-keeps bytes own how old new end left = by_answer how
@@ -315,8 +323,8 @@ module _ (name other : List ℕ) (records : List Record) (file : File) (sound : 
           (provider_at new.providers j).held (L.1 j below)
       by_answer h L = absurd L
 
-  drop-keeps : (how : Answer) (old new : Seen) (end : Ending)
-      (left : LeftAlone records (DropJob other) None how old new end.heard) →
+  drop-keeps : {area : Area} (how : Answer) (old new : Seen) (end : Ending)
+      (left : LeftAlone area records (DropJob other) None how old new end.heard) →
       DropLeaves (ran_left records (DropJob other) how old new end.heard left) other how →
       KeepsObject records file.id old new
   drop-keeps how old new end left = by_answer how
@@ -337,15 +345,16 @@ module _ (name other : List ℕ) (records : List Record) (file : File) (sound : 
           (provider_at new.providers j).held (L.1 j below)
       by_answer h L = absurd L
 
-  put-job : (bytes : List ℕ) {own : Option ℕ} (old new : Seen) (end : Ending) →
-      AnswersJob (PutJob other bytes) own records old new end → KeepsObject records file.id old new
+  put-job : {area : Area} (bytes : List ℕ) {own : Option ℕ} (old new : Seen) (end : Ending) →
+      AnswersJob (PutJob other bytes) own area records old new end → KeepsObject records file.id old new
   put-job bytes old new end (AnswersJob.refused why is synced r) =
       refused-keeps _ 0 records file.id old new end r
   put-job bytes old new end (AnswersJob.no_memory synced r) = refused-keeps 70 0 records file.id old new end r
   put-job bytes old new end (AnswersJob.ended how none runs left by) =
       put-keeps bytes _ how old new end left left.leaves.by_kind.0
 
-  drop-job : (old new : Seen) (end : Ending) → AnswersJob (DropJob other) None records old new end →
+  drop-job : {area : Area} (old new : Seen) (end : Ending) →
+      AnswersJob (DropJob other) None area records old new end →
       KeepsObject records file.id old new
   drop-job old new end (AnswersJob.refused why is synced r) = refused-keeps _ 0 records file.id old new end r
   drop-job old new end (AnswersJob.no_memory synced r) = refused-keeps 70 0 records file.id old new end r
@@ -366,12 +375,11 @@ put-command name other bytes own records spoilt old new end differ K H (AnswersP
     refused-keeps 70 0 records H.file.id old new end r
 put-command name other bytes own records spoilt old new end differ K H (AnswersPut.given_up rs seen opened known none stops runs left) =
     given-keeps name other records H.file (sound-accepted records K.opened.read.accepted) H.in_effect differ
-    seen own old new (subst (λ l. PartLeft l other seen own old new) (known-once old records rs K opened.read)
-    left)
+    seen own old new (known-both old records rs K opened (λ a l. PartLeft a l other seen own old new) left)
 put-command name other bytes own records spoilt old new end differ K H (AnswersPut.begun rs seen opened known read few A whole) =
     put-job name other records H.file (sound-accepted records K.opened.read.accepted) H.in_effect differ seen
-    old new end (subst (λ l. AnswersJob (PutJob other seen) own l old new end)
-    (known-once old records rs K opened.read) A)
+    old new end
+    (known-both old records rs K opened (λ a l. AnswersJob (PutJob other seen) own a l old new end) A)
 
 drop-command : (name other bytes : List ℕ) (records : List Record) (spoilt : ℕ → Bool) (old new : Seen)
     (end : Ending) → other ≢ name → IsKnown old records → (H : HasRightFile old records name bytes spoilt) →
@@ -380,8 +388,8 @@ drop-command name other bytes records spoilt old new end differ K H (AnswersAlon
     (let r = unstarted-refused old new end u in refused-keeps r.0 r.1 records H.file.id old new end r.3)
 drop-command name other bytes records spoilt old new end differ K H (AnswersAlone.begun rs opened A) =
     drop-job name other records H.file (sound-accepted records K.opened.read.accepted) H.in_effect differ old
-    new end (subst (λ l. AnswersJob (DropJob other) None l old new end)
-    (known-once old records rs K opened.read) A)
+    new end
+    (known-both old records rs K opened (λ a l. AnswersJob (DropJob other) None a l old new end) A)
 
 -- a file that is right stays so over a put or a drop of another name
 pub others-have : (command : Command) (name bytes : List ℕ) (records after : List Record) (spoilt : ℕ → Bool)
@@ -412,6 +420,7 @@ others-have AuditAll name bytes records after spoilt old new end A differ K H T 
 others-have RepairDue name bytes records after spoilt old new end A differ K H T = absurd differ
 others-have UpgradeJournal name bytes records after spoilt old new end A differ K H T = absurd differ
 others-have ScrubAll name bytes records after spoilt old new end A differ K H T = absurd differ
+others-have PackJournal name bytes records after spoilt old new end A differ K H T = absurd differ
 
 -- ---- a repair that is done
 

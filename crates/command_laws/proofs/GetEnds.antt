@@ -5,6 +5,7 @@ use Rattle.hail_field.specs.Shape.{IsShape}
 use Rattle.device_defs.specs.Faults.{Rose}
 use Rattle.device_defs.specs.Told.{told_then, TakesFront}
 use Rattle.record_defs.specs.Records.{Record, is_name}
+use Rattle.record_defs.specs.Areas.{Area}
 use Rattle.record_defs.specs.Table.{File, file_of}
 use Rattle.machine_defs.specs.Jobs.{Kind, GetJob}
 use Rattle.machine_defs.specs.Answers as answer
@@ -22,24 +23,23 @@ use Rattle.command_defs.specs.Lines.{text_of}
 use Rattle.command_defs.specs.Gets.{GetLeaves}
 use Rattle.command_defs.specs.Jobs.{AnswersJob, EndsByAnswer, LeftAlone}
 use Rattle.command_defs.specs.Commands.{AnswersAlone}
-use Rattle.state_laws.proofs.Records.{all-spelled, file-spelled}
+use Rattle.state_laws.proofs.Records.{file-spelled}
 use Rattle.job_laws.specs.Failing.{bad_seen}
 use Rattle.command_laws.specs.Ends.{IsKnown, GivesUnlessMemory}
 use Rattle.job_laws.proofs.Complete.{shape-of, get-complete, get-right, get-forged}
-use Rattle.job_laws.proofs.Telling.{over-opened, opened_state, state-over}
+use Rattle.job_laws.proofs.Telling.{opened_state, state-over}
 use Rattle.command_laws.proofs.Known.{none-written, written-well, written-zero, written-front, alone-known}
 
 -- the setup of records that are read is of a shape
 pub shape-at : (old : Seen) (records : List Record) → IsOpened old records →
     IsShape (setup_in_effect records).n (setup_in_effect records).l (setup_in_effect records).b
 shape-at old records R =
-    shape-of (opened_state records 0 old.providers) (opened_state records 0 old.providers) []
-    (over-opened (opened_state records 0 old.providers) old records 0 R
-    (state-over records 0 old.providers R.read.accepted))
+    (let w = opened_state R.area records 0 old.providers in
+    shape-of w w [] (state-over records 0 old R).at_rest)
 
 -- what was left, as it is seen
-abbrev pub ran_left : (records : List Record) (kind : Kind) {own : Option ℕ} (how : Answer) (old new : Seen)
-    (heard : List Entry) → LeftAlone records kind own how old new heard → Ran
+abbrev pub ran_left : {area : Area} (records : List Record) (kind : Kind) {own : Option ℕ} (how : Answer)
+    (old new : Seen) (heard : List Entry) → LeftAlone area records kind own how old new heard → Ran
 ran_left records kind how old new heard left =
     ran_alone records old new heard left.faults left.after left.doubt
 
@@ -49,20 +49,20 @@ module _ (name bytes : List ℕ) (records : List Record) (file : File) (old new 
   shape : IsShape (setup_in_effect records).n (setup_in_effect records).l (setup_in_effect records).b
   shape = shape-at old records K.opened
 
-  begins : refusal_over records (GetJob name) None ≡ None
+  begins : refusal_over K.opened.area records (GetJob name) None ≡ None
   begins = (let named : is_name name ≡ true =
-      (file-spelled records name file (all-spelled records K.opened.read.in_grammar) in_effect).0 in
+      (file-spelled records name file K.opened.read.in_grammar in_effect).0 in
       (λ i. cond (not (named i)) (Some refusal.BadName)
       (cond (not (is_some (in_effect i))) (Some refusal.NoSuchName) None)))
 
-  no-refusal : (why : Refusal) → refusal_over records (GetJob name) None ≡ Some why → ⊥
+  no-refusal : (why : Refusal) → refusal_over K.opened.area records (GetJob name) None ≡ Some why → ⊥
   no-refusal why is = (let e : None ≡ Some why = sym begins ∙ is in cc)
 
   -- what a get ends with, by its answer
   abbrev EndsWith : Answer → Type 0
   EndsWith how = EndsByAnswer (text_of (setup_in_effect records).tolerance (GetJob name) how) how old new end
 
-  job-complete : AnswersJob (GetJob name) None records old new end →
+  job-complete : AnswersJob (GetJob name) None K.opened.area records old new end →
       bad_seen records old new file bytes ≤ (setup_in_effect records).b →
       WritesLine bytes end.status (sinking old new)
   job-complete (AnswersJob.refused why is synced r) few = absurd (no-refusal why is)
@@ -92,7 +92,7 @@ module _ (name bytes : List ℕ) (records : List Record) (file : File) (old new 
   refused-right status at r other =
       (none-written bytes old.sink new.sink r.sink, λ zero. absurd (other (sym r.status_is ∙ zero)))
 
-  job-right : AnswersJob (GetJob name) None records old new end →
+  job-right : AnswersJob (GetJob name) None K.opened.area records old new end →
       bad_seen records old new file bytes ≤ (setup_in_effect records).b + 1 →
       TakesFront old.sink new.sink bytes × (end.status ≡ 0 → new.sink ≡ told_then old.sink bytes)
   job-right (AnswersJob.refused why is synced r) few = absurd (no-refusal why is)
@@ -125,7 +125,7 @@ module _ (name bytes : List ℕ) (records : List Record) (file : File) (old new 
       )
   forged-by x how right L by = absurd L.gives
 
-  job-forged : AnswersJob (GetJob name) None records old new end →
+  job-forged : AnswersJob (GetJob name) None K.opened.area records old new end →
       (TakesFront old.sink new.sink bytes × (end.status ≡ 0 → new.sink ≡ told_then old.sink bytes)) ⊎ Forged
   job-forged (AnswersJob.refused why is synced r) = absurd (no-refusal why is)
   job-forged (AnswersJob.no_memory synced r) = inl (refused-right 70 0 r (λ e. omega (arith, e)))

@@ -12,59 +12,60 @@ use Rattle.device_defs.specs.Images.{IsImage, EachImage}
 use Rattle.device_defs.specs.Providers.{Provider}
 use Rattle.device_defs.proofs.Lasting.{image-firm, each_image-mono}
 use Rattle.device_defs.proofs.PickLaws.{IsImage-reads}
-use Rattle.record_defs.specs.Records.{Record, largest_file, largest_journal}
+use Rattle.record_defs.specs.Records.{Record, Setup, largest_file, largest_journal}
 use Rattle.device_defs.specs.Told.{Goes}
-use Rattle.record_defs.specs.Acceptance.{AreAccepted}
-use Rattle.record_defs.specs.Journal.{StandsFor, text_size}
 use Rattle.record_defs.specs.Reading.{HasNoSetup}
 use Rattle.record_defs.specs.Table.{setup_of, files_of}
 use Rattle.record_defs.specs.Areas as areas
+use Rattle.record_defs.specs.Areas.{Area, other_area, end_in, StandsActive}
 use Rattle.record_defs.specs.Packed.{packed}
-use Rattle.record_defs.proofs.Standing.{stands-take}
+use Rattle.record_defs.proofs.Standing.{active-take}
 use Rattle.machine_defs.specs.Answers as answer
 use Rattle.machine_defs.specs.Answers.{Answer}
-use Rattle.machine_defs.specs.Events.{Event, BeginScrub, Step, Reopen, Names, Continue, Outcome, Refused, Opened, More, Begun, Ended, Listed, Continued, AreBytes, IsSpelled, IsSpelledKind}
+use Rattle.machine_defs.specs.Events.{Event, BeginScrub, BeginPack, Step, Reopen, Names, Continue, Outcome, Refused, Opened, More, Begun, Ended, Listed, Continued, AreBytes, IsSpelled, IsSpelledKind}
 use Rattle.machine_defs.specs.Jobs.{Kind, PutJob, GetJob, DropJob, AuditJob, RepairJob, UpgradeJob}
 use Rattle.machine_defs.specs.Machine.{Happens}
 use Rattle.machine_defs.specs.Begins.{BeginsAt, refusal_of_begin}
 use Rattle.machine_defs.specs.Refusals as refusal
 use Rattle.machine_defs.specs.Refusals.{Refusal}
 use Rattle.machine_defs.specs.Runs.{Moment, now, IsRun}
-use Rattle.machine_defs.specs.Stands.{StandsForState}
+use Rattle.machine_defs.specs.Setups.{setup_or_none}
+use Rattle.machine_defs.specs.Stands.{StandsPlain, StandsForState}
 use Rattle.machine_defs.specs.States.{State, Doubt, given_up, continued, setup_in}
 use Rattle.machine_defs.specs.Openings.{Rereads}
 use Rattle.machine_defs.specs.Transcripts.{GoOn}
 use Rattle.machine_defs.proofs.JobLists.{same_value}
-use Rattle.state_laws.specs.Sound.{IsUnpacked, IsSound}
+use Rattle.state_laws.specs.Sound.{IsSound}
 use Rattle.state_laws.proofs.Events.{events-sound}
-use Rattle.state_laws.proofs.Records.{is_some-at, AreInGrammar, AreAppended, all-appended, grammar-rest, none-set_up}
-use Rattle.state_laws.proofs.Packs.{packed-not-appended}
-use Rattle.command_defs.specs.Forms.{Command, RowOf, InitWith, PutUnder, PutAt, GetOf, DropOf, ListAll, AuditAll, RepairDue, UpgradeJournal, ScrubAll}
-use Rattle.command_defs.specs.Seen.{Seen, Ending, NoCountFalls, IsRefused, IsSynced, ReadsFront}
+use Rattle.state_laws.proofs.Records.{is_some-at, none-set_up, second-set_up, setup-more}
+use Rattle.state_laws.proofs.Packs.{switched-room}
+use Rattle.record_defs.proofs.PackLaws.{packed_are}
+use Rattle.command_defs.specs.Forms.{Command, RowOf, InitWith, PutUnder, PutAt, GetOf, DropOf, ListAll, AuditAll, RepairDue, UpgradeJournal, ScrubAll, PackJournal}
+use Rattle.command_defs.specs.Sinking.{WritesLine}
+use Rattle.command_defs.specs.Seen.{Seen, Ending, NoCountFalls, IsRefused, IsSynced, ReadsFront, sinking}
 use Rattle.opening_defs.specs.Journals.{journal_read, IsRead, IsBadStart, IsResynced}
 use Rattle.command_defs.specs.Opens.{IsOpened, Unstarted, setup_in_effect}
-use Rattle.opening_defs.specs.Opened.{AreHanded, IsOpenedOver}
+use Rattle.opening_defs.specs.Opened.{AreHanded, IsJustOpened}
 use Rattle.lone_laws.specs.Walked.{MayName}
 use Rattle.command_defs.specs.JobRuns.{AreSteps, GoesOnTo}
 use Rattle.command_defs.specs.Puts.{PutLeaves}
 use Rattle.command_defs.specs.GivenUp.{put_stripe, after_begin, StopsReading, PartRan, PartRuns, PartLeft}
 use Rattle.command_defs.specs.Jobs.{AnswersJob, EndsByAnswer, RunsAlone, RanAlone, past}
-use Rattle.command_defs.specs.Lines.{text_of, scrub_text}
-use Rattle.command_defs.specs.Refusals.{is_unknown, refusal_over, status_of}
+use Rattle.command_defs.specs.Lines.{text_of, list_lines, scrub_text, pack_text}
+use Rattle.command_defs.specs.Refusals.{is_unknown, refusal_over, pack_refusal_over, status_of}
 use Rattle.command_defs.specs.Scrubs.{RanScrub, ScrubsAlone, AnswersScrub}
+use Rattle.command_defs.specs.Packs.{RanPack, PacksAlone, AnswersPack}
 use Rattle.command_defs.specs.Commands.{MayBeWhole, AnswersPut, AnswersAlone, ListsFiles, AnswersList, Answers}
 use Rattle.command_laws.specs.Ends.{profile_named, RunsKind, ReadsWhole, opens_store}
 use Rattle.command_laws.specs.Pieces.{IsStore, IsSpelledCommand, IsCall, begin_of, moment, unopened_status}
 use Rattle.opening_defs.proofs.Readings.{read-once, read-set_up, read-good as read-never-bad, fresh-good}
-use Rattle.job_laws.proofs.Telling.{over-opened}
 use Rattle.command_laws.proofs.GetEnds.{ran_left}
 use Rattle.command_laws.proofs.JobEnds.{given-status, given-front}
 use Rattle.command_laws.proofs.Images.{refused-keeps}
 use Rattle.command_laws.proofs.LastStates.{last-state, part-state}
-use Rattle.state_laws.proofs.Written.{unpacked-end}
 use Rattle.command_laws.proofs.Knowing.{IsGood, read-good, none-up, StandsInState}
 use Rattle.command_laws.proofs.DoneStores.{tells-past}
-use Rattle.job_laws.proofs.BeginRefusals.{refusal-of}
+use Rattle.job_laws.proofs.BeginRefusals.{refusal-of, pack-refusal-of}
 
 -- ---- runs
 
@@ -164,95 +165,89 @@ each-kept (Some a) (Some b) P kept tells h = λ image is. h image (kept image is
 -- ---- what a put has read
 
 -- a put that is stored is one of its whole source
-abbrev PutsWhole : (kind : Kind) (own : Option ℕ) (rs : List Record) (old new : Seen) (end : Ending) →
-    AnswersJob kind own rs old new end → Type 0
-PutsWhole kind own rs old new end (AnswersJob.refused why is sync r) = Unit {0}
-PutsWhole kind own rs old new end (AnswersJob.no_memory sync r) = Unit {0}
-PutsWhole kind own rs old new end (AnswersJob.ended how begins runs left by) =
+abbrev PutsWhole : (kind : Kind) (own : Option ℕ) (area : Area) (rs : List Record) (old new : Seen)
+    (end : Ending) → AnswersJob kind own area rs old new end → Type 0
+PutsWhole kind own area rs old new end (AnswersJob.refused why is sync r) = Unit {0}
+PutsWhole kind own area rs old new end (AnswersJob.no_memory sync r) = Unit {0}
+PutsWhole kind own area rs old new end (AnswersJob.ended how begins runs left by) =
     how ≡ answer.Put → ReadsWhole kind old new
 
-puts-all : (kind : Kind) (own : Option ℕ) (rs : List Record) (old new : Seen) (end : Ending) →
-    ReadsWhole kind old new → (A : AnswersJob kind own rs old new end) → PutsWhole kind own rs old new end A
-puts-all kind own rs old new end whole (AnswersJob.refused why is sync r) = tt
-puts-all kind own rs old new end whole (AnswersJob.no_memory sync r) = tt
-puts-all kind own rs old new end whole (AnswersJob.ended how begins runs left by) = λ e. whole
+puts-all : (kind : Kind) (own : Option ℕ) (area : Area) (rs : List Record) (old new : Seen)
+    (end : Ending) → ReadsWhole kind old new → (A : AnswersJob kind own area rs old new end) →
+    PutsWhole kind own area rs old new end A
+puts-all kind own area rs old new end whole (AnswersJob.refused why is sync r) = tt
+puts-all kind own area rs old new end whole (AnswersJob.no_memory sync r) = tt
+puts-all kind own area rs old new end whole (AnswersJob.ended how begins runs left by) = λ e. whole
 
-puts-whole : (name bytes : List ℕ) (own : Option ℕ) (rs : List Record) (old new : Seen) (end : Ending) →
-    ReadsFront old.source new.source bytes → (A : AnswersJob (PutJob name bytes) own rs old new end) →
-    (MayBeWhole name bytes own rs A → IfSome new.source (λ left. left ≡ [])) →
-    PutsWhole (PutJob name bytes) own rs old new end A
-puts-whole name bytes own rs old new end read (AnswersJob.refused why is sync r) whole = tt
-puts-whole name bytes own rs old new end read (AnswersJob.no_memory sync r) whole = tt
-puts-whole name bytes own rs old new end read (AnswersJob.ended how begins runs left by) whole =
+puts-whole : (name bytes : List ℕ) (own : Option ℕ) (area : Area) (rs : List Record) (old new : Seen)
+    (end : Ending) →
+    ReadsFront old.source new.source bytes → (A : AnswersJob (PutJob name bytes) own area rs old new end) →
+    (MayBeWhole name bytes own area rs A → IfSome new.source (λ left. left ≡ [])) →
+    PutsWhole (PutJob name bytes) own area rs old new end A
+puts-whole name bytes own area rs old new end read (AnswersJob.refused why is sync r) whole = tt
+puts-whole name bytes own area rs old new end read (AnswersJob.no_memory sync r) whole = tt
+puts-whole name bytes own area rs old new end read (AnswersJob.ended how begins runs left by) whole =
     λ put. (let L : PutLeaves (ran_left rs (PutJob name bytes) how old new end.heard left) own name bytes
     answer.Put = subst (PutLeaves (ran_left rs (PutJob name bytes) how old new end.heard left) own name bytes)
     put left.leaves.by_kind.0 in (read, whole (inl L.0.after)))
 
 -- ---- a store that a run left
 
--- the state in which jobs are given up and these records are settled, in a journal of today
-abbrev pub settled : State → List Record → State
-settled w rs = record (given_up w) {
+-- the state in which jobs are given up and this history is settled, with this journal in this area
+abbrev pub settled : State → List Record → List Record → Area → State
+settled w records journal area = record (given_up w) {
   doubt = None;
-  records = rs;
-  journal = rs;
-  area = areas.A;
+  records = records;
+  journal = journal;
+  area = area;
   is_switching = false;
 }
 
--- these records may be settled on
-abbrev pub SettlesOn : State → List Record → Type 0
-SettlesOn w rs = (v : State) → v.doubt ≡ w.doubt → v.records ≡ w.records → v.journal ≡ w.journal →
-    v.area ≡ w.area → Rereads v (settled v rs)
+-- so they may be settled
+abbrev pub SettlesOn : State → List Record → List Record → Area → Type 0
+SettlesOn w records journal area =
+    (v : State) → v.doubt ≡ w.doubt → v.records ≡ w.records → v.journal ≡ w.journal → v.area ≡ w.area →
+    v.is_switching ≡ w.is_switching → Rereads v (settled v records journal area)
 
--- the records that an image of a store stands for may be settled
-pub record Settled (w : State) (image : List ℕ) (rs : List Record) : Type 0 where
-  pub settles : SettlesOn w rs
-  pub good : IsGood (setup_in_effect rs) image rs
-  pub up : is_some (setup_of rs) ≡ true
+-- the journal that an image of a store stands for may be settled, with a history that has the same setup
+pub record Settled (w : State) (image : List ℕ) (records journal : List Record) (area : Area) : Type 0 where
+  pub settles : SettlesOn w records journal area
+  pub good : IsGood (setup_in_effect journal) image area journal
+  pub up : is_some (setup_of records) ≡ true
+  pub same : setup_of journal ≡ setup_of records
 
 -- that there is none may be settled, and an image stands for none
 pub record SettledNone (w : State) (image : List ℕ) : Type 0 where
-  pub settles : SettlesOn w []
-  pub none : HasNoSetup image
+  pub settles : SettlesOn w w.records w.journal w.area
+  pub down : is_some (setup_of w.records) ≡ false
+  pub empty : w.journal ≡ []
+  pub plain : StandsPlain w image
 
 -- what an image of a store may be settled to: some records with a setup, or none
 pub data MaySettle (w : State) (image : List ℕ) : Type 0 where
-  some : (rs : List Record) → Settled w image rs → MaySettle w image
+  some : (records journal : List Record) (area : Area) → Settled w image records journal area →
+      MaySettle w image
   none : SettledNone w image → MaySettle w image
 
--- while journals hold nothing that is packed, none has the packed records of another
-none-packed : (rs : List Record) → AreInGrammar (packed rs) → ⊥
-none-packed rs g = packed-not-appended rs (all-appended (packed rs) g)
-
--- so an image of a store stands for one in which the disk holds the whole history
-unpacked-by : (w : State) → IsSound 8 w → (image : List ℕ) → StandsInState w image → IsUnpacked w
-unpacked-by w S image (inl (inl h)) = S.journal.whole (all-appended w.journal h.1.in_grammar)
-unpacked-by w S image (inl (inr empty)) =
-    S.journal.whole (subst (λ rs. AreAppended rs) (sym empty.0) refl)
-unpacked-by w S image (inr (inl D)) = S.journal.whole (all-appended w.journal
-    (grammar-rest D.doubt.entry w.journal D.stands.1.in_grammar))
-unpacked-by w S image (inr (inr X)) = absurd (none-packed w.journal X.stands.1.in_grammar)
-
-module _ (w : State) (S : IsSound 8 w) (W : IsUnpacked w) (image : List ℕ) where
-  -- the history is settled on
-  on-history : (rs : List Record) → w.records ≡ rs → SettlesOn w rs
-  on-history rs is v doubt records journal area = (
+module _ (w : State) (S : IsSound 8 w) (image : List ℕ) where
+  -- the history is settled on, with the journal as it is
+  on-history : SettlesOn w w.records w.journal w.area
+  on-history v doubt records journal area switching = (
     v.journal,
     v.area,
     inl (refl, refl),
     inl (λ i. record (given_up v) {
       doubt = None;
-      records = sym (records ∙ is) i;
-      journal = sym (journal ∙ (W.journal ∙ is)) i;
-      area = sym (area ∙ W.area) i;
+      records = sym records i;
+      journal = sym journal i;
+      area = sym area i;
       is_switching = false;
     }),
   )
 
   -- or the record in doubt comes into effect
-  on-doubt : (d : Doubt) → w.doubt ≡ Some d → SettlesOn w (d.entry ∷ w.records)
-  on-doubt d in_doubt v doubt records journal area = (
+  on-doubt : (d : Doubt) → w.doubt ≡ Some d → SettlesOn w (d.entry ∷ w.records) (d.entry ∷ w.journal) w.area
+  on-doubt d in_doubt v doubt records journal area switching = (
     v.journal,
     v.area,
     inl (refl, refl),
@@ -262,61 +257,122 @@ module _ (w : State) (S : IsSound 8 w) (W : IsUnpacked w) (image : List ℕ) whe
       λ i. record (given_up v) {
         doubt = None;
         records = d.entry ∷ sym records i;
-        journal = d.entry ∷ sym (journal ∙ W.journal) i;
-        area = sym (area ∙ W.area) i;
+        journal = d.entry ∷ sym journal i;
+        area = sym area i;
         is_switching = false;
       },
     ),
   )
 
-  settled-some : (rs : List Record) → SettlesOn w rs → AreAccepted rs → text_size rs ≤ largest_journal →
-      is_some (setup_of rs) ≡ true → StandsFor image rs → Settled w image rs
-  settled-some rs on accepted room up stands = record {
-    settles = on;
-    good = record {
-      some = none-up rs up;
-      accepted = accepted;
-      room = room;
-      setup = refl;
-      stands = stands;
-    };
-    up = up;
-  }
+  -- or the switch has been made
+  on-switch : w.is_switching ≡ true → SettlesOn w w.records (packed w.journal) (other_area w.area)
+  on-switch under_way v doubt records journal area switching = (
+    packed v.journal,
+    other_area v.area,
+    inr (switching ∙ under_way, refl, refl),
+    inl (λ i. record (given_up v) {
+      doubt = None;
+      records = sym records i;
+      journal = packed (sym journal i);
+      area = other_area (sym area i);
+      is_switching = false;
+    }),
+  )
 
-  settled-history : StandsFor image w.records → MaySettle w image
-  settled-history stands = elim (cases_Bool (is_some (setup_of w.records))) [
-    | inl up ↦ MaySettle.some w.records (settled-some w.records (on-history w.records refl) S.accepted
-        (let r = S.room in let e = unpacked-end w W in omega (arith, r, e)) up stands)
-    | inr f ↦ (let none = none-set_up w.records S.accepted f in
-        MaySettle.none (record {
-          settles = on-history [] none;
-          none = inr (subst (StandsFor image) none stands);
-        }))
+  -- the tables of history and journal have one setup
+  same-setup : setup_of w.journal ≡ setup_of w.records
+  same-setup = S.journal.alike.setup
+
+  settled-plain : StandsPlain w image → MaySettle w image
+  settled-plain stands = elim (cases_Bool (is_some (setup_of w.records))) [
+    | inl up ↦ with_setup up stands
+    | inr down ↦ MaySettle.none (record {
+      settles = on-history;
+      down = down;
+      empty = none-set_up w.journal S.journal.accepted (ap is_some same-setup ∙ down);
+      plain = stands;
+    })
   ]
+    where
+      with_setup : is_some (setup_of w.records) ≡ true → StandsPlain w image → MaySettle w image
+      with_setup up (inl stands) = MaySettle.some w.records w.journal w.area (record {
+        settles = on-history;
+        good = record {
+          some = none-up w.journal (ap is_some same-setup ∙ up);
+          accepted = S.journal.accepted;
+          room = (let r = S.room in omega (arith, r));
+          setup = refl;
+          stands = stands;
+        };
+        up = up;
+        same = same-setup;
+      })
+      with_setup up (inr empty) = absurd (none-up w.journal (ap is_some same-setup ∙ up) empty.0)
 
-  settled-doubt : (d : Doubt) → w.doubt ≡ Some d → StandsFor image (d.entry ∷ w.records) → MaySettle w image
-  settled-doubt d in_doubt stands = (let F = S.doubt d in_doubt in
-      let rs : List Record = d.entry ∷ w.records in
-      elim (cases_Bool (is_some (setup_of rs))) [
-        | inl up ↦ MaySettle.some rs (settled-some rs (on-doubt d in_doubt) (F.accepted, S.accepted)
-            (let r = F.room in let e = unpacked-end w W in omega (arith, r, e)) up stands)
-        | inr f ↦ absurd (let none : rs ≡ [] = none-set_up rs (F.accepted, S.accepted) f in cc)
+  settled-doubt : (d : Doubt) → w.doubt ≡ Some d → StandsActive image w.area (d.entry ∷ w.journal) →
+      MaySettle w image
+  settled-doubt d in_doubt stands =
+      (let F = S.doubt d in_doubt in
+      elim (cases_Bool (is_some (setup_of (d.entry ∷ w.records)))) [
+        | inl up ↦ MaySettle.some (d.entry ∷ w.records) (d.entry ∷ w.journal) w.area (record {
+          settles = on-doubt d in_doubt;
+          good = record {
+            some = λ e. cc;
+            accepted = (F.in_journal, S.journal.accepted);
+            room = (let r = F.room in omega (arith, r));
+            setup = refl;
+            stands = stands;
+          };
+          up = up;
+          same = one-setup;
+        })
+        | inr f ↦ absurd (let none : d.entry ∷ w.records ≡ [] = none-set_up (d.entry ∷ w.records)
+            (F.accepted, S.accepted) f in cc)
       ])
+    where
+      one-setup : setup_of (d.entry ∷ w.journal) ≡ setup_of (d.entry ∷ w.records)
+      one-setup = (let F = S.doubt d in_doubt in
+          elim (cases_Bool (is_some (setup_of w.records))) [
+            | inl up ↦ setup-more d.entry w.journal (ap is_some same-setup ∙ up) F.in_journal
+                ∙ (same-setup ∙ sym (setup-more d.entry w.records up F.accepted))
+            | inr down ↦ ap (λ l. setup_of (d.entry ∷ l))
+                (none-set_up w.journal S.journal.accepted (ap is_some same-setup ∙ down)
+                ∙ sym (none-set_up w.records S.accepted down))
+          ])
 
-  -- so may what an image of the state stands for
-  settled-whole : StandsInState w image → MaySettle w image
-  settled-whole (inl (inl h)) = settled-history (subst (StandsFor image) W.journal h.1)
-  settled-whole (inl (inr empty)) = MaySettle.none (record {
-    settles = on-history [] (sym W.journal ∙ empty.0);
-    none = inl empty.1;
-  })
-  settled-whole (inr (inl D)) = settled-doubt D.doubt D.in_doubt
-      (subst (λ l. StandsFor image (D.doubt.entry ∷ l)) W.journal D.stands.1)
-  settled-whole (inr (inr X)) = absurd (none-packed w.journal X.stands.1.in_grammar)
+  settled-switch : w.is_switching ≡ true → StandsActive image (other_area w.area) (packed w.journal) →
+      MaySettle w image
+  settled-switch under_way stands =
+      (let two = S.journal.alike.version ∙ (S.switching under_way).version in
+      let up = second-set_up w.journal S.journal.accepted two in
+      let at = is_some-at (setup_of w.journal) up in
+      let P = packed_are w.journal S.journal.accepted at.0 at.1 two in
+      MaySettle.some w.records (packed w.journal) (other_area w.area) (record {
+        settles = on-switch under_way;
+        good = record {
+          some = none-up (packed w.journal) (ap is_some P.1.setup ∙ up);
+          accepted = P.0;
+          room = switched-room w.journal w.area S.journal.accepted S.journal.spelled;
+          setup = refl;
+          stands = stands;
+        };
+        up = sym (ap is_some same-setup) ∙ up;
+        same = P.1.setup ∙ same-setup;
+      }))
 
 -- what an image of a sound state stands for may be settled
 pub settled-by : (w : State) → IsSound 8 w → (image : List ℕ) → StandsInState w image → MaySettle w image
-settled-by w S image h = settled-whole w S (unpacked-by w S image h) image h
+settled-by w S image (inl h) = settled-plain w S image h
+settled-by w S image (inr (inl D)) = settled-doubt w S image D.doubt D.in_doubt D.stands
+settled-by w S image (inr (inr X)) = settled-switch w S image X.switching X.stands
+
+-- an image of a store on which nothing is set up
+pub none-there : (w : State) (image : List ℕ) → SettledNone w image → HasNoSetup image
+none-there w image N = by_plain N.plain
+  where
+    by_plain : StandsPlain w image → HasNoSetup image
+    by_plain (inl stands) = inr (w.area, subst (StandsActive image w.area) N.empty stands)
+    by_plain (inr short) = inl short.1
 
 -- a disk that was synced, or left as it was, tells as before
 resynced-tells : (a b : Option Cells) → Goes IsResynced a b → is_some a ≡ true → is_some b ≡ true
@@ -329,7 +385,11 @@ none-looked_at : (cells : Cells) → HasNoSetup (reads cells) → HasNoSetup (jo
 none-looked_at cells (inl short) =
     inl (let e = length-take largest_journal (reads cells) in omega (arith, short, e))
 none-looked_at cells (inr stands) =
-    inr (stands-take largest_journal (reads cells) [] stands (lit≤ tt))
+    inr (stands.0, active-take largest_journal (reads cells) stands.0 [] stands.1 (fits stands.0))
+  where
+    fits : (area : Area) → end_in area [] ≤ largest_journal
+    fits areas.A = lit≤ tt
+    fits areas.B = lit≤ tt
 
 module _ (start : State) (ms : List Moment) (R : IsRun 8 start ms) (old : Seen)
     (S : IsStore (now start ms) old) where
@@ -420,20 +480,24 @@ module _ (start : State) (ms : List Moment) (R : IsRun 8 start ms) (old : Seen)
     -- ---- nothing is set up
 
     module _ (N : SettledNone w (reads told.0)) where
-      none-read : (other : List Record) → IsRead old.disk other → ⊥
-      none-read other read = read-set_up told.0 other (subst (λ d. IsRead d other) told.1 read)
-          (none-looked_at told.0 N.none)
+      looked : HasNoSetup (journal_read told.0)
+      looked = none-looked_at told.0 (none-there w (reads told.0) N)
+
+      none-read : (other : List Record) {area : Area} → IsRead old.disk area other → ⊥
+      none-read other {area = area} read =
+          read-set_up told.0 area other (subst (λ d. IsRead d area other) told.1 read) looked
 
       unset-on : IsSynced old new → IsRefused 9 0 old new end → GoesOn
       unset-on sync r =
-          (let v : State = record (settled (continued w) []) { disk_faults = new.disk_faults } in
+          (let mid : State = settled (continued w) w.records w.journal w.area in
+          let v : State = record mid { disk_faults = new.disk_faults } in
           let m : Moment = moment Reopen (Refused refusal.NotSetUp) v in
           let run : IsRun 8 start (m ∷ later ∷ ms) = (
             tt,
             (
-              settled (continued w) [],
-              N.settles (continued w) refl refl refl refl,
-              refl,
+              mid,
+              N.settles (continued w) refl refl refl refl refl,
+              N.down,
               (new.disk_faults, faults-at new.disk_faults counts.disk, refl),
             ),
             run-later,
@@ -445,17 +509,11 @@ module _ (start : State) (ms : List Moment) (R : IsRun 8 start ms) (old : Seen)
               sound = run-sound start (m ∷ later ∷ []) ms S.sound run;
               tells = refused-tells 9 0 r;
               images = image-of-synced told.0 new.disk (StandsInState v)
-                  (sync ∙ ap (option_map synced) told.1) (none-stands N.none);
+                  (sync ∙ ap (option_map synced) told.1) (inl N.plain);
               faults_are = refl;
               handed = handed-by v new.providers refl refl r.providers;
             },
           ))
-        where
-          none-stands : HasNoSetup (reads told.0) →
-              StandsInState (record (settled (continued w) []) { disk_faults = new.disk_faults })
-              (reads told.0)
-          none-stands (inl short) = inl (inr (refl, short))
-          none-stands (inr stands) = inl (inl (refl, stands))
 
       unset-unstarted : Unstarted old new end → GoesOn
       unset-unstarted (Unstarted.disk_fault rose r) = fault-on rose r
@@ -464,8 +522,8 @@ module _ (start : State) (ms : List Moment) (R : IsRun 8 start ms) (old : Seen)
           absurd (let bad : (9 < length (journal_read told.0)) × IsBadStart (journal_read told.0) at =
           subst (λ d. IfSome d (λ cells. (9 < length (journal_read cells)) ×
           IsBadStart (journal_read cells) at)) told.1 is in
-          fresh-good (journal_read told.0) at bad.0 (none-looked_at told.0 N.none) bad.1)
-      unset-unstarted (Unstarted.too_few_providers other read few sync r) = absurd (none-read other read)
+          fresh-good (journal_read told.0) at bad.0 looked bad.1)
+      unset-unstarted (Unstarted.too_few_providers area other read few sync r) = absurd (none-read other read)
       unset-unstarted (Unstarted.no_memory r) = memory-on 0 r
 
       unset-alone : (kind : Kind) → AnswersAlone kind old new end → GoesOn
@@ -482,6 +540,12 @@ module _ (start : State) (ms : List Moment) (R : IsRun 8 start ms) (old : Seen)
       unset-scrub (AnswersScrub.no_memory other O sync r) = absurd (none-read other O.read)
       unset-scrub (AnswersScrub.ended other how O sync heard runs left by) = absurd (none-read other O.read)
 
+      unset-pack : AnswersPack old new end → GoesOn
+      unset-pack (AnswersPack.unstarted u) = unset-unstarted u
+      unset-pack (AnswersPack.refused other why O is sync r) = absurd (none-read other O.read)
+      unset-pack (AnswersPack.no_memory other O sync r) = absurd (none-read other O.read)
+      unset-pack (AnswersPack.ended other how O begins heard runs left by) = absurd (none-read other O.read)
+
       unset-put : (name : List ℕ) {own : Option ℕ} → AnswersPut name own old new end → GoesOn
       unset-put name (AnswersPut.unstarted u same) = unset-unstarted u
       unset-put name (AnswersPut.bad_profile other O unknown sync same r) = absurd (none-read other O.read)
@@ -495,17 +559,28 @@ module _ (start : State) (ms : List Moment) (R : IsRun 8 start ms) (old : Seen)
 
     -- ---- records with a setup are read
 
-    module _ (rs : List Record) (F : Settled w (reads told.0) rs) where
-      is-read : IsRead old.disk rs
-      is-read = read-good (setup_in_effect rs) old.disk told.0 rs told.1 F.good
+    module _ (records rs : List Record) (area : Area) (F : Settled w (reads told.0) records rs area) where
+      is-read : IsRead old.disk area rs
+      is-read = read-good (setup_in_effect rs) old.disk told.0 area rs told.1 F.good
 
-      once : (other : List Record) → IsRead old.disk other → other ≡ rs
-      once other read = read-once told.0 other rs (subst (λ d. IsRead d other) told.1 read)
-          (subst (λ d. IsRead d rs) told.1 is-read)
+      once : (other : List Record) {at : Area} → IsRead old.disk at other → (at ≡ area) × (other ≡ rs)
+      once other {at = at} read = read-once told.0 at area other rs
+          (subst (λ d. IsRead d at other) told.1 read) (subst (λ d. IsRead d area rs) told.1 is-read)
+
+      -- what is so of the records that the command read, in their area, is so of these
+      both : (other : List Record) (O : IsOpened old other) (P : Area → List Record → Type 0) →
+          P O.area other → P area rs
+      both other O P p = (let e = once other O.read in
+          subst (λ a. P a rs) e.0 (subst (λ l. P O.area l) e.1 p))
+
+      -- the history has the setup of these records
+      same-setup-in : setup_in_effect rs ≡ setup_or_none (setup_of records)
+      same-setup-in = ap setup_or_none F.same
 
       -- the store in which the vault is opened over the records that were read
       abbrev opened_at : ℕ → State
-      opened_at faults = record (settled (continued w) rs) { is_open = true; disk_faults = faults }
+      opened_at faults =
+          record (settled (continued w) records rs area) { is_open = true; disk_faults = faults }
 
       run-opened : (faults : ℕ) → old.disk_faults ≤ faults →
           (setup_in_effect rs).n ≤ length old.providers →
@@ -514,20 +589,22 @@ module _ (start : State) (ms : List Moment) (R : IsRun 8 start ms) (old : Seen)
       run-opened faults l enough = (
         tt,
         (
-          settled (continued w) rs,
-          F.settles (continued w) refl refl refl refl,
+          settled (continued w) records rs area,
+          F.settles (continued w) refl refl refl refl refl,
           F.up,
-          (let e = S.handed.count in omega (arith, e, enough)),
+          (let e = S.handed.count in let n = ap (λ (t : Setup). t.n) same-setup-in in
+              omega (arith, e, enough, n)),
           (faults, faults-at faults l, refl),
         ),
         run-later,
       )
 
       stands-synced : (d : Option Cells) (v : State) → d ≡ option_map synced old.disk → v.journal ≡ rs →
-          v.area ≡ areas.A → StandsForState d v
-      stands-synced d v is journal area =
+          v.area ≡ area → StandsForState d v
+      stands-synced d v is journal at =
           image-of-synced told.0 d (StandsInState v) (is ∙ ap (option_map synced) told.1)
-          (inl (inl (area, subst (λ l. StandsFor (reads told.0) l) (sym journal) F.good.stands)))
+          (inl (inl (subst (λ a. StandsActive (reads told.0) a v.journal) (sym at)
+          (subst (λ l. StandsActive (reads told.0) area l) (sym journal) F.good.stands))))
 
       sound-opened : (faults : ℕ) → old.disk_faults ≤ faults →
           (setup_in_effect rs).n ≤ length old.providers → IsSound 8 (opened_at faults)
@@ -536,39 +613,49 @@ module _ (start : State) (ms : List Moment) (R : IsRun 8 start ms) (old : Seen)
           (run-opened faults l enough)
 
       over : (faults : ℕ) → old.disk_faults ≤ faults → (setup_in_effect rs).n ≤ length old.providers →
-          IsOpenedOver (opened_at faults) rs faults old.providers
-      over faults l enough = record {
-        records = refl;
-        whole = record { journal = refl; area = refl; unswitched = refl };
-        jobs = refl;
-        next_job = refl;
-        none_alone = refl;
-        append = refl;
-        doubt = refl;
-        is_open = refl;
-        unbarred = refl;
-        bytes = (sound-opened faults l enough).files;
+          IsJustOpened (opened_at faults) area rs 1 faults old.providers
+      over faults l enough = (let T = sound-opened faults l enough in record {
+        at_rest = record {
+          rest = record {
+            idle = (refl, refl, refl, refl);
+            undoubted = refl;
+            unswitched = refl;
+            journal = T.journal;
+            accepted = T.accepted;
+            in_grammar = T.spelled;
+            room = (let r = T.room in omega (arith, r));
+            files = T.files;
+            set_up = T.set_up;
+            handed = T.handed;
+          };
+          opened = refl;
+          next = refl;
+        };
+        journal = refl;
+        area_is = refl;
         faults_are = refl;
         handed = handed-by (opened_at faults) old.providers refl refl refl;
-      }
+      })
 
       -- too few providers are handed in
-      few-on : (other : List Record) → IsRead old.disk other →
+      few-on : (other : List Record) {at : Area} → IsRead old.disk at other →
           length old.providers < (setup_in_effect other).n → IsSynced old new →
           IsRefused 22 0 old new end → GoesOn
       unfolding setup_in
       few-on other read few sync r =
-          (let v : State = record (settled (continued w) rs) { disk_faults = new.disk_faults } in
+          (let mid : State = settled (continued w) records rs area in
+          let v : State = record mid { disk_faults = new.disk_faults } in
           let m : Moment = moment Reopen (Refused refusal.TooFewProviders) v in
           let fewer : length old.providers < (setup_in_effect rs).n =
-          subst (λ l. length old.providers < (setup_in_effect l).n) (once other read) few in
+          subst (λ l. length old.providers < (setup_in_effect l).n) (once other read).1 few in
+          let n = ap (λ (t : Setup). t.n) same-setup-in in
           let run : IsRun 8 start (m ∷ later ∷ ms) = (
             tt,
             (
-              settled (continued w) rs,
-              F.settles (continued w) refl refl refl refl,
+              mid,
+              F.settles (continued w) refl refl refl refl refl,
               F.up,
-              (let e = S.handed.count in omega (arith, e, fewer)),
+              (let e = S.handed.count in omega (arith, e, fewer, n)),
               (new.disk_faults, faults-at new.disk_faults counts.disk, refl),
             ),
             run-later,
@@ -588,14 +675,14 @@ module _ (start : State) (ms : List Moment) (R : IsRun 8 start ms) (old : Seen)
       unstarted-on : Unstarted old new end → GoesOn
       unstarted-on (Unstarted.disk_fault rose r) = fault-on rose r
       unstarted-on (Unstarted.not_set_up is sync r) = absurd
-          (read-set_up told.0 rs (subst (λ d. IsRead d rs) told.1 is-read)
+          (read-set_up told.0 area rs (subst (λ d. IsRead d area rs) told.1 is-read)
           (subst (λ d. IfSome d (λ cells. HasNoSetup (journal_read cells))) told.1 is))
       unstarted-on (Unstarted.bad_journal at is r) =
           absurd (let bad : (9 < length (journal_read told.0)) × IsBadStart (journal_read told.0) at =
           subst (λ d. IfSome d (λ cells. (9 < length (journal_read cells)) ×
           IsBadStart (journal_read cells) at)) told.1 is in
-          read-never-bad told.0 at rs (subst (λ d. IsRead d rs) told.1 is-read) bad.1)
-      unstarted-on (Unstarted.too_few_providers other read few sync r) = few-on other read few sync r
+          read-never-bad told.0 at area rs (subst (λ d. IsRead d area rs) told.1 is-read) bad.1)
+      unstarted-on (Unstarted.too_few_providers at other read few sync r) = few-on other read few sync r
       unstarted-on (Unstarted.no_memory r) = memory-on 0 r
 
       -- ---- a vault that was opened
@@ -636,14 +723,16 @@ module _ (start : State) (ms : List Moment) (R : IsRun 8 start ms) (old : Seen)
 
         listed-on : command ≡ ListAll → ListsFiles rs old new end → GoesOn
         listed-on is L = (
-          moment Names (Listed (files_of rs)) opened ∷ reopened ∷ later ∷ [],
-          IsCall.listed (continued w) opened opened is refl L.written L.heard,
+          moment Names (Listed (files_of records)) opened ∷ reopened ∷ later ∷ [],
+          IsCall.listed (continued w) opened opened is refl
+              (subst (λ files. WritesLine (list_lines files) end.status (sinking old new))
+              (sound-opened new.disk_faults counts.disk enough).journal.alike.files L.written) L.heard,
           (tt, (refl, refl), run-opened new.disk_faults counts.disk enough),
           store-opened L.disk L.providers,
         )
 
         scrubbed-on : command ≡ ScrubAll → (how : Answer) → end.heard ≡ [] → IsSynced old new →
-            ScrubsAlone rs how old new → EndsByAnswer (scrub_text how) how old new end → GoesOn
+            ScrubsAlone area rs how old new → EndsByAnswer (scrub_text how) how old new end → GoesOn
         scrubbed-on is how heard sync A by =
             (let v : State = opened_at A.faults in
             let two : Moment = moment Reopen Opened v in
@@ -687,11 +776,76 @@ module _ (start : State) (ms : List Moment) (R : IsRun 8 start ms) (old : Seen)
               },
             ))
 
+        pack-refused-on : command ≡ PackJournal → (status at : ℕ) (why : Refusal) →
+            pack_refusal_over area rs ≡ Some why →
+            end.status ≡ status_of why → IsSynced old new → IsRefused status at old new end → GoesOn
+        pack-refused-on is status at why cause status_is sync r = (
+          moment BeginPack (Refused why) opened ∷ reopened ∷ later ∷ [],
+          IsCall.pack_refused (continued w) opened opened why is refl status_is r.heard,
+          (
+            tt,
+            (
+              refl,
+              inl (pack-refusal-of opened (over new.disk_faults counts.disk enough).at_rest ∙ cause),
+              refl,
+            ),
+            run-opened new.disk_faults counts.disk enough,
+          ),
+          store-opened sync r.providers,
+        )
+
+        packed-on : command ≡ PackJournal → (how : Answer) → end.heard ≡ [] →
+            is_some new.disk ≡ is_some old.disk →
+            PacksAlone area rs how old new → EndsByAnswer (pack_text how) how old new end → GoesOn
+        packed-on is how heard tells A by =
+            (let v : State = opened_at A.faults in
+            let two : Moment = moment Reopen Opened v in
+            let n : ℕ = length (two ∷ later ∷ ms) in
+            let ran : RanPack rs how old new v n = A.ran v n (over A.faults A.before enough) in
+            let c : State = ran.runs.begun in
+            let job_is : ran.runs.job ≡ 1 = ran.runs.begins.2 in
+            let three : Moment = moment BeginPack (Begun 1) c in
+            let begun : IsRun 8 start (three ∷ two ∷ later ∷ ms) = (
+              tt,
+              subst (λ j. Happens 8 n v BeginPack (Begun j) c) job_is ran.runs.begins,
+              run-opened A.faults A.before enough,
+            ) in
+            let g : GoesOnTo c (n + 1) 1 how [] ran.last =
+            subst (λ j. GoesOnTo c (n + 1) j how [] ran.last) job_is ran.runs.goes_on in
+            let at : n + 1 ≡ length (three ∷ two ∷ later ∷ ms) = omega arith in
+            let stepped : IsRun 8 start (g.steps ++ three ∷ two ∷ later ∷ ms) =
+            steps-run start c (three ∷ two ∷ later ∷ ms) g.steps refl
+            (subst (λ k. AreSteps c k 1 g.steps) at g.are_steps) begun in
+            let four : Moment = moment (Step 1) (Ended how) ran.last in
+            let ended : IsRun 8 start (four ∷ (g.steps ++ three ∷ two ∷ later ∷ ms)) = (
+              omega arith,
+              happens-at start c (three ∷ two ∷ later ∷ ms) g.steps (Step 1) (Ended how) ran.last refl
+                  (subst (λ k. Happens 8 (k + length g.steps) (now c g.steps) (Step 1)
+                  (Ended how) ran.last) at g.ends),
+              stepped,
+            ) in
+            let own : List Moment = four ∷ (g.steps ++ three ∷ two ∷ later ∷ []) in
+            let run : IsRun 8 start (own ++ ms) = subst (λ l. IsRun 8 start (four ∷ l))
+            (sym (append_assoc g.steps (three ∷ two ∷ later ∷ []) ms)) ended in (
+              own,
+              IsCall.packed (continued w) v c ran.last g.steps how is
+                  (steps-go c (n + 1) g.steps g.are_steps) refl by heard,
+              run,
+              record {
+                sound = run-sound start own ms S.sound run;
+                tells = tells ∙ S.tells;
+                images = ran.images;
+                faults_are = ran.faults_are;
+                handed = ran.handed;
+              },
+            ))
+
         module _ (kind : Kind) (own : Option ℕ) (is_job : RunsKind command old new kind)
             (named : profile_named command ≡ own) (may : MayName kind own)
             (byte : (p : ℕ) → own ≡ Some p → p < 256) where
           refused-on : (status at : ℕ) (why : Refusal) → IsSpelledKind kind →
-              (refusal_over rs kind own ≡ Some why) ⊎ (why ≡ refusal.Memory) → end.status ≡ status_of why →
+              (refusal_over area rs kind own ≡ Some why) ⊎ (why ≡ refusal.Memory) →
+              end.status ≡ status_of why →
               IsSynced old new → IsRefused status at old new end → GoesOn
           refused-on status at why spelled cause status_is sync r = (
             moment (begin_of kind own) (Refused why) opened ∷ reopened ∷ later ∷ [],
@@ -707,26 +861,26 @@ module _ (start : State) (ms : List Moment) (R : IsRun 8 start ms) (old : Seen)
             store-opened sync r.providers,
           )
             where
-              by_cause : (refusal_over rs kind own ≡ Some why) ⊎ (why ≡ refusal.Memory) →
+              by_cause : (refusal_over area rs kind own ≡ Some why) ⊎ (why ≡ refusal.Memory) →
                   (refusal_of_begin 8 opened kind own ≡ Some why) ⊎ (why ≡ refusal.Memory)
               by_cause (inl e) = inl
-                  (refusal-of opened kind own refl refl refl
-                  (record { journal = refl; area = refl; unswitched = refl }) ∙ e)
+                  (refusal-of opened (over new.disk_faults counts.disk enough).at_rest kind own ∙ e)
               by_cause (inr e) = inr e
 
           ended-on : (how : Answer) → IsSpelledKind kind → (how ≡ answer.Put → ReadsWhole kind old new) →
-              RunsAlone rs kind own how old new end.heard →
+              RunsAlone area rs kind own how old new end.heard →
               EndsByAnswer (text_of (setup_in_effect rs).tolerance kind how) how old new end → GoesOn
           unfolding setup_in
           ended-on how spelled whole A by =
               (let v : State = opened_at A.faults in
               let two : Moment = moment Reopen Opened v in
               let n : ℕ = length (two ∷ later ∷ ms) in
-              let V : IsOpenedOver v rs A.faults old.providers = over A.faults A.before enough in
-              let ran : RanAlone rs kind own how old new end.heard A.faults v n = A.ran v n V in
-              let L = last-state v ran.last n kind own how end.heard
-              (over-opened v old rs A.faults (record { read = is-read; enough = enough }) V) spelled may
-              ran.runs in
+              let V : IsJustOpened v area rs 1 A.faults old.providers = over A.faults A.before enough in
+              let ran : RanAlone area rs kind own how old new end.heard A.faults v n = A.ran v n V in
+              let L = last-state v ran.last n kind own how end.heard V.at_rest spelled may ran.runs in
+              let said : EndsByAnswer (text_of (setup_in v).tolerance kind how) how old new end =
+              subst (λ (t : Setup). EndsByAnswer (text_of t.tolerance kind how) how old new end) same-setup-in
+              by in
               let c : State = ran.runs.begun in
               let job_is : ran.runs.job ≡ 1 = ran.runs.begins.2 in
               let three : Moment = moment (begin_of kind own) (Begun 1) c in
@@ -754,12 +908,12 @@ module _ (start : State) (ms : List Moment) (R : IsRun 8 start ms) (old : Seen)
                 IsCall.ended kind (continued w) v c ran.last g.steps how is_job whole
                     (steps-go c (n + 1) g.steps g.are_steps)
                     (ap (λ o. four ∷ (g.steps ++ moment (begin_of kind o) (Begun 1) c ∷ two ∷ later ∷ []))
-                    (sym named)) by g.heard_is,
+                    (sym named)) said g.heard_is,
                 subst (λ l. IsRun 8 start (four ∷ l))
                     (sym (append_assoc g.steps (three ∷ two ∷ later ∷ []) ms)) ended,
                 record {
                   sound = L.sound;
-                  tells = tells-past kind own how rs ran.last.records old.disk new.disk ran.past_text
+                  tells = tells-past area kind own how rs ran.last.journal old.disk new.disk ran.past_text
                       ∙ S.tells;
                   images = ran.images;
                   faults_are = ran.faults_are;
@@ -768,8 +922,8 @@ module _ (start : State) (ms : List Moment) (R : IsRun 8 start ms) (old : Seen)
               ))
 
           -- the words of a begin are bytes, also where it is refused
-          job-on : IsSpelledKind kind → (A : AnswersJob kind own rs old new end) →
-              PutsWhole kind own rs old new end A → GoesOn
+          job-on : IsSpelledKind kind → (A : AnswersJob kind own area rs old new end) →
+              PutsWhole kind own area rs old new end A → GoesOn
           job-on spelled (AnswersJob.refused why is sync r) whole =
               refused-on (status_of why) 0 why spelled (inl is) r.status_is sync r
           job-on spelled (AnswersJob.no_memory sync r) whole =
@@ -780,15 +934,14 @@ module _ (start : State) (ms : List Moment) (R : IsRun 8 start ms) (old : Seen)
         given-on : (name bytes : List ℕ) (own : Option ℕ) → RunsKind command old new (PutJob name bytes) →
             profile_named command ≡ own → ((p : ℕ) → own ≡ Some p → p < 256) →
             IsSpelledKind (PutJob name bytes) → StopsReading (put_stripe rs own) bytes old new end →
-            PartRuns rs name bytes own old new → PartLeft rs name bytes own old new → GoesOn
+            PartRuns area rs name bytes own old new → PartLeft area rs name bytes own old new → GoesOn
         given-on name bytes own is_job named byte spelled stops A left =
             (let v : State = opened_at A.faults in
             let two : Moment = moment Reopen Opened v in
             let n : ℕ = length (two ∷ later ∷ ms) in
-            let V : IsOpenedOver v rs A.faults old.providers = over A.faults A.before enough in
-            let ran : PartRan rs name bytes own old new A.faults v n = A.ran v n V in
-            let L = part-state v ran.last n (PutJob name bytes) own _
-            (over-opened v old rs A.faults (record { read = is-read; enough = enough }) V) spelled
+            let V : IsJustOpened v area rs 1 A.faults old.providers = over A.faults A.before enough in
+            let ran : PartRan area rs name bytes own old new A.faults v n = A.ran v n V in
+            let L = part-state v ran.last n (PutJob name bytes) own _ V.at_rest spelled
             (MayName.put name bytes refl) ran.runs in
             let c : State = ran.runs.begun in
             let steps : List Moment = ran.runs.steps in
@@ -818,9 +971,9 @@ module _ (start : State) (ms : List Moment) (R : IsRun 8 start ms) (old : Seen)
               subst (IsRun 8 start) (sym whole_is) stepped,
               subst (λ s. IsStore s new) last_is (record {
                 sound = L.sound;
-                tells = sym (is_some-option_map (past (after_begin rs name)) new.disk)
+                tells = sym (is_some-option_map (past area (after_begin rs name)) new.disk)
                     ∙ (ap is_some left.past_text
-                    ∙ (is_some-option_map (past (after_begin rs name)) old.disk ∙ S.tells));
+                    ∙ (is_some-option_map (past area (after_begin rs name)) old.disk ∙ S.tells));
                 images = ran.images;
                 faults_are = ran.faults_are;
                 handed = ran.handed;
@@ -829,23 +982,23 @@ module _ (start : State) (ms : List Moment) (R : IsRun 8 start ms) (old : Seen)
 
       enough-of : (other : List Record) → IsOpened old other → (setup_in_effect rs).n ≤ length old.providers
       enough-of other O =
-          subst (λ l. (setup_in_effect l).n ≤ length old.providers) (once other O.read) O.enough
+          subst (λ l. (setup_in_effect l).n ≤ length old.providers) (once other O.read).1 O.enough
 
       alone-on : (kind : Kind) → ReadsWhole kind old new → RunsKind command old new kind →
           profile_named command ≡ None →
           IsSpelledKind kind → AnswersAlone kind old new end → GoesOn
       alone-on kind whole is named spelled (AnswersAlone.unstarted u) = unstarted-on u
       alone-on kind whole is named spelled (AnswersAlone.begun other O A) =
-          (let B = subst (λ l. AnswersJob kind None l old new end) (once other O.read) A in
+          (let B = both other O (λ a l. AnswersJob kind None a l old new end) A in
           job-on (enough-of other O) kind None is named (MayName.none refl)
           (λ p e. absurd (let f : None ≡ Some p = e in cc)) spelled B
-          (puts-all kind None rs old new end whole B))
+          (puts-all kind None area rs old new end whole B))
 
       list-on : command ≡ ListAll → AnswersList old new end → GoesOn
       list-on is (AnswersList.unstarted u) = unstarted-on u
       list-on is (AnswersList.no_memory r) = memory-on 0 r
       list-on is (AnswersList.listed other O L) = listed-on (enough-of other O) is
-          (subst (λ l. ListsFiles l old new end) (once other O.read) L)
+          (subst (λ l. ListsFiles l old new end) (once other O.read).1 L)
 
       scrub-on : command ≡ ScrubAll → AnswersScrub old new end → GoesOn
       scrub-on is (AnswersScrub.unstarted u) = unstarted-on u
@@ -853,7 +1006,18 @@ module _ (start : State) (ms : List Moment) (R : IsRun 8 start ms) (old : Seen)
           opened-on (enough-of other O) 70 0 (inr r.status_is) sync r
       scrub-on is (AnswersScrub.ended other how O sync heard runs left by) =
           scrubbed-on (enough-of other O) is how heard sync
-          (subst (λ l. ScrubsAlone l how old new) (once other O.read) runs) by
+          (both other O (λ a l. ScrubsAlone a l how old new) runs) by
+
+      pack-on : command ≡ PackJournal → AnswersPack old new end → GoesOn
+      pack-on is (AnswersPack.unstarted u) = unstarted-on u
+      pack-on is (AnswersPack.refused other why O cause sync r) =
+          pack-refused-on (enough-of other O) is (status_of why) 0 why
+          (both other O (λ a l. pack_refusal_over a l ≡ Some why) cause) r.status_is sync r
+      pack-on is (AnswersPack.no_memory other O sync r) =
+          opened-on (enough-of other O) 70 0 (inr r.status_is) sync r
+      pack-on is (AnswersPack.ended other how O begins heard runs left by) =
+          packed-on (enough-of other O) is how heard left.tells
+          (both other O (λ a l. PacksAlone a l how old new) runs) by
 
       put-on : (name : List ℕ) (own : Option ℕ) →
           ((bytes rest : List ℕ) → ReadsFront old.source new.source (bytes ++ rest) →
@@ -867,42 +1031,47 @@ module _ (start : State) (ms : List Moment) (R : IsRun 8 start ms) (old : Seen)
           opened-on (enough-of other O) 14 0 (inl r.status_is) sync r
       put-on name own is named spelled byte (AnswersPut.no_memory taken r) = memory-on 0 r
       put-on name own is named spelled byte (AnswersPut.begun other bytes O known read few A whole) =
-          (let B = subst (λ l. (A : AnswersJob (PutJob name bytes) own l old new end)
-          × PutsWhole (PutJob name bytes) own l old new end A) (once other O.read)
-          (A, puts-whole name bytes own other old new end read A whole) in
+          (let B = both other O (λ a l. (A : AnswersJob (PutJob name bytes) own a l old new end)
+          × PutsWhole (PutJob name bytes) own a l old new end A)
+          (A, puts-whole name bytes own O.area other old new end read A whole) in
           job-on (enough-of other O) (PutJob name bytes) own
           (is bytes [] (subst (ReadsFront old.source new.source) (sym (append-nil bytes)) read) few) named
           (MayName.put name bytes refl) byte (spelled, read.are_bytes) B.0 B.1)
       put-on name own is named spelled byte (AnswersPut.given_up other bytes O known begins stops runs left) =
-          (let G = given-front name bytes own other old new end begins stops in
-          let same = once other O.read in
+          (let G = given-front O.area name bytes own other old new end begins stops in
+          let same = (once other O.read).1 in
           given-on (enough-of other O) name bytes own (is bytes G.0 G.2 G.3) named byte (spelled, G.1)
           (subst (λ l. StopsReading (put_stripe l own) bytes old new end) same stops)
-          (subst (λ l. PartRuns l name bytes own old new) same runs)
-          (subst (λ l. PartLeft l name bytes own old new) same left))
+          (both other O (λ a l. PartRuns a l name bytes own old new) runs)
+          (both other O (λ a l. PartLeft a l name bytes own old new) left))
 
     -- a job alone, whether a store is set up or not
     alone-by : MaySettle w (reads told.0) → (kind : Kind) → ReadsWhole kind old new →
         RunsKind command old new kind → profile_named command ≡ None → IsSpelledKind kind →
         AnswersAlone kind old new end → GoesOn
-    alone-by (MaySettle.some rs F) kind whole is named spelled A = alone-on rs F kind whole is named spelled A
+    alone-by (MaySettle.some records rs area F) kind whole is named spelled A =
+        alone-on records rs area F kind whole is named spelled A
     alone-by (MaySettle.none N) kind whole is named spelled A = unset-alone N kind A
 
     list-by : MaySettle w (reads told.0) → command ≡ ListAll → AnswersList old new end → GoesOn
-    list-by (MaySettle.some rs F) is A = list-on rs F is A
+    list-by (MaySettle.some records rs area F) is A = list-on records rs area F is A
     list-by (MaySettle.none N) is A = unset-list N A
 
     scrub-by : MaySettle w (reads told.0) → command ≡ ScrubAll → AnswersScrub old new end → GoesOn
-    scrub-by (MaySettle.some rs F) is A = scrub-on rs F is A
+    scrub-by (MaySettle.some records rs area F) is A = scrub-on records rs area F is A
     scrub-by (MaySettle.none N) is A = unset-scrub N A
+
+    pack-by : MaySettle w (reads told.0) → command ≡ PackJournal → AnswersPack old new end → GoesOn
+    pack-by (MaySettle.some records rs area F) is A = pack-on records rs area F is A
+    pack-by (MaySettle.none N) is A = unset-pack N A
 
     put-by : MaySettle w (reads told.0) → (name : List ℕ) (own : Option ℕ) →
         ((bytes rest : List ℕ) → ReadsFront old.source new.source (bytes ++ rest) →
         length bytes ≤ largest_file →
         RunsKind command old new (PutJob name bytes)) → profile_named command ≡ own → AreBytes name →
         ((p : ℕ) → own ≡ Some p → p < 256) → AnswersPut name own old new end → GoesOn
-    put-by (MaySettle.some rs F) name own is named spelled byte A =
-        put-on rs F name own is named spelled byte A
+    put-by (MaySettle.some records rs area F) name own is named spelled byte A =
+        put-on records rs area F name own is named spelled byte A
     put-by (MaySettle.none N) name own is named spelled byte A = unset-put N name A
 
   -- a command over a store that a run left goes on with that run
@@ -931,3 +1100,4 @@ module _ (start : State) (ms : List Moment) (R : IsRun 8 start ms) (old : Seen)
   command-on UpgradeJournal new end counts opens spelled A =
       alone-by UpgradeJournal new end counts found UpgradeJob tt refl refl tt A.0
   command-on ScrubAll new end counts opens spelled A = scrub-by ScrubAll new end counts found refl A.0
+  command-on PackJournal new end counts opens spelled A = pack-by PackJournal new end counts found refl A.0

@@ -9,19 +9,22 @@ use Rattle.device_defs.specs.Cells.{Cells, reads}
 use Rattle.device_defs.specs.Disks.{synced}
 use Rattle.device_defs.specs.Images.{IsImage, EachImage}
 use Rattle.device_defs.specs.Told.{Goes}
-use Rattle.device_defs.proofs.Lasting.{image-firm}
+use Rattle.device_defs.proofs.Lasting.{image-firm, each_image-mono}
 use Rattle.device_defs.proofs.PickLaws.{IsImage-reads}
 use Rattle.record_defs.specs.Records.{Record, PutStart, AuditStart, AuditDone, largest_journal}
-use Rattle.record_defs.specs.Journal.{StandsFor, StandsOrIsEmpty}
+use Rattle.record_defs.specs.Areas.{Area, other_area, StandsActive}
+use Rattle.record_defs.specs.Packed.{packed}
+use Rattle.record_defs.specs.Journal.{StandsFor}
 use Rattle.record_defs.specs.Table.{next_id, next_audit}
 use Rattle.record_defs.proofs.Standing.{stands-front, stands-long}
-use Rattle.journal_core.proofs.Meanings.{one_meaning}
+use Rattle.journal_core.proofs.Meanings.{one_list}
 use Rattle.machine_defs.specs.Jobs.{Kind, PutJob, GetJob, DropJob, AuditJob, RepairJob, UpgradeJob}
 use Rattle.machine_defs.specs.Answers as answer
 use Rattle.machine_defs.specs.Answers.{Answer}
-use Rattle.command_defs.specs.Forms.{Command, Numbers, RowOf, InitWith, PutUnder, PutAt, GetOf, DropOf, ListAll, AuditAll, RepairDue, UpgradeJournal, ScrubAll}
+use Rattle.command_defs.specs.Forms.{Command, Numbers, RowOf, InitWith, PutUnder, PutAt, GetOf, DropOf, ListAll, AuditAll, RepairDue, UpgradeJournal, ScrubAll, PackJournal}
 use Rattle.opening_defs.specs.Journals.{IsResynced, IsFree, IsSetUpOn, MayBeLeft}
 use Rattle.opening_defs.proofs.Resyncs.{image-resynced}
+use Rattle.opening_defs.proofs.SetUps.{set_up-free}
 use Rattle.command_defs.specs.Seen.{Seen, Ending, IsRefused, KeepsDisk, ReadsFront}
 use Rattle.command_defs.specs.Opens.{IsOpened, Unstarted}
 use Rattle.command_defs.specs.Ran.{Ran, IsWhole, IsCut, IsCutInDoubt}
@@ -31,12 +34,13 @@ use Rattle.command_defs.specs.Audits.{audit_records, AuditIsCut}
 use Rattle.command_defs.specs.Jobs.{AnswersJob, LeavesBy}
 use Rattle.command_defs.specs.Inits.{setup_with, AnswersInit, InitsDisk}
 use Rattle.command_defs.specs.Scrubs.{AnswersScrub}
+use Rattle.command_defs.specs.Packs.{PackLeaves, AnswersPack}
 use Rattle.command_defs.specs.Commands.{MayBeWhole, AnswersPut, AnswersAlone, AnswersList, Answers}
 use Rattle.command_laws.specs.Ends.{IsKnown, put_of, profile_named, RunsKind, ReadsWhole, opens_store}
 use Rattle.command_laws.specs.Kept.{KeepsImages, AreAppended, IsAfter, LeavesImages, InitImages}
 use Rattle.command_laws.proofs.Known.{known-once}
 use Rattle.command_laws.proofs.GetEnds.{ran_left}
-use Rattle.command_laws.proofs.JobEnds.{unstarted-refused, named-by, put-kind, given-kind, images-stand}
+use Rattle.command_laws.proofs.JobEnds.{unstarted-refused, named-by, put-kind, given-kind}
 
 -- ---- images of a disk that was synced
 
@@ -212,10 +216,6 @@ wrote-by x UpgradeJob profile answer.DiskFault L = (_, refl, came-doubt x _ L.0.
 wrote-by x UpgradeJob profile answer.Memory L = (_, refl, came-cut x _ L.0.0)
 wrote-by x UpgradeJob profile how L = absurd L.0
 
-none-behind : (a b : List Record) → a ++ b ≡ [] → b ≡ []
-none-behind [] b e = e
-none-behind (r ∷ a) b e = absurd (let f : r ∷ (a ++ b) ≡ [] = e in cc)
-
 -- nothing can be taken of nothing
 pub take-none : (count : ℕ) → ◌≡◌ {A = List Record} (take count []) []
 take-none zero = refl
@@ -270,52 +270,54 @@ all-doubted x AuditJob profile old new all own are count next is more l = tt
 all-doubted x RepairJob profile old new all own are count next is more l = tt
 all-doubted x UpgradeJob profile old new all own are count next is more l = tt
 
-image-after : (x : Ran) (kind : Kind) (profile : Option ℕ) (old new : Seen) → x.records ≢ [] →
+image-after : (x : Ran) (area : Area) (kind : Kind) (profile : Option ℕ) (old new : Seen) →
     ReadsAll x kind profile old new → Wrote x kind profile → (image : List ℕ) →
-    StandsOrIsEmpty image x.after ⊎ IsSomeAnd x.doubt (λ entry. StandsFor image (entry ∷ x.after)) →
+    StandsActive image area x.after ⊎ IsSomeAnd x.doubt (λ entry. StandsActive image area (entry ∷ x.after)) →
     IsAfter x.records kind profile old new image
-image-after x kind profile old new some all W image (inl (inl stands)) = record {
+image-after x area kind profile old new all W image (inl stands) = record {
   own = W.0;
   are_own = W.1;
   count = W.2.count;
   whole = all-came x kind profile old new all W.0 W.1 W.2.count W.2.after;
-  stands = subst (StandsFor image) W.2.after stands;
+  stands = (area, subst (StandsActive image area) W.2.after stands);
 }
-image-after x kind profile old new some all W image (inl (inr empty)) =
-    absurd (some (none-behind (reverse (take W.2.count W.0)) x.records (sym W.2.after ∙ empty.0)))
-image-after x kind profile old new some all W image (inr entry) = elim W.2.doubt [
-  | inl sure ↦ absurd (subst (λ d. IsSomeAnd d (λ e. StandsFor image (e ∷ x.after))) sure entry)
+image-after x area kind profile old new all W image (inr entry) = elim W.2.doubt [
+  | inl sure ↦ absurd (subst (λ d. IsSomeAnd d (λ e. StandsActive image area (e ∷ x.after))) sure entry)
   | inr (next, is, more) ↦ record {
     own = W.0;
     are_own = W.1;
     count = suc W.2.count;
     whole = all-doubted x kind profile old new all W.0 W.1 W.2.count next is more;
-    stands = subst (StandsFor image) more
-        (subst (λ d. IsSomeAnd d (λ e. StandsFor image (e ∷ x.after))) is entry);
+    stands = (
+      area,
+      subst (StandsActive image area) more
+          (subst (λ d. IsSomeAnd d (λ e. StandsActive image area (e ∷ x.after))) is entry),
+    );
   }
 ]
 
-images-after : (x : Ran) (kind : Kind) (profile : Option ℕ) (old new : Seen) → x.records ≢ [] →
+images-after : (x : Ran) (area : Area) (kind : Kind) (profile : Option ℕ) (old new : Seen) →
     ReadsAll x kind profile old new → Wrote x kind profile → (told : Option Cells) →
-    EachImage told (λ image. StandsOrIsEmpty image x.after ⊎
-    IsSomeAnd x.doubt (λ entry. StandsFor image (entry ∷ x.after))) →
+    EachImage told (λ image. StandsActive image area x.after ⊎
+    IsSomeAnd x.doubt (λ entry. StandsActive image area (entry ∷ x.after))) →
     EachImage told (IsAfter x.records kind profile old new)
-images-after x kind profile old new some all W None h = tt
-images-after x kind profile old new some all W (Some cells) h =
-    λ image is. image-after x kind profile old new some all W image (h image is)
+images-after x area kind profile old new all W None h = tt
+images-after x area kind profile old new all W (Some cells) h =
+    λ image is. image-after x area kind profile old new all W image (h image is)
 
 -- ---- commands that look at a store
 
 -- the job of a put has read its whole source where its last record is in effect or in doubt
-abbrev WholeBy : (kind : Kind) (profile : Option ℕ) (records : List Record) (old new : Seen) (end : Ending) →
-    AnswersJob kind profile records old new end → Type 0
+abbrev WholeBy : {area : Area} (kind : Kind) (profile : Option ℕ) (records : List Record) (old new : Seen)
+    (end : Ending) →
+    AnswersJob kind profile area records old new end → Type 0
 WholeBy kind profile records old new end (AnswersJob.refused why is after r) = Unit {0}
 WholeBy kind profile records old new end (AnswersJob.no_memory after r) = Unit {0}
 WholeBy kind profile records old new end (AnswersJob.ended how none runs left by) =
     ReadsAll (ran_left records kind how old new end.heard left) kind profile old new
 
 job-images : (kind : Kind) (profile : Option ℕ) (records : List Record) (old new : Seen) (end : Ending) →
-    IsOpened old records → (A : AnswersJob kind profile records old new end) →
+    (opened : IsOpened old records) → (A : AnswersJob kind profile opened.area records old new end) →
     WholeBy kind profile records old new end A →
     KeepsImages old new ⊎ EachImage new.disk (IsAfter records kind profile old new)
 job-images kind profile records old new end opened (AnswersJob.refused why is after r) all =
@@ -323,8 +325,8 @@ job-images kind profile records old new end opened (AnswersJob.refused why is af
 job-images kind profile records old new end opened (AnswersJob.no_memory after r) all =
     inl (refused-keeps 70 0 old new end r)
 job-images kind profile records old new end opened (AnswersJob.ended how none runs left by) all =
-    inr (images-after (ran_left records kind how old new end.heard left) kind profile old new opened.read.some
-    all (wrote-by (ran_left records kind how old new end.heard left) kind profile how left.leaves.by_kind)
+    inr (images-after (ran_left records kind how old new end.heard left) opened.area kind profile old new all
+    (wrote-by (ran_left records kind how old new end.heard left) kind profile how left.leaves.by_kind)
     new.disk left.images)
 
 of-job : (command : Command) (kind : Kind) (profile : Option ℕ) (records : List Record) (old new : Seen) →
@@ -336,9 +338,11 @@ of-job command kind profile records old new named opened is (inr images) =
     LeavesImages.ran records kind opened is
     (subst (λ p. EachImage new.disk (IsAfter records kind p old new)) (sym named) images)
 
-put-whole : (name bytes : List ℕ) (own : Option ℕ) (records : List Record) (old new : Seen) (end : Ending) →
-    ReadsFront old.source new.source bytes → (A : AnswersJob (PutJob name bytes) own records old new end) →
-    (MayBeWhole name bytes own records A → IfSome new.source (λ left. left ≡ [])) →
+put-whole : {area : Area} (name bytes : List ℕ) (own : Option ℕ) (records : List Record) (old new : Seen)
+    (end : Ending) →
+    ReadsFront old.source new.source bytes →
+    (A : AnswersJob (PutJob name bytes) own area records old new end) →
+    (MayBeWhole name bytes own area records A → IfSome new.source (λ left. left ≡ [])) →
     WholeBy (PutJob name bytes) own records old new end A
 put-whole name bytes own records old new end read (AnswersJob.refused why is after r) whole = tt
 put-whole name bytes own records old new end read (AnswersJob.no_memory after r) whole = tt
@@ -346,8 +350,9 @@ put-whole name bytes own records old new end read (AnswersJob.ended how none run
     λ may. (read, whole may)
 
 -- no other job reads a source
-alone-whole : (kind : Kind) (records : List Record) (old new : Seen) (end : Ending) → ReadsNone kind →
-    (A : AnswersJob kind None records old new end) → WholeBy kind None records old new end A
+alone-whole : {area : Area} (kind : Kind) (records : List Record) (old new : Seen) (end : Ending) →
+    ReadsNone kind →
+    (A : AnswersJob kind None area records old new end) → WholeBy kind None records old new end A
 alone-whole kind records old new end none (AnswersJob.refused why is after r) = tt
 alone-whole kind records old new end none (AnswersJob.no_memory after r) = tt
 alone-whole (GetJob name) records old new end none (AnswersJob.ended how begins runs left by) = tt
@@ -375,19 +380,19 @@ put-images name own old new end (AnswersPut.begun records bytes opened known rea
     (put-whole name bytes own records old new end read A whole))
 put-images name own old new end (AnswersPut.given_up records bytes opened known none stops runs left) =
     of-job (put_of name own) (PutJob name bytes) own records old new (named-by name own) opened
-    (given-kind name bytes own records old new end none stops).1
-    (inr (images-begun new.disk (images-stand new.disk _ _ left.images)))
+    (given-kind opened.area name bytes own records old new end none stops).1
+    (inr (images-begun opened.area new.disk left.images))
   where
-    images-begun : (told : Option Cells) →
-        EachImage told (λ image. StandsFor image (after_begin records name)) →
+    images-begun : (area : Area) (told : Option Cells) →
+        EachImage told (λ image. StandsActive image area (after_begin records name)) →
         EachImage told (IsAfter records (PutJob name bytes) own old new)
-    images-begun None h = tt
-    images-begun (Some cells) h = λ image of. record {
+    images-begun area None h = tt
+    images-begun area (Some cells) h = λ image of. record {
       own = put_records records name (length bytes) own;
       are_own = refl;
       count = 1;
       whole = λ l. absurd (omega (arith, l));
-      stands = h image of;
+      stands = (area, h image of);
     }
 
 alone-images : (command : Command) (kind : Kind) (old new : Seen) (end : Ending) →
@@ -428,7 +433,31 @@ scrub-images old new end (AnswersScrub.no_memory records opened synced r) = refu
 scrub-images old new end (AnswersScrub.ended records how opened synced heard runs left by) =
     keeps-synced old.disk new.disk synced
 
--- a command leaves images as before, or ones of the records read with some that its job wrote
+-- an image after a pack stands for the records that were read, or for the packed ones
+abbrev StandsPacked : List Record → List ℕ → Type 0
+StandsPacked records image = StandsFor image records ⊎ StandsFor image (packed records)
+
+pack-by : (area : Area) (records : List Record) (how : Answer) (old new : Seen) →
+    PackLeaves area records how old new → EachImage new.disk (StandsPacked records)
+pack-by area records (answer.Packed before after) old new L =
+    each_image-mono new.disk _ _ (λ image h. inr (other_area area, h)) L.2
+pack-by area records answer.DiskFault old new L =
+    each_image-mono new.disk _ _
+    (λ image h. elim h [ inl s ↦ inl (area, s) | inr s ↦ inr (other_area area, s) ])
+    L.1
+pack-by area records answer.Memory old new L = each_image-mono new.disk _ _ (λ image h. inl (area, h)) L
+pack-by area records how old new L = absurd L
+
+pack-images : (old new : Seen) (end : Ending) → AnswersPack old new end → LeavesImages PackJournal old new
+pack-images old new end (AnswersPack.unstarted u) = LeavesImages.kept (unstarted-keeps old new end u)
+pack-images old new end (AnswersPack.refused records why opened is synced r) =
+    LeavesImages.kept (refused-keeps _ 0 old new end r)
+pack-images old new end (AnswersPack.no_memory records opened synced r) =
+    LeavesImages.kept (refused-keeps 70 0 old new end r)
+pack-images old new end (AnswersPack.ended records how opened none heard runs left by) =
+    LeavesImages.was_packed records opened refl (pack-by opened.area records how old new left.leaves)
+
+-- a command leaves images as before, or ones of the records read with some that its job wrote, or packed
 pub store-images : (command : Command) (old new : Seen) (end : Ending) → Answers command old new end →
     opens_store command ≡ true → LeavesImages command old new
 store-images (RowOf n l b seen) old new end A opens = absurd (false≢true opens)
@@ -445,13 +474,15 @@ store-images RepairDue old new end A opens = alone-images RepairDue RepairJob ol
 store-images UpgradeJournal old new end A opens =
     alone-images UpgradeJournal UpgradeJob old new end refl refl tt A.0
 store-images ScrubAll old new end A opens = LeavesImages.kept (scrub-images old new end A.0)
+store-images PackJournal old new end A opens = pack-images old new end A.0
 
 -- what each image stands for, where each stood for the records before
 abbrev StandsAfter : Command → List Record → Seen → Seen → List ℕ → Type 0
 StandsAfter command records old new image =
     StandsFor image records
-    ⊎ ((kind : Kind) × RunsKind command old new kind
+    ⊎ (((kind : Kind) × RunsKind command old new kind
     × IsAfter records kind (profile_named command) old new image)
+    ⊎ ((command ≡ PackJournal) × StandsFor image (packed records)))
 
 kept-stand : (command : Command) (records : List Record) (old new : Seen) (before after : Option Cells) →
     IfSome before (λ cells. EachImage after (IsImage cells)) → before ≢ None →
@@ -467,7 +498,7 @@ ran-stand : (command : Command) (records : List Record) (kind : Kind) (old new :
     EachImage after (IsAfter records kind (profile_named command) old new) →
     EachImage after (StandsAfter command records old new)
 ran-stand command records kind old new is None h = tt
-ran-stand command records kind old new is (Some cells) h = λ image of. inr (kind, is, h image of)
+ran-stand command records kind old new is (Some cells) h = λ image of. inr (inl (kind, is, h image of))
 
 -- over known records each image stands for these after a command, or for these with some of its job's
 pub known-images : (command : Command) (records : List Record) (old new : Seen) (end : Ending) →
@@ -485,6 +516,11 @@ known-images command records old new end A opens K stand = go (store-images comm
         ran-stand command records kind old new is new.disk
         (subst (λ rs. EachImage new.disk (IsAfter rs kind (profile_named command) old new))
         (known-once old records other K opened.read) images)
+    go (LeavesImages.was_packed other opened is images) =
+        each_image-mono new.disk (StandsPacked records) (StandsAfter command records old new)
+        (λ image h. elim h [ inl s ↦ inl s | inr s ↦ inr (inr (is, s)) ])
+        (subst (λ rs. EachImage new.disk (StandsPacked rs))
+        (known-once old records other K opened.read) images)
 
 -- ---- init
 
@@ -492,7 +528,7 @@ not-free : (cells : Cells) (rs : List Record) → rs ≢ [] → StandsFor (reads
 not-free cells rs some S (inl short) =
     (let long = stands-long (reads cells) rs some S in omega (arith, long, short))
 not-free cells rs some S (inr none) =
-    some (one_meaning (reads cells) rs [] S (stands-front largest_journal (reads cells) [] none))
+    some (one_list (reads cells) rs [] S (stands-front largest_journal (reads cells) [] none))
 
 left-kept : (cells : Cells) (numbers : Numbers) (key : List ℕ) → (IsFree cells → ⊥) → (after : Option Cells) →
     EachImage after (MayBeLeft (setup_with numbers key) cells) → EachImage after (IsImage cells)
@@ -547,7 +583,7 @@ init-kept numbers records old new end A some stand =
         IfSome before (λ cells. EachImage after (IsImage cells))
     go None after stand h = tt
     go (Some cells) None stand (key, inl g) = absurd g
-    go (Some cells) (Some now) stand (key, inl g) =
-        absurd (not-free cells records some (stand (reads cells) (IsImage-reads cells)) g.free)
+    go (Some cells) (Some now) stand (key, inl g) = absurd (not-free cells records some
+        (stand (reads cells) (IsImage-reads cells)) (set_up-free (setup_with numbers key) cells now g))
     go (Some cells) after stand (key, inr left) = left-kept cells numbers key
         (not-free cells records some (stand (reads cells) (IsImage-reads cells))) after left

@@ -1,5 +1,5 @@
 -- How `init` and `list` end, and what they have done where they are done.
-use Rattle.std.proofs.Common.{◌≡◌, ◌≢◌, ℕ, ◌<◌, ◌≤◌, ◌⊎◌, true, false, List, [], ◌∷◌, ◌++◌, length, Option, None, Some, ap, sym, subst, ◌∙◌, inl, inr, arith, length-append, length-take}
+use Rattle.std.proofs.Common.{◌≡◌, ◌≢◌, ℕ, ◌+◌, ◌<◌, ◌≤◌, ◌⊎◌, true, false, List, [], ◌∷◌, ◌++◌, length, Option, None, Some, ap, sym, subst, ◌∙◌, inl, inr, arith, length-append, length-take}
 use Rattle.std.specs.Prelude.{IfSome}
 use Rattle.std.proofs.lemmas.Bool.{false≢true}
 use Rattle.std.proofs.lemmas.List.{append-nil}
@@ -7,8 +7,9 @@ use Rattle.device_defs.specs.Cells.{Cells, reads}
 use Rattle.device_defs.specs.Faults.{Rose}
 use Rattle.device_defs.specs.Told.{Goes}
 use Rattle.record_defs.specs.Records.{Record, Setup, SetUp, PutStart, PutDone, Drop, AuditStart, AuditDone, RepairDone, PutDoneIn, Version, Resume, InEffect, RepairDue, is_setup, largest_journal}
+use Rattle.record_defs.specs.Areas.{base_of}
 use Rattle.record_defs.specs.Table.{files_of}
-use Rattle.journal_core.proofs.Meanings.{one_meaning, bad_is_none, one_place}
+use Rattle.journal_core.proofs.Meanings.{one_meaning, one_list, bad_is_none, one_place}
 use Rattle.algebra_laws.proofs.Numbers.{not_two}
 use Rattle.command_defs.specs.Forms.{Numbers}
 use Rattle.command_defs.specs.Keys.{IsKeyForm, longest_key}
@@ -19,6 +20,7 @@ use Rattle.command_defs.specs.Inits.{setup_with, AnswersInit, InitsDisk}
 use Rattle.command_defs.specs.Lines.{ready_line, list_lines}
 use Rattle.command_defs.specs.Commands.{AnswersList}
 use Rattle.command_defs.proofs.Keys.{IsKeyForm-once}
+use Rattle.opening_defs.proofs.SetUps.{set_up-free}
 use Rattle.command_laws.specs.Ends.{IsDone, IsKnown, GivesUnlessMemory}
 use Rattle.command_laws.specs.Opened.{IsKeyed, IsInit, IsListed}
 use Rattle.command_laws.proofs.Known.{none-written, written-well, known-once, unstarted-known}
@@ -97,14 +99,17 @@ one-begin (RepairDue number counts ∷ q ∷ rs) other first = one-begin (q ∷ 
 
 bad-once : (bytes : List ℕ) (at other : ℕ) → IsBadInit bytes at → IsBadInit bytes other → at ≡ other
 bad-once bytes at other (inl a) (inl b) = one_place bytes at other a b
-bad-once bytes at other (inl a) (inr b) = absurd (bad_is_none bytes at b.0 a b.1)
-bad-once bytes at other (inr a) (inl b) = absurd (bad_is_none bytes other a.0 b a.1)
-bad-once bytes at other (inr a) (inr b) = a.3 ∙ sym b.3
+bad-once bytes at other (inl a) (inr b) = absurd (bad_is_none bytes at b.area b.records a b.stands)
+bad-once bytes at other (inr a) (inl b) = absurd (bad_is_none bytes other a.area a.records b a.stands)
+bad-once bytes at other (inr a) (inr b) = a.place
+    ∙ (ap (λ area. base_of area + 1) (one_meaning bytes a.area b.area a.records b.records a.stands b.stands).0
+    ∙ sym b.place)
 
 bad-already : (bytes : List ℕ) (at : ℕ) → IsBadInit bytes at → IsSetUpAlready bytes → ⊥
-bad-already bytes at (inl a) b = bad_is_none bytes at b.0 a b.1
+bad-already bytes at (inl a) b = bad_is_none bytes at b.1.0 b.0 a b.1.1
 bad-already bytes at (inr a) b =
-    one-begin b.0 (subst BeginsOtherwise (one_meaning bytes a.0 b.0 a.1 b.1) a.2) b.2
+    one-begin b.0
+    (subst BeginsOtherwise (one_list bytes a.records b.0 (a.area, a.stands) b.1) a.otherwise) b.2
 
 read-short : (cells : Cells) → length (journal_read cells) ≤ length (reads cells)
 read-short cells = (let e = length-take largest_journal (reads cells) in omega (arith, e))
@@ -112,15 +117,16 @@ read-short cells = (let e = length-take largest_journal (reads cells) in omega (
 bad-free : (cells : Cells) (at : ℕ) → 9 < length (journal_read cells) → IsBadInit (journal_read cells) at →
     IsFree cells → ⊥
 bad-free cells at long bad (inl short) = (let e = read-short cells in omega (arith, long, short, e))
-bad-free cells at long (inl bad) (inr none) = bad_is_none (journal_read cells) at [] bad none
+bad-free cells at long (inl bad) (inr none) = bad_is_none (journal_read cells) at none.0 [] bad none.1
 bad-free cells at long (inr bad) (inr none) =
-    subst BeginsOtherwise (one_meaning (journal_read cells) bad.0 [] bad.1 none) bad.2
+    subst BeginsOtherwise (one_list (journal_read cells) bad.records [] (bad.area, bad.stands) none)
+    bad.otherwise
 
 already-free : (cells : Cells) → 9 < length (journal_read cells) → IsSetUpAlready (journal_read cells) →
     IsFree cells → ⊥
 already-free cells long set_up (inl short) = (let e = read-short cells in omega (arith, long, short, e))
 already-free cells long set_up (inr none) =
-    subst BeginsWithSetup (one_meaning (journal_read cells) set_up.0 [] set_up.1 none) set_up.2
+    subst BeginsWithSetup (one_list (journal_read cells) set_up.0 [] set_up.1 none) set_up.2
 
 -- ---- an init that is done
 
@@ -368,7 +374,8 @@ ready-free : (s : Setup) (cells : Cells) (old new : Option Cells) → old ≡ So
 ready-free s cells None new tells g = absurd (let e : None ≡ Some cells = tells in cc)
 ready-free s cells (Some before) None tells g = absurd g
 ready-free s cells (Some before) (Some now) tells g =
-    subst IsFree (let e : Some before ≡ Some cells = tells in let f : before ≡ cells = cc in f) g.free
+    subst IsFree (let e : Some before ≡ Some cells = tells in let f : before ≡ cells = cc in f)
+    (set_up-free s before now g)
 
 module _ (s : Setup) (cells : Cells) (old new : Seen) (end : Ending) (tells : old.disk ≡ Some cells)
     (calm : Rose old.disk_faults new.disk_faults → ⊥) where

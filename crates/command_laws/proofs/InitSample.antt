@@ -7,6 +7,10 @@ use Rattle.command_defs.specs.Keys.{IsKeyForm, longest_key}
 use Rattle.command_defs.specs.Seen.{ReadsUpTo}
 use Rattle.command_defs.specs.Inits.{AnswersInit, InitsDisk}
 use Rattle.command_defs.specs.Commands.{Answers}
+use Rattle.device_defs.specs.Disks.{written}
+use Rattle.opening_defs.specs.Journals.{IsBlankIn}
+use Rattle.record_defs.specs.Areas.{A}
+use Rattle.record_defs.specs.Journal.{text}
 use Rattle.record_defs.specs.Spellings.{spelling}
 use Rattle.command_laws.specs.Opened.{IsKeyed}
 use Rattle.command_laws.specs.Instances.{small_setup, small_numbers, key_text, key_devices, ready_store, ends}
@@ -38,6 +42,11 @@ init = AnswersInit.keyed key_text small_setup.master refl (omega arith) reads-ke
       written = inl (refl, refl);
       place = refl;
       heard = refl;
-      disk = record { free = inl (omega arith); reads_are = refl };
+      disk = record {
+        area = A;
+        blank = written 0 (text []) [];
+        blank_is = IsBlankIn.short (omega arith) refl refl;
+        cells_are = refl;
+      };
       providers = refl;
     }))

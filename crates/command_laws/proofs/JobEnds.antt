@@ -10,7 +10,7 @@ use Rattle.device_defs.specs.Told.{then_told}
 use Rattle.device_defs.specs.Providers.{Held, Provider}
 use Rattle.device_defs.proofs.Lasting.{rose-before}
 use Rattle.record_defs.specs.Records.{Setup, Record, PutStart, PutDone, PutDoneIn, is_byte, is_name, largest_file}
-use Rattle.record_defs.specs.Journal.{StandsFor, StandsOrIsEmpty}
+use Rattle.record_defs.specs.Areas.{Area, StandsActive}
 use Rattle.record_defs.specs.Table.{File, Due, version_of, next_id, next_audit, file_of, due_of, started_as, is_start_of, is_same_name, file_as, profile_in, setup_of}
 use Rattle.record_defs.proofs.FilesLaws.{same-refl}
 use Rattle.machine_defs.specs.Jobs.{Kind, PutJob, GetJob, DropJob, AuditJob, RepairJob, UpgradeJob}
@@ -43,7 +43,7 @@ use Rattle.command_laws.specs.Ends.{IsDone, IsKnown, GivesUnlessMemory, EndsInOr
 use Rattle.state_laws.proofs.Records.{version-either}
 use Rattle.job_laws.proofs.Complete.{put-end, drop-end, audit-end, upgrade-end}
 use Rattle.job_laws.proofs.Mended.{repair-end}
-use Rattle.command_laws.proofs.Known.{EndStatus, status-ended, none-written, told-refusal, written-well, known-once, unstarted-known, alone-known, refused-not, refused-only, refused-always, own-status}
+use Rattle.command_laws.proofs.Known.{EndStatus, status-ended, none-written, told-refusal, written-well, known-once, unstarted-known, alone-known, refused-not, refused-only, refused-always, own-status, known-both}
 use Rattle.command_laws.proofs.GetEnds.{shape-at, ran_left}
 
 -- ---- what is common
@@ -57,7 +57,7 @@ unstarted-refused old new end (Unstarted.not_set_up is sync r) =
     (9, 0, ((λ e. omega (arith, e)), (λ e. omega (arith, e))), r)
 unstarted-refused old new end (Unstarted.bad_journal at is r) =
     (8, at, ((λ e. omega (arith, e)), (λ e. omega (arith, e))), r)
-unstarted-refused old new end (Unstarted.too_few_providers records read few synced r) =
+unstarted-refused old new end (Unstarted.too_few_providers area records read few synced r) =
     (22, 0, ((λ e. omega (arith, e)), (λ e. omega (arith, e))), r)
 unstarted-refused old new end (Unstarted.no_memory r) =
     (70, 0, ((λ e. omega (arith, e)), (λ e. omega (arith, e))), r)
@@ -73,25 +73,23 @@ unstarted-done old new end u done =
     ])
 
 -- images of a disk with nothing in doubt stand for the records
-pub image-has : (image : List ℕ) (after : List Record) (doubt : Option Record) (first : Record)
-    (rest : List Record) → after ≡ first ∷ rest → doubt ≡ None →
-    StandsOrIsEmpty image after ⊎ IsSomeAnd doubt (λ entry. StandsFor image (entry ∷ after)) →
-    StandsFor image (first ∷ rest)
-image-has image after doubt first rest is sure (inl (inl stands)) = subst (StandsFor image) is stands
-image-has image after doubt first rest is sure (inl (inr none)) =
-    absurd (let e : first ∷ rest ≡ [] = sym is ∙ none.0 in cc)
-image-has image after doubt first rest is sure (inr entry) =
-    absurd (subst (λ d. IsSomeAnd d (λ entry. StandsFor image (entry ∷ after))) sure entry)
+pub image-has : (area : Area) (image : List ℕ) (after : List Record) (doubt : Option Record)
+    (records : List Record) → after ≡ records → doubt ≡ None →
+    StandsActive image area after ⊎ IsSomeAnd doubt (λ entry. StandsActive image area (entry ∷ after)) →
+    StandsActive image area records
+image-has area image after doubt records is sure (inl stands) = subst (StandsActive image area) is stands
+image-has area image after doubt records is sure (inr entry) =
+    absurd (subst (λ d. IsSomeAnd d (λ entry. StandsActive image area (entry ∷ after))) sure entry)
 
 -- where nothing is in doubt each image of the disk stands for the records after the job
-pub images-have : (told : Option Cells) (after : List Record) (doubt : Option Record) (first : Record)
-    (rest : List Record) → after ≡ first ∷ rest → doubt ≡ None →
-    EachImage told (λ image. StandsOrIsEmpty image after ⊎
-    IsSomeAnd doubt (λ entry. StandsFor image (entry ∷ after))) →
-    EachImage told (λ image. StandsFor image (first ∷ rest))
-images-have None after doubt first rest is sure h = tt
-images-have (Some cells) after doubt first rest is sure h =
-    λ image of. image-has image after doubt first rest is sure (h image of)
+pub images-have : (area : Area) (told : Option Cells) (after : List Record) (doubt : Option Record)
+    (records : List Record) → after ≡ records → doubt ≡ None →
+    EachImage told (λ image. StandsActive image area after ⊎
+    IsSomeAnd doubt (λ entry. StandsActive image area (entry ∷ after))) →
+    EachImage told (λ image. StandsActive image area records)
+images-have area None after doubt records is sure h = tt
+images-have area (Some cells) after doubt records is sure h =
+    λ image of. image-has area image after doubt records is sure (h image of)
 
 -- what a command ends with, by the answer of its job
 abbrev EndsWith : List Record → Kind → Answer → Seen → Seen → Ending → Type 0
@@ -109,14 +107,15 @@ not-done status n is zero sink (inl done) = zero (sym is ∙ done)
 not-done status n is zero sink (inr done) = sink (sym is ∙ done)
 
 -- no refusal ends a command so
-refused-done : (why : Refusal) (status : ℕ) → status ≡ status_of why → (status ≡ 0) ⊎ (status ≡ 15) → ⊥
+pub refused-done : (why : Refusal) (status : ℕ) → status ≡ status_of why → (status ≡ 0) ⊎ (status ≡ 15) → ⊥
 refused-done why status is (inl done) = refused-not why 0 refl (λ e. omega (arith, e)) (sym is ∙ done)
 refused-done why status is (inr done) = refused-not why 15 refl (λ e. omega (arith, e)) (sym is ∙ done)
 
 -- a calm disk was calm once it was opened
-pub calm-disk : (records : List Record) (kind : Kind) {own : Option ℕ} (how : Answer) (old new : Seen)
+pub calm-disk : {area : Area} (records : List Record) (kind : Kind) {own : Option ℕ} (how : Answer)
+    (old new : Seen)
     (heard : List Entry)
-    (left : LeftAlone records kind own how old new heard) → (Rose old.disk_faults new.disk_faults → ⊥) →
+    (left : LeftAlone area records kind own how old new heard) → (Rose old.disk_faults new.disk_faults → ⊥) →
     Rose left.faults new.disk_faults → ⊥
 calm-disk records kind how old new heard left calm rose =
     calm (rose-before old.disk_faults left.faults new.disk_faults left.before left.leaves.counts.disk rose)
@@ -139,10 +138,10 @@ fourth-off false false false true x y z u rest h = absurd (let f : Some u ≡ No
 fourth-off false false false false x y z u rest h = refl
 
 -- a put that is not refused has a file that is not too long, and names no profile that there is none of
-pub put-begins : (records : List Record) (name bytes : List ℕ) (own : Option ℕ) →
-    refusal_over records (PutJob name bytes) own ≡ None →
+pub put-begins : (area : Area) (records : List Record) (name bytes : List ℕ) (own : Option ℕ) →
+    refusal_over area records (PutJob name bytes) own ≡ None →
     (is_unknown own ≡ false) × (length bytes ≤ largest_file)
-put-begins records name bytes own none =
+put-begins area records name bytes own none =
     (let off = third-off _ (is_unknown own) (nat_lt largest_file (length bytes)) _ _ _ _ none in
     (off.0, at-most largest_file (length bytes) off.1))
   where
@@ -183,22 +182,23 @@ setup-profile None = refl
 setup-profile (Some s) = refl
 
 -- in the first version a put that is not refused names no profile, so that its file has the setup's
-first-profile : (records : List Record) (name bytes : List ℕ) (own : Option ℕ) → version_of records ≡ 1 →
-    refusal_over records (PutJob name bytes) own ≡ None →
+first-profile : (area : Area) (records : List Record) (name bytes : List ℕ) (own : Option ℕ) →
+    version_of records ≡ 1 →
+    refusal_over area records (PutJob name bytes) own ≡ None →
     profile_in (setup_of records) ≡ chosen (setup_in_effect records) own
-first-profile records name bytes None one h = setup-profile (setup_of records)
-first-profile records name bytes (Some p) one h = absurd
+first-profile area records name bytes None one h = setup-profile (setup_of records)
+first-profile area records name bytes (Some p) one h = absurd
     (let off = fourth-off (not (is_name name)) (is_unknown (Some p)) (nat_lt largest_file (length bytes))
     (version_of records == 1) refusal.BadName refusal.BadProfile refusal.TooLong refusal.OldVersion _ h in
     let on : (version_of records == 1) ≡ true = eq-eqb (version_of records) 1 one in
     false≢true (sym off ∙ on))
 
 -- after a put's two records its file is in effect under its name, with the profile that it names
-pub put-in_effect : (records : List Record) (name bytes : List ℕ) (own : Option ℕ) →
-    refusal_over records (PutJob name bytes) own ≡ None →
+pub put-in_effect : (area : Area) (records : List Record) (name bytes : List ℕ) (own : Option ℕ) →
+    refusal_over area records (PutJob name bytes) own ≡ None →
     file_of (after_put records name (length bytes) own) name
     ≡ Some (file_as name (next_id records) (length bytes) (chosen (setup_in_effect records) own))
-put-in_effect records name bytes own begins = by-version (version-either records)
+put-in_effect area records name bytes own begins = by-version (version-either records)
   where
     started : is_start_of name (started_as (PutStart (next_id records) name ∷ records) (next_id records))
         ≡ true
@@ -215,7 +215,7 @@ put-in_effect records name bytes own begins = by-version (version-either records
         ∙ (cond_true (is_start_of name
         (started_as (PutStart (next_id records) name ∷ records) (next_id records))) _ _ started
         ∙ ap (λ p. Some (file_as name (next_id records) (length bytes) p))
-        (first-profile records name bytes own one begins))
+        (first-profile area records name bytes own one begins))
     by-version (inr two) =
         ap (λ r. file_of (r ∷ PutStart (next_id records) name ∷ records) name)
         (ap (λ v. done_record v (next_id records) (length bytes) (chosen (setup_in_effect records) own)) two)
@@ -233,9 +233,9 @@ reads-whole old new bytes R few whole = record {
 }
 
 put-by : (name bytes : List ℕ) (own : Option ℕ) (records : List Record) (old new : Seen) (end : Ending) →
-    IsOpened old records → ReadsFront old.source new.source bytes → length bytes ≤ largest_file →
-    refusal_over records (PutJob name bytes) own ≡ None →
-    (how : Answer) (left : LeftAlone records (PutJob name bytes) own how old new end.heard) →
+    (opened : IsOpened old records) → ReadsFront old.source new.source bytes → length bytes ≤ largest_file →
+    refusal_over opened.area records (PutJob name bytes) own ≡ None →
+    (how : Answer) (left : LeftAlone opened.area records (PutJob name bytes) own how old new end.heard) →
     (MayHaveEnd records left.after left.doubt name (length bytes) own →
     IfSome new.source (λ rest. rest ≡ [])) →
     PutLeaves (ran_left records (PutJob name bytes) how old new end.heard left) own name bytes how →
@@ -248,8 +248,8 @@ put-by name bytes own records old new end opened read few begins answer.Put left
   read = reads-whole old.source new.source bytes read few (whole (inl L.0.after));
   whole = whole (inl L.0.after);
   told = by;
-  disk = images-have new.disk left.after left.doubt _ _ L.0.after L.0.sure left.images;
-  in_effect = put-in_effect records name bytes own begins;
+  disk = images-have opened.area new.disk left.after left.doubt _ L.0.after L.0.sure left.images;
+  in_effect = put-in_effect opened.area records name bytes own begins;
   stored = L.1;
 }
 put-by name bytes own records old new end opened read few begins (answer.ProviderFault j) left whole L by done =
@@ -324,14 +324,15 @@ read-all old (Some left) bytes seen is R whole =
     sym (f ∙ (ap (λ l. seen ++ l) whole ∙ append-nil seen)))
 
 -- a job of a put that meets no fault is done, or finds no memory, where the length told is this one
-put-job-well : (name bytes : List ℕ) (size : ℕ) (own : Option ℕ) (records : List Record) (old new : Seen)
+put-job-well : {area : Area} (name bytes : List ℕ) (size : ℕ) (own : Option ℕ) (records : List Record)
+    (old new : Seen)
     (end : Ending) →
-    refusal_over records (PutJob name bytes) own ≡ None → (Rose old.disk_faults new.disk_faults → ⊥) →
+    refusal_over area records (PutJob name bytes) own ≡ None → (Rose old.disk_faults new.disk_faults → ⊥) →
     ((j : ℕ) → j < (setup_in_effect records).n →
     Rose (provider_at old.providers j).store_faults (provider_at new.providers j).store_faults → ⊥) →
     (Rose old.sink_faults new.sink_faults → ⊥) →
-    (A : AnswersJob (PutJob name bytes) own records old new end) →
-    (MayBeWhole name bytes own records A → length bytes ≡ size) →
+    (A : AnswersJob (PutJob name bytes) own area records old new end) →
+    (MayBeWhole name bytes own area records A → length bytes ≡ size) →
     GivesUnlessMemory (stored_line name size) old new end
 put-job-well name bytes size own records old new end begins disk stores sink (AnswersJob.refused why is synced r) all =
     absurd (let e : None ≡ Some why = sym begins ∙ is in cc)
@@ -358,30 +359,32 @@ no-lt : (a b : ℕ) → b ≤ a → nat_lt a b ≡ false
 no-lt a b l = grind (arith, l)
 
 -- why a put is refused whose file is not too long
-abbrev short_refusal : List Record → List ℕ → Option ℕ → Option Refusal
-short_refusal records name own = cond (not (is_name name)) (Some refusal.BadName)
+abbrev short_refusal : Area → List Record → List ℕ → Option ℕ → Option Refusal
+short_refusal area records name own = cond (not (is_name name)) (Some refusal.BadName)
     (cond (is_unknown own) (Some refusal.BadProfile)
     (cond (is_some own && version_of records == 1) (Some refusal.OldVersion)
     (cond (is_crowded_by records name) (Some refusal.TooManyFiles)
-    (cond (is_full_for records (PutJob name [])) (Some refusal.JournalFull) None))))
+    (cond (is_full_for area records (PutJob name [])) (Some refusal.JournalFull) None))))
 
-short-is : (records : List Record) (name bytes : List ℕ) (own : Option ℕ) → length bytes ≤ largest_file →
-    refusal_over records (PutJob name bytes) own ≡ short_refusal records name own
-short-is records name bytes own few =
+short-is : (area : Area) (records : List Record) (name bytes : List ℕ) (own : Option ℕ) →
+    length bytes ≤ largest_file →
+    refusal_over area records (PutJob name bytes) own ≡ short_refusal area records name own
+short-is area records name bytes own few =
     ap (λ b. cond (not (is_name name)) (Some refusal.BadName)
     (cond (is_unknown own) (Some refusal.BadProfile)
     (cond b (Some refusal.TooLong)
     (cond (is_some own && version_of records == 1) (Some refusal.OldVersion)
     (cond (is_crowded_by records name) (Some refusal.TooManyFiles)
-    (cond (is_full_for records (PutJob name [])) (Some refusal.JournalFull) None))))))
+    (cond (is_full_for area records (PutJob name [])) (Some refusal.JournalFull) None))))))
     (no-lt largest_file (length bytes) few)
 
 -- two files that are not too long are refused alike
-pub same-refusal : (records : List Record) (name a b : List ℕ) (own : Option ℕ) → length a ≤ largest_file →
+pub same-refusal : (area : Area) (records : List Record) (name a b : List ℕ) (own : Option ℕ) →
+    length a ≤ largest_file →
     length b ≤ largest_file →
-    refusal_over records (PutJob name a) own ≡ refusal_over records (PutJob name b) own
-same-refusal records name a b own la lb =
-    short-is records name a own la ∙ sym (short-is records name b own lb)
+    refusal_over area records (PutJob name a) own ≡ refusal_over area records (PutJob name b) own
+same-refusal area records name a b own la lb =
+    short-is area records name a own la ∙ sym (short-is area records name b own lb)
 
 never-long : (a b c d e : Bool) → cond a (Some refusal.BadName) (cond b (Some refusal.BadProfile)
     (cond c (Some refusal.OldVersion) (cond d (Some refusal.TooManyFiles)
@@ -394,29 +397,34 @@ never-long false false false false true h = cc
 never-long false false false false false h = cc
 
 -- none of these is refused for its length
-pub short-never : (records : List Record) (name bytes : List ℕ) (own : Option ℕ) →
-    length bytes ≤ largest_file → refusal_over records (PutJob name bytes) own ≡ Some refusal.TooLong → ⊥
-short-never records name bytes own few is =
-    never-long _ _ _ _ _ (sym (short-is records name bytes own few) ∙ is)
+pub short-never : (area : Area) (records : List Record) (name bytes : List ℕ) (own : Option ℕ) →
+    length bytes ≤ largest_file → refusal_over area records (PutJob name bytes) own ≡ Some refusal.TooLong → ⊥
+short-never area records name bytes own few is =
+    never-long _ _ _ _ _ (sym (short-is area records name bytes own few) ∙ is)
 
 -- what no file is refused for that is not too long, no put is refused for
-pub known-refusal : (records : List Record) (name bytes : List ℕ) (own : Option ℕ) → is_unknown own ≡ false →
+pub known-refusal : (area : Area) (records : List Record) (name bytes : List ℕ) (own : Option ℕ) →
+    is_unknown own ≡ false →
     length bytes ≤ largest_file →
-    put_refusal records name own ≡ refusal_over records (PutJob name bytes) own
-known-refusal records name bytes own known few =
-    cond_false (is_unknown own) (Some refusal.BadProfile) (refusal_over records (PutJob name []) own) known
-    ∙ same-refusal records name [] bytes own (omega arith) few
+    put_refusal area records name own ≡ refusal_over area records (PutJob name bytes) own
+known-refusal area records name bytes own known few =
+    cond_false (is_unknown own) (Some refusal.BadProfile)
+    (refusal_over area records (PutJob name []) own) known
+    ∙ same-refusal area records name [] bytes own (omega arith) few
 
-unknown-refusal : (records : List Record) (name : List ℕ) (own : Option ℕ) → is_unknown own ≡ true →
-    put_refusal records name own ≡ Some refusal.BadProfile
-unknown-refusal records name own unknown =
-    cond_true (is_unknown own) (Some refusal.BadProfile) (refusal_over records (PutJob name []) own) unknown
+unknown-refusal : (area : Area) (records : List Record) (name : List ℕ) (own : Option ℕ) →
+    is_unknown own ≡ true →
+    put_refusal area records name own ≡ Some refusal.BadProfile
+unknown-refusal area records name own unknown =
+    cond_true (is_unknown own) (Some refusal.BadProfile)
+    (refusal_over area records (PutJob name []) own) unknown
 
 -- a put that is not refused and meets no fault is done, or finds no memory
 pub put-well : (name bytes : List ℕ) (own : Option ℕ) (records : List Record) (old new : Seen)
     (end : Ending) →
-    AnswersPut name own old new end → IsKnown old records → old.source ≡ Some bytes →
-    refusal_over records (PutJob name bytes) own ≡ None → (Rose old.disk_faults new.disk_faults → ⊥) →
+    AnswersPut name own old new end → (K : IsKnown old records) → old.source ≡ Some bytes →
+    refusal_over K.opened.area records (PutJob name bytes) own ≡ None →
+    (Rose old.disk_faults new.disk_faults → ⊥) →
     ((j : ℕ) → j < (setup_in_effect records).n →
     Rose (provider_at old.providers j).store_faults (provider_at new.providers j).store_faults → ⊥) →
     (Rose old.source_faults new.source_faults → ⊥) → (Rose old.sink_faults new.sink_faults → ⊥) →
@@ -429,52 +437,55 @@ put-well name bytes own records old new end (AnswersPut.unstarted u same) K is b
 put-well name bytes own records old new end (AnswersPut.source_fault other opened known rose synced taken r) K is begins disk stores source sink =
     absurd (source rose)
 put-well name bytes own records old new end (AnswersPut.bad_profile other opened unknown synced same r) K is begins disk stores source sink =
-    absurd (false≢true (sym (put-begins records name bytes own begins).0 ∙ unknown))
+    absurd (false≢true (sym (put-begins K.opened.area records name bytes own begins).0 ∙ unknown))
 put-well name bytes own records old new end (AnswersPut.no_memory taken r) K is begins disk stores source sink =
     memory-well (stored_line name (length bytes)) old new end r
 put-well name bytes own records old new end (AnswersPut.begun other seen opened known read few A whole) K is begins disk stores source sink =
     (let same = known-once old records other K opened.read in
     put-job-well name seen (length bytes) own other old new end
-    (same-refusal other name seen bytes own few (put-begins records name bytes own begins).1
-    ∙ (ap (λ rs. refusal_over rs (PutJob name bytes) own) same ∙ begins))
+    (same-refusal opened.area other name seen bytes own few
+    (put-begins K.opened.area records name bytes own begins).1
+    ∙ (known-both old records other K opened (λ a rs. refusal_over opened.area other (PutJob name bytes) own
+    ≡ refusal_over a rs (PutJob name bytes) own) refl ∙ begins))
     disk (λ j l. stores j (subst (λ rs. j < (setup_in_effect rs).n) same l)) sink A
     (λ may. ap length (read-all old.source new.source bytes seen is read (whole may))))
 put-well name bytes own records old new end (AnswersPut.given_up other seen opened known none stops runs left) K is begins disk stores source sink =
     absurd (let long = (given-long _ seen old new end stops source).1 in
     let short = front-short old.source new.source bytes stops.read is stops.front in
-    let few = (put-begins records name bytes own begins).1 in
+    let few = (put-begins K.opened.area records name bytes own begins).1 in
     omega (arith, long, short, few))
 
 -- ---- a put ends with the status of a refusal exactly where that one applies
 
 -- a put that began is not refused, whatever its source
-pub given-taken : (records : List Record) (name bytes : List ℕ) (own : Option ℕ) → is_unknown own ≡ false →
-    refusal_over records (PutJob name bytes) own ≡ None → put_refusal records name own ≡ None
-given-taken records name bytes own known none =
-    known-refusal records name bytes own known (put-begins records name bytes own none).1 ∙ none
+pub given-taken : (area : Area) (records : List Record) (name bytes : List ℕ) (own : Option ℕ) →
+    is_unknown own ≡ false →
+    refusal_over area records (PutJob name bytes) own ≡ None → put_refusal area records name own ≡ None
+given-taken area records name bytes own known none =
+    known-refusal area records name bytes own known (put-begins area records name bytes own none).1 ∙ none
 
 -- a put ends with the status of a refusal only where that one is the first that applies
 pub put-only : (name : List ℕ) (own : Option ℕ) (records : List Record) (old new : Seen) (end : Ending)
-    (why : Refusal) → AnswersPut name own old new end → IsKnown old records →
+    (why : Refusal) → AnswersPut name own old new end → (K : IsKnown old records) →
     status_of why ≢ 70 → status_of why ≢ 16 → end.status ≡ status_of why →
-    put_refusal records name own ≡ Some why
+    put_refusal K.opened.area records name own ≡ Some why
 put-only name own records old new end why (AnswersPut.unstarted u same) K tells short e =
     elim (unstarted-known old new end records K u) [
       | inl (rose, r) ↦ absurd (own-status end why 12 refl r.status_is tells e)
       | inr r ↦ absurd (own-status end why 70 refl r.status_is tells e)
     ]
 put-only name own records old new end why (AnswersPut.bad_profile other opened unknown synced same r) K tells short e =
-    unknown-refusal records name own unknown
+    unknown-refusal K.opened.area records name own unknown
     ∙ told-refusal end refusal.BadProfile why (λ f. omega (arith, f)) r.status_is tells e
 put-only name own records old new end why (AnswersPut.source_fault other opened known rose synced taken r) K tells short e =
     absurd (own-status end why 14 refl r.status_is tells e)
 put-only name own records old new end why (AnswersPut.no_memory taken r) K tells short e =
     absurd (own-status end why 70 refl r.status_is tells e)
 put-only name own records old new end why (AnswersPut.begun other seen opened known read few A whole) K tells short e =
-    known-refusal records name seen own known few
+    known-refusal K.opened.area records name seen own known few
     ∙ refused-only (PutJob name seen) own records old new end why
-    (subst (λ rs. AnswersJob (PutJob name seen) own rs old new end)
-    (known-once old records other K opened.read) A) tells e
+    (known-both old records other K opened (λ a rs. AnswersJob (PutJob name seen) own a rs old new end) A)
+    tells e
 put-only name own records old new end why (AnswersPut.given_up other seen opened known none stops runs left) K tells short e =
     elim (given-status _ seen old new end stops) [
       | inl is ↦ absurd (own-status end why 14 refl is tells e)
@@ -483,9 +494,9 @@ put-only name own records old new end why (AnswersPut.given_up other seen opened
 
 -- a put for which a refusal is the first that applies is refused so, or finds no memory
 pub put-always : (name : List ℕ) (own : Option ℕ) (records : List Record) (old new : Seen)
-    (end : Ending) (why : Refusal) → AnswersPut name own old new end → IsKnown old records →
+    (end : Ending) (why : Refusal) → AnswersPut name own old new end → (K : IsKnown old records) →
     (Rose old.disk_faults new.disk_faults → ⊥) →
-    (Rose old.source_faults new.source_faults → ⊥) → put_refusal records name own ≡ Some why →
+    (Rose old.source_faults new.source_faults → ⊥) → put_refusal K.opened.area records name own ≡ Some why →
     IsRefused (status_of why) 0 old new end ⊎ IsRefused 70 0 old new end
 put-always name own records old new end why (AnswersPut.unstarted u same) K disk source applies =
     elim (unstarted-known old new end records K u) [
@@ -494,20 +505,20 @@ put-always name own records old new end why (AnswersPut.unstarted u same) K disk
     ]
 put-always name own records old new end why (AnswersPut.bad_profile other opened unknown synced same r) K disk source applies =
     inl (subst (λ w. IsRefused (status_of w) 0 old new end)
-    (same_value (put_refusal records name own) refusal.BadProfile why
-    (unknown-refusal records name own unknown) applies) r)
+    (same_value (put_refusal K.opened.area records name own) refusal.BadProfile why
+    (unknown-refusal K.opened.area records name own unknown) applies) r)
 put-always name own records old new end why (AnswersPut.source_fault other opened known rose synced taken r) K disk source applies =
     absurd (source rose)
 put-always name own records old new end why (AnswersPut.no_memory taken r) K disk source applies =
     inr r
 put-always name own records old new end why (AnswersPut.begun other seen opened known read few A whole) K disk source applies =
     refused-always (PutJob name seen) own records old new end why
-    (subst (λ rs. AnswersJob (PutJob name seen) own rs old new end)
-    (known-once old records other K opened.read) A)
-    (sym (known-refusal records name seen own known few) ∙ applies)
+    (known-both old records other K opened (λ a rs. AnswersJob (PutJob name seen) own a rs old new end) A)
+    (sym (known-refusal K.opened.area records name seen own known few) ∙ applies)
 put-always name own records old new end why (AnswersPut.given_up other seen opened known none stops runs left) K disk source applies =
-    absurd (let e : None ≡ Some why = sym (given-taken other name seen own known none)
-    ∙ (ap (λ rs. put_refusal rs name own) (known-once old records other K opened.read) ∙ applies) in cc)
+    absurd (let e : None ≡ Some why = sym (known-both old records other K opened
+    (λ a rs. put_refusal a rs name own ≡ None) (given-taken opened.area other name seen own known none))
+    ∙ applies in cc)
 
 -- ---- a source that failed, or that is too long
 
@@ -525,7 +536,7 @@ unstarted-cut old new end (Unstarted.not_set_up is sync r) =
     cut-not end.status 9 r.status_is (λ e. omega (arith, e)) (λ e. omega (arith, e))
 unstarted-cut old new end (Unstarted.bad_journal at is r) =
     cut-not end.status 8 r.status_is (λ e. omega (arith, e)) (λ e. omega (arith, e))
-unstarted-cut old new end (Unstarted.too_few_providers records read few synced r) =
+unstarted-cut old new end (Unstarted.too_few_providers area records read few synced r) =
     cut-not end.status 22 r.status_is (λ e. omega (arith, e)) (λ e. omega (arith, e))
 unstarted-cut old new end (Unstarted.no_memory r) =
     cut-not end.status 70 r.status_is (λ e. omega (arith, e)) (λ e. omega (arith, e))
@@ -546,8 +557,10 @@ ended-cut status (EndStatus.by_memory e) =
     cut-not status 70 e (λ k. omega (arith, k)) (λ k. omega (arith, k))
 
 -- nor one that is refused for no length
-pub job-cut : (kind : Kind) (own : Option ℕ) (records : List Record) (old new : Seen) (end : Ending) →
-    (refusal_over records kind own ≡ Some refusal.TooLong → ⊥) → AnswersJob kind own records old new end →
+pub job-cut : {area : Area} (kind : Kind) (own : Option ℕ) (records : List Record) (old new : Seen)
+    (end : Ending) →
+    (refusal_over area records kind own ≡ Some refusal.TooLong → ⊥) →
+    AnswersJob kind own area records old new end →
     (end.status ≡ 14) ⊎ (end.status ≡ 16) → ⊥
 job-cut kind own records old new end short (AnswersJob.refused why is synced r) (inl e) =
     refused-not why 14 refl (λ k. omega (arith, k)) (sym r.status_is ∙ e)
@@ -562,8 +575,8 @@ job-cut kind own records old new end short (AnswersJob.ended how none runs left 
 -- over a known store a put that ends with 16 is not refused, and its source has more bytes than a file may
 -- have
 pub put-long : (name bytes : List ℕ) (own : Option ℕ) (records : List Record) (old new : Seen)
-    (end : Ending) → AnswersPut name own old new end → IsKnown old records → old.source ≡ Some bytes →
-    end.status ≡ 16 → (put_refusal records name own ≡ None) × (largest_file < length bytes)
+    (end : Ending) → AnswersPut name own old new end → (K : IsKnown old records) → old.source ≡ Some bytes →
+    end.status ≡ 16 → (put_refusal K.opened.area records name own ≡ None) × (largest_file < length bytes)
 put-long name bytes own records old new end (AnswersPut.unstarted u same) K is e =
     absurd (unstarted-cut old new end u (inr e))
 put-long name bytes own records old new end (AnswersPut.bad_profile other opened unknown synced same r) K is e =
@@ -573,10 +586,11 @@ put-long name bytes own records old new end (AnswersPut.source_fault other opene
 put-long name bytes own records old new end (AnswersPut.no_memory taken r) K is e =
     absurd (cut-not end.status 70 r.status_is (λ k. omega (arith, k)) (λ k. omega (arith, k)) (inr e))
 put-long name bytes own records old new end (AnswersPut.begun other seen opened known read few A whole) K is e =
-    absurd (job-cut (PutJob name seen) own other old new end (short-never other name seen own few) A (inr e))
+    absurd (job-cut (PutJob name seen) own other old new end
+    (short-never opened.area other name seen own few) A (inr e))
 put-long name bytes own records old new end (AnswersPut.given_up other seen opened known none stops runs left) K is e = (
-  ap (λ rs. put_refusal rs name own) (sym (known-once old records other K opened.read))
-      ∙ given-taken other name seen own known none,
+  known-both old records other K opened (λ a rs. put_refusal a rs name own ≡ None)
+      (given-taken opened.area other name seen own known none),
   elim stops.cause [
     | inl c ↦ absurd (let f : 14 ≡ 16 = sym c.0 ∙ e in omega (arith, f))
     | inr c ↦ (let long = c.1 in
@@ -587,8 +601,8 @@ put-long name bytes own records old new end (AnswersPut.given_up other seen open
 
 -- a put of such a source that is not refused and meets no fault ends so, or finds no memory
 pub long-put : (name bytes : List ℕ) (own : Option ℕ) (records : List Record) (old new : Seen)
-    (end : Ending) → AnswersPut name own old new end → IsKnown old records → old.source ≡ Some bytes →
-    largest_file < length bytes → put_refusal records name own ≡ None →
+    (end : Ending) → AnswersPut name own old new end → (K : IsKnown old records) → old.source ≡ Some bytes →
+    largest_file < length bytes → put_refusal K.opened.area records name own ≡ None →
     (Rose old.disk_faults new.disk_faults → ⊥) →
     ((j : ℕ) → j < (setup_in_effect records).n →
     Rose (provider_at old.providers j).store_faults (provider_at new.providers j).store_faults → ⊥) →
@@ -599,8 +613,8 @@ long-put name bytes own records old new end (AnswersPut.unstarted u same) K is l
       | inr r ↦ inr r.status_is
     ]
 long-put name bytes own records old new end (AnswersPut.bad_profile other opened unknown synced same r) K is long taken disk stores source =
-    absurd (let e : None ≡ Some refusal.BadProfile = sym taken ∙ unknown-refusal records name own unknown in
-    cc)
+    absurd (let e : None ≡ Some refusal.BadProfile = sym taken
+    ∙ unknown-refusal K.opened.area records name own unknown in cc)
 long-put name bytes own records old new end (AnswersPut.source_fault other opened known rose synced read r) K is long taken disk stores source =
     absurd (source rose)
 long-put name bytes own records old new end (AnswersPut.no_memory read r) K is long taken disk stores source =
@@ -608,9 +622,9 @@ long-put name bytes own records old new end (AnswersPut.no_memory read r) K is l
 long-put name bytes own records old new end (AnswersPut.given_up other seen opened known none stops runs left) K is long taken disk stores source =
     inl (given-long _ seen old new end stops source).0
 long-put name bytes own records old new end (AnswersPut.begun other seen opened known read few (AnswersJob.refused why cause synced r) whole) K is long taken disk stores source =
-    absurd (let e : None ≡ Some why = sym taken
-    ∙ (ap (λ rs. put_refusal rs name own) (sym (known-once old records other K opened.read))
-    ∙ (known-refusal other name seen own known few ∙ cause)) in cc)
+    absurd (let e : None ≡ Some why = sym taken ∙ known-both old records other K opened
+    (λ a rs. put_refusal a rs name own ≡ Some why)
+    (known-refusal opened.area other name seen own known few ∙ cause) in cc)
 long-put name bytes own records old new end (AnswersPut.begun other seen opened known read few (AnswersJob.no_memory synced r) whole) K is long taken disk stores source =
     inr r.status_is
 long-put name bytes own records old new end (AnswersPut.begun other seen opened known read few (AnswersJob.ended how none runs left by) whole) K is long taken disk stores source =
@@ -618,7 +632,8 @@ long-put name bytes own records old new end (AnswersPut.begun other seen opened 
     left.leaves.by_kind.0 (calm-disk other (PutJob name seen) how old new end.heard left disk)
     (λ j l. stores j
     (subst (λ rs. j < (setup_in_effect rs).n) (known-once old records other K opened.read) l))) [
-      | inl same ↦ absurd (let L : PutLeaves (ran_left other (PutJob name seen) how old new end.heard left) own
+      | inl same ↦ absurd (let L : PutLeaves (ran_left other
+          (PutJob name seen) how old new end.heard left) own
           name seen answer.Put = subst (PutLeaves (ran_left other (PutJob name seen) how old new end.heard
           left) own name seen) same left.leaves.by_kind.0 in
           let all : length seen ≡ length bytes =
@@ -630,8 +645,9 @@ long-put name bytes own records old new end (AnswersPut.begun other seen opened 
 
 -- ---- drops
 
-drop-by : (name : List ℕ) (records : List Record) (old new : Seen) (end : Ending) → IsOpened old records →
-    (how : Answer) (left : LeftAlone records (DropJob name) None how old new end.heard) →
+drop-by : (name : List ℕ) (records : List Record) (old new : Seen) (end : Ending) →
+    (opened : IsOpened old records) →
+    (how : Answer) (left : LeftAlone opened.area records (DropJob name) None how old new end.heard) →
     DropLeaves (ran_left records (DropJob name) how old new end.heard left) name how →
     EndsWith records (DropJob name) how old new end → IsDone end → IsDropped name old new end
 drop-by name records old new end opened answer.Dropped left L by done = record {
@@ -640,7 +656,7 @@ drop-by name records old new end opened answer.Dropped left L by done = record {
   opened = opened;
   was_in_effect = L.1.in_effect;
   told = by;
-  disk = images-have new.disk left.after left.doubt _ _ L.0.after L.0.sure left.images;
+  disk = images-have opened.area new.disk left.after left.doubt _ L.0.after L.0.sure left.images;
   out_of_effect = cond_true (is_same_name name name) None (file_of records name) (same-refl name);
   gone = L.1.held;
 }
@@ -661,10 +677,11 @@ drop-done name old new end (AnswersAlone.begun records opened (AnswersJob.no_mem
 drop-done name old new end (AnswersAlone.begun records opened (AnswersJob.ended how none runs left by)) done =
     drop-by name records old new end opened how left left.leaves.by_kind.0 by done
 
-drop-job-well : (name : List ℕ) (records : List Record) (old new : Seen) (end : Ending) →
-    refusal_over records (DropJob name) None ≡ None → (Rose old.disk_faults new.disk_faults → ⊥) →
+drop-job-well : {area : Area} (name : List ℕ) (records : List Record) (old new : Seen) (end : Ending) →
+    refusal_over area records (DropJob name) None ≡ None → (Rose old.disk_faults new.disk_faults → ⊥) →
     (Rose old.sink_faults new.sink_faults → ⊥) →
-    AnswersJob (DropJob name) None records old new end → GivesUnlessMemory (dropped_line name) old new end
+    AnswersJob (DropJob name) None area records old new end →
+    GivesUnlessMemory (dropped_line name) old new end
 drop-job-well name records old new end begins disk sink (AnswersJob.refused why is synced r) =
     absurd (let e : None ≡ Some why = sym begins ∙ is in cc)
 drop-job-well name records old new end begins disk sink (AnswersJob.no_memory synced r) =
@@ -682,8 +699,9 @@ drop-job-well name records old new end begins disk sink (AnswersJob.ended how no
 
 -- a drop that is not refused and meets no fault is done, or finds no memory
 pub drop-well : (name : List ℕ) (records : List Record) (old new : Seen) (end : Ending) →
-    AnswersAlone (DropJob name) old new end → IsKnown old records →
-    refusal_over records (DropJob name) None ≡ None → (Rose old.disk_faults new.disk_faults → ⊥) →
+    AnswersAlone (DropJob name) old new end → (K : IsKnown old records) →
+    refusal_over K.opened.area records (DropJob name) None ≡ None → (Rose old.disk_faults new.disk_faults →
+    ⊥) →
     (Rose old.sink_faults new.sink_faults → ⊥) → GivesUnlessMemory (dropped_line name) old new end
 drop-well name records old new end A K begins disk sink =
     elim (alone-known (DropJob name) old new end records K A) [
@@ -694,8 +712,8 @@ drop-well name records old new end A K begins disk sink =
 
 -- ---- audits
 
-audit-by : (records : List Record) (old new : Seen) (end : Ending) → IsOpened old records →
-    (how : Answer) (left : LeftAlone records AuditJob None how old new end.heard) →
+audit-by : (records : List Record) (old new : Seen) (end : Ending) → (opened : IsOpened old records) →
+    (how : Answer) (left : LeftAlone opened.area records AuditJob None how old new end.heard) →
     AuditGives (ran_left records AuditJob how old new end.heard left) how →
     EndsWith records AuditJob how old new end → IsDone end → IsAudited old new end
 audit-by records old new end opened (answer.Audited number undecided counts) left L by done =
@@ -708,7 +726,7 @@ audit-by records old new end opened (answer.Audited number undecided counts) lef
       opened = opened;
       told = subst (λ n. IsTold (audit_lines (setup_in_effect records).tolerance n undecided counts) old new
           end) L.0 by;
-      disk = images-have new.disk left.after left.doubt _ _ L.1.after L.1.sure left.images;
+      disk = images-have opened.area new.disk left.after left.doubt _ L.1.after L.1.sure left.images;
       heard = record { heard = heard.heard; truthful = heard.truthful };
       counted = subst (λ n. CountsHeard
           (ran_left records AuditJob (answer.Audited number undecided counts) old new end.heard left) n
@@ -743,10 +761,10 @@ pub in-order : (command : Command) (old new : Seen) (end : Ending) → (end.stat
 in-order command old new end (inl is) = EndsInOrder.done is
 in-order command old new end (inr is) = EndsInOrder.no_memory is
 
-audit-job-well : (records : List Record) (old new : Seen) (end : Ending) →
-    refusal_over records AuditJob None ≡ None → (Rose old.disk_faults new.disk_faults → ⊥) →
+audit-job-well : {area : Area} (records : List Record) (old new : Seen) (end : Ending) →
+    refusal_over area records AuditJob None ≡ None → (Rose old.disk_faults new.disk_faults → ⊥) →
     (Rose old.sink_faults new.sink_faults → ⊥) →
-    AnswersJob AuditJob None records old new end → (end.status ≡ 0) ⊎ (end.status ≡ 70)
+    AnswersJob AuditJob None area records old new end → (end.status ≡ 0) ⊎ (end.status ≡ 70)
 audit-job-well records old new end begins disk sink (AnswersJob.refused why is synced r) =
     absurd (let e : None ≡ Some why = sym begins ∙ is in cc)
 audit-job-well records old new end begins disk sink (AnswersJob.no_memory synced r) = inr r.status_is
@@ -763,8 +781,8 @@ audit-job-well records old new end begins disk sink (AnswersJob.ended how none r
 
 -- an audit that is not refused and meets no fault is done, or finds no memory
 pub audit-well : (records : List Record) (old new : Seen) (end : Ending) → AnswersAlone AuditJob old new end →
-    IsKnown old records →
-    refusal_over records AuditJob None ≡ None → (Rose old.disk_faults new.disk_faults → ⊥) →
+    (K : IsKnown old records) →
+    refusal_over K.opened.area records AuditJob None ≡ None → (Rose old.disk_faults new.disk_faults → ⊥) →
     (Rose old.sink_faults new.sink_faults → ⊥) → (end.status ≡ 0) ⊎ (end.status ≡ 70)
 audit-well records old new end A K begins disk sink = elim (alone-known AuditJob old new end records K A) [
   | inl (inl (rose, r)) ↦ absurd (disk rose)
@@ -774,8 +792,8 @@ audit-well records old new end A K begins disk sink = elim (alone-known AuditJob
 
 -- ---- repairs
 
-repair-by : (records : List Record) (old new : Seen) (end : Ending) → IsOpened old records →
-    (how : Answer) (left : LeftAlone records RepairJob None how old new end.heard) (due : Due) →
+repair-by : (records : List Record) (old new : Seen) (end : Ending) → (opened : IsOpened old records) →
+    (how : Answer) (left : LeftAlone opened.area records RepairJob None how old new end.heard) (due : Due) →
     due_of records ≡ Some due →
     RepairGives (ran_left records RepairJob how old new end.heard left) due how →
     EndsWith records RepairJob how old new end → IsDone end → IsRepaired old new end
@@ -785,7 +803,7 @@ repair-by records old new end opened (answer.Repaired number) left due is_due L 
   opened = opened;
   is_due = is_due;
   told = subst (λ n. IsTold (repaired_line n) old new end) L.0 by;
-  disk = images-have new.disk left.after left.doubt _ _ L.1.after L.1.sure left.images;
+  disk = images-have opened.area new.disk left.after left.doubt _ L.1.after L.1.sure left.images;
   rewritten = record {
     gave = L.2.gave;
     symbols = L.2.symbols;
@@ -817,7 +835,7 @@ repair-done old new end (AnswersAlone.begun records opened (AnswersJob.ended how
     repair-by records old new end opened how left L.due L.is_due L.gives by done)
 
 repair-job-well : (records : List Record) (old new : Seen) (end : Ending) (bytes : ℕ → List ℕ) →
-    IsOpened old records → refusal_over records RepairJob None ≡ None →
+    (opened : IsOpened old records) → refusal_over opened.area records RepairJob None ≡ None →
     (Rose old.disk_faults new.disk_faults → ⊥) →
     ((j : ℕ) → j < (setup_in_effect records).n →
     Rose (provider_at old.providers j).store_faults (provider_at new.providers j).store_faults → ⊥) →
@@ -825,7 +843,7 @@ repair-job-well : (records : List Record) (old new : Seen) (end : Ending) (bytes
     ((name : List ℕ) (file : File) → file_of records name ≡ Some file →
     (length (bytes file.id) ≡ file.size) ×
     (bad_seen records old new file (bytes file.id) ≤ (setup_in_effect records).b)) →
-    AnswersJob RepairJob None records old new end → (end.status ≡ 0) ⊎ (end.status ≡ 70)
+    AnswersJob RepairJob None opened.area records old new end → (end.status ≡ 0) ⊎ (end.status ≡ 70)
 repair-job-well records old new end bytes opened begins disk stores sink safe (AnswersJob.refused why is synced r) =
     absurd (let e : None ≡ Some why = sym begins ∙ is in cc)
 repair-job-well records old new end bytes opened begins disk stores sink safe (AnswersJob.no_memory synced r) =
@@ -844,8 +862,8 @@ repair-job-well records old new end bytes opened begins disk stores sink safe (A
 
 -- a repair with no refusal, no fault and at most b bad providers a file is done, or finds no memory
 pub repair-well : (records : List Record) (old new : Seen) (end : Ending) (bytes : ℕ → List ℕ) →
-    AnswersAlone RepairJob old new end → IsKnown old records →
-    refusal_over records RepairJob None ≡ None → (Rose old.disk_faults new.disk_faults → ⊥) →
+    AnswersAlone RepairJob old new end → (K : IsKnown old records) →
+    refusal_over K.opened.area records RepairJob None ≡ None → (Rose old.disk_faults new.disk_faults → ⊥) →
     ((j : ℕ) → j < (setup_in_effect records).n →
     Rose (provider_at old.providers j).store_faults (provider_at new.providers j).store_faults → ⊥) →
     (Rose old.sink_faults new.sink_faults → ⊥) →
@@ -862,9 +880,9 @@ repair-well records old new end bytes A K begins disk stores sink safe =
 
 -- ---- upgrades
 
-upgrade-by : (records : List Record) (old new : Seen) (end : Ending) → IsOpened old records →
-    refusal_over records UpgradeJob None ≡ None →
-    (how : Answer) (left : LeftAlone records UpgradeJob None how old new end.heard) →
+upgrade-by : (records : List Record) (old new : Seen) (end : Ending) → (opened : IsOpened old records) →
+    refusal_over opened.area records UpgradeJob None ≡ None →
+    (how : Answer) (left : LeftAlone opened.area records UpgradeJob None how old new end.heard) →
     UpgradeLeaves (ran_left records UpgradeJob how old new end.heard left) how →
     EndsWith records UpgradeJob how old new end → SameHolds old new → IsDone end → IsUpgraded old new end
 upgrade-by records old new end opened begins answer.Upgraded left L by same done = record {
@@ -876,7 +894,7 @@ upgrade-by records old new end opened begins answer.Upgraded left L by same done
         let off = first-off (version_of records == 2) _ _ begins in false≢true (sym off ∙ on))
   ];
   told = by;
-  disk = images-have new.disk left.after left.doubt _ _ L.0.after L.0.sure left.images;
+  disk = images-have opened.area new.disk left.after left.doubt _ L.0.after L.0.sure left.images;
   version = refl;
   files = refl;
   held = same;
@@ -891,10 +909,10 @@ upgrade-by records old new end opened begins answer.Memory left L by same done =
     absurd (not-done end.status 70 by.status_is (λ e. omega (arith, e)) (λ e. omega (arith, e)) done)
 upgrade-by records old new end opened begins how left L by same done = absurd L
 
-upgrade-job-well : (records : List Record) (old new : Seen) (end : Ending) →
-    refusal_over records UpgradeJob None ≡ None → (Rose old.disk_faults new.disk_faults → ⊥) →
+upgrade-job-well : {area : Area} (records : List Record) (old new : Seen) (end : Ending) →
+    refusal_over area records UpgradeJob None ≡ None → (Rose old.disk_faults new.disk_faults → ⊥) →
     (Rose old.sink_faults new.sink_faults → ⊥) →
-    AnswersJob UpgradeJob None records old new end → GivesUnlessMemory upgraded_line old new end
+    AnswersJob UpgradeJob None area records old new end → GivesUnlessMemory upgraded_line old new end
 upgrade-job-well records old new end begins disk sink (AnswersJob.refused why is synced r) =
     absurd (let e : None ≡ Some why = sym begins ∙ is in cc)
 upgrade-job-well records old new end begins disk sink (AnswersJob.no_memory synced r) =
@@ -912,8 +930,8 @@ upgrade-job-well records old new end begins disk sink (AnswersJob.ended how none
 
 -- an upgrade that is not refused and meets no fault is done, or finds no memory
 pub upgrade-well : (records : List Record) (old new : Seen) (end : Ending) →
-    AnswersAlone UpgradeJob old new end → IsKnown old records →
-    refusal_over records UpgradeJob None ≡ None → (Rose old.disk_faults new.disk_faults → ⊥) →
+    AnswersAlone UpgradeJob old new end → (K : IsKnown old records) →
+    refusal_over K.opened.area records UpgradeJob None ≡ None → (Rose old.disk_faults new.disk_faults → ⊥) →
     (Rose old.sink_faults new.sink_faults → ⊥) → GivesUnlessMemory upgraded_line old new end
 upgrade-well records old new end A K begins disk sink =
     elim (alone-known UpgradeJob old new end records K A) [
@@ -951,29 +969,20 @@ put-kind name bytes own old new read few = front-kind name bytes [] own old new
 
 -- ---- what a put leaves that is given up
 
--- images of a disk that may be empty stand for records that are some
-pub images-stand : (told : Option Cells) (first : Record) (rest : List Record) →
-    EachImage told (λ image. StandsOrIsEmpty image (first ∷ rest)) →
-    EachImage told (λ image. StandsFor image (first ∷ rest))
-images-stand None first rest h = tt
-images-stand (Some cells) first rest h = λ image of. elim (h image of) [
-  | inl stands ↦ stands
-  | inr none ↦ absurd (let e : first ∷ rest ≡ [] = none.0 in cc)
-]
-
 -- it used its number, stored whole stripes, and changed neither the files nor what is due
 pub given-gives : (name bytes : List ℕ) (own : Option ℕ) (records : List Record) (old new : Seen)
-    (end : Ending) → IsOpened old records → is_unknown own ≡ false →
-    refusal_over records (PutJob name bytes) own ≡ None →
-    StopsReading (put_stripe records own) bytes old new end → PartLeft records name bytes own old new →
+    (end : Ending) → (opened : IsOpened old records) → is_unknown own ≡ false →
+    refusal_over opened.area records (PutJob name bytes) own ≡ None →
+    StopsReading (put_stripe records own) bytes old new end →
+    PartLeft opened.area records name bytes own old new →
     GivesUpPut name own old new end
 given-gives name bytes own records old new end opened known none stops left = record {
   records = records;
   bytes = bytes;
   opened = opened;
-  taken = given-taken records name bytes own known none;
+  taken = given-taken opened.area records name bytes own known none;
   stops = stops;
-  disk = images-stand new.disk _ _ left.images;
+  disk = left.images;
   files = λ other. refl;
   due = refl;
   stored = left.stored;
@@ -981,18 +990,19 @@ given-gives name bytes own records old new end opened known none stops left = re
 }
 
 -- its bytes are a first part of what it read
-pub given-front : (name bytes : List ℕ) (own : Option ℕ) (records : List Record) (old new : Seen)
-    (end : Ending) → refusal_over records (PutJob name bytes) own ≡ None →
+pub given-front : (area : Area) (name bytes : List ℕ) (own : Option ℕ) (records : List Record)
+    (old new : Seen)
+    (end : Ending) → refusal_over area records (PutJob name bytes) own ≡ None →
     StopsReading (put_stripe records own) bytes old new end → (rest : List ℕ) × AreBytes bytes
     × ReadsFront old.source new.source (bytes ++ rest) × (length bytes ≤ largest_file)
-given-front name bytes own records old new end none stops = (
+given-front area name bytes own records old new end none stops = (
   rest,
   all-front bytes rest (subst AreBytes parts stops.are_bytes),
   record {
     are_bytes = subst AreBytes parts stops.are_bytes;
     front = stops.front ∙ ap (λ bs. then_told bs new.source) parts;
   },
-  (put-begins records name bytes own none).1,
+  (put-begins area records name bytes own none).1,
 )
   where
     rest : List ℕ
@@ -1009,12 +1019,12 @@ given-front name bytes own records old new end none stops = (
         let back = all-front a b more in grind (arith, here, back))
 
 -- so is the job that it runs
-pub given-kind : (name bytes : List ℕ) (own : Option ℕ) (records : List Record) (old new : Seen)
-    (end : Ending) → refusal_over records (PutJob name bytes) own ≡ None →
+pub given-kind : (area : Area) (name bytes : List ℕ) (own : Option ℕ) (records : List Record) (old new : Seen)
+    (end : Ending) → refusal_over area records (PutJob name bytes) own ≡ None →
     StopsReading (put_stripe records own) bytes old new end → AreBytes bytes
     × RunsKind (put_of name own) old new (PutJob name bytes)
-given-kind name bytes own records old new end none stops =
-    (let G = given-front name bytes own records old new end none stops in
+given-kind area name bytes own records old new end none stops =
+    (let G = given-front area name bytes own records old new end none stops in
     (G.1, front-kind name bytes G.0 own old new G.2 G.3))
 
 -- a put with no fault ends in order, over any disk
@@ -1037,7 +1047,7 @@ put-order name own old new end (AnswersPut.given_up records bytes opened known n
     (given-gives name bytes own records old new end opened known none stops left)
 put-order name own old new end (AnswersPut.begun records bytes opened known read few (AnswersJob.refused why is synced r) whole) disk stores source sink =
     EndsInOrder.refused records (PutJob name bytes) why opened (put-kind name bytes own old new read few)
-    (ap (refusal_over records (PutJob name bytes)) (named-by name own) ∙ is) r
+    (ap (refusal_over opened.area records (PutJob name bytes)) (named-by name own) ∙ is) r
 put-order name own old new end (AnswersPut.begun records bytes opened known read few (AnswersJob.no_memory synced r) whole) disk stores source sink =
     EndsInOrder.no_memory r.status_is
 put-order name own old new end (AnswersPut.begun records bytes opened known read few (AnswersJob.ended how none runs left by) whole) disk stores source sink =
@@ -1103,9 +1113,10 @@ unstarted-same of old new end u =
     (let r = unstarted-refused old new end u in refused-same of r.0 r.1 old new end r.3)
 
 -- what a job leaves as it was at each provider of the setup is so at all
-pub left-same : {X : Type 0} (of : Provider → X) (records : List Record) (kind : Kind) {own : Option ℕ}
+pub left-same : {area : Area} {X : Type 0} (of : Provider → X) (records : List Record) (kind : Kind)
+    {own : Option ℕ}
     (how : Answer) (old new : Seen) (heard : List Entry)
-    (left : LeftAlone records kind own how old new heard) →
+    (left : LeftAlone area records kind own how old new heard) →
     ((j : ℕ) → j < (setup_in_effect records).n → of (provider_at new.providers j)
     ≡ of (provider_at old.providers j)) → (j : ℕ) →
     of (provider_at new.providers j) ≡ of (provider_at old.providers j)

@@ -8,10 +8,10 @@ use Rattle.device_defs.specs.Cells.{Cells, reads}
 use Rattle.device_defs.specs.Images.{EachImage}
 use Rattle.device_defs.proofs.PickLaws.{IsImage-reads}
 use Rattle.record_defs.specs.Records.{Record, Setup, is_byte, is_name_byte, is_name, largest_journal}
-use Rattle.record_defs.specs.Journal.{text_size, StandsFor}
+use Rattle.record_defs.specs.Areas.{Area, end_in, StandsActive}
 use Rattle.record_defs.specs.Table.{setup_of}
 use Rattle.record_defs.specs.Acceptance.{AreAccepted}
-use Rattle.record_defs.proofs.Standing.{stands-take, stands-long}
+use Rattle.record_defs.proofs.Standing.{active-take, stands-long}
 use Rattle.journal_core.proofs.Meanings.{one_meaning}
 use Rattle.machine_defs.specs.Jobs.{Kind, PutJob, GetJob, DropJob, AuditJob, RepairJob, UpgradeJob}
 use Rattle.machine_defs.specs.Answers.{Answer}
@@ -19,7 +19,7 @@ use Rattle.machine_defs.specs.Events.{AreBytes, IsSpelledKind}
 use Rattle.machine_defs.specs.Heard.{Entry}
 use Rattle.machine_defs.specs.Refusals.{Refusal}
 use Rattle.machine_defs.specs.Setups.{setup_or_none}
-use Rattle.machine_defs.specs.States.{State, setup_in, journal_end, Doubt}
+use Rattle.machine_defs.specs.States.{State, setup_in}
 use Rattle.machine_defs.specs.Stands.{StandsPlain, StandsWithDoubt, StandsSwitched, StandsForState}
 use Rattle.command_defs.specs.Seen.{Seen}
 use Rattle.opening_defs.specs.Journals.{journal_read, IsRead}
@@ -31,70 +31,75 @@ use Rattle.state_laws.proofs.Records.{setup-more}
 use Rattle.lone_laws.specs.Walked.{MayName}
 use Rattle.command_laws.specs.Ends.{IsKnown, DiskHas}
 use Rattle.command_laws.specs.After.{IsSure}
-use Rattle.job_laws.proofs.Telling.{over-opened, opened_state, state-over}
+use Rattle.job_laws.proofs.Telling.{opened_state, state-over}
 use Rattle.command_laws.proofs.LastStates.{IsLast, last-state, part-state}
-use Rattle.state_laws.specs.Sound.{IsWholeJournal}
-use Rattle.state_laws.proofs.Written.{unpacked-end}
 
 -- ---- a text that fits is looked at
 
 -- ---- images of a store
 
--- an image stands for records that a start accepts, with this setup
-pub record IsGood (s : Setup) (image : List ℕ) (rs : List Record) : Type 0 where
+-- an image stands for records that a start accepts, in this area and with this setup
+pub record IsGood (s : Setup) (image : List ℕ) (area : Area) (rs : List Record) : Type 0 where
   pub some : rs ≢ []
   pub accepted : AreAccepted rs
-  pub room : text_size rs ≤ largest_journal
+  pub room : end_in area rs ≤ largest_journal
   pub setup : setup_in_effect rs ≡ s
-  pub stands : StandsFor image rs
+  pub stands : StandsActive image area rs
+
+-- so it does in one area or the other
+abbrev pub MayBeGood : Setup → List ℕ → Type 0
+MayBeGood s image = (area : Area) × (rs : List Record) × IsGood s image area rs
 
 -- what each image of a disk is so
 abbrev pub AreGood : Setup → Option Cells → Type 0
-AreGood s told = EachImage told (λ image. (rs : List Record) × IsGood s image rs)
+AreGood s told = EachImage told (MayBeGood s)
 
 -- a disk that reads a good image reads its records
-pub read-good : (s : Setup) (told : Option Cells) (cells : Cells) (rs : List Record) → told ≡ Some cells →
-    IsGood s (reads cells) rs → IsRead told rs
-read-good s told cells rs is G = record {
+pub read-good : (s : Setup) (told : Option Cells) (cells : Cells) (area : Area) (rs : List Record) →
+    told ≡ Some cells → IsGood s (reads cells) area rs → IsRead told area rs
+read-good s told cells area rs is G = record {
   some = G.some;
-  in_grammar = G.stands.in_grammar;
+  in_grammar = G.stands.holds.in_grammar;
   accepted = G.accepted;
   room = G.room;
-  reads_are = subst (λ d. IfSome d (λ c. (9 < length (reads c)) × StandsFor (journal_read c) rs)) (sym is) (
-    stands-long (reads cells) rs G.some G.stands,
-    stands-take largest_journal (reads cells) rs G.stands G.room,
-  );
+  reads_are = subst (λ d. IfSome d (λ c. (9 < length (reads c)) × StandsActive (journal_read c) area rs))
+      (sym is) (
+        stands-long (reads cells) rs G.some (area, G.stands),
+        active-take largest_journal (reads cells) area rs G.stands G.room,
+      );
 }
 
 -- a store whose disk reads a good image is known, with its records
-pub known-good : (s : Setup) (d : Seen) (cells : Cells) (rs : List Record) → d.disk ≡ Some cells →
-    IsGood s (reads cells) rs → s.n ≤ length d.providers → IsKnown d rs
-known-good s d cells rs is G enough = record {
+abbrev pub known-good : (s : Setup) (d : Seen) (cells : Cells) (area : Area) (rs : List Record) →
+    d.disk ≡ Some cells → IsGood s (reads cells) area rs → s.n ≤ length d.providers → IsKnown d rs
+known-good s d cells area rs is G enough = record {
   tells = ap is_some is;
   opened = record {
-    read = read-good s d.disk cells rs is G;
+    area = area;
+    read = read-good s d.disk cells area rs is G;
     enough = subst (λ (t : Setup). t.n ≤ length d.providers) (sym G.setup) enough;
   };
 }
 
 -- known records with another setup's text read are these
-same-good : (s : Setup) (image : List ℕ) (a b : List Record) → IsGood s image a → StandsFor image b →
-    IsGood s image b
-same-good s image a b G stands = subst (IsGood s image) (one_meaning image a b G.stands stands) G
+same-good : (s : Setup) (image : List ℕ) (a b : Area) (rs qs : List Record) → IsGood s image a rs →
+    StandsActive image b qs → IsGood s image b qs
+same-good s image a b rs qs G stands =
+    (let one = one_meaning image a b rs qs G.stands stands in
+    subst (λ area. IsGood s image area qs) one.0 (subst (IsGood s image a) one.1 G))
 
 -- a store whose images are all good, and stand for these records, is sure
-pub sure-good : (s : Setup) (d : Seen) (cells : Cells) (rs : List Record) → d.disk ≡ Some cells →
-    AreGood s d.disk → s.n ≤ length d.providers → DiskHas rs d → IsSure d rs
-sure-good s d cells rs is good enough has =
-    record { known = known-good s d cells rs is here enough; images = has }
+pub sure-good : (s : Setup) (d : Seen) (cells : Cells) (area : Area) (rs : List Record) →
+    d.disk ≡ Some cells → AreGood s d.disk → s.n ≤ length d.providers → DiskHas area rs d → IsSure d rs
+sure-good s d cells area rs is good enough has =
+    record { known = known-good s d cells area rs is here enough; images = has }
   where
-    here : IsGood s (reads cells) rs
-    here = (let g : EachImage (Some cells) (λ image. (rs : List Record) × IsGood s image rs) =
-        subst (AreGood s) is good in
-        let h : EachImage (Some cells) (λ image. StandsFor image rs) =
-        subst (λ t. EachImage t (λ image. StandsFor image rs)) is has in
+    here : IsGood s (reads cells) area rs
+    here = (let g : EachImage (Some cells) (MayBeGood s) = subst (AreGood s) is good in
+        let h : EachImage (Some cells) (λ image. StandsActive image area rs) =
+        subst (λ t. EachImage t (λ image. StandsActive image area rs)) is has in
         let a = g (reads cells) (IsImage-reads cells) in
-        same-good s (reads cells) a.0 rs a.1 (h (reads cells) (IsImage-reads cells)))
+        same-good s (reads cells) a.0 area a.1 rs a.2 (h (reads cells) (IsImage-reads cells)))
 
 -- ---- the last state of a job
 
@@ -102,55 +107,47 @@ sure-good s d cells rs is good enough has =
 pub none-up : (rs : List Record) → is_some (setup_of rs) ≡ true → rs ≢ []
 none-up rs up none = false≢true (let e : false ≡ true = sym (ap (λ l. is_some (setup_of l)) none) ∙ up in e)
 
--- an image stands for the history, or for it with the record in doubt
-pub data StandsSo (w : State) (image : List ℕ) : Type 0 where
-  sure : StandsFor image w.records → StandsSo w image
-  doubtful : (doubt : Doubt) → w.doubt ≡ Some doubt → StandsFor image (doubt.entry ∷ w.records) →
-      StandsSo w image
-
 -- what an image of a state stands for
 abbrev pub StandsInState : State → List ℕ → Type 0
 StandsInState w image = StandsPlain w image ⊎ (StandsWithDoubt w image ⊎ StandsSwitched w image)
 
--- so it is where the disk holds the whole history
-pub stands-so : (w : State) → IsWholeJournal w → is_some (setup_of w.records) ≡ true → (image : List ℕ) →
-    StandsInState w image → StandsSo w image
-stands-so w W up image (inl (inl h)) = StandsSo.sure (subst (StandsFor image) W.journal h.1)
-stands-so w W up image (inl (inr empty)) = absurd (none-up w.records up (sym W.journal ∙ empty.0))
-stands-so w W up image (inr (inl D)) = StandsSo.doubtful D.doubt D.in_doubt
-    (subst (λ rs. StandsFor image (D.doubt.entry ∷ rs)) W.journal D.stands.1)
-stands-so w W up image (inr (inr X)) = absurd (false≢true (sym W.unswitched ∙ X.switching))
-
--- a whole journal ends where the text of its history does
-last-end : (w : State) → IsWholeJournal w → journal_end w ≡ text_size w.records
-last-end w W = unpacked-end w (record { journal = W.journal; area = W.area })
-
+-- an image of the last state is good
 last-good : (start last : State) → IsLast start last → (image : List ℕ) → StandsInState last image →
-    (rs : List Record) × IsGood (setup_in start) image rs
+    MayBeGood (setup_in start) image
 unfolding setup_in
-last-good start last L image h = by_stand (stands-so last L.whole L.up image h)
+last-good start last L image h = by_stand h
   where
-    by_stand : StandsSo last image → (rs : List Record) × IsGood (setup_in start) image rs
-    by_stand (StandsSo.sure stands) = (
-      last.records,
+    up : is_some (setup_of last.journal) ≡ true
+    up = ap is_some L.sound.journal.alike.setup ∙ L.up
+
+    same : setup_in_effect last.journal ≡ setup_in start
+    same = ap setup_or_none L.sound.journal.alike.setup ∙ L.setup
+
+    by_stand : StandsInState last image → MayBeGood (setup_in start) image
+    by_stand (inl (inl stands)) = (
+      last.area,
+      last.journal,
       record {
-        some = none-up last.records L.up;
-        accepted = L.sound.accepted;
-        room = (let r = L.sound.room in let e = last-end last L.whole in omega (arith, r, e));
-        setup = L.setup;
+        some = none-up last.journal up;
+        accepted = L.sound.journal.accepted;
+        room = (let r = L.sound.room in omega (arith, r));
+        setup = same;
         stands = stands;
       },
     )
-    by_stand (StandsSo.doubtful d in_doubt stands) = (let F = L.sound.doubt d in_doubt in (
-      d.entry ∷ last.records,
+    by_stand (inl (inr empty)) = absurd (none-up last.journal up empty.0)
+    by_stand (inr (inl D)) = (let F = L.sound.doubt D.doubt D.in_doubt in (
+      last.area,
+      D.doubt.entry ∷ last.journal,
       record {
         some = λ e. cc;
-        accepted = (F.accepted, L.sound.accepted);
-        room = (let r = F.room in let e = last-end last L.whole in omega (arith, r, e));
-        setup = ap setup_or_none (setup-more d.entry last.records L.up F.accepted) ∙ L.setup;
-        stands = stands;
+        accepted = (F.in_journal, L.sound.journal.accepted);
+        room = (let r = F.room in omega (arith, r));
+        setup = ap setup_or_none (setup-more D.doubt.entry last.journal up F.in_journal) ∙ same;
+        stands = D.stands;
       },
     ))
+    by_stand (inr (inr X)) = absurd (false≢true (sym L.unswitched ∙ X.switching))
 
 images-good : (start last : State) (told : Option Cells) → IsLast start last → StandsForState told last →
     AreGood (setup_in start) told
@@ -181,15 +178,15 @@ HasBytes (PutJob name bytes) = AreBytes bytes
 HasBytes kind = Unit {0}
 
 -- a job that is not refused, and whose bytes are bytes, has words that are bytes
-pub spelled-kind : (records : List Record) (kind : Kind) (own : Option ℕ) → HasBytes kind →
-    refusal_over records kind own ≡ None → IsSpelledKind kind
-spelled-kind records (PutJob name bytes) own are none =
+pub spelled-kind : (area : Area) (records : List Record) (kind : Kind) (own : Option ℕ) → HasBytes kind →
+    refusal_over area records kind own ≡ None → IsSpelledKind kind
+spelled-kind area records (PutJob name bytes) own are none =
     (name-bytes name (first-off (is_name name) _ _ none), are)
-spelled-kind records (GetJob name) own are none = name-bytes name (first-off (is_name name) _ _ none)
-spelled-kind records (DropJob name) own are none = name-bytes name (first-off (is_name name) _ _ none)
-spelled-kind records AuditJob own are none = tt
-spelled-kind records RepairJob own are none = tt
-spelled-kind records UpgradeJob own are none = tt
+spelled-kind area records (GetJob name) own are none = name-bytes name (first-off (is_name name) _ _ none)
+spelled-kind area records (DropJob name) own are none = name-bytes name (first-off (is_name name) _ _ none)
+spelled-kind area records AuditJob own are none = tt
+spelled-kind area records RepairJob own are none = tt
+spelled-kind area records UpgradeJob own are none = tt
 
 -- ---- what a job leaves
 
@@ -200,16 +197,15 @@ LeavesGood records old new =
 
 -- a job that ran alone leaves only good images, and as many providers
 pub ran-good : (records : List Record) (kind : Kind) {own : Option ℕ} (how : Answer) (old new : Seen)
-    (heard : List Entry) → IsOpened old records → IsSpelledKind kind → MayName kind own →
-    RunsAlone records kind own how old new heard →
+    (heard : List Entry) → (opened : IsOpened old records) → IsSpelledKind kind → MayName kind own →
+    RunsAlone opened.area records kind own how old new heard →
     LeavesGood records old new
 unfolding setup_in
 ran-good records kind how old new heard R spelled named A =
-    (let w : State = opened_state records A.faults old.providers in
-    let over = state-over records A.faults old.providers R.read.accepted in
+    (let w : State = opened_state R.area records A.faults old.providers in
+    let over = state-over records A.faults old R in
     let ran = A.ran w 1 over in
-    let L = last-state w ran.last 1 kind _ how heard (over-opened w old records A.faults R over) spelled named
-    ran.runs in (
+    let L = last-state w ran.last 1 kind _ how heard over.at_rest spelled named ran.runs in (
       images-good w ran.last new.disk L ran.images,
       (let a = L.handed in let b = ran.handed.count in let c = over.handed.count in let e = R.enough in
           omega (arith, a, b, c, e)),
@@ -217,15 +213,14 @@ ran-good records kind how old new heard R spelled named A =
 
 -- so does a put that was given up
 pub part-good : (records : List Record) (name bytes : List ℕ) (own : Option ℕ) (old new : Seen) →
-    IsOpened old records → IsSpelledKind (PutJob name bytes) → MayName (PutJob name bytes) own →
-    PartRuns records name bytes own old new → LeavesGood records old new
+    (opened : IsOpened old records) → IsSpelledKind (PutJob name bytes) → MayName (PutJob name bytes) own →
+    PartRuns opened.area records name bytes own old new → LeavesGood records old new
 unfolding setup_in
 part-good records name bytes own old new R spelled named A =
-    (let w : State = opened_state records A.faults old.providers in
-    let over = state-over records A.faults old.providers R.read.accepted in
+    (let w : State = opened_state R.area records A.faults old.providers in
+    let over = state-over records A.faults old R in
     let ran = A.ran w 1 over in
-    let L = part-state w ran.last 1 (PutJob name bytes) own _ (over-opened w old records A.faults R over)
-    spelled named ran.runs in (
+    let L = part-state w ran.last 1 (PutJob name bytes) own _ over.at_rest spelled named ran.runs in (
       images-good w ran.last new.disk L ran.images,
       (let a = L.handed in let b = ran.handed.count in let c = over.handed.count in let e = R.enough in
           omega (arith, a, b, c, e)),

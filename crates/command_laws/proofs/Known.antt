@@ -5,6 +5,7 @@ use Rattle.std.proofs.lemmas.List.{append-nil}
 use Rattle.device_defs.specs.Faults.{Rose}
 use Rattle.device_defs.specs.Told.{told_then, TakesFront}
 use Rattle.record_defs.specs.Records.{Record}
+use Rattle.record_defs.specs.Areas.{Area}
 use Rattle.record_defs.specs.Reading.{HasNoSetup}
 use Rattle.machine_defs.specs.Jobs.{Kind}
 use Rattle.machine_defs.specs.Answers as answer
@@ -15,7 +16,7 @@ use Rattle.machine_defs.proofs.JobLists.{same_value}
 use Rattle.command_defs.specs.Sinking.{WritesLine}
 use Rattle.command_defs.specs.Seen.{Seen, Ending, IsRefused, sinking}
 use Rattle.opening_defs.specs.Journals.{journal_read, IsRead, IsBadStart}
-use Rattle.command_defs.specs.Opens.{Unstarted, setup_in_effect}
+use Rattle.command_defs.specs.Opens.{IsOpened, Unstarted, setup_in_effect}
 use Rattle.command_defs.specs.Refusals.{refusal_over, status_of}
 use Rattle.command_defs.specs.Jobs.{AnswersJob, EndsByAnswer}
 use Rattle.command_defs.specs.Commands.{AnswersAlone}
@@ -64,13 +65,25 @@ written-front text old new end (inr (inr cut)) = cut.1
 
 -- ---- before the begin
 
--- a known store has one list of records
-pub known-once : (old : Seen) (records other : List Record) → IsKnown old records → IsRead old.disk other →
-    other ≡ records
-known-once old records other K R =
+-- a known store has one list of records, in one area
+known-so : (old : Seen) (records other : List Record) {area : Area} (K : IsKnown old records) →
+    IsRead old.disk area other → (area ≡ K.opened.area) × (other ≡ records)
+known-so old records other {area = area} K R =
     (let c = is_some-at old.disk K.tells in
-    read-once c.0 other records (subst (λ d. IsRead d other) c.1 R)
-    (subst (λ d. IsRead d records) c.1 K.opened.read))
+    read-once c.0 area K.opened.area other records (subst (λ d. IsRead d area other) c.1 R)
+    (subst (λ d. IsRead d K.opened.area records) c.1 K.opened.read))
+
+-- a known store has one list of records
+pub known-once : (old : Seen) (records other : List Record) {area : Area} → IsKnown old records →
+    IsRead old.disk area other → other ≡ records
+known-once old records other K R = (known-so old records other K R).1
+
+-- what is so of the records that were read, in their area, is so of those that are known
+pub known-both : (old : Seen) (records other : List Record) (K : IsKnown old records) (O : IsOpened old other)
+    (P : Area → List Record → Type 0) → P O.area other → P K.opened.area records
+known-both old records other K O P p =
+    (let so = known-so old records other K O.read in
+    subst (λ a. P a records) so.0 (subst (λ rs. P O.area rs) so.1 p))
 
 -- a start that reads these records ends before the begin in a fault of the disk alone, or for want of memory
 pub unstarted-known : (old new : Seen) (end : Ending) (records : List Record) → IsKnown old records →
@@ -79,29 +92,30 @@ pub unstarted-known : (old new : Seen) (end : Ending) (records : List Record) �
 unstarted-known old new end records K (Unstarted.disk_fault rose r) = inl (rose, r)
 unstarted-known old new end records K (Unstarted.not_set_up is sync r) =
     absurd (let c = is_some-at old.disk K.tells in
-    read-set_up c.0 records (subst (λ d. IsRead d records) c.1 K.opened.read)
+    read-set_up c.0 K.opened.area records (subst (λ d. IsRead d K.opened.area records) c.1 K.opened.read)
     (subst (λ d. IfSome d (λ cells. HasNoSetup (journal_read cells))) c.1 is))
 unstarted-known old new end records K (Unstarted.bad_journal at is r) =
     absurd (let c = is_some-at old.disk K.tells in
     let bad : (9 < length (journal_read c.0)) × IsBadStart (journal_read c.0) at =
     subst (λ d. IfSome d (λ cells. (9 < length (journal_read cells)) × IsBadStart (journal_read cells) at))
     c.1 is in
-    read-good c.0 at records (subst (λ d. IsRead d records) c.1 K.opened.read) bad.1)
-unstarted-known old new end records K (Unstarted.too_few_providers other read few synced r) =
+    read-good c.0 at K.opened.area records (subst (λ d. IsRead d K.opened.area records) c.1 K.opened.read)
+    bad.1)
+unstarted-known old new end records K (Unstarted.too_few_providers area other read few synced r) =
     absurd (let e = known-once old records other K read in
     let enough = subst (λ rs. (setup_in_effect rs).n ≤ length old.providers) (sym e) K.opened.enough in
     omega (arith, few, enough))
 unstarted-known old new end records K (Unstarted.no_memory r) = inr r
 
 -- so a command that runs a job runs it over these records, or ended before
-pub alone-known : (kind : Kind) (old new : Seen) (end : Ending) (records : List Record) →
-    IsKnown old records → AnswersAlone kind old new end →
+pub alone-known : (kind : Kind) (old new : Seen) (end : Ending) (records : List Record)
+    (K : IsKnown old records) → AnswersAlone kind old new end →
     ((Rose old.disk_faults new.disk_faults × IsRefused 12 0 old new end) ⊎ IsRefused 70 0 old new end) ⊎
-    AnswersJob kind None records old new end
+    AnswersJob kind None K.opened.area records old new end
 alone-known kind old new end records K (AnswersAlone.unstarted u) =
     inl (unstarted-known old new end records K u)
 alone-known kind old new end records K (AnswersAlone.begun other opened A) =
-    inr (subst (λ rs. AnswersJob kind None rs old new end) (known-once old records other K opened.read) A)
+    inr (known-both old records other K opened (λ a rs. AnswersJob kind None a rs old new end) A)
 
 -- ---- statuses of refusals
 
@@ -114,7 +128,8 @@ refusal_at n =
     else if n == 17 then Some refusal.BadName
     else if n == 20 then Some refusal.BadProfile else if n == 23 then Some refusal.OldVersion
     else if n == 24 then Some refusal.NewVersion
-    else if n == 21 then Some refusal.TooManyFiles else None
+    else if n == 21 then Some refusal.TooManyFiles
+    else if n == 26 then Some refusal.PackTooLong else None
 
 status-back : (why : Refusal) → status_of why ≢ 70 → refusal_at (status_of why) ≡ Some why
 status-back refusal.NoSuchName own = refl
@@ -137,7 +152,7 @@ status-back refusal.NoSuchJob own = absurd (own refl)
 status-back refusal.BadProfile own = refl
 status-back refusal.OldVersion own = refl
 status-back refusal.NewVersion own = refl
-status-back refusal.PackTooLong own = absurd (own refl)
+status-back refusal.PackTooLong own = refl
 
 -- any refusal but of those has the status of no memory, which is no refusal's
 refused-at : (why : Refusal) → (status_of why ≡ 70) ⊎ (refusal_at (status_of why) ≡ Some why)
@@ -161,7 +176,7 @@ refused-at refusal.NoSuchJob = inl refl
 refused-at refusal.BadProfile = inr refl
 refused-at refusal.OldVersion = inr refl
 refused-at refusal.NewVersion = inr refl
-refused-at refusal.PackTooLong = inl refl
+refused-at refusal.PackTooLong = inr refl
 
 -- no refusal ends a command at a status that tells of none
 pub refused-not : (why : Refusal) (n : ℕ) → refusal_at n ≡ None → n ≢ 70 → status_of why ≡ n → ⊥
@@ -224,9 +239,9 @@ none-some : (n : ℕ) (why : Refusal) → refusal_at n ≡ None → refusal_at n
 none-some n why none some = (let e : None ≡ Some why = sym none ∙ some in cc)
 
 -- a job ends with the status of a refusal only where that one is the first that applies
-pub refused-only : (kind : Kind) (own : Option ℕ) (records : List Record) (old new : Seen) (end : Ending)
-    (why : Refusal) → AnswersJob kind own records old new end →
-    status_of why ≢ 70 → end.status ≡ status_of why → refusal_over records kind own ≡ Some why
+pub refused-only : (kind : Kind) (own : Option ℕ) {area : Area} (records : List Record) (old new : Seen)
+    (end : Ending) (why : Refusal) → AnswersJob kind own area records old new end →
+    status_of why ≢ 70 → end.status ≡ status_of why → refusal_over area records kind own ≡ Some why
 refused-only kind own records old new end why (AnswersJob.refused other is synced r) tells e =
     elim (refused-at other) [
       | inl lost ↦ absurd (none-some end.status why (ap refusal_at (r.status_is ∙ lost))
@@ -241,13 +256,13 @@ refused-only kind own records old new end why (AnswersJob.ended how none runs le
     (at-some why end tells e))
 
 -- a job for which a refusal is the first that applies is refused so, or finds no memory
-pub refused-always : (kind : Kind) (own : Option ℕ) (records : List Record) (old new : Seen) (end : Ending)
-    (why : Refusal) → AnswersJob kind own records old new end →
-    refusal_over records kind own ≡ Some why → IsRefused (status_of why) 0 old new end ⊎
+pub refused-always : (kind : Kind) (own : Option ℕ) {area : Area} (records : List Record) (old new : Seen)
+    (end : Ending) (why : Refusal) → AnswersJob kind own area records old new end →
+    refusal_over area records kind own ≡ Some why → IsRefused (status_of why) 0 old new end ⊎
     IsRefused 70 0 old new end
 refused-always kind own records old new end why (AnswersJob.refused other is synced r) applies =
     inl (subst (λ w. IsRefused (status_of w) 0 old new end)
-    (same_value (refusal_over records kind own) other why is applies) r)
+    (same_value (refusal_over _ records kind own) other why is applies) r)
 refused-always kind own records old new end why (AnswersJob.no_memory synced r) applies = inr r
 refused-always kind own records old new end why (AnswersJob.ended how none runs left by) applies =
     absurd (let e : None ≡ Some why = sym none ∙ applies in cc)
@@ -267,7 +282,7 @@ ended-opened n (EndStatus.by_provider e) = ap is_unopened e
 ended-opened n (EndStatus.by_sink e) = ap is_unopened e
 ended-opened n (EndStatus.by_memory e) = ap is_unopened e
 
-refused-opened : (why : Refusal) → is_unopened (status_of why) ≡ false
+pub refused-opened : (why : Refusal) → is_unopened (status_of why) ≡ false
 refused-opened refusal.NoSuchName = refl
 refused-opened refusal.RepairDue = refl
 refused-opened refusal.NothingDue = refl
@@ -291,8 +306,9 @@ refused-opened refusal.NewVersion = refl
 refused-opened refusal.PackTooLong = refl
 
 -- a job over records that were read does not end as a store that is not opened
-pub job-opened : (kind : Kind) (own : Option ℕ) (records : List Record) (old new : Seen) (end : Ending) →
-    AnswersJob kind own records old new end → is_unopened end.status ≡ false
+pub job-opened : {area : Area} (kind : Kind) (own : Option ℕ) (records : List Record) (old new : Seen)
+    (end : Ending) →
+    AnswersJob kind own area records old new end → is_unopened end.status ≡ false
 job-opened kind own records old new end (AnswersJob.refused why is synced r) =
     ap is_unopened r.status_is ∙ refused-opened why
 job-opened kind own records old new end (AnswersJob.no_memory synced r) = ap is_unopened r.status_is
@@ -303,8 +319,9 @@ job-opened kind own records old new end (AnswersJob.ended how none runs left by)
 
 -- over a known store a command is refused only for the first cause that applies
 pub known-only : (kind : Kind) (records : List Record) (old new : Seen) (end : Ending) (why : Refusal) →
-    AnswersAlone kind old new end → IsKnown old records →
-    status_of why ≢ 70 → end.status ≡ status_of why → refusal_over records kind None ≡ Some why
+    AnswersAlone kind old new end → (K : IsKnown old records) →
+    status_of why ≢ 70 → end.status ≡ status_of why →
+    refusal_over K.opened.area records kind None ≡ Some why
 known-only kind records old new end why A K own e = elim (alone-known kind old new end records K A) [
   | inl (inl (rose, r)) ↦
       absurd (none-some end.status why (ap refusal_at r.status_is) (at-some why end own e))
@@ -314,8 +331,8 @@ known-only kind records old new end why A K own e = elim (alone-known kind old n
 
 -- over a known store a command for which a cause applies is refused for it, or finds no memory
 pub known-always : (kind : Kind) (records : List Record) (old new : Seen) (end : Ending) (why : Refusal) →
-    AnswersAlone kind old new end → IsKnown old records →
-    (Rose old.disk_faults new.disk_faults → ⊥) → refusal_over records kind None ≡ Some why →
+    AnswersAlone kind old new end → (K : IsKnown old records) →
+    (Rose old.disk_faults new.disk_faults → ⊥) → refusal_over K.opened.area records kind None ≡ Some why →
     IsRefused (status_of why) 0 old new end ⊎ IsRefused 70 0 old new end
 known-always kind records old new end why A K disk applies = elim (alone-known kind old new end records K A) [
   | inl (inl (rose, r)) ↦ absurd (disk rose)

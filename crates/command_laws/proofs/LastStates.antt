@@ -1,5 +1,5 @@
 -- The state in which a job ended is sound, and has the setup and the providers that it began with.
-use Rattle.std.proofs.Common.{◌≡◌, ℕ, ◌+◌, true, List, length, Option, Some, refl, ap, sym, subst, ◌∙◌, arith}
+use Rattle.std.proofs.Common.{◌≡◌, ℕ, ◌+◌, true, false, List, length, Option, Some, refl, ap, sym, subst, ◌∙◌, arith}
 use Rattle.std.specs.Prelude.{is_some}
 use Rattle.record_defs.specs.Table.{setup_of}
 use Rattle.machine_defs.specs.Jobs.{Kind, Job}
@@ -15,13 +15,13 @@ use Rattle.machine_defs.specs.Appends.{Moves}
 use Rattle.machine_defs.specs.Steps.{Acts}
 use Rattle.machine_defs.specs.Runs.{now}
 use Rattle.command_defs.specs.JobRuns.{AreSteps, GoesOnTo, RunsJob, RunsPart}
-use Rattle.state_laws.specs.Sound.{IsWholeJournal, IsSound}
+use Rattle.state_laws.specs.Sound.{IsSound}
 use Rattle.state_laws.proofs.Events.{events-sound}
 use Rattle.opening_defs.specs.Opened.{IsOpenAtRest}
 use Rattle.lone_laws.specs.Walked.{MayName, WalkedAt}
 use Rattle.lone_laws.proofs.Walk.{walk-begin, walk-last}
 use Rattle.job_laws.proofs.Runs.{walk-steps}
-use Rattle.job_laws.proofs.Whole.{begun-whole, steps-whole, runs-whole}
+use Rattle.job_laws.proofs.Keeping.{part-keeps, runs-keep}
 
 -- the last state of a job that ran alone
 pub record IsLast (start new : State) : Type 0 where
@@ -29,7 +29,7 @@ pub record IsLast (start new : State) : Type 0 where
   pub up : is_some (setup_of new.records) ≡ true
   pub setup : setup_in new ≡ setup_in start
   pub handed : new.handed ≡ start.handed
-  pub whole : IsWholeJournal new
+  pub unswitched : new.is_switching ≡ false
 
 -- a last step changes neither the records nor how many providers are handed in
 abbrev Stays : State → State → Type 0
@@ -59,14 +59,14 @@ module _ (w : State) (job : Job) (new : State) where
 
 last-of : (start w : State) (kind : Kind) {profile : ℕ} (job : Job) (new : State) →
     WalkedAt start kind profile w job →
-    IsSound 8 new → IsWholeJournal new → Stays w new → IsLast start new
+    IsSound 8 new → new.is_switching ≡ false → Stays w new → IsLast start new
 unfolding setup_in
-last-of start w kind job new W sound whole stay = record {
+last-of start w kind job new W sound unswitched stay = record {
   sound = sound;
   up = ap (λ rs. is_some (setup_of rs)) stay.0 ∙ W.sound.set_up W.opened;
   setup = ap (λ rs. setup_or_none (setup_of rs)) stay.0 ∙ W.setup;
   handed = stay.1 ∙ W.handed;
-  whole = whole;
+  unswitched = unswitched;
 }
 
 -- the state in which a put was given up is sound, with the setup and the providers of its begin
@@ -86,8 +86,8 @@ part-state start new moment kind own count O spelled named r =
       up = W.sound.set_up W.opened;
       setup = W.setup;
       handed = W.handed;
-      whole = steps-whole start O kind own r.begun (beginning start moment kind own) (moment + 1) r.steps b.1
-          steps (begun-whole start O kind own moment r.job r.begun r.begins);
+      unswitched = (part-keeps start O kind own moment r.job r.begun (beginning start moment kind own) r.steps
+          r.begins b.1 steps).switch ∙ O.rest.unswitched;
     }))
 
 -- the state in which a job ended is sound, with the setup and the providers of its begin
@@ -105,5 +105,5 @@ last-state start new moment kind own how heard O spelled named r =
     last-of start (now r.begun g.steps) kind last.0 new last.1
     (events-sound 8 ((moment + 1) + length g.steps) (now r.begun g.steps) last.1.sound
     (omega arith, omega arith) (Step 1) (Ended how) new (omega arith) g.ends)
-    (runs-whole start O kind own new moment how heard spelled named r)
+    ((runs-keep start O kind own new moment how heard spelled named r).switch ∙ O.rest.unswitched)
     (acts-stay (now r.begun g.steps) last.0 new a.0 how a.3))

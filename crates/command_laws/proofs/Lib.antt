@@ -13,8 +13,10 @@ pub mod Failed
 pub mod CutSources
 pub mod ScrubRuns
 pub mod ScrubEnds
+pub mod PackEnds
 pub mod LastStates
 pub mod Knowing
+pub mod PackStores
 pub mod Afterwards
 pub mod DoneStores
 pub mod FilesStay
@@ -38,5 +40,6 @@ pub mod RepairSample
 pub mod UpgradeSample
 pub mod OwnSample
 pub mod ScrubSample
+pub mod PackSample
 pub mod InitSample
 pub mod UnsetSample

@@ -8,6 +8,7 @@ use Rattle.std.proofs.lemmas.List.{append-nil}
 use Rattle.device_defs.specs.Providers.{Provider}
 use Rattle.device_defs.specs.ProviderCalls.{Stores}
 use Rattle.record_defs.specs.Records.{largest_file}
+use Rattle.record_defs.specs.Areas.{A}
 use Rattle.record_defs.specs.Spellings.{spelling}
 use Rattle.machine_defs.specs.Actions.{Action, Store, append_actions, remove_actions, actions_of, End}
 use Rattle.machine_defs.specs.Events.{Step, More, AreBytes}
@@ -22,7 +23,7 @@ use Rattle.state_laws.proofs.Orders.{put-list}
 use Rattle.command_defs.specs.Forms.{PutUnder}
 use Rattle.command_defs.specs.Seen.{nobody}
 use Rattle.command_defs.specs.Refusals.{refusal_over}
-use Rattle.opening_defs.specs.Opened.{AreHanded}
+use Rattle.opening_defs.specs.Opened.{AreHanded, IsOpenAtRest}
 use Rattle.command_defs.specs.JobRuns.{AreSteps}
 use Rattle.command_defs.specs.GivenUp.{put_stripe, StopsReading, PartRan, PartRuns}
 use Rattle.command_defs.specs.Commands.{AnswersPut, Answers}
@@ -32,8 +33,8 @@ use Rattle.command_laws.specs.Instances.{small_setup, held_name, set_up_records,
 use Rattle.job_laws.proofs.Parts.{part-left}
 use Rattle.command_laws.proofs.Chains.{first-begins}
 use Rattle.command_laws.proofs.JobEnds.{given-front}
-use Rattle.command_laws.proofs.Samples.{set_up-sure, started-sure}
-use Rattle.command_laws.proofs.PutSample.{formed, form-is, job, s0, s4, step, moves, moves-are, moves-made, begins-at}
+use Rattle.command_laws.proofs.Samples.{form-is, form-rests, form-handed, set_up-sure, started-sure}
+use Rattle.command_laws.proofs.PutSample.{formed, job, s0, s4, step, moves, moves-are, moves-made, begins-at}
 
 -- ---- the actions of stripes on providers, by their place
 
@@ -194,22 +195,24 @@ module _ (w : State) (n : ℕ) (bytes : List ℕ) (H : AreHanded hidden_provider
       })
 
   -- all are made
-  pub long-formed : refusal_over set_up_records (PutJob held_name bytes) None ≡ None → (source : List ℕ) →
-      PartRan set_up_records held_name bytes None (reading set_up_records source) (reading started_records [])
+  pub long-formed : IsOpenAtRest (formed w) 1 →
+      refusal_over A set_up_records (PutJob held_name bytes) None ≡ None → (source : List ℕ) →
+      PartRan A set_up_records held_name bytes None (reading set_up_records source)
+      (reading started_records [])
       0 (formed w) n
   unfolding spelling
-  long-formed begins source = (let W = walk (count * 4) (omega arith) in record {
+  long-formed O begins source = (let W = walk (count * 4) (omega arith) in record {
     last = at (past_moves (count * 4)) W.providers;
     runs = record {
       begun = s0 w n bytes;
       job = 1;
-      begins = begins-at w n bytes begins;
+      begins = begins-at w n bytes O begins;
       steps = W.steps;
       are_steps = W.are;
       made = W.made;
       last = sym W.last;
     };
-    images = λ image is. inl (inl (refl, started-sure.images image is));
+    images = λ image is. inl (inl (started-sure.images image is));
     faults_are = refl;
     handed = record { count = H.count; each = each W.providers W.hidden };
     past_text = refl;
@@ -226,11 +229,11 @@ module _ (w : State) (n : ℕ) (bytes : List ℕ) (H : AreHanded hidden_provider
 -- ---- the command
 
 -- the store is known whatever the source holds
-pub reading-sure : (bytes : List ℕ) → IsSure (reading set_up_records bytes) set_up_records
+abbrev pub reading-sure : (bytes : List ℕ) → IsSure (reading set_up_records bytes) set_up_records
 reading-sure bytes = record {
   known = record {
     tells = refl;
-    opened = record { read = set_up-sure.known.opened.read; enough = omega arith };
+    opened = record { area = A; read = set_up-sure.known.opened.read; enough = omega arith };
   };
   images = set_up-sure.images;
 }
@@ -250,8 +253,8 @@ module _ (source : List ℕ) (are : AreBytes source) (long : length source ≡ l
   unfolding bytes
   whole = omega (arith, length-take (131072 * put_stripe set_up_records None) source, size-is, most-is, long)
 
-  begins : refusal_over set_up_records (PutJob held_name bytes) None ≡ None
-  begins = first-begins small_setup held_name bytes refl (omega (arith, whole, size-is, most-is))
+  begins : refusal_over A set_up_records (PutJob held_name bytes) None ≡ None
+  begins = first-begins A small_setup held_name bytes refl (omega (arith, whole, size-is, most-is))
 
   stops : StopsReading (put_stripe set_up_records None) bytes (reading set_up_records source)
       (reading started_records []) (ends 16)
@@ -270,15 +273,15 @@ module _ (source : List ℕ) (are : AreBytes source) (long : length source ≡ l
     sink = refl;
   }
 
-  long-runs : PartRuns set_up_records held_name bytes None (reading set_up_records source)
+  long-runs : PartRuns A set_up_records held_name bytes None (reading set_up_records source)
       (reading started_records [])
   long-runs = record {
     faults = 0;
     before = omega arith;
-    ran = λ w n V. subst (λ u. PartRan set_up_records held_name bytes None (reading set_up_records source)
-        (reading started_records []) 0 u n) (form-is w V)
-        (long-formed w n bytes (subst (AreHanded hidden_providers) (sym (form-is w V)) V.handed) begins
-        source);
+    ran = λ w n V. subst (λ u. PartRan A set_up_records held_name bytes None (reading set_up_records source)
+        (reading started_records []) 0 u n) (form-is set_up_records w refl V)
+        (long-formed w n bytes (form-handed set_up_records w hidden_providers refl V)
+        (form-rests set_up_records w refl V) begins source);
   }
 
   -- a put of a source that is too long is given up
@@ -290,6 +293,6 @@ module _ (source : List ℕ) (are : AreBytes source) (long : length source ≡ l
       (reading started_records [])
       (reading-sure source).known.opened (
         refl,
-        (given-front held_name bytes None set_up_records (reading set_up_records source)
+        (given-front A held_name bytes None set_up_records (reading set_up_records source)
             (reading started_records []) (ends 16) begins stops).1,
       ) (MayName.none refl) refl long-runs)

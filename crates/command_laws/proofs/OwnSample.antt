@@ -1,6 +1,6 @@
 -- A put of the empty file with a profile of its own, over a store whose journal has its second version, from
 -- every state that was just opened: four moves, four moves, and its end.
-use Rattle.std.proofs.Common.{◌≡◌, ℕ, ◌+◌, List, [], ◌∷◌, None, Some, true, false, refl, sym, subst, ◌∙◌, inl, arith}
+use Rattle.std.proofs.Common.{◌≡◌, ℕ, ◌+◌, List, [], ◌∷◌, None, Some, refl, subst, ◌∙◌, inl, arith}
 use Rattle.record_defs.specs.Records.{PutStart, PutDoneIn}
 use Rattle.record_defs.specs.Spellings.{spelling}
 use Rattle.record_defs.specs.Areas.{A}
@@ -17,7 +17,7 @@ use Rattle.machine_defs.specs.States.{State, Append, setup_in, going_on, ended}
 use Rattle.command_defs.specs.Forms.{PutAt}
 use Rattle.command_defs.specs.Lines.{stored_line}
 use Rattle.command_defs.specs.Refusals.{refusal_over}
-use Rattle.opening_defs.specs.Opened.{AreHanded, IsOpenedOver}
+use Rattle.opening_defs.specs.Opened.{AreHanded, IsOpenAtRest}
 use Rattle.command_defs.specs.JobRuns.{AreSteps}
 use Rattle.command_defs.specs.Jobs.{RanAlone, RunsAlone, AnswersJob}
 use Rattle.command_defs.specs.Commands.{AnswersPut, Answers}
@@ -27,51 +27,22 @@ use Rattle.lone_laws.specs.Walked.{MayName}
 use Rattle.command_laws.specs.Instances.{store, idle_providers, held_name, set_up_records, upgraded_records, own_records, with_sink, ends}
 use Rattle.job_laws.proofs.Telling.{left-alone, jobs-leave}
 use Rattle.job_laws.proofs.BeginRefusals.{refusal-of}
-use Rattle.command_laws.proofs.Samples.{store-sure, set_up-sure, same-disk, refused-so}
+use Rattle.command_laws.proofs.Samples.{formed_over, form-is, form-rests, form-handed, store-sure, set_up-sure, same-disk, refused-so}
 use Rattle.command_laws.proofs.UpgradeSample.{upgraded-sure}
 
 -- the store with the file that has its own profile is sure
-pub own-sure : IsSure (store own_records) own_records
+abbrev pub own-sure : IsSure (store own_records) own_records
 own-sure = store-sure own_records (λ e. cc) refl (refl, (refl, (refl, (refl, tt)))) (omega arith)
     (omega arith)
 
 abbrev formed : State → State
-formed w = record w {
-  records = upgraded_records;
-  journal = upgraded_records;
-  area = A;
-  is_switching = false;
-  jobs = [];
-  next_job = 1;
-  alone = None;
-  append = None;
-  doubt = None;
-  is_open = true;
-  is_barred = false;
-  disk_faults = 0;
-}
-
-form-is : (w : State) → IsOpenedOver w upgraded_records 0 idle_providers → formed w ≡ w
-form-is w V = sym (λ i. record w {
-  records = V.records i;
-  journal = (V.whole.journal ∙ V.records) i;
-  area = V.whole.area i;
-  is_switching = V.whole.unswitched i;
-  jobs = V.jobs i;
-  next_job = V.next_job i;
-  alone = V.none_alone i;
-  append = V.append i;
-  doubt = V.doubt i;
-  is_open = V.is_open i;
-  is_barred = V.unbarred i;
-  disk_faults = V.faults_are i;
-})
+formed w = formed_over upgraded_records w
 
 -- the put is not refused
-pub begins-own : refusal_over upgraded_records (PutJob held_name []) (Some 1) ≡ None
+pub begins-own : refusal_over A upgraded_records (PutJob held_name []) (Some 1) ≡ None
 begins-own = refl
 
-module _ (w : State) (n : ℕ) (H : AreHanded idle_providers (formed w)) where
+module _ (w : State) (n : ℕ) (H : AreHanded idle_providers (formed w)) (O : IsOpenAtRest (formed w) 1) where
   abbrev v : State
   v = formed w
 
@@ -184,7 +155,7 @@ module _ (w : State) (n : ℕ) (H : AreHanded idle_providers (formed w)) where
     ),
   )
 
-  ran-formed : RanAlone upgraded_records (PutJob held_name []) (Some 1) Put (store upgraded_records)
+  ran-formed : RanAlone A upgraded_records (PutJob held_name []) (Some 1) Put (store upgraded_records)
       (with_sink (store own_records) (stored_line held_name 0)) [] 0 v n
   unfolding steps spelling
   ran-formed = record {
@@ -194,28 +165,28 @@ module _ (w : State) (n : ℕ) (H : AreHanded idle_providers (formed w)) where
       job = 1;
       begins = (
         refl,
-        refusal-of v (PutJob held_name []) (Some 1) refl refl refl
-            (record { journal = refl; area = refl; unswitched = refl }) ∙ begins-own,
+        refusal-of v O (PutJob held_name []) (Some 1) ∙ begins-own,
         refl,
         refl,
       );
       goes_on = record { steps = steps; are_steps = steps-are; ends = nine 0; heard_is = refl };
     };
-    images = λ image is. inl (inl (refl, own-sure.images image is));
+    images = λ image is. inl (inl (own-sure.images image is));
     faults_are = refl;
     handed = record { count = H.count; each = H.each };
     past_text = refl;
   }
 
-own-alone : RunsAlone upgraded_records (PutJob held_name []) (Some 1) Put (store upgraded_records)
+own-alone : RunsAlone A upgraded_records (PutJob held_name []) (Some 1) Put (store upgraded_records)
     (with_sink (store own_records) (stored_line held_name 0)) []
 own-alone = record {
   faults = 0;
   before = omega arith;
-  ran = λ w n V. subst (λ u. RanAlone upgraded_records (PutJob held_name []) (Some 1) Put
+  ran = λ w n V. subst (λ u. RanAlone A upgraded_records (PutJob held_name []) (Some 1) Put
       (store upgraded_records)
-      (with_sink (store own_records) (stored_line held_name 0)) [] 0 u n) (form-is w V)
-      (ran-formed w n (subst (AreHanded idle_providers) (sym (form-is w V)) V.handed));
+      (with_sink (store own_records) (stored_line held_name 0)) [] 0 u n) (form-is upgraded_records w refl V)
+      (ran-formed w n (form-handed upgraded_records w idle_providers refl V)
+      (form-rests upgraded_records w refl V));
 }
 
 -- a put of the empty file with a profile of its own is done

@@ -1,6 +1,6 @@
 -- However a put ended: where the next command finds its end in effect, its file is right on every provider
 -- that tells.
-use Rattle.std.proofs.Common.{◌≡◌, ◌≢◌, ℕ, ◌+◌, ◌<◌, ◌≤◌, ◌⊎◌, Bool, true, false, List, [], ◌∷◌, ◌++◌, length, reverse, Option, None, Some, refl, ap, sym, subst, ◌∙◌, inl, inr, arith, length-append}
+use Rattle.std.proofs.Common.{◌≡◌, ℕ, ◌+◌, ◌<◌, ◌≤◌, ◌⊎◌, Bool, true, false, List, [], ◌∷◌, ◌++◌, length, reverse, Option, None, Some, refl, ap, sym, subst, ◌∙◌, inl, inr, arith, length-append}
 use Rattle.std.specs.Prelude.{is_some, IfSome, IsSomeAnd}
 use Rattle.std.proofs.lemmas.Bool.{false≢true}
 use Rattle.std.proofs.lemmas.List.{length-reverse}
@@ -9,10 +9,11 @@ use Rattle.device_defs.specs.Disks.{Stopped}
 use Rattle.device_defs.specs.Images.{EachImage}
 use Rattle.device_defs.specs.Told.{Goes}
 use Rattle.record_defs.specs.Records.{Record, PutStart, largest_journal}
-use Rattle.record_defs.specs.Journal.{StandsFor, StandsOrIsEmpty}
+use Rattle.record_defs.specs.Areas.{Area, StandsActive}
+use Rattle.record_defs.specs.Journal.{StandsFor}
 use Rattle.record_defs.specs.Table.{next_id}
-use Rattle.record_defs.proofs.Standing.{stands-front}
-use Rattle.journal_core.proofs.Meanings.{one_meaning}
+use Rattle.record_defs.proofs.Standing.{active-front}
+use Rattle.journal_core.proofs.Meanings.{one_list}
 use Rattle.machine_defs.specs.Events.{AreBytes}
 use Rattle.machine_defs.specs.Jobs.{PutJob}
 use Rattle.machine_defs.specs.Answers as answer
@@ -30,7 +31,7 @@ use Rattle.command_laws.specs.Ends.{IsKnown, after_put}
 use Rattle.command_laws.specs.After.{IsSure, Follows, HasRightFile}
 use Rattle.command_laws.proofs.Known.{known-once}
 use Rattle.command_laws.proofs.GetEnds.{ran_left}
-use Rattle.command_laws.proofs.JobEnds.{unstarted-refused, put-in_effect, read-all, images-stand}
+use Rattle.command_laws.proofs.JobEnds.{unstarted-refused, put-in_effect, read-all}
 use Rattle.command_laws.proofs.Afterwards.{sure-refused}
 use Rattle.command_laws.proofs.DoneStores.{next-image}
 use Rattle.command_laws.proofs.FilesStay.{stored-file}
@@ -61,57 +62,65 @@ module _ (name bytes : List ℕ) (own : Option ℕ) (records : List Record) (spo
   not-fewer h =
       (let c = next-image new next (tells-back new next N F.tells) N in
       let g : Fewer (reads c.0) = c.2 Fewer h in
-      let looked : (9 < length (reads c.0)) × StandsFor (journal_read c.0)
+      let looked : (9 < length (reads c.0)) × StandsActive (journal_read c.0) F.opened.area
       (after_put records name (length bytes) own) =
       subst (λ d. IfSome d (λ cells. (9 < length (reads cells)) ×
-      StandsFor (journal_read cells) (after_put records name (length bytes) own))) c.1
+      StandsActive (journal_read cells) F.opened.area (after_put records name (length bytes) own))) c.1
       F.opened.read.reads_are in
-      let same = one_meaning (reads c.0) g.0 (after_put records name (length bytes) own) g.1
-      (stands-front largest_journal (reads c.0) (after_put records name (length bytes) own) looked.1) in
+      let same = one_list (reads c.0) g.0 (after_put records name (length bytes) own) g.1 (
+        F.opened.area,
+        active-front largest_journal (reads c.0) F.opened.area
+            (after_put records name (length bytes) own) looked.1,
+      ) in
       let size = ap length same in
       let few = g.2 in
       omega (arith, size, few))
 
-  has-fewer : (told : Option Cells) → EachImage told (λ image. StandsFor image records) → EachImage told Fewer
-  has-fewer None h = tt
-  has-fewer (Some cells) h = λ image is. (records, h image is, omega arith)
+  has-fewer : (area : Area) (told : Option Cells) → EachImage told
+      (λ image. StandsActive image area records) →
+      EachImage told Fewer
+  has-fewer area None h = tt
+  has-fewer area (Some cells) h = λ image is. (records, (area, h image is), omega arith)
 
   refused-not : (status at : ℕ) → IsRefused status at old new end → ⊥
   refused-not status at r =
-      not-fewer (has-fewer new.disk (sure-refused status at records old new end r S).images)
+      (let T = sure-refused status at records old new end r S in
+      not-fewer (has-fewer T.known.opened.area new.disk T.images))
 
-  image-fewer : (image : List ℕ) (after : List Record) (doubt : Option Record) → after ≢ [] →
+  image-fewer : (area : Area) (image : List ℕ) (after : List Record) (doubt : Option Record) →
       length after ≤ length records + 1 →
       ((entry : Record) → doubt ≡ Some entry → length after ≤ length records) →
-      StandsOrIsEmpty image after ⊎ IsSomeAnd doubt (λ entry. StandsFor image (entry ∷ after)) → Fewer image
-  image-fewer image after doubt some few less (inl (inl stands)) = (after, stands, few)
-  image-fewer image after doubt some few less (inl (inr empty)) = absurd (some empty.0)
-  image-fewer image after None some few less (inr h) = absurd h
-  image-fewer image after (Some entry) some few less (inr h) =
-      (entry ∷ after, h, (let l = less entry refl in omega (arith, l)))
+      StandsActive image area after ⊎ IsSomeAnd doubt (λ entry. StandsActive image area (entry ∷ after)) →
+      Fewer image
+  image-fewer area image after doubt few less (inl stands) = (after, (area, stands), few)
+  image-fewer area image after None few less (inr h) = absurd h
+  image-fewer area image after (Some entry) few less (inr h) =
+      (entry ∷ after, (area, h), (let l = less entry refl in omega (arith, l)))
 
-  images-fewer : (told : Option Cells) (after : List Record) (doubt : Option Record) → after ≢ [] →
+  images-fewer : (area : Area) (told : Option Cells) (after : List Record) (doubt : Option Record) →
       length after ≤ length records + 1 →
       ((entry : Record) → doubt ≡ Some entry → length after ≤ length records) →
-      EachImage told (λ image. StandsOrIsEmpty image after ⊎
-      IsSomeAnd doubt (λ entry. StandsFor image (entry ∷ after))) → EachImage told Fewer
-  images-fewer None after doubt some few less h = tt
-  images-fewer (Some cells) after doubt some few less h =
-      λ image is. image-fewer image after doubt some few less (h image is)
+      EachImage told (λ image. StandsActive image area after ⊎
+      IsSomeAnd doubt (λ entry. StandsActive image area (entry ∷ after))) → EachImage told Fewer
+  images-fewer area None after doubt few less h = tt
+  images-fewer area (Some cells) after doubt few less h =
+      λ image is. image-fewer area image after doubt few less (h image is)
 
   -- a put that was given up has one record in effect
-  given-fewer : EachImage new.disk (λ image. StandsFor image (after_begin records name)) → ⊥
-  given-fewer h = not-fewer (one-more new.disk h)
+  given-fewer : (area : Area) → EachImage new.disk (λ image. StandsActive image area
+      (after_begin records name)) →
+      ⊥
+  given-fewer area h = not-fewer (one-more new.disk h)
     where
       one-more : (told : Option Cells) →
-          EachImage told (λ image. StandsFor image (after_begin records name)) → EachImage told Fewer
+          EachImage told (λ image. StandsActive image area (after_begin records name)) → EachImage told Fewer
       one-more None h = tt
-      one-more (Some cells) h = λ image is. (after_begin records name, h image is, omega arith)
+      one-more (Some cells) h = λ image is. (after_begin records name, (area, h image is), omega arith)
 
-  module _ (seen : List ℕ) (are : AreBytes seen)
-      (begins : refusal_over records (PutJob name seen) own ≡ None)
+  module _ (area : Area) (seen : List ℕ) (are : AreBytes seen)
+      (begins : refusal_over area records (PutJob name seen) own ≡ None)
       (how : Answer)
-      (left : LeftAlone records (PutJob name seen) own how old new end.heard)
+      (left : LeftAlone area records (PutJob name seen) own how old new end.heard)
       (all : MayHaveEnd records left.after left.doubt name (length seen) own → seen ≡ bytes) where
     abbrev x : Ran
     x = ran_left records (PutJob name seen) how old new end.heard left
@@ -130,15 +139,8 @@ module _ (name bytes : List ℕ) (own : Option ℕ) (records : List Record) (spo
         (let size : length x.after ≡ length done + length records = ap length after
         ∙ (let a = length-append (reverse done) records in let b = length-reverse done in
         omega (arith, a, b)) in
-        let some : x.after ≢ [] =
-        (λ none. let e = ap length none in let first = first-record records S.known.opened.read.some in
-        omega (arith, size, e, first)) in
-        not-fewer (images-fewer new.disk x.after x.doubt some (omega (arith, size, few))
+        not-fewer (images-fewer area new.disk x.after x.doubt (omega (arith, size, few))
         (λ entry is. let l = less entry is in omega (arith, size, l)) left.images))
-      where
-        first-record : (rs : List Record) → rs ≢ [] → 1 ≤ length rs
-        first-record [] some = absurd (some refl)
-        first-record (r ∷ rs) some = omega arith
 
     sure-off : (entry : Record) (done : List Record) → x.doubt ≡ None → x.doubt ≡ Some entry → length done ≤ 0
     sure-off entry done sure is = absurd (let e : None ≡ Some entry = sym sure ∙ is in cc)
@@ -151,7 +153,7 @@ module _ (name bytes : List ℕ) (own : Option ℕ) (records : List Record) (spo
     by-answer : (h : Answer) → PutLeaves x own name seen h →
         HasRightFile new (after_put records name (length bytes) own) name bytes spoilt
     by-answer answer.Put L = with-all (all (inl L.0.after)) (stored-file name seen own records spoilt old new
-        (put-in_effect records name seen own begins) are _ _ L.1 tells)
+        (put-in_effect area records name seen own begins) are _ _ L.1 tells)
     by-answer (answer.ProviderFault k) L =
         absurd (let W = L.2 in
         cut-off (PutStart (next_id records) name ∷ []) W.after (omega arith)
@@ -166,7 +168,7 @@ module _ (name bytes : List ℕ) (own : Option ℕ) (records : List Record) (spo
           | inl sure ↦ absurd (cut-off (PutStart (next_id records) name ∷ []) after (omega arith)
               (λ entry is. sure-off entry (PutStart (next_id records) name ∷ []) sure is))
           | inr is ↦ with-all (all (inr is)) (stored-file name seen own records spoilt old new
-              (put-in_effect records name seen own begins) are None (λ j. ⊥) stored tells)
+              (put-in_effect area records name seen own begins) are None (λ j. ⊥) stored tells)
         ]
     by-answer answer.Memory L =
         absurd (let C = L.0 in
@@ -195,8 +197,9 @@ put-in-effect name bytes own records spoilt old new next end (AnswersPut.no_memo
     absurd (refused-not name bytes own records spoilt old new next end S N F tells 70 0 r)
 put-in-effect name bytes own records spoilt old new next end (AnswersPut.given_up rs seen opened known none stops runs left) S source N F tells =
     absurd (given-fewer name bytes own records spoilt old new next end S N F tells
-    (subst (λ l. EachImage new.disk (λ image. StandsFor image (after_begin l name)))
-    (known-once old records rs S.known opened.read) (images-stand new.disk _ _ left.images)))
+    opened.area (subst (λ l. EachImage new.disk (λ image. StandsActive image opened.area
+    (after_begin l name)))
+    (known-once old records rs S.known opened.read) left.images))
 put-in-effect name bytes own records spoilt old new next end (AnswersPut.begun rs seen opened known read few A whole) S source N F tells =
     subst (λ l. HasRightFile new (after_put l name (length bytes) own) name bytes spoilt) once (job A whole)
   where
@@ -213,14 +216,14 @@ put-in-effect name bytes own records spoilt old new next end (AnswersPut.begun r
         is_some (provider_at old.providers j).held ≡ true
     told j l = tells j (subst (λ l. j < (setup_in_effect l).n) once l)
 
-    job : (A : AnswersJob (PutJob name seen) own rs old new end) →
-        (MayBeWhole name seen own rs A → IfSome new.source (λ rest. rest ≡ [])) →
+    job : (A : AnswersJob (PutJob name seen) own opened.area rs old new end) →
+        (MayBeWhole name seen own opened.area rs A → IfSome new.source (λ rest. rest ≡ [])) →
         HasRightFile new (after_put rs name (length bytes) own) name bytes spoilt
     job (AnswersJob.refused why is synced r) all =
         absurd (refused-not name bytes own rs spoilt old new next end sure N found told _ 0 r)
     job (AnswersJob.no_memory synced r) all =
         absurd (refused-not name bytes own rs spoilt old new next end sure N found told 70 0 r)
     job (AnswersJob.ended how none runs left by) all =
-        by-answer name bytes own rs spoilt old new next end sure N found told seen read.are_bytes none how
-        left (λ may. read-all old.source new.source bytes seen source read (all may)) how
+        by-answer name bytes own rs spoilt old new next end sure N found told opened.area seen read.are_bytes
+        none how left (λ may. read-all old.source new.source bytes seen source read (all may)) how
         left.leaves.by_kind.0

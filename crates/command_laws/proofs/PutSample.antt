@@ -1,7 +1,6 @@
 -- A put of the empty file over a store that was set up, from every state that was just opened: four moves,
 -- four moves, and its end.
-use Rattle.std.proofs.Common.{◌≡◌, ℕ, ◌+◌, List, [], ◌∷◌, length, None, true, false, refl, sym, subst, ◌∙◌, inl, arith}
-use Rattle.device_defs.specs.Providers.{Provider}
+use Rattle.std.proofs.Common.{◌≡◌, ℕ, ◌+◌, List, [], ◌∷◌, length, None, refl, subst, ◌∙◌, inl, arith}
 use Rattle.record_defs.specs.Records.{PutStart, PutDone}
 use Rattle.record_defs.specs.Spellings.{spelling}
 use Rattle.record_defs.specs.Areas.{A}
@@ -17,7 +16,7 @@ use Rattle.machine_defs.specs.States.{State, Append, setup_in, going_on, ended}
 use Rattle.command_defs.specs.Forms.{PutUnder}
 use Rattle.command_defs.specs.Lines.{stored_line}
 use Rattle.command_defs.specs.Refusals.{refusal_over}
-use Rattle.opening_defs.specs.Opened.{AreHanded, IsOpenedOver}
+use Rattle.opening_defs.specs.Opened.{AreHanded, IsOpenAtRest}
 use Rattle.command_defs.specs.JobRuns.{AreSteps}
 use Rattle.command_defs.specs.Jobs.{RanAlone, RunsAlone, AnswersJob}
 use Rattle.command_defs.specs.GivenUp.{PartRan, PartRuns}
@@ -29,43 +28,13 @@ use Rattle.job_laws.proofs.Telling.{left-alone, jobs-leave}
 use Rattle.job_laws.proofs.BeginRefusals.{refusal-of}
 use Rattle.job_laws.proofs.Parts.{part-left}
 use Rattle.command_laws.proofs.Chains.{first-begins}
-use Rattle.command_laws.proofs.Samples.{set_up-sure, held-sure, started-sure}
+use Rattle.command_laws.proofs.Samples.{formed_over, form-is, form-rests, form-handed, set_up-sure, held-sure, started-sure}
 
 abbrev pub formed : State → State
-formed w = record w {
-  records = set_up_records;
-  journal = set_up_records;
-  area = A;
-  is_switching = false;
-  jobs = [];
-  next_job = 1;
-  alone = None;
-  append = None;
-  doubt = None;
-  is_open = true;
-  is_barred = false;
-  disk_faults = 0;
-}
+formed w = formed_over set_up_records w
 
--- a state that was just opened over the store that was set up is this one
-pub form-is : (w : State) {ps : List Provider} → IsOpenedOver w set_up_records 0 ps → formed w ≡ w
-form-is w V = sym (λ i. record w {
-  records = V.records i;
-  journal = (V.whole.journal ∙ V.records) i;
-  area = V.whole.area i;
-  is_switching = V.whole.unswitched i;
-  jobs = V.jobs i;
-  next_job = V.next_job i;
-  alone = V.none_alone i;
-  append = V.append i;
-  doubt = V.doubt i;
-  is_open = V.is_open i;
-  is_barred = V.unbarred i;
-  disk_faults = V.faults_are i;
-})
-
-begins-none : refusal_over set_up_records (PutJob held_name []) None ≡ None
-begins-none = first-begins small_setup held_name [] refl (omega arith)
+begins-none : refusal_over A set_up_records (PutJob held_name []) None ≡ None
+begins-none = first-begins A small_setup held_name [] refl (omega arith)
 
 -- the begin of a put of any file and its first four moves
 module _ (w : State) (n : ℕ) (bytes : List ℕ) where
@@ -124,18 +93,17 @@ module _ (w : State) (n : ℕ) (bytes : List ℕ) where
   unfolding moves
   moves-made = (refl, refl)
 
-  pub begins-at : refusal_over set_up_records (PutJob held_name bytes) None ≡ None →
+  pub begins-at : IsOpenAtRest v 1 → refusal_over A set_up_records (PutJob held_name bytes) None ≡ None →
       BeginsAt 8 n v (PutJob held_name bytes) None (Begun 1) s0
-  begins-at begins = (
+  begins-at O begins = (
     refl,
-    refusal-of v (PutJob held_name bytes) None refl refl refl
-        (record { journal = refl; area = refl; unswitched = refl }) ∙ begins,
+    refusal-of v O (PutJob held_name bytes) None ∙ begins,
     refl,
     refl,
   )
 
 -- a put of the empty file goes on with four moves more
-module _ (w : State) (n : ℕ) (H : AreHanded idle_providers (formed w)) where
+module _ (w : State) (n : ℕ) (H : AreHanded idle_providers (formed w)) (O : IsOpenAtRest (formed w) 1) where
   abbrev its : ℕ → Job
   its place = job w n [] 1 place
 
@@ -189,7 +157,7 @@ module _ (w : State) (n : ℕ) (H : AreHanded idle_providers (formed w)) where
     (refl, refl, seven 0, (refl, refl, six 0, (refl, refl, five 0, moves-are w n []))),
   )
 
-  ran-formed : RanAlone set_up_records (PutJob held_name []) None Put (store set_up_records)
+  ran-formed : RanAlone A set_up_records (PutJob held_name []) None Put (store set_up_records)
       (with_sink (store held_records) (stored_line held_name 0)) [] 0 (formed w) n
   unfolding steps moves spelling
   ran-formed = record {
@@ -197,42 +165,44 @@ module _ (w : State) (n : ℕ) (H : AreHanded idle_providers (formed w)) where
     runs = record {
       begun = s0 w n [];
       job = 1;
-      begins = begins-at w n [] begins-none;
+      begins = begins-at w n [] O begins-none;
       goes_on = record { steps = steps; are_steps = steps-are; ends = nine 0; heard_is = refl };
     };
-    images = λ image is. inl (inl (refl, held-sure.images image is));
+    images = λ image is. inl (inl (held-sure.images image is));
     faults_are = refl;
     handed = record { count = H.count; each = H.each };
     past_text = refl;
   }
 
-  part-formed : PartRan set_up_records held_name [] None (store set_up_records) given_up_store 0 (formed w) n
+  part-formed : PartRan A set_up_records held_name [] None (store set_up_records) given_up_store 0
+      (formed w) n
   unfolding moves spelling
   part-formed = record {
     last = s4 w n [];
     runs = record {
       begun = s0 w n [];
       job = 1;
-      begins = begins-at w n [] begins-none;
+      begins = begins-at w n [] O begins-none;
       steps = moves w n [];
       are_steps = moves-are w n [];
       made = refl;
       last = refl;
     };
-    images = λ image is. inl (inl (refl, started-sure.images image is));
+    images = λ image is. inl (inl (started-sure.images image is));
     faults_are = refl;
     handed = record { count = H.count; each = H.each };
     past_text = refl;
   }
 
-put-alone : RunsAlone set_up_records (PutJob held_name []) None Put (store set_up_records)
+put-alone : RunsAlone A set_up_records (PutJob held_name []) None Put (store set_up_records)
     (with_sink (store held_records) (stored_line held_name 0)) []
 put-alone = record {
   faults = 0;
   before = omega arith;
-  ran = λ w n V. subst (λ u. RanAlone set_up_records (PutJob held_name []) None Put (store set_up_records)
-      (with_sink (store held_records) (stored_line held_name 0)) [] 0 u n) (form-is w V)
-      (ran-formed w n (subst (AreHanded idle_providers) (sym (form-is w V)) V.handed));
+  ran = λ w n V. subst (λ u. RanAlone A set_up_records (PutJob held_name []) None Put (store set_up_records)
+      (with_sink (store held_records) (stored_line held_name 0)) [] 0 u n) (form-is set_up_records w refl V)
+      (ran-formed w n (form-handed set_up_records w idle_providers refl V)
+      (form-rests set_up_records w refl V));
 }
 
 -- a put of the empty file is done
@@ -250,13 +220,14 @@ put = AnswersPut.begun set_up_records [] set_up-sure.known.opened refl
     (record { written = inl (refl, refl); place = refl })) (λ may. refl)
 
 -- a put of which a read failed once its start was in effect is given up
-pub part-runs : PartRuns set_up_records held_name [] None (store set_up_records) given_up_store
+pub part-runs : PartRuns A set_up_records held_name [] None (store set_up_records) given_up_store
 part-runs = record {
   faults = 0;
   before = omega arith;
-  ran = λ w n V. subst (λ u. PartRan set_up_records held_name [] None (store set_up_records)
-      given_up_store 0 u n) (form-is w V)
-      (part-formed w n (subst (AreHanded idle_providers) (sym (form-is w V)) V.handed));
+  ran = λ w n V. subst (λ u. PartRan A set_up_records held_name [] None (store set_up_records)
+      given_up_store 0 u n) (form-is set_up_records w refl V)
+      (part-formed w n (form-handed set_up_records w idle_providers refl V)
+      (form-rests set_up_records w refl V));
 }
 
 pub given-up : Answers (PutUnder held_name) (store set_up_records) given_up_store (ends 14)

@@ -1,16 +1,18 @@
 -- However a repair ended: where the next command finds its end in effect, each flagged provider that tells is
 -- right for a file that stood.
-use Rattle.std.proofs.Common.{◌≡◌, ℕ, ◌<◌, ◌≤◌, ◌⊎◌, ◌&&◌, Bool, true, false, not, List, [], ◌∷◌, ◌++◌, length, reverse, Option, None, Some, ap, sym, subst, ◌∙◌, inl, inr, arith, length-append}
-use Rattle.std.specs.Prelude.{is_some, IfSome, IsSomeAnd}
+use Rattle.std.proofs.Common.{◌≡◌, ℕ, ◌<◌, ◌≤◌, ◌&&◌, Bool, true, false, not, List, [], ◌∷◌, ◌++◌, length, reverse, None, Some, ap, subst, inl, inr, arith, length-append}
+use Rattle.std.specs.Prelude.{is_some, IfSome}
 use Rattle.std.proofs.lemmas.Bool.{cases_Bool}
 use Rattle.column_defs.specs.Verdicts.{is_flagged}
-use Rattle.device_defs.specs.Cells.{Cells, reads}
+use Rattle.device_defs.specs.Cells.{reads}
 use Rattle.device_defs.specs.Images.{EachImage}
+use Rattle.device_defs.proofs.Lasting.{each_image-mono}
 use Rattle.record_defs.specs.Records.{Record, RepairDone, largest_journal}
-use Rattle.record_defs.specs.Journal.{StandsFor, StandsOrIsEmpty}
+use Rattle.record_defs.specs.Areas.{Area, StandsActive}
+use Rattle.record_defs.specs.Journal.{StandsFor}
 use Rattle.record_defs.specs.Table.{Due, due_of}
-use Rattle.record_defs.proofs.Standing.{stands-front}
-use Rattle.journal_core.proofs.Meanings.{one_meaning}
+use Rattle.record_defs.proofs.Standing.{active-front}
+use Rattle.journal_core.proofs.Meanings.{one_list}
 use Rattle.machine_defs.specs.Jobs.{RepairJob}
 use Rattle.machine_defs.specs.Answers as answer
 use Rattle.machine_defs.specs.Answers.{Answer}
@@ -25,9 +27,9 @@ use Rattle.command_defs.specs.Commands.{AnswersAlone}
 use Rattle.job_laws.specs.Failing.{bad_seen}
 use Rattle.command_laws.specs.Ends.{IsKnown, after_repair}
 use Rattle.command_laws.specs.After.{is_wrong_or_untold, IsSure, Follows, HasRightFile, IsSteady, spoilt_below}
-use Rattle.command_laws.proofs.Known.{known-once}
+use Rattle.command_laws.proofs.Known.{known-both}
 use Rattle.command_laws.proofs.GetEnds.{shape-at, ran_left}
-use Rattle.command_laws.proofs.JobEnds.{unstarted-refused}
+use Rattle.command_laws.proofs.JobEnds.{unstarted-refused, images-have}
 use Rattle.command_laws.proofs.Anew.{holds-right}
 use Rattle.command_laws.proofs.Afterwards.{sure-refused}
 use Rattle.command_laws.proofs.DoneStores.{next-image}
@@ -56,40 +58,31 @@ module _ (name bytes : List ℕ) (records : List Record) (due : Due) (spoilt : �
   not-before h =
       (let c = next-image new next (tells-back new next N F.tells) N in
       let g : StandsFor (reads c.0) records = c.2 Before h in
-      let looked : (9 < length (reads c.0)) × StandsFor (journal_read c.0) (after_repair records due) =
+      let looked : (9 < length (reads c.0)) × StandsActive (journal_read c.0) F.opened.area
+      (after_repair records due) =
       subst (λ d. IfSome d (λ cells. (9 < length (reads cells)) ×
-      StandsFor (journal_read cells) (after_repair records due))) c.1 F.opened.read.reads_are in
-      let same = one_meaning (reads c.0) records (after_repair records due) g
-      (stands-front largest_journal (reads c.0) (after_repair records due) looked.1) in
+      StandsActive (journal_read cells) F.opened.area (after_repair records due))) c.1
+      F.opened.read.reads_are in
+      let same = one_list (reads c.0) records (after_repair records due) g (
+        F.opened.area,
+        active-front largest_journal (reads c.0) F.opened.area (after_repair records due)
+            looked.1,
+      ) in
       let size = ap length same in
       omega (arith, size))
 
   refused-not : (status at : ℕ) → IsRefused status at old new end → ⊥
-  refused-not status at r = not-before (sure-refused status at records old new end r S).images
+  refused-not status at r = (let T = sure-refused status at records old new end r S in
+      not-before (each_image-mono new.disk _ Before (λ image s. (T.known.opened.area, s)) T.images))
 
-  image-before : (image : List ℕ) (after : List Record) (doubt : Option Record) → after ≡ records →
-      doubt ≡ None → StandsOrIsEmpty image after ⊎ IsSomeAnd doubt
-      (λ entry. StandsFor image (entry ∷ after)) → Before image
-  image-before image after doubt is sure (inl (inl stands)) = subst (StandsFor image) is stands
-  image-before image after doubt is sure (inl (inr empty)) =
-      absurd (S.known.opened.read.some (sym is ∙ empty.0))
-  image-before image after doubt is sure (inr h) =
-      absurd (subst (λ d. IsSomeAnd d (λ entry. StandsFor image (entry ∷ after))) sure h)
-
-  images-before : (told : Option Cells) (after : List Record) (doubt : Option Record) → after ≡ records →
-      doubt ≡ None →
-      EachImage told (λ image. StandsOrIsEmpty image after ⊎
-      IsSomeAnd doubt (λ entry. StandsFor image (entry ∷ after))) → EachImage told Before
-  images-before None after doubt is sure h = tt
-  images-before (Some cells) after doubt is sure h =
-      λ image of. image-before image after doubt is sure (h image of)
-
-  module _ (how : Answer) (left : LeftAlone records RepairJob None how old new end.heard) where
+  module _ (area : Area) (how : Answer)
+      (left : LeftAlone area records RepairJob None how old new end.heard) where
     abbrev x : Ran
     x = ran_left records RepairJob how old new end.heard left
 
     none-more : x.after ≡ records → x.doubt ≡ None → ⊥
-    none-more is sure = not-before (images-before new.disk x.after x.doubt is sure left.images)
+    none-more is sure = not-before (each_image-mono new.disk _ Before (λ image s. (area, s))
+        (images-have area new.disk x.after x.doubt records is sure left.images))
 
     -- where the flagged providers are rewritten
     whole : RewritesAll x (flags x due) → Mended
@@ -143,11 +136,11 @@ module _ (name bytes : List ℕ) (records : List Record) (due : Due) (spoilt : �
         absurd (let C = L.0 in none-more (none-done C.done C.next C.rest C.parts C.after) C.sure)
     by-answer h L = absurd L
 
-  by-job : AnswersJob RepairJob None records old new end → Mended
-  by-job (AnswersJob.refused why is synced r) = absurd (refused-not _ 0 r)
-  by-job (AnswersJob.no_memory synced r) = absurd (refused-not 70 0 r)
-  by-job (AnswersJob.ended how none runs left by) = (let L = left.leaves.by_kind.0 in
-      by-answer how left how
+  by-job : (area : Area) → AnswersJob RepairJob None area records old new end → Mended
+  by-job area (AnswersJob.refused why is synced r) = absurd (refused-not _ 0 r)
+  by-job area (AnswersJob.no_memory synced r) = absurd (refused-not 70 0 r)
+  by-job area (AnswersJob.ended how none runs left by) = (let L = left.leaves.by_kind.0 in
+      by-answer area how left how
       (subst (λ (d : Due). RepairGives (ran_left records RepairJob how old new end.heard left) d how)
       (same_value (due_of records) L.due due L.is_due is_due) L.gives))
 
@@ -156,5 +149,5 @@ module _ (name bytes : List ℕ) (records : List Record) (due : Due) (spoilt : �
   repair-in-effect (AnswersAlone.unstarted u) =
       absurd (let r = unstarted-refused old new end u in refused-not r.0 r.1 r.3)
   repair-in-effect (AnswersAlone.begun rs opened A) =
-      by-job (subst (λ l. AnswersJob RepairJob None l old new end)
-      (known-once old records rs S.known opened.read) A)
+      by-job S.known.opened.area (known-both old records rs S.known opened
+      (λ a l. AnswersJob RepairJob None a l old new end) A)

@@ -1,5 +1,5 @@
 -- A repair of a store with no file, from every state that was just opened: four moves, and its end.
-use Rattle.std.proofs.Common.{◌≡◌, ℕ, ◌+◌, true, false, List, [], ◌∷◌, None, refl, sym, subst, ◌∙◌, inl, arith}
+use Rattle.std.proofs.Common.{ℕ, ◌+◌, List, [], ◌∷◌, None, refl, subst, inl, arith}
 use Rattle.record_defs.specs.Records.{RepairDone}
 use Rattle.record_defs.specs.Spellings.{spelling}
 use Rattle.record_defs.specs.Areas.{A}
@@ -13,7 +13,7 @@ use Rattle.machine_defs.specs.Machine.{Happens}
 use Rattle.machine_defs.specs.Runs.{Moment}
 use Rattle.machine_defs.specs.States.{State, Append, setup_in, going_on, ended}
 use Rattle.command_defs.specs.Forms.{RepairDue}
-use Rattle.opening_defs.specs.Opened.{AreHanded, IsOpenedOver}
+use Rattle.opening_defs.specs.Opened.{AreHanded, IsOpenAtRest}
 use Rattle.command_defs.specs.JobRuns.{AreSteps}
 use Rattle.command_defs.specs.Jobs.{RanAlone, RunsAlone, AnswersJob}
 use Rattle.command_defs.specs.Commands.{AnswersAlone, Answers}
@@ -23,49 +23,20 @@ use Rattle.lone_laws.specs.Walked.{MayName}
 use Rattle.command_laws.specs.Instances.{store, idle_providers, due_records, repaired_records, repaired_store, ends}
 use Rattle.job_laws.proofs.Telling.{left-alone, jobs-leave}
 use Rattle.job_laws.proofs.BeginRefusals.{refusal-of}
-use Rattle.command_laws.proofs.Samples.{store-sure}
+use Rattle.command_laws.proofs.Samples.{formed_over, form-is, form-rests, form-handed, store-sure}
 
 -- the store of the sample with a repair due is sure
-pub due-sure : IsSure (store due_records) due_records
+abbrev pub due-sure : IsSure (store due_records) due_records
 due-sure = store-sure due_records (λ e. cc) refl (refl, (refl, (refl, tt))) (omega arith) (omega arith)
 
-repaired-sure : IsSure (store repaired_records) repaired_records
+abbrev repaired-sure : IsSure (store repaired_records) repaired_records
 repaired-sure = store-sure repaired_records (λ e. cc) refl (refl, (refl, (refl, (refl, tt)))) (omega arith)
     (omega arith)
 
 abbrev formed : State → State
-formed w = record w {
-  records = due_records;
-  journal = due_records;
-  area = A;
-  is_switching = false;
-  jobs = [];
-  next_job = 1;
-  alone = None;
-  append = None;
-  doubt = None;
-  is_open = true;
-  is_barred = false;
-  disk_faults = 0;
-}
+formed w = formed_over due_records w
 
-form-is : (w : State) → IsOpenedOver w due_records 0 idle_providers → formed w ≡ w
-form-is w V = sym (λ i. record w {
-  records = V.records i;
-  journal = (V.whole.journal ∙ V.records) i;
-  area = V.whole.area i;
-  is_switching = V.whole.unswitched i;
-  jobs = V.jobs i;
-  next_job = V.next_job i;
-  alone = V.none_alone i;
-  append = V.append i;
-  doubt = V.doubt i;
-  is_open = V.is_open i;
-  is_barred = V.unbarred i;
-  disk_faults = V.faults_are i;
-})
-
-module _ (w : State) (n : ℕ) (H : AreHanded idle_providers (formed w)) where
+module _ (w : State) (n : ℕ) (H : AreHanded idle_providers (formed w)) (O : IsOpenAtRest (formed w) 1) where
   abbrev v : State
   v = formed w
 
@@ -123,7 +94,7 @@ module _ (w : State) (n : ℕ) (H : AreHanded idle_providers (formed w)) where
   unfolding steps
   steps-are = (refl, refl, four 0, (refl, refl, three 0, (refl, refl, two 0, (refl, refl, one 0, tt))))
 
-  ran-formed : RanAlone due_records RepairJob None (Repaired 1) (store due_records) repaired_store [] 0 v n
+  ran-formed : RanAlone A due_records RepairJob None (Repaired 1) (store due_records) repaired_store [] 0 v n
   unfolding steps spelling
   ran-formed = record {
     last = s5;
@@ -132,27 +103,27 @@ module _ (w : State) (n : ℕ) (H : AreHanded idle_providers (formed w)) where
       job = 1;
       begins = (
         refl,
-        refusal-of v RepairJob None refl refl refl
-            (record { journal = refl; area = refl; unswitched = refl }),
+        refusal-of v O RepairJob None,
         refl,
         refl,
       );
       goes_on = record { steps = steps; are_steps = steps-are; ends = five 0; heard_is = refl };
     };
-    images = λ image is. inl (inl (refl, repaired-sure.images image is));
+    images = λ image is. inl (inl (repaired-sure.images image is));
     faults_are = refl;
     handed = record { count = H.count; each = H.each };
     past_text = refl;
   }
 
-repair-alone : RunsAlone due_records RepairJob None (Repaired 1) (store due_records) repaired_store []
+repair-alone : RunsAlone A due_records RepairJob None (Repaired 1) (store due_records) repaired_store []
 repair-alone = record {
   faults = 0;
   before = omega arith;
-  ran = λ w n V. subst (λ u. RanAlone due_records RepairJob None (Repaired 1)
+  ran = λ w n V. subst (λ u. RanAlone A due_records RepairJob None (Repaired 1)
       (store due_records) repaired_store
-      [] 0 u n) (form-is w V)
-      (ran-formed w n (subst (AreHanded idle_providers) (sym (form-is w V)) V.handed));
+      [] 0 u n) (form-is due_records w refl V)
+      (ran-formed w n (form-handed due_records w idle_providers refl V)
+      (form-rests due_records w refl V));
 }
 
 -- a repair of the store with no file is done

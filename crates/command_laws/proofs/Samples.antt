@@ -5,17 +5,18 @@ use Rattle.std.specs.List.{list_all, flat_map}
 use Rattle.std.proofs.lemmas.Bool.{cases_Bool}
 use Rattle.code_defs.specs.Points.{upto}
 use Rattle.column_defs.specs.Objects.{stripes}
-use Rattle.device_defs.specs.Cells.{reads, firm}
+use Rattle.device_defs.specs.Cells.{firm}
 use Rattle.device_defs.specs.Disks.{synced}
 use Rattle.device_defs.specs.Faults.{Rose, last_count}
 use Rattle.device_defs.proofs.Lasting.{reads-firm, image-firm}
-use Rattle.record_defs.specs.Records.{Record, is_in_grammar, largest_journal}
-use Rattle.record_defs.specs.Journal.{text, text_size}
-use Rattle.record_defs.specs.Table.{File, files_of, file_as, is_start_of}
+use Rattle.device_defs.specs.Providers.{Provider}
+use Rattle.record_defs.specs.Records.{Record, is_in_grammar, is_appended, largest_journal}
+use Rattle.record_defs.specs.Journal.{text}
+use Rattle.record_defs.specs.Table.{File, files_of, file_of, file_as, is_start_of}
 use Rattle.record_defs.specs.Acceptance.{AreAccepted}
-use Rattle.record_defs.proofs.Standing.{stands-text}
+use Rattle.record_defs.proofs.AreaLaws.{text-active}
 use Rattle.machine_defs.specs.Actions.{Action, End, open_actions, actions_of}
-use Rattle.record_defs.specs.Areas.{A}
+use Rattle.record_defs.specs.Areas.{A, end_in, StandsActive}
 use Rattle.machine_defs.specs.Answers.{Got}
 use Rattle.machine_defs.specs.Begins.{new_job}
 use Rattle.machine_defs.specs.Events.{Step, Ended}
@@ -30,7 +31,7 @@ use Rattle.command_defs.specs.Forms.{GetOf, ListAll}
 use Rattle.command_defs.specs.Lines.{list_lines}
 use Rattle.command_defs.specs.Opens.{IsOpened, setup_in_effect}
 use Rattle.command_defs.specs.Seen.{IsRefused, NoCountFalls, provider_at}
-use Rattle.opening_defs.specs.Opened.{AreHanded, IsOpenedOver}
+use Rattle.opening_defs.specs.Opened.{AreHanded, IsOpenAtRest, IsJustOpened}
 use Rattle.command_defs.specs.Jobs.{RanAlone, RunsAlone, AnswersJob}
 use Rattle.command_defs.specs.Commands.{AnswersAlone, AnswersList, Answers}
 use Rattle.command_laws.specs.Ends.{AreSafe}
@@ -48,34 +49,35 @@ use Rattle.job_laws.proofs.BeginRefusals.{refusal-of}
 -- ---- the store
 
 -- a store whose disk reads accepted records that fit is sure
-pub store-sure : (rs : List Record) → rs ≢ [] → IsTrue (list_all is_in_grammar rs) → AreAccepted rs →
-    text_size rs ≤ largest_journal → (setup_in_effect rs).n ≤ 4 → IsSure (store rs) rs
+abbrev pub store-sure : (rs : List Record) → rs ≢ [] → IsTrue (list_all is_in_grammar rs) → AreAccepted rs →
+    end_in A rs ≤ largest_journal → (setup_in_effect rs).n ≤ 4 → IsSure (store rs) rs
 store-sure rs some all accepted room few = record {
-  known = known-good (setup_in_effect rs) (store rs) (firm (text rs)) rs refl
+  known = known-good (setup_in_effect rs) (store rs) (firm (text rs)) A rs refl
       (record {
         some = some;
         accepted = accepted;
         room = room;
         setup = refl;
-        stands = stands-text rs all (reads (firm (text rs))) (reads-firm (text rs));
+        stands = subst (λ image. StandsActive image A rs) (sym (reads-firm (text rs))) (text-active rs all);
       }) few;
-  images = λ image is. stands-text rs all image (image-firm (text rs) image is);
+  images = λ image is. subst (λ bytes. StandsActive bytes A rs) (sym (image-firm (text rs) image is))
+      (text-active rs all);
 }
 
 -- the store that was set up is sure
-pub set_up-sure : IsSure (store set_up_records) set_up_records
+abbrev pub set_up-sure : IsSure (store set_up_records) set_up_records
 set_up-sure = store-sure set_up_records (λ e. cc) refl (refl, tt)
-    (let e : text_size set_up_records ≡ 51 = refl in omega (arith, e)) (omega arith)
+    (let e : end_in A set_up_records ≡ 51 = refl in omega (arith, e)) (omega arith)
 
 -- so is the one after the first record of the put
-pub started-sure : IsSure (store started_records) started_records
+abbrev pub started-sure : IsSure (store started_records) started_records
 started-sure = store-sure started_records (λ e. cc) refl (refl, (refl, tt))
-    (let e : text_size started_records ≡ 63 = refl in omega (arith, e)) (omega arith)
+    (let e : end_in A started_records ≡ 63 = refl in omega (arith, e)) (omega arith)
 
 -- the store with the empty file is sure
-pub held-sure : IsSure (store held_records) held_records
+abbrev pub held-sure : IsSure (store held_records) held_records
 held-sure = store-sure held_records (λ e. cc) refl (refl, (refl, (refl, tt)))
-    (let e : text_size held_records ≡ 77 = refl in omega (arith, e)) (omega arith)
+    (let e : end_in A held_records ≡ 77 = refl in omega (arith, e)) (omega arith)
 
 -- the file has no stripes
 no-stripe : (t : ℕ) → t < stripes (object_of small_setup 1) 0 → ⊥
@@ -147,11 +149,11 @@ never-seen (suc (suc (suc (suc j)))) rose = never-rises 0 (omega arith) rose
 
 -- ---- a get of the empty file, from every state that was just opened
 
--- a state that was opened over it, by its parts
-abbrev pub formed : State → State
-formed w = record w {
-  records = held_records;
-  journal = held_records;
+-- a state that was opened over these records, by its parts
+abbrev pub formed_over : List Record → State → State
+formed_over rs w = record w {
+  records = rs;
+  journal = rs;
   area = A;
   is_switching = false;
   jobs = [];
@@ -164,22 +166,48 @@ formed w = record w {
   disk_faults = 0;
 }
 
+-- where none of them is packed they are the whole history
+pub history-is : (rs : List Record) (w : State) {ps : List Provider} → IsTrue (list_all is_appended rs) →
+    IsJustOpened w A rs 1 0 ps → w.records ≡ rs
+history-is rs w appended V = sym (V.at_rest.rest.journal.whole
+    (subst (λ l. IsTrue (list_all is_appended l)) (sym V.journal) appended)) ∙ V.journal
+
 -- so is each that was
-pub form-is : (w : State) → IsOpenedOver w held_records 0 idle_providers → formed w ≡ w
-form-is w V = sym (λ i. record w {
-  records = V.records i;
-  journal = (V.whole.journal ∙ V.records) i;
-  area = V.whole.area i;
-  is_switching = V.whole.unswitched i;
-  jobs = V.jobs i;
-  next_job = V.next_job i;
-  alone = V.none_alone i;
-  append = V.append i;
-  doubt = V.doubt i;
-  is_open = V.is_open i;
-  is_barred = V.unbarred i;
+pub form-is : (rs : List Record) (w : State) {ps : List Provider} → IsTrue (list_all is_appended rs) →
+    IsJustOpened w A rs 1 0 ps → formed_over rs w ≡ w
+form-is rs w appended V = (let history = history-is rs w appended V in sym (λ i. record w {
+  records = history i;
+  journal = V.journal i;
+  area = V.area_is i;
+  is_switching = V.at_rest.rest.unswitched i;
+  jobs = V.at_rest.rest.idle.0 i;
+  next_job = V.at_rest.next i;
+  alone = V.at_rest.rest.idle.3 i;
+  append = V.at_rest.rest.idle.1 i;
+  doubt = V.at_rest.rest.undoubted i;
+  is_open = V.at_rest.opened i;
+  is_barred = V.at_rest.rest.idle.2 i;
   disk_faults = V.faults_are i;
-})
+}))
+
+-- it is at rest, with the providers handed in
+pub form-rests : (rs : List Record) (w : State) {ps : List Provider} → IsTrue (list_all is_appended rs) →
+    IsJustOpened w A rs 1 0 ps → IsOpenAtRest (formed_over rs w) 1
+form-rests rs w appended V = subst (λ u. IsOpenAtRest u 1) (sym (form-is rs w appended V)) V.at_rest
+
+pub form-handed : (rs : List Record) (w : State) (ps : List Provider) → IsTrue (list_all is_appended rs) →
+    IsJustOpened w A rs 1 0 ps → AreHanded ps (formed_over rs w)
+form-handed rs w ps appended V = subst (AreHanded ps) (sym (form-is rs w appended V)) V.handed
+
+-- the state over the store with the file
+abbrev pub formed : State → State
+formed w = formed_over held_records w
+
+-- in which the file has no bytes
+pub file-empty : (w : State) → IsJustOpened w A held_records 1 0 idle_providers → length (w.bytes 1) ≡ 0
+file-empty w V = (V.at_rest.rest.files held_name (file_as held_name 1 0 0)
+    (subst (λ l. file_of l held_name ≡ Some (file_as held_name 1 0 0))
+    (sym (history-is held_records w refl V)) refl)).1
 
 -- a get of a file with no bytes has its end left alone
 abbrev get_actions : ℕ → List Action
@@ -208,38 +236,36 @@ module _ (w : State) (n : ℕ) (H : AreHanded idle_providers (formed w)) (empty 
   ends-here = subst (λ a. StepsOn begun job a (Ended (Got [])) (ended begun job))
       (sym (next-end (length (w.bytes 1)) empty)) (nothing-given (length (w.bytes 1)) _ empty, refl)
 
-  ran-formed : RanAlone held_records (GetJob held_name) None (Got []) (store held_records)
-      (store held_records)
-      [] 0 v n
-  ran-formed = record {
+  ran-formed : IsOpenAtRest v 1 → RanAlone A held_records (GetJob held_name) None (Got [])
+      (store held_records) (store held_records) [] 0 v n
+  ran-formed O = record {
     last = ended begun job;
     runs = record {
       begun = begun;
       job = 1;
       begins = (
         refl,
-        refusal-of v (GetJob held_name) None refl refl refl
-            (record { journal = refl; area = refl; unswitched = refl }),
+        refusal-of v O (GetJob held_name) None,
         refl,
         refl,
       );
       goes_on = record { steps = []; are_steps = tt; ends = ends-here; heard_is = refl };
     };
-    images = λ image is. inl (inl (refl, held-sure.images image is));
+    images = λ image is. inl (inl (held-sure.images image is));
     faults_are = refl;
     handed = record { count = H.count; each = H.each };
     past_text = refl;
   }
 
-got-alone : RunsAlone held_records (GetJob held_name) None (Got []) (store held_records)
+got-alone : RunsAlone A held_records (GetJob held_name) None (Got []) (store held_records)
     (store held_records) []
 got-alone = record {
   faults = 0;
   before = omega arith;
-  ran = λ w n V. subst (λ u. RanAlone held_records (GetJob held_name) None (Got []) (store held_records)
-      (store held_records) [] 0 u n) (form-is w V)
-      (ran-formed w n (subst (AreHanded idle_providers) (sym (form-is w V)) V.handed)
-      (V.bytes held_name (file_as held_name 1 0 0) refl).1);
+  ran = λ w n V. subst (λ u. RanAlone A held_records (GetJob held_name) None (Got []) (store held_records)
+      (store held_records) [] 0 u n) (form-is held_records w refl V)
+      (ran-formed w n (form-handed held_records w idle_providers refl V) (file-empty w V)
+      (form-rests held_records w refl V));
 }
 
 -- ---- commands over it
@@ -248,7 +274,7 @@ got-alone = record {
 pub same-disk : (rs : List Record) → Some (firm (text rs)) ≡ Some (synced (firm (text rs)))
 same-disk rs = ap (λ bytes. Some (firm bytes)) (sym (reads-firm (text rs)))
 
-opened : IsOpened (store held_records) held_records
+abbrev opened : IsOpened (store held_records) held_records
 opened = held-sure.known.opened
 
 -- a get of the empty file is done

@@ -8,8 +8,8 @@ use Rattle.device_defs.specs.Faults.{Rose}
 use Rattle.device_defs.specs.Images.{EachImage}
 use Rattle.device_defs.proofs.Lasting.{image-firm}
 use Rattle.record_defs.specs.Records.{Record, largest_journal}
-use Rattle.record_defs.specs.Journal.{StandsFor}
-use Rattle.record_defs.proofs.Standing.{stands-front}
+use Rattle.record_defs.specs.Areas.{Area, StandsActive}
+use Rattle.record_defs.proofs.Standing.{active-front}
 use Rattle.machine_defs.specs.Answers as answer
 use Rattle.machine_defs.specs.Answers.{Answer}
 use Rattle.command_defs.specs.Forms.{ScrubAll}
@@ -35,13 +35,14 @@ abbrev pub scrub_left : (records : List Record) (how : Answer) (old new : Seen) 
 scrub_left records how old new left = ran_alone records old new [] left.faults records None
 
 -- each image of a disk that was synced stands for the records that it read
-pub synced-has : (records : List Record) (a b : Option Cells) → b ≡ option_map synced a → IsRead a records →
-    EachImage b (λ image. StandsFor image records)
-synced-has records None b is R = subst (λ d. EachImage d (λ image. StandsFor image records)) (sym is) tt
-synced-has records (Some c) b is R =
-    subst (λ d. EachImage d (λ image. StandsFor image records)) (sym is)
-    (λ image of. subst (λ bytes. StandsFor bytes records) (sym (image-firm (reads c) image of))
-    (stands-front largest_journal (reads c) records R.reads_are.1))
+pub synced-has : (area : Area) (records : List Record) (a b : Option Cells) → b ≡ option_map synced a →
+    IsRead a area records → EachImage b (λ image. StandsActive image area records)
+synced-has area records None b is R =
+    subst (λ d. EachImage d (λ image. StandsActive image area records)) (sym is) tt
+synced-has area records (Some c) b is R =
+    subst (λ d. EachImage d (λ image. StandsActive image area records)) (sym is)
+    (λ image of. subst (λ bytes. StandsActive bytes area records) (sym (image-firm (reads c) image of))
+    (active-front largest_journal (reads c) area records R.reads_are.1))
 
 module _ (records : List Record) (old new : Seen) (end : Ending) (opened : IsOpened old records)
     (sync : IsSynced old new) where
@@ -58,7 +59,7 @@ module _ (records : List Record) (old new : Seen) (end : Ending) (opened : IsOpe
     opened = opened;
     told = by;
     synced = sync;
-    disk = synced-has records old.disk new.disk sync opened.read;
+    disk = synced-has opened.area records old.disk new.disk sync opened.read;
     swept = record {
       gave = L.gave;
       rows = L.rows;
@@ -91,7 +92,7 @@ module _ (records : List Record) (old new : Seen) (end : Ending) (opened : IsOpe
         rose = subst (λ k. Rose (provider_at old.providers k).store_faults
             (provider_at new.providers k).store_faults) (sym by.place) L.1;
         sink = by.sink;
-        disk = synced-has records old.disk new.disk sync opened.read;
+        disk = synced-has opened.area records old.disk new.disk sync opened.read;
         part = record {
           done = S.done;
           rest = S.rest;
@@ -127,7 +128,7 @@ module _ (records : List Record) (old new : Seen) (end : Ending) (opened : IsOpe
           loses = L.loses;
         });
     sink = by.sink;
-    disk = synced-has records old.disk new.disk sync opened.read;
+    disk = synced-has opened.area records old.disk new.disk sync opened.read;
   })
   loses-by (answer.Scrubbed stripes symbols blocks) left L by is =
       absurd (written-own 4 _ old new end by.written is (inr refl))

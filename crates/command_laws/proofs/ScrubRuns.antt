@@ -82,10 +82,10 @@ run-stays w moment how new none R =
     last.1 ∙ (walk.1 ∙ handed))
 
 -- after a scrub that ran alone as many providers are handed in
-pub scrub-handed : (records : List Record) (how : Answer) (old new : Seen) → IsOpened old records →
-    ScrubsAlone records how old new → length new.providers ≡ length old.providers
+pub scrub-handed : (records : List Record) (how : Answer) (old new : Seen) → (opened : IsOpened old records) →
+    ScrubsAlone opened.area records how old new → length new.providers ≡ length old.providers
 scrub-handed records how old new O A =
-    (let w : State = opened_state records A.faults old.providers in
-    let V = state-over records A.faults old.providers O.read.accepted in
+    (let w : State = opened_state O.area records A.faults old.providers in
+    let V = state-over records A.faults old O in
     let ran : RanScrub records how old new A.faults w 1 = A.ran w 1 V in
-    sym ran.handed.count ∙ (run-stays w 1 how ran.last V.jobs ran.runs ∙ V.handed.count))
+    sym ran.handed.count ∙ (run-stays w 1 how ran.last V.at_rest.rest.idle.0 ran.runs ∙ V.handed.count))

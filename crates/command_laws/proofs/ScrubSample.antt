@@ -3,7 +3,7 @@ use Rattle.std.proofs.Common.{◌≡◌, ℕ, ◌+◌, List, [], ◌∷◌, ◌+
 use Rattle.std.specs.Prelude.{IfSome}
 use Rattle.device_defs.specs.Providers.{Held}
 use Rattle.device_defs.specs.Told.{Goes}
-use Rattle.record_defs.specs.Table.{file_as}
+use Rattle.record_defs.specs.Areas.{A}
 use Rattle.machine_defs.specs.Actions.{Action, End, on_each_stripe, open_actions}
 use Rattle.machine_defs.specs.Alone.{StepsScrub, new_scrub, unalone}
 use Rattle.machine_defs.specs.Answers.{Answer, Scrubbed}
@@ -16,8 +16,8 @@ use Rattle.command_defs.specs.Ran.{Ran, ran_alone}
 use Rattle.command_defs.specs.Scrubs.{RanScrub, ScrubsAlone, ScrubbedAlone, AnswersScrub}
 use Rattle.command_defs.specs.Commands.{Answers}
 use Rattle.opening_defs.specs.Opened.{AreHanded}
-use Rattle.command_laws.specs.Instances.{store, small_setup, idle_providers, held_name, held_records, no_counts, scrubbed_store, ends}
-use Rattle.command_laws.proofs.Samples.{held-sure, formed, form-is, same-disk}
+use Rattle.command_laws.specs.Instances.{store, small_setup, idle_providers, held_records, no_counts, scrubbed_store, ends}
+use Rattle.command_laws.proofs.Samples.{held-sure, formed, form-is, form-handed, file-empty, same-disk}
 
 -- nothing differs
 abbrev none_off : Answer
@@ -57,19 +57,18 @@ module _ (w : State) (n : ℕ) (H : AreHanded idle_providers (formed w)) (empty 
       begins = (refl, refl, refl, refl);
       goes_on = record { steps = []; are_steps = tt; ends = ends-here; heard_is = refl };
     };
-    images = λ image is. inl (inl (refl, held-sure.images image is));
+    images = λ image is. inl (inl (held-sure.images image is));
     faults_are = refl;
     handed = record { count = H.count; each = H.each };
   }
 
-scrubs-alone : ScrubsAlone held_records none_off (store held_records) scrubbed_store
+scrubs-alone : ScrubsAlone A held_records none_off (store held_records) scrubbed_store
 scrubs-alone = record {
   faults = 0;
   before = omega arith;
   ran = λ w n V. subst (λ u. RanScrub held_records none_off (store held_records) scrubbed_store 0 u n)
-      (form-is w V)
-      (ran-formed w n (subst (AreHanded idle_providers) (sym (form-is w V)) V.handed)
-      (V.bytes held_name (file_as held_name 1 0 0) refl).1);
+      (form-is held_records w refl V)
+      (ran-formed w n (form-handed held_records w idle_providers refl V) (file-empty w V));
 }
 
 -- ---- what it leaves

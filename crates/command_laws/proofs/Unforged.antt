@@ -15,6 +15,7 @@ use Rattle.column_defs.specs.Forgeries.{is_agreeing, IsForgery}
 use Rattle.column_laws.proofs.Counts.{count_of-within, opens-at}
 use Rattle.column_laws.proofs.OtherRows.{forgery-of_other}
 use Rattle.record_defs.specs.Records.{Record}
+use Rattle.record_defs.specs.Areas.{Area}
 use Rattle.record_defs.specs.Table.{File, file_of}
 use Rattle.machine_defs.specs.Jobs.{GetJob, Given, Fetched, Answered, Worked}
 use Rattle.machine_defs.specs.Given.{block_given, blocks_given}
@@ -174,7 +175,7 @@ module _ (name bytes : List ℕ) (records : List Record) (file : File) (old new 
       by_gives (answer.Lost stripe row) G = stripes-right x file bytes fits how_few (stripe + 1) G.hears F
       by_gives how G = G
 
-  job-unforged : AnswersJob (GetJob name) None records old new end → Forged → ⊥
+  job-unforged : {area : Area} → AnswersJob (GetJob name) None area records old new end → Forged → ⊥
   job-unforged (AnswersJob.refused why is synced r) F = silent r.heard F
   job-unforged (AnswersJob.no_memory synced r) F = silent r.heard F
   job-unforged (AnswersJob.ended how none runs left by) F =

@@ -5,18 +5,20 @@ use Rattle.std.proofs.lemmas.Bool.{false≢true}
 use Rattle.device_defs.specs.Cells.{Cells}
 use Rattle.device_defs.specs.Faults.{Rose}
 use Rattle.record_defs.specs.Records.{Record}
+use Rattle.record_defs.specs.Areas.{Area}
 use Rattle.record_defs.specs.Reading.{HasNoSetup}
 use Rattle.machine_defs.specs.Jobs.{Kind, GetJob, DropJob, AuditJob, RepairJob, UpgradeJob}
-use Rattle.command_defs.specs.Forms.{Command, RowOf, InitWith, PutUnder, PutAt, GetOf, DropOf, ListAll, AuditAll, RepairDue, UpgradeJournal, ScrubAll}
+use Rattle.command_defs.specs.Forms.{Command, RowOf, InitWith, PutUnder, PutAt, GetOf, DropOf, ListAll, AuditAll, RepairDue, UpgradeJournal, ScrubAll, PackJournal}
 use Rattle.command_defs.specs.Sinking.{WritesLine}
 use Rattle.command_defs.specs.Seen.{Seen, Ending, sinking}
 use Rattle.opening_defs.specs.Journals.{journal_read, IsRead, IsBadStart}
 use Rattle.command_defs.specs.Opens.{IsOpened, Unstarted, setup_in_effect}
 use Rattle.command_defs.specs.Scrubs.{AnswersScrub}
+use Rattle.command_defs.specs.Packs.{AnswersPack}
 use Rattle.command_defs.specs.Commands.{AnswersPut, AnswersAlone, AnswersList, Answers}
 use Rattle.command_laws.specs.Ends.{opens_store}
 use Rattle.opening_defs.proofs.Readings.{read-once, read-set_up, read-good, fresh-good, bad-once}
-use Rattle.command_laws.proofs.Known.{is_unopened, ended-opened, status-ended, job-opened}
+use Rattle.command_laws.proofs.Known.{is_unopened, refused-opened, ended-opened, status-ended, job-opened}
 use Rattle.command_laws.proofs.JobEnds.{given-status}
 
 -- how a command goes that looks at a store: it is not started, or it has a status of its own, over records
@@ -67,6 +69,14 @@ scrub-opening old new end (AnswersScrub.no_memory records opened synced r) = Ope
 scrub-opening old new end (AnswersScrub.ended records how opened synced heard runs left by) =
     Opening.over records opened (ended-opened end.status (status-ended _ how old new end by))
 
+pack-opening : (old new : Seen) (end : Ending) → AnswersPack old new end → Opening old new end
+pack-opening old new end (AnswersPack.unstarted u) = Opening.before u
+pack-opening old new end (AnswersPack.refused records why opened is synced r) =
+    Opening.over records opened (ap is_unopened r.status_is ∙ refused-opened why)
+pack-opening old new end (AnswersPack.no_memory records opened synced r) = Opening.no_room r.status_is
+pack-opening old new end (AnswersPack.ended records how opened none heard runs left by) =
+    Opening.over records opened (ended-opened end.status (status-ended _ how old new end by))
+
 opening-of : (command : Command) (old new : Seen) (end : Ending) → Answers command old new end →
     opens_store command ≡ true → Opening old new end
 opening-of (RowOf n l b seen) old new end A opens = absurd (false≢true opens)
@@ -80,6 +90,7 @@ opening-of AuditAll old new end A opens = alone-opening AuditJob old new end A.0
 opening-of RepairDue old new end A opens = alone-opening RepairJob old new end A.0
 opening-of UpgradeJournal old new end A opens = alone-opening UpgradeJob old new end A.0
 opening-of ScrubAll old new end A opens = scrub-opening old new end A.0
+opening-of PackJournal old new end A opens = pack-opening old new end A.0
 
 status-not : (status n m : ℕ) → status ≡ n → status ≡ m → (n ≡ m → ⊥) → ⊥
 status-not status n m is also differ = differ (sym is ∙ also)
@@ -94,7 +105,7 @@ unset-only cells old new end tells (Opening.before (Unstarted.disk_fault rose r)
     absurd (status-not end.status 12 9 r.status_is nine (λ e. omega (arith, e)))
 unset-only cells old new end tells (Opening.before (Unstarted.bad_journal at is r)) nine =
     absurd (status-not end.status 8 9 r.status_is nine (λ e. omega (arith, e)))
-unset-only cells old new end tells (Opening.before (Unstarted.too_few_providers records read few synced r)) nine =
+unset-only cells old new end tells (Opening.before (Unstarted.too_few_providers area records read few synced r)) nine =
     absurd (status-not end.status 22 9 r.status_is nine (λ e. omega (arith, e)))
 unset-only cells old new end tells (Opening.before (Unstarted.no_memory r)) nine =
     absurd (status-not end.status 70 9 r.status_is nine (λ e. omega (arith, e)))
@@ -112,7 +123,7 @@ bad-only cells old new end tells (Opening.before (Unstarted.disk_fault rose r)) 
     absurd (status-not end.status 12 8 r.status_is eight (λ e. omega (arith, e)))
 bad-only cells old new end tells (Opening.before (Unstarted.not_set_up is sync r)) eight =
     absurd (status-not end.status 9 8 r.status_is eight (λ e. omega (arith, e)))
-bad-only cells old new end tells (Opening.before (Unstarted.too_few_providers records read few synced r)) eight =
+bad-only cells old new end tells (Opening.before (Unstarted.too_few_providers area records read few synced r)) eight =
     absurd (status-not end.status 22 8 r.status_is eight (λ e. omega (arith, e)))
 bad-only cells old new end tells (Opening.before (Unstarted.no_memory r)) eight =
     absurd (status-not end.status 70 8 r.status_is eight (λ e. omega (arith, e)))
@@ -122,9 +133,10 @@ bad-only cells old new end tells (Opening.over records opened other) eight =
     absurd (false≢true (sym other ∙ ap is_unopened eight))
 
 few-only : (old new : Seen) (end : Ending) → Opening old new end → end.status ≡ 22 →
-    (records : List Record) × IsRead old.disk records × (length old.providers < (setup_in_effect records).n)
-few-only old new end (Opening.before (Unstarted.too_few_providers records read few synced r)) is =
-    (records, read, few)
+    (area : Area) × (records : List Record) × IsRead old.disk area records
+    × (length old.providers < (setup_in_effect records).n)
+few-only old new end (Opening.before (Unstarted.too_few_providers area records read few synced r)) is =
+    (area, records, read, few)
 few-only old new end (Opening.before (Unstarted.disk_fault rose r)) is =
     absurd (status-not end.status 12 22 r.status_is is (λ e. omega (arith, e)))
 few-only old new end (Opening.before (Unstarted.not_set_up fresh sync r)) is =
@@ -142,8 +154,9 @@ few-only old new end (Opening.over records opened other) is =
 
 module _ (cells : Cells) (old new : Seen) (end : Ending) (tells : old.disk ≡ Some cells)
     (calm : Rose old.disk_faults new.disk_faults → ⊥) where
-  told-read : (records : List Record) → IsRead old.disk records → IsRead (Some cells) records
-  told-read records R = subst (λ d. IsRead d records) tells R
+  told-read : (area : Area) (records : List Record) → IsRead old.disk area records →
+      IsRead (Some cells) area records
+  told-read area records R = subst (λ d. IsRead d area records) tells R
 
   unset-always : HasNoSetup (journal_read cells) → Opening old new end → (end.status ≡ 9) ⊎ (end.status ≡ 70)
   unset-always fresh (Opening.before (Unstarted.disk_fault rose r)) = absurd (calm rose)
@@ -153,12 +166,12 @@ module _ (cells : Cells) (old new : Seen) (end : Ending) (tells : old.disk ≡ S
       subst (λ d. IfSome d (λ c. (9 < length (journal_read c)) × IsBadStart (journal_read c) at)) tells
       is in
       fresh-good (journal_read cells) at bad.0 fresh bad.1)
-  unset-always fresh (Opening.before (Unstarted.too_few_providers records read few synced r)) =
-      absurd (read-set_up cells records (told-read records read) fresh)
+  unset-always fresh (Opening.before (Unstarted.too_few_providers area records read few synced r)) =
+      absurd (read-set_up cells area records (told-read area records read) fresh)
   unset-always fresh (Opening.before (Unstarted.no_memory r)) = inr r.status_is
   unset-always fresh (Opening.no_room is) = inr is
   unset-always fresh (Opening.over records opened other) =
-      absurd (read-set_up cells records (told-read records opened.read) fresh)
+      absurd (read-set_up cells opened.area records (told-read opened.area records opened.read) fresh)
 
   bad-always : (at : ℕ) → 9 < length (journal_read cells) → IsBadStart (journal_read cells) at →
       Opening old new end → ((end.status ≡ 8) × (end.at ≡ at)) ⊎ (end.status ≡ 70)
@@ -171,32 +184,32 @@ module _ (cells : Cells) (old new : Seen) (end : Ending) (tells : old.disk ≡ S
       subst (λ d. IfSome d (λ c. (9 < length (journal_read c)) × IsBadStart (journal_read c) other)) tells
       is in
       inl (r.status_is, r.place ∙ bad-once (journal_read cells) other at also.1 bad))
-  bad-always at long bad (Opening.before (Unstarted.too_few_providers records read few synced r)) =
-      absurd (read-good cells at records (told-read records read) bad)
+  bad-always at long bad (Opening.before (Unstarted.too_few_providers area records read few synced r)) =
+      absurd (read-good cells at area records (told-read area records read) bad)
   bad-always at long bad (Opening.before (Unstarted.no_memory r)) = inr r.status_is
   bad-always at long bad (Opening.no_room is) = inr is
   bad-always at long bad (Opening.over records opened other) =
-      absurd (read-good cells at records (told-read records opened.read) bad)
+      absurd (read-good cells at opened.area records (told-read opened.area records opened.read) bad)
 
-  few-always : (records : List Record) → IsRead old.disk records →
+  few-always : (here : Area) (records : List Record) → IsRead old.disk here records →
       length old.providers < (setup_in_effect records).n → Opening old new end →
       (end.status ≡ 22) ⊎ (end.status ≡ 70)
-  few-always records read few (Opening.before (Unstarted.disk_fault rose r)) = absurd (calm rose)
-  few-always records read few (Opening.before (Unstarted.not_set_up is sync r)) =
-      absurd (read-set_up cells records (told-read records read)
+  few-always here records read few (Opening.before (Unstarted.disk_fault rose r)) = absurd (calm rose)
+  few-always here records read few (Opening.before (Unstarted.not_set_up is sync r)) =
+      absurd (read-set_up cells here records (told-read here records read)
       (subst (λ d. IfSome d (λ c. HasNoSetup (journal_read c))) tells is))
-  few-always records read few (Opening.before (Unstarted.bad_journal at is r)) =
+  few-always here records read few (Opening.before (Unstarted.bad_journal at is r)) =
       absurd (let bad : (9 < length (journal_read cells)) × IsBadStart (journal_read cells) at =
       subst (λ d. IfSome d (λ c. (9 < length (journal_read c)) × IsBadStart (journal_read c) at)) tells
       is in
-      read-good cells at records (told-read records read) bad.1)
-  few-always records read few (Opening.before (Unstarted.too_few_providers other also less synced r)) =
+      read-good cells at here records (told-read here records read) bad.1)
+  few-always here records read few (Opening.before (Unstarted.too_few_providers area other also less synced r)) =
       inl r.status_is
-  few-always records read few (Opening.before (Unstarted.no_memory r)) = inr r.status_is
-  few-always records read few (Opening.no_room is) = inr is
-  few-always records read few (Opening.over other opened own) =
-      absurd (let same = read-once cells other records (told-read other opened.read)
-      (told-read records read) in
+  few-always here records read few (Opening.before (Unstarted.no_memory r)) = inr r.status_is
+  few-always here records read few (Opening.no_room is) = inr is
+  few-always here records read few (Opening.over other opened own) =
+      absurd (let same = (read-once cells opened.area here other records
+      (told-read opened.area other opened.read) (told-read here records read)).1 in
       let enough = subst (λ rs. (setup_in_effect rs).n ≤ length old.providers) same opened.enough in
       omega (arith, few, enough))
 
@@ -234,14 +247,15 @@ broken-always command cells old new end at A opens tells long bad calm =
 -- a command ends with 22 only where too few providers are handed in
 pub lacking-only : (command : Command) (old new : Seen) (end : Ending) → Answers command old new end →
     opens_store command ≡ true → end.status ≡ 22 →
-    (records : List Record) × IsRead old.disk records × (length old.providers < (setup_in_effect records).n)
+    (area : Area) × (records : List Record) × IsRead old.disk area records
+    × (length old.providers < (setup_in_effect records).n)
 lacking-only command old new end A opens is = few-only old new end (opening-of command old new end A opens) is
 
 -- a command with too few providers ends with 22, or finds no memory
 pub lacking-always : (command : Command) (cells : Cells) (old new : Seen) (end : Ending)
-    (records : List Record) → Answers command old new end → opens_store command ≡ true →
-    old.disk ≡ Some cells → IsRead old.disk records →
+    (area : Area) (records : List Record) → Answers command old new end → opens_store command ≡ true →
+    old.disk ≡ Some cells → IsRead old.disk area records →
     length old.providers < (setup_in_effect records).n → (Rose old.disk_faults new.disk_faults → ⊥) →
     (end.status ≡ 22) ⊎ (end.status ≡ 70)
-lacking-always command cells old new end records A opens tells read few calm =
-    few-always cells old new end tells calm records read few (opening-of command old new end A opens)
+lacking-always command cells old new end area records A opens tells read few calm =
+    few-always cells old new end tells calm area records read few (opening-of command old new end A opens)

@@ -1,33 +1,37 @@
 -- Disks that runs leave on which nothing is set up: one before its first use, and one of which an init failed.
-use Rattle.std.proofs.Common.{◌≡◌, ℕ, ◌≤◌, false, List, [], ◌∷◌, length, None, Some, refl, sym, subst, inl, inr, arith}
+use Rattle.std.proofs.Common.{◌≡◌, ℕ, zero, suc, ◌<◌, ◌≤◌, false, List, [], ◌∷◌, length, None, Some, refl, sym, subst, inl, inr, arith}
 use Rattle.std.proofs.lemmas.Bool.{false≢true}
 use Rattle.device_defs.specs.Images.{IsImage}
 use Rattle.device_defs.proofs.Lasting.{image-firm}
 use Rattle.record_defs.specs.Records.{SetUp}
-use Rattle.record_defs.specs.Journal.{text_size}
+use Rattle.record_defs.specs.Areas.{A, end_in}
 use Rattle.machine_defs.specs.Events.{Init, Refused}
 use Rattle.machine_defs.specs.Refusals.{DiskFault}
 use Rattle.machine_defs.specs.Runs.{IsRun}
 use Rattle.machine_defs.specs.States.{State, Doubt}
 use Rattle.state_laws.specs.Sound.{IsSound}
+use Rattle.state_laws.proofs.Packs.{journal-whole}
 use Rattle.state_laws.proofs.Resting.{rest-sound}
-use Rattle.job_laws.proofs.Telling.{opened_state, state-over}
+use Rattle.job_laws.proofs.Telling.{opened_state}
+use Rattle.std.specs.Prelude.{slice_get}
+use Rattle.command_defs.specs.Seen.{provider_at}
 use Rattle.command_laws.specs.Instances.{small_setup, idle_providers, empty_devices, failed_devices}
 use Rattle.command_laws.specs.Pieces.{IsStore, moment}
 use Rattle.command_laws.proofs.GoingOn.{run-sound}
 
 -- nothing is in effect, and no vault is open
 abbrev pub unset : State
-unset = record (opened_state [] 0 idle_providers) { is_open = false }
+unset = record (opened_state A [] 0 idle_providers) { is_open = false }
 
 unset-sound : IsSound 8 unset
 unset-sound = rest-sound 8 unset (record {
   idle = (refl, refl, refl, refl);
   undoubted = refl;
-  whole = record { journal = refl; area = refl; unswitched = refl };
+  unswitched = refl;
+  journal = journal-whole unset refl (λ e. refl) tt refl;
   accepted = tt;
   in_grammar = refl;
-  room = (let e : text_size [] ≡ 9 = refl in omega (arith, e));
+  room = (let e : end_in A [] ≡ 9 = refl in omega (arith, e));
   files = λ name file is. absurd cc;
   set_up = λ opened. absurd (false≢true opened);
   handed = λ opened. absurd (false≢true opened);
@@ -36,15 +40,22 @@ unset-sound = rest-sound 8 unset (record {
 none-long : (image : List ℕ) → IsImage [] image → length image ≤ 9
 none-long image is = subst (λ l. length l ≤ 9) (sym (image-firm [] image is)) (omega arith)
 
+idle-each : (j : ℕ) → j < 4 → slice_get idle_providers j ≡ Some (provider_at idle_providers j)
+idle-each zero l = refl
+idle-each (suc zero) l = refl
+idle-each (suc (suc zero)) l = refl
+idle-each (suc (suc (suc zero))) l = refl
+idle-each (suc (suc (suc (suc j)))) l = absurd (omega (arith, l))
+
 -- a state stands for an empty disk
 pub unset-store : IsStore unset empty_devices
-unset-store = (let H = (state-over [] 0 idle_providers tt).handed in record {
+unset-store = record {
   sound = unset-sound;
   tells = refl;
   images = λ image is. inl (inr (refl, none-long image is));
   faults_are = refl;
-  handed = record { count = H.count; each = H.each };
-})
+  handed = record { count = refl; each = idle-each };
+}
 
 abbrev pub doubt : Doubt
 doubt = record { entry = SetUp small_setup; maker = None }
@@ -62,11 +73,11 @@ init-failed = (
 
 -- a state stands for an empty disk of which an init failed
 pub doubtful-store : IsStore doubtful failed_devices
-doubtful-store = (let H = (state-over [] 0 idle_providers tt).handed in record {
+doubtful-store = record {
   sound = run-sound unset (moment (Init small_setup) (Refused DiskFault) doubtful ∷ []) [] unset-sound
       init-failed;
   tells = refl;
   images = λ image is. inl (inr (refl, none-long image is));
   faults_are = refl;
-  handed = record { count = H.count; each = H.each };
-})
+  handed = record { count = refl; each = idle-each };
+}

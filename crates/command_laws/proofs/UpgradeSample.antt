@@ -1,6 +1,7 @@
 -- An upgrade of a store that was set up, from every state that was just opened: four moves, and its end.
-use Rattle.std.proofs.Common.{ℕ, ◌+◌, List, [], ◌∷◌, None, refl, sym, subst, inl, arith}
+use Rattle.std.proofs.Common.{ℕ, ◌+◌, List, [], ◌∷◌, None, refl, subst, inl, arith}
 use Rattle.record_defs.specs.Records.{Version}
+use Rattle.record_defs.specs.Areas.{A}
 use Rattle.record_defs.specs.Spellings.{spelling}
 use Rattle.machine_defs.specs.Answers.{Upgraded}
 use Rattle.machine_defs.specs.Appends.{begun_append, moved, doubted, done_append}
@@ -13,7 +14,7 @@ use Rattle.machine_defs.specs.Refusals as refusal
 use Rattle.machine_defs.specs.Runs.{Moment}
 use Rattle.machine_defs.specs.States.{State, Append, setup_in, going_on, ended}
 use Rattle.command_defs.specs.Forms.{UpgradeJournal}
-use Rattle.opening_defs.specs.Opened.{AreHanded}
+use Rattle.opening_defs.specs.Opened.{AreHanded, IsOpenAtRest}
 use Rattle.command_defs.specs.JobRuns.{AreSteps}
 use Rattle.command_defs.specs.Jobs.{RanAlone, RunsAlone, AnswersJob}
 use Rattle.command_defs.specs.Commands.{AnswersAlone, Answers}
@@ -23,15 +24,15 @@ use Rattle.lone_laws.specs.Walked.{MayName}
 use Rattle.command_laws.specs.Instances.{store, idle_providers, set_up_records, upgraded_records, upgraded_store, ends}
 use Rattle.job_laws.proofs.Telling.{left-alone, jobs-leave}
 use Rattle.job_laws.proofs.BeginRefusals.{refusal-of}
-use Rattle.command_laws.proofs.PutSample.{formed, form-is}
-use Rattle.command_laws.proofs.Samples.{store-sure, set_up-sure, same-disk, refused-so}
+use Rattle.command_laws.proofs.PutSample.{formed}
+use Rattle.command_laws.proofs.Samples.{form-is, form-rests, form-handed, store-sure, set_up-sure, same-disk, refused-so}
 
 -- the store whose journal has its second version is sure
-pub upgraded-sure : IsSure (store upgraded_records) upgraded_records
+abbrev pub upgraded-sure : IsSure (store upgraded_records) upgraded_records
 upgraded-sure = store-sure upgraded_records (λ e. cc) refl (refl, (refl, tt)) (omega arith)
     (omega arith)
 
-module _ (w : State) (n : ℕ) (H : AreHanded idle_providers (formed w)) where
+module _ (w : State) (n : ℕ) (H : AreHanded idle_providers (formed w)) (O : IsOpenAtRest (formed w) 1) where
   abbrev v : State
   v = formed w
 
@@ -89,7 +90,8 @@ module _ (w : State) (n : ℕ) (H : AreHanded idle_providers (formed w)) where
   unfolding steps
   steps-are = (refl, refl, four 0, (refl, refl, three 0, (refl, refl, two 0, (refl, refl, one 0, tt))))
 
-  ran-formed : RanAlone set_up_records UpgradeJob None Upgraded (store set_up_records) upgraded_store [] 0 v n
+  ran-formed : RanAlone A set_up_records UpgradeJob None Upgraded
+      (store set_up_records) upgraded_store [] 0 v n
   unfolding steps spelling
   ran-formed = record {
     last = s5;
@@ -98,26 +100,26 @@ module _ (w : State) (n : ℕ) (H : AreHanded idle_providers (formed w)) where
       job = 1;
       begins = (
         refl,
-        refusal-of v UpgradeJob None refl refl refl
-            (record { journal = refl; area = refl; unswitched = refl }),
+        refusal-of v O UpgradeJob None,
         refl,
         refl,
       );
       goes_on = record { steps = steps; are_steps = steps-are; ends = five 0; heard_is = refl };
     };
-    images = λ image is. inl (inl (refl, upgraded-sure.images image is));
+    images = λ image is. inl (inl (upgraded-sure.images image is));
     faults_are = refl;
     handed = record { count = H.count; each = H.each };
     past_text = refl;
   }
 
-upgrade-alone : RunsAlone set_up_records UpgradeJob None Upgraded (store set_up_records) upgraded_store []
+upgrade-alone : RunsAlone A set_up_records UpgradeJob None Upgraded (store set_up_records) upgraded_store []
 upgrade-alone = record {
   faults = 0;
   before = omega arith;
-  ran = λ w n V. subst (λ u. RanAlone set_up_records UpgradeJob None Upgraded (store set_up_records)
-      upgraded_store [] 0 u n) (form-is w V)
-      (ran-formed w n (subst (AreHanded idle_providers) (sym (form-is w V)) V.handed));
+  ran = λ w n V. subst (λ u. RanAlone A set_up_records UpgradeJob None Upgraded (store set_up_records)
+      upgraded_store [] 0 u n) (form-is set_up_records w refl V)
+      (ran-formed w n (form-handed set_up_records w idle_providers refl V)
+      (form-rests set_up_records w refl V));
 }
 
 -- an upgrade of the store that was set up is done

@@ -1,11 +1,12 @@
 -- What stands between two commands: which records the store has, and which providers are right for a file.
 --
 --   IsSure s records                         == the store is known, and whatever a stop leaves of its disk
---                                               stands for these records
+--                                               stands for these records, in the same area
 --   Follows new next                         == the next command finds the disk as the last one left it, or
 --                                               as a stop then left it, and as many providers
+--   HasPacked command records after          == a pack has put the packed records in their place
 --   IsThen command records old new after     == the records after a command: those before it, or these with
---                                               the first few of its job's
+--                                               the first few of its job's, or the packed ones
 --   is_refusal status                        == the status tells that a command was refused, and has changed
 --                                               nothing
 --   is_ending status                         == the status is one with which a command ends whose words have
@@ -20,7 +21,7 @@
 --   spoilt_below n spoilt                    == how many of n providers are spoilt
 --   IsFaultless old new                      == no count rose that could end a command: the disk's, of a
 --                                               provider's stores, the source's, the sink's
---   keeps_blocks command                     == a get, a list, an audit and an upgrade
+--   keeps_blocks command                     == a get, a list, an audit, an upgrade and a pack
 --   IsOfAnother name command                 == a put or a drop of another name
 use Rattle.std.specs.Prelude.{◌≡◌, ◌≢◌, ◌⊎◌, ℕ, ◌<◌, ◌==◌, ◌||◌, Bool, true, false, List, ◌++◌, length, reverse, take, Option, None, Some}
 use Rattle.code_defs.specs.Points.{upto}
@@ -33,18 +34,19 @@ use Rattle.device_defs.specs.Providers.{Held}
 use Rattle.device_defs.specs.Told.{Goes}
 use Rattle.record_defs.specs.Records.{Record}
 use Rattle.record_defs.specs.Table.{File, file_of}
+use Rattle.record_defs.specs.Packed.{AreAlike, packed}
 use Rattle.machine_defs.specs.Jobs.{Kind}
 use Rattle.machine_defs.specs.Events.{AreBytes}
-use Rattle.command_defs.specs.Forms.{Command, PutUnder, PutAt, GetOf, DropOf, ListAll, AuditAll, UpgradeJournal}
+use Rattle.command_defs.specs.Forms.{Command, PutUnder, PutAt, GetOf, DropOf, ListAll, AuditAll, UpgradeJournal, PackJournal}
 use Rattle.command_defs.specs.Seen.{Seen, provider_at}
 use Rattle.command_defs.specs.Opens.{setup_in_effect, object_in_effect}
 use Rattle.command_laws.specs.Ends.{IsKnown, profile_named, RunsKind, ReadsWhole, DiskHas}
 use Rattle.command_laws.specs.Kept.{AreAppended}
 
--- the store is known, and each image of its disk stands for these records
+-- the store is known, and each image of its disk stands for these records, in the area in which they are read
 pub record IsSure (s : Seen) (records : List Record) : Type 0 where
   pub known : IsKnown s records
-  pub images : DiskHas records s
+  pub images : DiskHas known.opened.area records s
 
 -- the next command finds the disk as the last one left it, or as a stop then left it, and as many providers
 pub record Follows (new next : Seen) : Type 0 where
@@ -63,9 +65,16 @@ pub record HasGrown (command : Command) (records : List Record) (old new : Seen)
   pub whole : 1 < count → ReadsWhole kind old new
   pub after_is : after ≡ reverse (take count own) ++ records
 
+-- a pack has put the packed records in the place of those before, of which a start makes the same table
+pub record HasPacked (command : Command) (records after : List Record) : Type 0 where
+  pub of_command : command ≡ PackJournal
+  pub after_is : after ≡ packed records
+  pub alike : AreAlike after records
+
 -- the records after a command, by those before it
 abbrev pub IsThen : Command → List Record → Seen → Seen → List Record → Type 0
-IsThen command records old new after = (after ≡ records) ⊎ HasGrown command records old new after
+IsThen command records old new after =
+    (after ≡ records) ⊎ (HasGrown command records old new after ⊎ HasPacked command records after)
 
 -- the statuses of refusals
 abbrev pub is_refusal : ℕ → Bool
@@ -73,7 +82,7 @@ is_refusal status =
     (status == 3) || (status == 6) || (status == 7) || (status == 8) || (status == 9) || (status == 10)
     || (status == 11)
     || (status == 17) || (status == 18) || (status == 20)
-    || (status == 21) || (status == 22) || (status == 23) || (status == 24)
+    || (status == 21) || (status == 22) || (status == 23) || (status == 24) || (status == 26)
 
 -- the statuses with which a command ends whose words have a form: done, a row lost, faults, a source that is
 -- too long, want of memory, and refusals
@@ -127,12 +136,13 @@ pub record IsFaultless (old new : Seen) : Type 0 where
   pub source : Rose old.source_faults new.source_faults → ⊥
   pub sink : Rose old.sink_faults new.sink_faults → ⊥
 
--- a get, a list, an audit and an upgrade
+-- a get, a list, an audit, an upgrade and a pack
 abbrev pub keeps_blocks : Command → Bool
 keeps_blocks (GetOf name) = true
 keeps_blocks ListAll = true
 keeps_blocks AuditAll = true
 keeps_blocks UpgradeJournal = true
+keeps_blocks PackJournal = true
 keeps_blocks command = false
 
 -- a put or a drop of another name

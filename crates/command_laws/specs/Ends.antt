@@ -11,7 +11,7 @@
 --   opens_store command                == the command looks at the records of a store
 --   put_of name own                    == the words of a put, with the profile that it names, or with none
 --   profile_named command              == the profile that a command names
---   put_refusal records name own       == why a put is refused, whatever its source: for a profile that there
+--   put_refusal area records name own  == why a put is refused, whatever its source: for a profile that there
 --                                         is none of before all else, since its source is not read then
 --   after_put records name size own, after_drop, after_audit, after_repair, after_upgrade
 --                                      == the records that such a job that is done leaves
@@ -27,7 +27,7 @@
 --   AreSafe records old new bytes      == for each file in effect at most b providers are wrong for its
 --                                         bytes, or failed
 --   HoldsFile records new bytes file j == what is told of provider j has each block of a file of these bytes
---   IsWholePut name own old new end, IsDropped, IsAudited, IsRepaired, IsUpgraded, IsScrubbed
+--   IsWholePut name own old new end, IsDropped, IsAudited, IsRepaired, IsUpgraded, IsScrubbed, IsPacked
 --                                      == what a command has done that is done; its text is told, or cut off
 use Rattle.std.specs.Prelude.{◌≡◌, ◌⊎◌, ℕ, ◌+◌, ◌≤◌, ◌<◌, Bool, true, false, IsTrue, List, [], ◌∷◌, ◌++◌, length, Option, None, Some, IfSome, is_some, if◌then◌else◌}
 use Rattle.column_defs.specs.Columns.{columns}
@@ -35,7 +35,8 @@ use Rattle.device_defs.specs.Faults.{Rose}
 use Rattle.device_defs.specs.Images.{EachImage}
 use Rattle.device_defs.specs.Told.{told_then, TakesFront}
 use Rattle.record_defs.specs.Records.{Record, PutStart, Drop, AuditStart, AuditDone, RepairDone, Version, largest_file}
-use Rattle.record_defs.specs.Journal.{StandsFor}
+use Rattle.record_defs.specs.Areas.{Area, other_area, text_length, StandsActive}
+use Rattle.record_defs.specs.Packed.{AreAlike, packed}
 use Rattle.record_defs.specs.Table.{File, Due, file_as, files_of, version_of, next_id, next_audit, file_of, due_of}
 use Rattle.machine_defs.specs.Jobs.{Kind, PutJob, GetJob, DropJob, AuditJob, RepairJob, UpgradeJob}
 use Rattle.machine_defs.specs.Events.{AreBytes}
@@ -44,10 +45,10 @@ use Rattle.machine_defs.specs.Refusals.{Refusal, BadProfile}
 use Rattle.machine_defs.specs.Heard.{Entry}
 use Rattle.command_defs.specs.Seen.{Seen, Ending, ReadsUpTo, ReadsFront, IsRefused, IsSynced, provider_at}
 use Rattle.command_defs.specs.Opens.{IsOpened, Unstarted, setup_in_effect, object_in_effect, stripes_in_effect}
-use Rattle.command_defs.specs.Refusals.{is_unknown, refusal_over, status_of}
+use Rattle.command_defs.specs.Refusals.{is_unknown, refusal_over, pack_refusal_over, status_of}
 use Rattle.command_defs.specs.Ran.{Ran, ran_alone, EachHeldGoes}
-use Rattle.command_defs.specs.Forms.{Command, RowOf, InitWith, PutUnder, PutAt, GetOf, DropOf, AuditAll, RepairDue, UpgradeJournal}
-use Rattle.command_defs.specs.Lines.{stored_line, dropped_line, audit_lines, repaired_line, upgraded_line, scrub_lines}
+use Rattle.command_defs.specs.Forms.{Command, RowOf, InitWith, PutUnder, PutAt, GetOf, DropOf, AuditAll, RepairDue, UpgradeJournal, PackJournal}
+use Rattle.command_defs.specs.Lines.{stored_line, dropped_line, audit_lines, repaired_line, upgraded_line, scrub_lines, packed_line}
 use Rattle.command_defs.specs.Blocks.{DroppedFrom}
 use Rattle.command_defs.specs.Puts.{put_done, StoresFile, StoresAll}
 use Rattle.command_defs.specs.GivenUp.{put_stripe, after_begin, StopsReading}
@@ -97,9 +98,9 @@ profile_named command = None
 
 -- Why a put is refused, whatever its source: for a profile that there is none of before all else. That its
 -- source is too long shows behind its begin.
-abbrev pub put_refusal : List Record → List ℕ → Option ℕ → Option Refusal
-put_refusal records name own =
-    if is_unknown own then Some BadProfile else refusal_over records (PutJob name []) own
+abbrev pub put_refusal : Area → List Record → List ℕ → Option ℕ → Option Refusal
+put_refusal area records name own =
+    if is_unknown own then Some BadProfile else refusal_over area records (PutJob name []) own
 
 -- a put of a first part of what was read
 abbrev pub PutsFront : List ℕ → Seen → Seen → Kind → Type 0
@@ -128,9 +129,9 @@ ReadsWhole kind old new = Unit {0}
 abbrev pub ran_to : List Record → List Record → Seen → Seen → List Entry → Ran
 ran_to after records old new heard = ran_alone records old new heard old.disk_faults after None
 
--- each image of the disk stands for these records
-abbrev pub DiskHas : List Record → Seen → Type 0
-DiskHas records new = EachImage new.disk (λ image. StandsFor image records)
+-- each image of the disk stands for these records, in this area
+abbrev pub DiskHas : Area → List Record → Seen → Type 0
+DiskHas area records new = EachImage new.disk (λ image. StandsActive image area records)
 
 -- a put was given up behind its begin: its number is used, the whole stripes of what was read are stored
 -- under it, no file came into effect or went out of it, and no repair came due or went
@@ -138,9 +139,9 @@ pub record GivesUpPut (name : List ℕ) (own : Option ℕ) (old new : Seen) (end
   pub records : List Record
   pub bytes : List ℕ
   pub opened : IsOpened old records
-  pub taken : put_refusal records name own ≡ None
+  pub taken : put_refusal opened.area records name own ≡ None
   pub stops : StopsReading (put_stripe records own) bytes old new end
-  pub disk : DiskHas (after_begin records name) new
+  pub disk : DiskHas opened.area (after_begin records name) new
   pub files : (other : List ℕ) → file_of (after_begin records name) other ≡ file_of records other
   pub due : due_of (after_begin records name) ≡ due_of records
   pub stored : StoresAll (ran_to (after_begin records name) records old new end.heard) own bytes
@@ -156,11 +157,15 @@ pub data EndsInOrder (command : Command) (old new : Seen) (end : Ending) : Type 
   unstarted : Unstarted old new end → EndsInOrder command old new end
   bad_profile : (records : List Record) → IsOpened old records → IsTrue (is_unknown (profile_named command))
       → IsRefused 20 0 old new end → EndsInOrder command old new end
-  refused : (records : List Record) (kind : Kind) (why : Refusal) → IsOpened old records
-      → RunsKind command old new kind → refusal_over records kind (profile_named command) ≡ Some why →
+  refused : (records : List Record) (kind : Kind) (why : Refusal) → (opened : IsOpened old records)
+      → RunsKind command old new kind
+      → refusal_over opened.area records kind (profile_named command) ≡ Some why →
       IsRefused (status_of why) 0 old new end → EndsInOrder command old new end
   too_long : (name : List ℕ) (own : Option ℕ) → command ≡ put_of name own → end.status ≡ 16
       → GivesUpPut name own old new end → EndsInOrder command old new end
+  pack_refused : (records : List Record) (why : Refusal) → (opened : IsOpened old records)
+      → command ≡ PackJournal → pack_refusal_over opened.area records ≡ Some why →
+      IsRefused (status_of why) 0 old new end → EndsInOrder command old new end
 
 -- a status of a fault comes only where the count of that device rose; that of a provider is told by its place
 pub record FaultsHaveCauses (old new : Seen) (end : Ending) : Type 0 where
@@ -213,7 +218,7 @@ pub record IsWholePut (name : List ℕ) (own : Option ℕ) (old new : Seen) (end
   pub read : ReadsUpTo (largest_file + 1) old.source new.source bytes
   pub whole : IfSome new.source (λ left. left ≡ [])
   pub told : IsTold (stored_line name (length bytes)) old new end
-  pub disk : DiskHas (after_put records name (length bytes) own) new
+  pub disk : DiskHas opened.area (after_put records name (length bytes) own) new
   pub in_effect : file_of (after_put records name (length bytes) own) name
       ≡ Some (file_as name (next_id records) (length bytes) (chosen (setup_in_effect records) own))
   pub stored : StoresFile (ran_to (after_put records name (length bytes) own) records old new end.heard) own
@@ -226,7 +231,7 @@ pub record IsDropped (name : List ℕ) (old new : Seen) (end : Ending) : Type 0 
   pub opened : IsOpened old records
   pub was_in_effect : file_of records name ≡ Some file
   pub told : IsTold (dropped_line name) old new end
-  pub disk : DiskHas (after_drop records name) new
+  pub disk : DiskHas opened.area (after_drop records name) new
   pub out_of_effect : file_of (after_drop records name) name ≡ None
   pub gone : EachHeldGoes (ran_to (after_drop records name) records old new end.heard)
       (λ j. DroppedFrom file.id (Rose (provider_at old.providers j).other_faults
@@ -240,7 +245,7 @@ pub record IsAudited (old new : Seen) (end : Ending) : Type 0 where
   pub opened : IsOpened old records
   pub told : IsTold (audit_lines (setup_in_effect records).tolerance (next_audit records) undecided counts)
       old new end
-  pub disk : DiskHas (after_audit records undecided counts) new
+  pub disk : DiskHas opened.area (after_audit records undecided counts) new
   pub heard : HearsRounds (ran_to (after_audit records undecided counts) records old new end.heard)
       (next_audit records)
   pub counted : CountsHeard (ran_to (after_audit records undecided counts) records old new end.heard)
@@ -253,7 +258,7 @@ pub record IsRepaired (old new : Seen) (end : Ending) : Type 0 where
   pub opened : IsOpened old records
   pub is_due : due_of records ≡ Some due
   pub told : IsTold (repaired_line due.number) old new end
-  pub disk : DiskHas (after_repair records due) new
+  pub disk : DiskHas opened.area (after_repair records due) new
   pub rewritten : RewritesAll (ran_to (after_repair records due) records old new end.heard)
       (flags (ran_to (after_repair records due) records old new end.heard) due)
 
@@ -264,7 +269,7 @@ pub record IsUpgraded (old new : Seen) (end : Ending) : Type 0 where
   pub opened : IsOpened old records
   pub was_first : version_of records ≡ 1
   pub told : IsTold upgraded_line old new end
-  pub disk : DiskHas (after_upgrade records) new
+  pub disk : DiskHas opened.area (after_upgrade records) new
   pub version : version_of (after_upgrade records) ≡ 2
   pub files : files_of (after_upgrade records) ≡ files_of records
   pub held : SameHolds old new
@@ -279,5 +284,17 @@ pub record IsScrubbed (old new : Seen) (end : Ending) : Type 0 where
   pub opened : IsOpened old records
   pub told : IsTold (scrub_lines stripes symbols blocks) old new end
   pub synced : IsSynced old new
-  pub disk : DiskHas records new
+  pub disk : DiskHas opened.area records new
   pub swept : SweepsAll (ran_to records records old new end.heard) stripes symbols blocks
+
+-- a pack: the disk has the packed records in the other area, of which a start makes the same setup, version,
+-- numbers, files and due audit; the lengths told are those of the text before and after, and providers are as
+-- before
+pub record IsPacked (old new : Seen) (end : Ending) : Type 0 where
+  pub records : List Record
+  pub opened : IsOpened old records
+  pub told : IsTold (packed_line (text_length opened.area records)
+      (text_length (other_area opened.area) (packed records))) old new end
+  pub disk : DiskHas (other_area opened.area) (packed records) new
+  pub alike : AreAlike (packed records) records
+  pub providers : new.providers ≡ old.providers

@@ -15,6 +15,9 @@
 --   put_store, audited_store, repaired_store, upgraded_store, own_store, scrubbed_store
 --                                                  == what is seen after a put of the file, that audit, that
 --                                                     repair, an upgrade, that put, a scrub of the file
+--   packed_bytes filling, packed_store filling     == the bytes of a disk whose second area has the packed
+--                                                     records, with this between its switch byte and them, and
+--                                                     what is seen after a pack that leaves such bytes
 --   hidden_providers                               == four providers that tell nothing
 --   reading records bytes                          == devices whose disk reads these records, with such
 --                                                     providers, and these bytes in the source
@@ -27,14 +30,16 @@
 --   ends status                                    == an end that heard nothing
 --   get_held, get_other                            == two calls over the store: of its file, and of a name
 --                                                     that has none
-use Rattle.std.specs.Prelude.{ℕ, List, [], ◌∷◌, replicate, Some, None}
+use Rattle.std.specs.Prelude.{ℕ, List, [], ◌∷◌, ◌++◌, replicate, Some, None}
 use Rattle.device_defs.specs.Cells.{firm}
 use Rattle.device_defs.specs.Providers.{Provider}
 use Rattle.record_defs.specs.Records.{Record, Setup, SetUp, PutStart, PutDone, PutDoneIn, Version, AuditStart, AuditDone, RepairDone}
 use Rattle.record_defs.specs.Journal.{text}
+use Rattle.record_defs.specs.Areas.{A, B, magic_front, entries, text_length}
+use Rattle.record_defs.specs.Packed.{packed}
 use Rattle.record_defs.specs.Table.{File, file_as}
 use Rattle.command_defs.specs.Forms.{Numbers, GetOf}
-use Rattle.command_defs.specs.Lines.{ready_line, stored_line, audit_lines, repaired_line, upgraded_line, scrub_lines}
+use Rattle.command_defs.specs.Lines.{ready_line, stored_line, audit_lines, repaired_line, upgraded_line, scrub_lines, packed_line}
 use Rattle.command_defs.specs.Seen.{Seen, Ending, nobody}
 use Rattle.command_laws.specs.Pieces.{Call}
 
@@ -184,6 +189,17 @@ own_store = with_sink (store own_records) (stored_line held_name 0)
 -- what is seen after a scrub of the store with the file
 abbrev pub scrubbed_store : Seen
 scrubbed_store = with_sink (store held_records) (scrub_lines 0 no_counts no_counts)
+
+-- the bytes of a disk whose second area has the packed records, with this between its switch byte and them
+abbrev pub packed_bytes : List ℕ → List ℕ
+packed_bytes filling = (magic_front ++ 50 ∷ filling) ++ (entries (packed upgraded_records) ++ 0 ∷ [])
+
+-- what is seen after a pack of the store whose journal has its second version
+abbrev pub packed_store : List ℕ → Seen
+packed_store filling = record (store upgraded_records) {
+  disk = Some (firm (packed_bytes filling));
+  sink = Some (packed_line (text_length A upgraded_records) (text_length B (packed upgraded_records)));
+}
 
 -- an end that heard nothing
 abbrev pub ends : ℕ → Ending

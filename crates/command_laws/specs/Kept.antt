@@ -9,7 +9,8 @@
 --                                                 the bytes are the whole source
 --   LeavesImages command old new               == the images are images as before, or a job was run over the
 --                                                 records that were read, and each image stands for these
---                                                 with some that it wrote
+--                                                 with some that it wrote; or these were packed, and each
+--                                                 image stands for them or for the packed ones
 --   InitImages numbers old new                 == a store was set up with these numbers, or each image is one
 --                                                 that a failed init may leave
 --   SameFetches old new                        == no provider was fetched from
@@ -29,9 +30,10 @@ use Rattle.device_defs.specs.Told.{Goes}
 use Rattle.record_defs.specs.Records.{Record, Drop, RepairDone, Version, largest_file}
 use Rattle.record_defs.specs.Journal.{StandsFor}
 use Rattle.record_defs.specs.Table.{File, Due, file_of, due_of}
+use Rattle.record_defs.specs.Packed.{packed}
 use Rattle.machine_defs.specs.Events.{AreBytes}
 use Rattle.machine_defs.specs.Jobs.{Kind, PutJob, GetJob, DropJob, AuditJob, RepairJob, UpgradeJob}
-use Rattle.command_defs.specs.Forms.{Command, Numbers, RowOf, PutUnder, PutAt, GetOf, RepairDue, ScrubAll}
+use Rattle.command_defs.specs.Forms.{Command, Numbers, RowOf, PutUnder, PutAt, GetOf, RepairDue, ScrubAll, PackJournal}
 use Rattle.command_defs.specs.Seen.{Seen, Ending, ReadsFront, provider_at}
 use Rattle.opening_defs.specs.Journals.{IsSetUpOn, MayBeLeft}
 use Rattle.command_defs.specs.Opens.{IsOpened, setup_in_effect}
@@ -69,11 +71,15 @@ pub record IsAfter (records : List Record) (kind : Kind) (profile : Option ℕ) 
   pub whole : 1 < count → ReadsWhole kind old new
   pub stands : StandsFor image (reverse (take count own) ++ records)
 
--- the images are images as before, or those of records that were read, with some that the job wrote
+-- the images are images as before, or those of records that were read, with some that the job wrote, or of
+-- these packed
 pub data LeavesImages (command : Command) (old new : Seen) : Type 0 where
   kept : KeepsImages old new → LeavesImages command old new
   ran : (records : List Record) (kind : Kind) → IsOpened old records → RunsKind command old new kind
       → EachImage new.disk (IsAfter records kind (profile_named command) old new) →
+      LeavesImages command old new
+  was_packed : (records : List Record) → IsOpened old records → command ≡ PackJournal
+      → EachImage new.disk (λ image. StandsFor image records ⊎ StandsFor image (packed records)) →
       LeavesImages command old new
 
 -- a store was set up, or each image is one that a failed init may leave
@@ -114,7 +120,7 @@ pub record FailsToPut (name : List ℕ) (profile : Option ℕ) (old new : Seen) 
   pub rose : Rose (provider_at old.providers end.at).store_faults
       (provider_at new.providers end.at).store_faults
   pub sink : new.sink ≡ old.sink
-  pub disk : DiskHas (after_begin records name) new
+  pub disk : DiskHas opened.area (after_begin records name) new
   pub files : (other : List ℕ) → file_of (after_begin records name) other ≡ file_of records other
   pub due : due_of (after_begin records name) ≡ due_of records
   pub stored : StoresPart (ran_to (after_begin records name) records old new end.heard) profile bytes
@@ -131,7 +137,7 @@ pub record FailsToRepair (old new : Seen) (end : Ending) : Type 0 where
   pub rose : Rose (provider_at old.providers end.at).store_faults
       (provider_at new.providers end.at).store_faults
   pub sink : new.sink ≡ old.sink
-  pub disk : DiskHas records new
+  pub disk : DiskHas opened.area records new
   pub part : RewritesSome (ran_to records records old new end.heard)
       (flags (ran_to records records old new end.heard) due)
 
@@ -144,7 +150,7 @@ pub record LosesFile (name : List ℕ) (old new : Seen) (end : Ending) : Type 0 
   pub in_effect : file_of records name ≡ Some file
   pub lost : LosesStripe (ran_to records records old new end.heard) file stripe end.at
   pub sink : new.sink ≡ old.sink
-  pub disk : DiskHas records new
+  pub disk : DiskHas opened.area records new
 
 -- a repair found a row lost: it stays due, and some of the flagged providers' blocks before that place may
 -- have been written anew
@@ -157,7 +163,7 @@ pub record LosesRepair (old new : Seen) (end : Ending) : Type 0 where
   pub lost : LosesAtPlace (ran_to records records old new end.heard)
       (flags (ran_to records records old new end.heard) due) stripe end.at
   pub sink : new.sink ≡ old.sink
-  pub disk : DiskHas records new
+  pub disk : DiskHas opened.area records new
 
 -- a store of a scrub failed: some blocks may have been written anew, of any provider, and no record came in
 pub record FailsToScrub (old new : Seen) (end : Ending) : Type 0 where
@@ -167,7 +173,7 @@ pub record FailsToScrub (old new : Seen) (end : Ending) : Type 0 where
   pub rose : Rose (provider_at old.providers end.at).store_faults
       (provider_at new.providers end.at).store_faults
   pub sink : new.sink ≡ old.sink
-  pub disk : DiskHas records new
+  pub disk : DiskHas opened.area records new
   pub part : RewritesSome (ran_to records records old new end.heard) everyone
 
 -- a scrub found a row lost: blocks before that place may have been written anew, and no record came in
@@ -177,4 +183,4 @@ pub record LosesScrub (old new : Seen) (end : Ending) : Type 0 where
   pub opened : IsOpened old records
   pub lost : LosesAtPlace (ran_to records records old new end.heard) everyone stripe end.at
   pub sink : new.sink ≡ old.sink
-  pub disk : DiskHas records new
+  pub disk : DiskHas opened.area records new

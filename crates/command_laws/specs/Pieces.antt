@@ -7,8 +7,9 @@
 --   unopened_status why              == the status that tells why no vault was opened
 --   IsCall command old new end w own == these moments are what the machine makes of a command: a later call
 --                                       of the program, a reopening, and where that opened, the begin of its
---                                       job or of a scrub with its steps, or a list of names; from this state
---                                       on. A put that was given up makes some steps of its job and no end
+--                                       job, of a scrub or of a pack with its steps, or a list of names; from
+--                                       this state on. A put that was given up makes some steps of its job
+--                                       and no end
 --   AreReplaced events old new       == these events replaced what providers hold
 --   IsLater new next                 == the next command finds the disk as the last one left it, or as a stop
 --                                       then left it, and what providers hold as such events left it
@@ -24,7 +25,7 @@ use Rattle.device_defs.specs.Providers.{Provider, with_symbol, without_block, Ha
 use Rattle.device_defs.specs.ProviderCalls.{Replaces}
 use Rattle.device_defs.specs.Told.{Goes}
 use Rattle.machine_defs.specs.Answers.{Answer, Put}
-use Rattle.machine_defs.specs.Events.{Event, Begin, BeginAt, BeginScrub, Step, Alter, Lose, Stop, Reopen, Names, Continue, Outcome, Refused, Opened, Begun, Ended, Listed, Continued, IsSpelled, AreBytes}
+use Rattle.machine_defs.specs.Events.{Event, Begin, BeginAt, BeginScrub, BeginPack, Step, Alter, Lose, Stop, Reopen, Names, Continue, Outcome, Refused, Opened, Begun, Ended, Listed, Continued, IsSpelled, AreBytes}
 use Rattle.machine_defs.specs.Heard.{heard_by}
 use Rattle.machine_defs.specs.Jobs.{Kind, PutJob, job_of}
 use Rattle.machine_defs.specs.Refusals as refusal
@@ -35,12 +36,12 @@ use Rattle.machine_defs.specs.States.{State, setup_in}
 use Rattle.machine_defs.specs.Transcripts.{GoOn}
 use Rattle.record_defs.specs.Table.{files_of}
 use Rattle.state_laws.specs.Sound.{IsSound}
-use Rattle.command_defs.specs.Forms.{Command, PutUnder, PutAt, GetOf, DropOf, ListAll, ScrubAll}
+use Rattle.command_defs.specs.Forms.{Command, PutUnder, PutAt, GetOf, DropOf, ListAll, ScrubAll, PackJournal}
 use Rattle.command_defs.specs.Seen.{Seen, Ending, NoCountFalls, sinking}
 use Rattle.command_defs.specs.Sinking.{WritesLine}
 use Rattle.opening_defs.specs.Opened.{AreHanded}
 use Rattle.command_defs.specs.Jobs.{EndsByAnswer}
-use Rattle.command_defs.specs.Lines.{text_of, list_lines, scrub_text}
+use Rattle.command_defs.specs.Lines.{text_of, list_lines, scrub_text, pack_text}
 use Rattle.command_defs.specs.Refusals.{is_unknown, status_of}
 use Rattle.command_defs.specs.Commands.{Answers}
 use Rattle.command_laws.specs.Ends.{profile_named, RunsKind, ReadsWhole, opens_store}
@@ -80,9 +81,9 @@ unopened_status why = 70
 
 -- what the machine makes of a command from this state on: its store is not opened, for the reason that the
 -- status tells; it is opened, and no more came of it, also where a put names a profile that there is none of;
--- the begin of its job is refused; the names are listed, and the files in effect written; its job, or a
--- scrub, began and went on to its end, and a put that is stored is one of its whole source; or a put began,
--- went on, and was given up
+-- the begin of its job, or of a pack, is refused; the names are listed, and the files in effect written; its
+-- job, or a scrub, or a pack, began and went on to its end, and a put that is stored is one of its whole
+-- source; or a put began, went on, and was given up
 pub data IsCall (command : Command) (old new : Seen) (end : Ending) (w : State)
     (own : List Moment) : Type 0 where
   unopened : (a b : State) (why : Refusal)
@@ -120,6 +121,13 @@ pub data IsCall (command : Command) (old new : Seen) (end : Ending) (w : State)
       own ≡ moment (Step 1) (Ended answer) d
       ∷ (steps ++ moment BeginScrub (Begun 1) c ∷ moment Reopen Opened b ∷ moment Continue Continued a ∷ []) →
       EndsByAnswer (scrub_text answer) answer old new end → end.heard ≡ [] → IsCall command old new end w own
+  pack_refused : (a b c : State) (why : Refusal) → command ≡ PackJournal →
+      own ≡ moment BeginPack (Refused why) c ∷ moment Reopen Opened b ∷ moment Continue Continued a ∷ [] →
+      end.status ≡ status_of why → end.heard ≡ [] → IsCall command old new end w own
+  packed : (a b c d : State) (steps : List Moment) (answer : Answer) → command ≡ PackJournal → GoOn 1 steps →
+      own ≡ moment (Step 1) (Ended answer) d
+      ∷ (steps ++ moment BeginPack (Begun 1) c ∷ moment Reopen Opened b ∷ moment Continue Continued a ∷ []) →
+      EndsByAnswer (pack_text answer) answer old new end → end.heard ≡ [] → IsCall command old new end w own
 
 -- provider j, which was handed in, goes so, and all others are as before
 abbrev pub GoesAt : ℕ → (Provider → Provider → Type 0) → List Provider → List Provider → Type 0

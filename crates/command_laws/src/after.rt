@@ -7,7 +7,8 @@ ghost use Rattle.device_defs.specs.Faults.{Rose};
 ghost use Rattle.device_defs.specs.Told.{told_then};
 ghost use Rattle.record_defs.specs.Records.{Record, SetUp, is_name, largest_file};
 ghost use Rattle.record_defs.specs.Table.{File, Due, next_audit, file_of, due_of};
-ghost use Rattle.command_defs.specs.Forms.{Command, Numbers, RowOf, InitWith, PutUnder, GetOf, DropOf, ListAll, AuditAll, RepairDue, UpgradeJournal, ScrubAll};
+ghost use Rattle.record_defs.specs.Packed.{packed};
+ghost use Rattle.command_defs.specs.Forms.{Command, Numbers, RowOf, InitWith, PutUnder, GetOf, DropOf, ListAll, AuditAll, RepairDue, UpgradeJournal, ScrubAll, PackJournal};
 ghost use Rattle.command_defs.specs.Keys.{IsKeyForm};
 ghost use Rattle.command_defs.specs.Seen.{Seen, Ending, IsRefused, provider_at};
 ghost use Rattle.opening_defs.specs.Journals.{IsFree};
@@ -23,9 +24,10 @@ ghost use Rattle.command_laws.specs.After.{IsSure, Follows, IsThen, is_refusal, 
 ghost use Rattle.command_laws.specs.Opened.{IsKeyed};
 
 /// A store that is known stays known, whatever comes of a command, and a stop after it: its records are those
-/// before, or these with the first few of those that the job of the command appends; a put whose last one is
-/// among them has read its whole source. After a refusal they are those before, and nothing has changed; nor
-/// has it after a row, after words that are no command, and after an init, whatever comes of it.
+/// before, or these with the first few of those that the job of the command appends, or after a pack the
+/// packed ones; a put whose last one is among them has read its whole source. After a refusal they are those
+/// before, and nothing has changed; nor has it after a row, after words that are no command, and after an
+/// init, whatever comes of it.
 pub fn stores_stay_known()
     ensures always { (command : Command) (records : List Record) (old new next : Seen) (end : Ending)
         → Answers command old new end →
@@ -100,6 +102,9 @@ pub fn done_commands_leave_known_stores()
         IsKnown old records → IsSure new (after_upgrade records) }
     ensures scrub { (records : List Record) (old new : Seen) (end : Ending) → Answers ScrubAll old new end →
         IsDone end ⊎ ((end.status ≡ 4) ⊎ (end.status ≡ 13)) → IsKnown old records → IsSure new records }
+    ensures pack { (records : List Record) (old new : Seen) (end : Ending)
+        → Answers PackJournal old new end → IsDone end →
+        IsKnown old records → IsSure new (packed records) }
     ensures failed_repair { (records : List Record) (old new : Seen) (end : Ending)
         → Answers RepairDue old new end →
         (end.status ≡ 4) ⊎ (end.status ≡ 13) → IsKnown old records → IsSure new records }
@@ -107,10 +112,10 @@ pub fn done_commands_leave_known_stores()
 
 /// A put that is done leaves its file, right on every provider that tells what it holds, and so does one that
 /// was cut off or found no memory, where the next command finds its end in effect. Between two commands the
-/// file stays so on each provider that nobody touches. A get, a list, an audit, an upgrade, a put and a drop
-/// of another name leave it as it is, whatever comes of them, and so does a refusal. A repair that is done
-/// makes each flagged provider right for it, where at most b providers are spoilt or fail; so does one that
-/// was cut off, where the next command finds its end in effect. There a scrub that is done makes each
+/// file stays so on each provider that nobody touches. A get, a list, an audit, an upgrade, a pack, a put and
+/// a drop of another name leave it as it is, whatever comes of them, and so does a refusal. A repair that is
+/// done makes each flagged provider right for it, where at most b providers are spoilt or fail; so does one
+/// that was cut off, where the next command finds its end in effect. There a scrub that is done makes each
 /// provider right for it that tells what it holds; and one that came to another end has done it no harm.
 pub fn files_stay()
     ensures put { (name bytes : List ℕ) (own : Option ℕ) (records : List Record) (spoilt : ℕ → Bool)

@@ -6,23 +6,24 @@ ghost use Rattle.device_defs.specs.Cells.{Cells};
 ghost use Rattle.device_defs.specs.Faults.{Rose};
 ghost use Rattle.device_defs.specs.Told.{told_then, TakesFront};
 ghost use Rattle.record_defs.specs.Records.{Record, is_name, largest_file, largest_journal, all_profiles};
-ghost use Rattle.record_defs.specs.Journal.{text_size};
+ghost use Rattle.record_defs.specs.Areas.{Area, other_area, end_in, text_length};
+ghost use Rattle.record_defs.specs.Packed.{packed};
 ghost use Rattle.record_defs.specs.Table.{File, Due, version_of, next_id, file_of, due_of};
 ghost use Rattle.record_defs.specs.Reading.{HasNoSetup};
 ghost use Rattle.machine_defs.specs.Jobs.{Kind, PutJob, DropJob, AuditJob, RepairJob, UpgradeJob};
 ghost use Rattle.machine_defs.specs.Events.{AreBytes};
 ghost use Rattle.machine_defs.specs.Heard.{HoldsForgery};
 ghost use Rattle.machine_defs.specs.Refusals.{Refusal};
-ghost use Rattle.command_defs.specs.Forms.{Command, Numbers, RowOf, InitWith, GetOf, DropOf, ListAll, AuditAll, RepairDue, UpgradeJournal, ScrubAll};
+ghost use Rattle.command_defs.specs.Forms.{Command, Numbers, RowOf, InitWith, GetOf, DropOf, ListAll, AuditAll, RepairDue, UpgradeJournal, ScrubAll, PackJournal};
 ghost use Rattle.command_defs.specs.Seen.{Seen, Ending, IsRefused, provider_at};
 ghost use Rattle.opening_defs.specs.Journals.{journal_read, IsRead, IsBadStart};
 ghost use Rattle.command_defs.specs.Opens.{setup_in_effect, object_in_effect};
-ghost use Rattle.command_defs.specs.Refusals.{is_crowded_by, refusal_over, status_of};
-ghost use Rattle.command_defs.specs.Lines.{stored_line, dropped_line, upgraded_line};
+ghost use Rattle.command_defs.specs.Refusals.{is_crowded_by, refusal_over, reaches_over, pack_refusal_over, status_of};
+ghost use Rattle.command_defs.specs.Lines.{stored_line, dropped_line, upgraded_line, packed_line};
 ghost use Rattle.command_defs.specs.Jobs.{AnswersJob};
 ghost use Rattle.command_defs.specs.Commands.{AnswersAlone, Answers};
 ghost use Rattle.job_laws.specs.Failing.{bad_seen};
-ghost use Rattle.command_laws.specs.Ends.{IsDone, IsKnown, GivesUnlessMemory, EndsInOrder, SameHolds, opens_store, put_of, put_refusal, FaultsHaveCauses, AreSafe, HoldsFile, IsWholePut, IsDropped, IsAudited, IsRepaired, IsUpgraded, IsScrubbed};
+ghost use Rattle.command_laws.specs.Ends.{IsDone, IsKnown, GivesUnlessMemory, EndsInOrder, SameHolds, opens_store, put_of, put_refusal, FaultsHaveCauses, AreSafe, HoldsFile, IsWholePut, IsDropped, IsAudited, IsRepaired, IsUpgraded, IsScrubbed, IsPacked};
 ghost use Rattle.command_laws.specs.Kept.{LosesFile, LosesRepair, LosesScrub};
 
 /// A get of a file gives it whole, or finds no memory, where at most b providers are wrong for the file or
@@ -70,7 +71,7 @@ pub fn gets_give_the_file()
         → EndsInOrder (GetOf name) old new end ⊎ LosesFile name old new end }
 {}
 
-/// A get, a list, an audit and an upgrade leave what each provider holds, at any status.
+/// A get, a list, an audit, an upgrade and a pack leave what each provider holds, at any status.
 pub fn reads_leave_what_is_held()
     ensures get { (name : List ℕ) (old new : Seen) (end : Ending) → Answers (GetOf name) old new end
         → SameHolds old new }
@@ -78,6 +79,7 @@ pub fn reads_leave_what_is_held()
     ensures audit { (old new : Seen) (end : Ending) → Answers AuditAll old new end → SameHolds old new }
     ensures upgrade { (old new : Seen) (end : Ending) → Answers UpgradeJournal old new end
         → SameHolds old new }
+    ensures pack { (old new : Seen) (end : Ending) → Answers PackJournal old new end → SameHolds old new }
 {}
 
 /// A put of status 0 or 15 has stored its whole source on every provider, and brought it into effect, with
@@ -90,8 +92,8 @@ pub fn puts_store_the_source()
         → Answers (put_of name own) old new end → IsDone end → IsWholePut name own old new end }
     ensures ends_well { (name bytes : List ℕ) (own : Option ℕ) (records : List Record) (old new : Seen)
         (end : Ending) → Answers (put_of name own) old new end →
-        IsKnown old records → old.source ≡ Some bytes
-        → refusal_over records (PutJob name bytes) own ≡ None
+        (known : IsKnown old records) → old.source ≡ Some bytes
+        → refusal_over known.opened.area records (PutJob name bytes) own ≡ None
         → (Rose old.disk_faults new.disk_faults → ⊥) →
         ((j : ℕ) → j < (setup_in_effect records).n
         → Rose (provider_at old.providers j).store_faults (provider_at new.providers j).store_faults → ⊥) →
@@ -108,11 +110,11 @@ pub fn puts_store_the_source()
 /// A put that names a profile is not refused where the journal has its second version, the profile is one,
 /// the name and the length are good, and its two records and their numbers find room.
 pub fn own_profiles_are_taken()
-    ensures { (name bytes : List ℕ) (own : ℕ) (records : List Record) → version_of records ≡ 2
+    ensures { (name bytes : List ℕ) (own : ℕ) (area : Area) (records : List Record) → version_of records ≡ 2
         → own < all_profiles → is_name name ≡ true → length bytes ≤ largest_file
         → is_crowded_by records name ≡ false
-        → text_size records + 26 + length name ≤ largest_journal → next_id records ≤ 2 ^ 64 - 32
-        → refusal_over records (PutJob name bytes) (Some own) ≡ None }
+        → end_in area records + 26 + length name ≤ largest_journal → next_id records ≤ 2 ^ 64 - 32
+        → refusal_over area records (PutJob name bytes) (Some own) ≡ None }
 {}
 
 /// A drop of status 0 or 15 has taken the file out of effect and away from each provider, but for blocks that
@@ -123,7 +125,7 @@ pub fn drops_take_the_file_away()
         → IsDone end → IsDropped name old new end }
     ensures ends_well { (name : List ℕ) (records : List Record) (old new : Seen) (end : Ending)
         → Answers (DropOf name) old new end →
-        IsKnown old records → refusal_over records (DropJob name) None ≡ None
+        (known : IsKnown old records) → refusal_over known.opened.area records (DropJob name) None ≡ None
         → (Rose old.disk_faults new.disk_faults → ⊥) →
         (Rose old.sink_faults new.sink_faults → ⊥) → GivesUnlessMemory (dropped_line name) old new end }
     ensures ends { (name : List ℕ) (old new : Seen) (end : Ending) → Answers (DropOf name) old new end
@@ -137,9 +139,9 @@ pub fn audits_count_what_they_hear()
     ensures done { (old new : Seen) (end : Ending) → Answers AuditAll old new end → IsDone end
         → IsAudited old new end }
     ensures ends_well { (records : List Record) (old new : Seen) (end : Ending)
-        → Answers AuditAll old new end → IsKnown old records →
-        refusal_over records AuditJob None ≡ None → (Rose old.disk_faults new.disk_faults → ⊥)
-        → (Rose old.sink_faults new.sink_faults → ⊥) →
+        → Answers AuditAll old new end → (known : IsKnown old records) →
+        refusal_over known.opened.area records AuditJob None ≡ None
+        → (Rose old.disk_faults new.disk_faults → ⊥) → (Rose old.sink_faults new.sink_faults → ⊥) →
         (end.status ≡ 0) ⊎ (end.status ≡ 70) }
     ensures ends { (old new : Seen) (end : Ending) → Answers AuditAll old new end
         → (Rose old.disk_faults new.disk_faults → ⊥) →
@@ -157,7 +159,7 @@ pub fn repairs_write_anew()
         → IsRepaired old new end }
     ensures ends_well { (records : List Record) (old new : Seen) (end : Ending) (bytes : ℕ → List ℕ)
         → Answers RepairDue old new end →
-        IsKnown old records → refusal_over records RepairJob None ≡ None
+        (known : IsKnown old records) → refusal_over known.opened.area records RepairJob None ≡ None
         → (Rose old.disk_faults new.disk_faults → ⊥) →
         ((j : ℕ) → j < (setup_in_effect records).n
         → Rose (provider_at old.providers j).store_faults (provider_at new.providers j).store_faults → ⊥) →
@@ -215,55 +217,86 @@ pub fn upgrades_end_well()
     ensures done { (old new : Seen) (end : Ending) → Answers UpgradeJournal old new end → IsDone end
         → IsUpgraded old new end }
     ensures ends_well { (records : List Record) (old new : Seen) (end : Ending)
-        → Answers UpgradeJournal old new end → IsKnown old records →
-        refusal_over records UpgradeJob None ≡ None → (Rose old.disk_faults new.disk_faults → ⊥)
-        → (Rose old.sink_faults new.sink_faults → ⊥) → GivesUnlessMemory upgraded_line old new end }
+        → Answers UpgradeJournal old new end → (known : IsKnown old records) →
+        refusal_over known.opened.area records UpgradeJob None ≡ None
+        → (Rose old.disk_faults new.disk_faults → ⊥) → (Rose old.sink_faults new.sink_faults → ⊥) →
+        GivesUnlessMemory upgraded_line old new end }
     ensures ends { (old new : Seen) (end : Ending) → Answers UpgradeJournal old new end
         → (Rose old.disk_faults new.disk_faults → ⊥) →
         (Rose old.sink_faults new.sink_faults → ⊥) → EndsInOrder UpgradeJournal old new end }
-    ensures begins { (records : List Record) → version_of records ≡ 1
-        → text_size records + 3 ≤ largest_journal → refusal_over records UpgradeJob None ≡ None }
+    ensures begins { (area : Area) (records : List Record) → version_of records ≡ 1
+        → end_in area records + 3 ≤ largest_journal → refusal_over area records UpgradeJob None ≡ None }
+{}
+
+/// A pack of status 0 or 15 has put the packed records in the place of those before, of which a start makes
+/// the same table, and left each provider as it was. One that is not refused ends so, or finds no memory,
+/// unless the disk or the sink failed; it is not refused where the journal has its second version and does
+/// not reach from the first area into the second.
+pub fn packs_end_well()
+    ensures done { (old new : Seen) (end : Ending) → Answers PackJournal old new end → IsDone end
+        → IsPacked old new end }
+    ensures ends_well { (records : List Record) (old new : Seen) (end : Ending)
+        → Answers PackJournal old new end → (known : IsKnown old records) →
+        pack_refusal_over known.opened.area records ≡ None → (Rose old.disk_faults new.disk_faults → ⊥)
+        → (Rose old.sink_faults new.sink_faults → ⊥) →
+        GivesUnlessMemory (packed_line (text_length known.opened.area records)
+        (text_length (other_area known.opened.area) (packed records))) old new end }
+    ensures ends { (old new : Seen) (end : Ending) → Answers PackJournal old new end
+        → (Rose old.disk_faults new.disk_faults → ⊥) →
+        (Rose old.sink_faults new.sink_faults → ⊥) → EndsInOrder PackJournal old new end }
+    ensures begins { (area : Area) (records : List Record) → version_of records ≡ 2
+        → reaches_over area records ≡ false → pack_refusal_over area records ≡ None }
 {}
 
 /// A job has the status of a refusal only where that is the first of its refusals to apply; and where one
 /// applies, the command ends with its status, or that of no memory, and has changed nothing. So it is of the
-/// job of a command over records that were read, and of a command over a disk that tells. A put is refused
+/// job of a command over records that were read, and of a command over a disk that tells; and so of a pack,
+/// which runs no job. A put is refused
 /// whatever its source, for a profile of which there is none before all else; that its source is too long
 /// (16) shows behind its begin, and only where it is not refused and its source has more than 4,194,304
 /// bytes.
 pub fn refusals_are_exact()
-    ensures only { (kind : Kind) (own : Option ℕ) (records : List Record) (old new : Seen) (end : Ending)
-        (why : Refusal) → AnswersJob kind own records old new end →
-        status_of why ≢ 70 → end.status ≡ status_of why → refusal_over records kind own ≡ Some why }
-    ensures always { (kind : Kind) (own : Option ℕ) (records : List Record) (old new : Seen) (end : Ending)
-        (why : Refusal) → AnswersJob kind own records old new end →
-        refusal_over records kind own ≡ Some why
+    ensures only { (kind : Kind) (own : Option ℕ) (area : Area) (records : List Record) (old new : Seen)
+        (end : Ending) (why : Refusal) → AnswersJob kind own area records old new end →
+        status_of why ≢ 70 → end.status ≡ status_of why → refusal_over area records kind own ≡ Some why }
+    ensures always { (kind : Kind) (own : Option ℕ) (area : Area) (records : List Record) (old new : Seen)
+        (end : Ending) (why : Refusal) → AnswersJob kind own area records old new end →
+        refusal_over area records kind own ≡ Some why
         → IsRefused (status_of why) 0 old new end ⊎ IsRefused 70 0 old new end }
     ensures known_only { (kind : Kind) (records : List Record) (old new : Seen) (end : Ending)
         (why : Refusal) → AnswersAlone kind old new end →
-        IsKnown old records → status_of why ≢ 70 → end.status ≡ status_of why
-        → refusal_over records kind None ≡ Some why }
+        (known : IsKnown old records) → status_of why ≢ 70 → end.status ≡ status_of why
+        → refusal_over known.opened.area records kind None ≡ Some why }
     ensures known_always { (kind : Kind) (records : List Record) (old new : Seen) (end : Ending)
         (why : Refusal) → AnswersAlone kind old new end →
-        IsKnown old records → (Rose old.disk_faults new.disk_faults → ⊥)
-        → refusal_over records kind None ≡ Some why →
+        (known : IsKnown old records) → (Rose old.disk_faults new.disk_faults → ⊥)
+        → refusal_over known.opened.area records kind None ≡ Some why →
         IsRefused (status_of why) 0 old new end ⊎ IsRefused 70 0 old new end }
     ensures put_only { (name : List ℕ) (own : Option ℕ) (records : List Record) (old new : Seen)
         (end : Ending) (why : Refusal) →
-        Answers (put_of name own) old new end → IsKnown old records
+        Answers (put_of name own) old new end → (known : IsKnown old records)
         → status_of why ≢ 70 → status_of why ≢ 16 →
-        end.status ≡ status_of why → put_refusal records name own ≡ Some why }
+        end.status ≡ status_of why → put_refusal known.opened.area records name own ≡ Some why }
     ensures put_always { (name : List ℕ) (own : Option ℕ) (records : List Record) (old new : Seen)
         (end : Ending) (why : Refusal) →
-        Answers (put_of name own) old new end → IsKnown old records
+        Answers (put_of name own) old new end → (known : IsKnown old records)
         → (Rose old.disk_faults new.disk_faults → ⊥) →
-        (Rose old.source_faults new.source_faults → ⊥) → put_refusal records name own ≡ Some why →
+        (Rose old.source_faults new.source_faults → ⊥)
+        → put_refusal known.opened.area records name own ≡ Some why →
         IsRefused (status_of why) 0 old new end ⊎ IsRefused 70 0 old new end }
     ensures too_long_only { (name bytes : List ℕ) (own : Option ℕ) (records : List Record) (old new : Seen)
         (end : Ending) →
-        Answers (put_of name own) old new end → IsKnown old records → old.source ≡ Some bytes
+        Answers (put_of name own) old new end → (known : IsKnown old records) → old.source ≡ Some bytes
         → end.status ≡ 16 →
-        (put_refusal records name own ≡ None) × (largest_file < length bytes) }
+        (put_refusal known.opened.area records name own ≡ None) × (largest_file < length bytes) }
+    ensures pack_only { (records : List Record) (old new : Seen) (end : Ending) (why : Refusal)
+        → Answers PackJournal old new end → (known : IsKnown old records) → status_of why ≢ 70
+        → end.status ≡ status_of why → pack_refusal_over known.opened.area records ≡ Some why }
+    ensures pack_always { (records : List Record) (old new : Seen) (end : Ending) (why : Refusal)
+        → Answers PackJournal old new end → (known : IsKnown old records)
+        → (Rose old.disk_faults new.disk_faults → ⊥)
+        → pack_refusal_over known.opened.area records ≡ Some why →
+        IsRefused (status_of why) 0 old new end ⊎ IsRefused 70 0 old new end }
 {}
 
 /// A command that looks at a store ends with 9 only where the disk has none, with 8 only where its bytes are
@@ -290,11 +323,11 @@ pub fn unopened_stores_are_told()
         (Rose old.disk_faults new.disk_faults → ⊥) → ((end.status ≡ 8) × (end.at ≡ at)) ⊎ (end.status ≡ 70) }
     ensures too_few_only { (command : Command) (old new : Seen) (end : Ending) → Answers command old new end
         → opens_store command ≡ true →
-        end.status ≡ 22 → (records : List Record) × IsRead old.disk records
+        end.status ≡ 22 → (area : Area) × (records : List Record) × IsRead old.disk area records
         × (length old.providers < (setup_in_effect records).n) }
     ensures too_few { (command : Command) (cells : Cells) (old new : Seen) (end : Ending)
-        (records : List Record) → Answers command old new end →
-        opens_store command ≡ true → old.disk ≡ Some cells → IsRead old.disk records
+        (area : Area) (records : List Record) → Answers command old new end →
+        opens_store command ≡ true → old.disk ≡ Some cells → IsRead old.disk area records
         → length old.providers < (setup_in_effect records).n →
         (Rose old.disk_faults new.disk_faults → ⊥) → (end.status ≡ 22) ⊎ (end.status ≡ 70) }
 {}

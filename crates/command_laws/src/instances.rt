@@ -1,16 +1,17 @@
 //! Concrete values that meet what the laws suppose of a store, its file and commands over it: these laws are
 //! not empty.
-ghost use Rattle.std.specs.Prelude.{◌≡◌, ℕ, List, ◌+◌, ◌-◌, ◌^◌, ◌<◌, ◌≤◌, true, false, [], ◌∷◌, length, Some, None};
+ghost use Rattle.std.specs.Prelude.{◌≡◌, ℕ, List, replicate, ◌+◌, ◌-◌, ◌^◌, ◌<◌, ◌≤◌, true, false, [], ◌∷◌, length, Some, None};
 ghost use Rattle.record_defs.specs.Records.{SetUp, is_name, largest_file, largest_journal, all_profiles};
-ghost use Rattle.record_defs.specs.Journal.{text_size};
+ghost use Rattle.record_defs.specs.Areas.{A, end_in};
+ghost use Rattle.record_defs.specs.Packed.{packed};
 ghost use Rattle.record_defs.specs.Table.{version_of, next_id, files_of};
 ghost use Rattle.machine_defs.specs.Events.{AreBytes};
 ghost use Rattle.machine_defs.specs.Openings.{IsNotSetUp};
 ghost use Rattle.machine_defs.specs.States.{State};
-ghost use Rattle.command_defs.specs.Forms.{InitWith, PutUnder, PutAt, GetOf, ListAll, AuditAll, RepairDue, UpgradeJournal, ScrubAll, RowOf};
+ghost use Rattle.command_defs.specs.Forms.{InitWith, PutUnder, PutAt, GetOf, ListAll, AuditAll, RepairDue, UpgradeJournal, ScrubAll, PackJournal, RowOf};
 ghost use Rattle.command_defs.specs.Lines.{list_lines};
 ghost use Rattle.command_defs.specs.Opens.{setup_in_effect};
-ghost use Rattle.command_defs.specs.Refusals.{is_crowded_by};
+ghost use Rattle.command_defs.specs.Refusals.{is_crowded_by, reaches_over};
 ghost use Rattle.command_defs.specs.Seen.{NoCountFalls};
 ghost use Rattle.command_defs.specs.Commands.{Answers, IsUsage};
 ghost use Rattle.job_laws.specs.Failing.{bad_seen};
@@ -18,13 +19,14 @@ ghost use Rattle.command_laws.specs.Ends.{AreSafe};
 ghost use Rattle.command_laws.specs.After.{IsSure, Follows, HasRightFile, IsUntouched, IsSteady, IsFaultless};
 ghost use Rattle.command_laws.specs.Opened.{IsKeyed};
 ghost use Rattle.command_laws.specs.Pieces.{IsStore, IsLater, IsChain};
-ghost use Rattle.command_laws.specs.Instances.{store, small_setup, small_numbers, key_devices, ready_store, put_store, held_name, held_file, other_name, set_up_records, held_records, upgraded_records, own_records, due_records, audited_store, repaired_store, upgraded_store, own_store, scrubbed_store, given_up_store, started_records, reading, empty_devices, failed_devices, with_sink, ends, get_held, get_other};
+ghost use Rattle.command_laws.specs.Instances.{store, small_setup, small_numbers, key_devices, ready_store, put_store, held_name, held_file, other_name, set_up_records, held_records, upgraded_records, own_records, due_records, audited_store, repaired_store, upgraded_store, own_store, scrubbed_store, packed_store, given_up_store, started_records, reading, empty_devices, failed_devices, with_sink, ends, get_held, get_other};
 
 /// A store that was set up, whatever its source holds, one with one empty file, one with a repair due, one
-/// whose journal has its second version and one with a file that has a profile of its own are known, in each
-/// image of the disk. The file is right on all providers, none of which is wrong or failed; the next command
-/// finds it so; and a state of the abstract client stands for the store, as one does for a disk on which
-/// nothing is set up, and for one of which an init failed, whose setup is in doubt.
+/// whose journal has its second version, one with a file that has a profile of its own and one whose packed
+/// records stand in the second area are known, in each image of the disk. The file is right on all providers,
+/// none of which is wrong or failed; the next command finds it so; and a state of the abstract client stands
+/// for the store, as one does for a disk on which nothing is set up, and for one of which an init failed,
+/// whose setup is in doubt.
 pub fn there_are_known_stores()
     ensures set_up { IsSure (store set_up_records) set_up_records }
     ensures sure { IsSure (store held_records) held_records }
@@ -32,6 +34,9 @@ pub fn there_are_known_stores()
     ensures due { IsSure (store due_records) due_records }
     ensures upgraded { IsSure (store upgraded_records) upgraded_records }
     ensures own { IsSure (store own_records) own_records }
+    ensures packed { (filling : List ℕ) → length filling ≡ 2 ^ 23 - 8
+        → IsSure (packed_store filling) (packed upgraded_records) }
+    ensures filled { length {A = ℕ} (replicate (2 ^ 23 - 8) 0) ≡ 2 ^ 23 - 8 }
     ensures file { HasRightFile (store held_records) held_records held_name [] (λ j. false) }
     ensures none_bad { bad_seen held_records (store held_records) (store held_records) held_file []
         ≤ (setup_in_effect held_records).b }
@@ -58,7 +63,8 @@ pub fn there_are_known_stores()
 /// with no file an audit is done, and a repair that was due. An upgrade is done over a store that was set up,
 /// and over the upgraded one a put with a profile of its own; a profile that there is none of, one in a
 /// journal of the first version, and a second upgrade are refused. A scrub is done over the store with the
-/// file, of which nothing differs. Two gets are a chain.
+/// file, of which nothing differs. A pack is done over the upgraded store, and refused in a journal of the
+/// first version. Two gets are a chain.
 pub fn there_are_answers()
     ensures got { Answers (GetOf held_name) (store held_records) (store held_records) (ends 0) }
     ensures missing { Answers (GetOf other_name) (store held_records) (store held_records) (ends 3) }
@@ -78,6 +84,9 @@ pub fn there_are_answers()
     ensures upgrade { Answers UpgradeJournal (store set_up_records) upgraded_store (ends 0) }
     ensures own_put { Answers (PutAt held_name 1) (store upgraded_records) own_store (ends 0) }
     ensures scrub { Answers ScrubAll (store held_records) scrubbed_store (ends 0) }
+    ensures pack { (filling : List ℕ) → length filling ≡ 2 ^ 23 - 8 →
+        Answers PackJournal (store upgraded_records) (packed_store filling) (ends 0) }
+    ensures old_pack { Answers PackJournal (store set_up_records) (store set_up_records) (ends 23) }
     ensures bad_profile { Answers (PutAt held_name 5) (store set_up_records) (store set_up_records)
         (ends 20) }
     ensures old_version { Answers (PutAt held_name 1) (store set_up_records) (store set_up_records)
@@ -89,12 +98,13 @@ pub fn there_are_answers()
 {}
 
 /// The store that was set up has a journal of the first version and room for an upgrade; the upgraded one has
-/// room for a put with a profile of its own.
+/// room for a put with a profile of its own, and may be packed.
 pub fn there_is_room()
     ensures upgrade { (version_of set_up_records ≡ 1)
-        × (text_size set_up_records + 3 ≤ largest_journal) }
+        × (end_in A set_up_records + 3 ≤ largest_journal) }
     ensures own { (version_of upgraded_records ≡ 2) × (1 < all_profiles) × (is_name held_name ≡ true)
         × (is_crowded_by upgraded_records held_name ≡ false)
-        × (text_size upgraded_records + 26 + length held_name ≤ largest_journal)
+        × (end_in A upgraded_records + 26 + length held_name ≤ largest_journal)
         × (next_id upgraded_records ≤ 2 ^ 64 - 32) }
+    ensures pack { (version_of upgraded_records ≡ 2) × (reaches_over A upgraded_records ≡ false) }
 {}

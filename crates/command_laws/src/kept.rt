@@ -5,8 +5,9 @@ ghost use Rattle.device_defs.specs.Faults.{Rose};
 ghost use Rattle.device_defs.specs.Images.{EachImage};
 ghost use Rattle.record_defs.specs.Records.{Record, largest_file};
 ghost use Rattle.record_defs.specs.Journal.{StandsFor};
+ghost use Rattle.record_defs.specs.Packed.{packed};
 ghost use Rattle.machine_defs.specs.Jobs.{Kind};
-ghost use Rattle.command_defs.specs.Forms.{Command, Numbers, RowOf, InitWith, GetOf, DropOf, ListAll, AuditAll, RepairDue, UpgradeJournal, ScrubAll};
+ghost use Rattle.command_defs.specs.Forms.{Command, Numbers, RowOf, InitWith, GetOf, DropOf, ListAll, AuditAll, RepairDue, UpgradeJournal, ScrubAll, PackJournal};
 ghost use Rattle.command_defs.specs.Seen.{Seen, Ending, IsRefused, KeepsDisk, provider_at};
 ghost use Rattle.command_defs.specs.Opens.{setup_in_effect};
 ghost use Rattle.command_defs.specs.Commands.{Answers};
@@ -14,9 +15,9 @@ ghost use Rattle.command_laws.specs.Ends.{IsKnown, put_of, put_refusal, profile_
 ghost use Rattle.command_laws.specs.Kept.{KeepsImages, IsAfter, LeavesImages, InitImages, SameFetches, stores_blocks, opens_rows, FailsToPut, FailsToRepair, FailsToScrub, LosesFile, LosesRepair, LosesScrub};
 
 /// What a stop may leave of the disk after a command: what it could have left before, or, where a job was
-/// run, the records that were read with the first few of those that the job wrote. A put whose last one may
-/// stand there has read its whole source. A scrub at most syncs the disk, and an init leaves a store that is
-/// set up as it is.
+/// run, the records that were read with the first few of those that the job wrote; after a pack the packed
+/// ones may stand there. A put whose last record may stand there has read its whole source. A scrub at most
+/// syncs the disk, and an init leaves a store that is set up as it is.
 pub fn images_stand()
     ensures refused { (status at : ℕ) (old new : Seen) (end : Ending) → IsRefused status at old new end
         → KeepsImages old new }
@@ -32,8 +33,9 @@ pub fn images_stand()
         opens_store command ≡ true → IsKnown old records
         → EachImage old.disk (λ image. StandsFor image records) →
         EachImage new.disk (λ image. StandsFor image records
-        ⊎ ((kind : Kind) × RunsKind command old new kind
-        × IsAfter records kind (profile_named command) old new image)) }
+        ⊎ (((kind : Kind) × RunsKind command old new kind
+        × IsAfter records kind (profile_named command) old new image)
+        ⊎ ((command ≡ PackJournal) × StandsFor image (packed records)))) }
     ensures init { (numbers : Numbers) (old new : Seen) (end : Ending)
         → Answers (InitWith numbers) old new end → InitImages numbers old new }
     ensures init_known { (numbers : Numbers) (records : List Record) (old new : Seen) (end : Ending)
@@ -41,7 +43,7 @@ pub fn images_stand()
         records ≢ [] → EachImage old.disk (λ image. StandsFor image records) → KeepsImages old new }
 {}
 
-/// A put, a drop, an audit and an upgrade fetch nothing, at any status; nor do an init and a list.
+/// A put, a drop, an audit, an upgrade and a pack fetch nothing, at any status; nor do an init and a list.
 pub fn others_fetch_nothing()
     ensures put { (name : List ℕ) (own : Option ℕ) (old new : Seen) (end : Ending)
         → Answers (put_of name own) old new end → SameFetches old new }
@@ -50,6 +52,7 @@ pub fn others_fetch_nothing()
     ensures audit { (old new : Seen) (end : Ending) → Answers AuditAll old new end → SameFetches old new }
     ensures upgrade { (old new : Seen) (end : Ending) → Answers UpgradeJournal old new end
         → SameFetches old new }
+    ensures pack { (old new : Seen) (end : Ending) → Answers PackJournal old new end → SameFetches old new }
     ensures list { (old new : Seen) (end : Ending) → Answers ListAll old new end → SameFetches old new }
     ensures init { (numbers : Numbers) (old new : Seen) (end : Ending)
         → Answers (InitWith numbers) old new end → SameFetches old new }
@@ -86,8 +89,8 @@ pub fn cut_sources_leave()
         (name : List ℕ) × (own : Option ℕ) × (command ≡ put_of name own) × GivesUpPut name own old new end }
     ensures ends_well { (name bytes : List ℕ) (own : Option ℕ) (records : List Record) (old new : Seen)
         (end : Ending) → Answers (put_of name own) old new end →
-        IsKnown old records → old.source ≡ Some bytes → largest_file < length bytes
-        → put_refusal records name own ≡ None → (Rose old.disk_faults new.disk_faults → ⊥) →
+        (known : IsKnown old records) → old.source ≡ Some bytes → largest_file < length bytes
+        → put_refusal known.opened.area records name own ≡ None → (Rose old.disk_faults new.disk_faults → ⊥) →
         ((j : ℕ) → j < (setup_in_effect records).n
         → Rose (provider_at old.providers j).store_faults (provider_at new.providers j).store_faults → ⊥) →
         (Rose old.source_faults new.source_faults → ⊥) → (end.status ≡ 16) ⊎ (end.status ≡ 70) }

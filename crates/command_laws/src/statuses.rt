@@ -8,7 +8,7 @@ ghost use Rattle.command_defs.specs.Seen.{Seen, Ending};
 ghost use Rattle.command_defs.specs.Commands.{Answers};
 ghost use Rattle.command_laws.specs.After.{is_ending};
 
-/// A command whose words have a form ends with 0, 3, 4, 6 to 18, 20 to 24 or 70; so 2 comes only of words
+/// A command whose words have a form ends with 0, 3, 4, 6 to 18, 20 to 24, 26 or 70; so 2 comes only of words
 /// that have none.
 pub fn commands_end_with_a_status()
     ensures ending { (command : Command) (old new : Seen) (end : Ending) → Answers command old new end

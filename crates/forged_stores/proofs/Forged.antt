@@ -1,14 +1,16 @@
 -- A store of the rows is known by its journal, so that a get that ended well and wrote other bytes than its
 -- file's heard a forgery.
-use Rattle.std.proofs.Common.{◌≡◌, ◌≢◌, ◌⊎◌, ℕ, ◌≤◌, List, [], length, Some, refl, sym, ◌∙◌, ap, inl, inr, arith}
+use Rattle.std.proofs.Common.{◌≡◌, ◌≢◌, ◌⊎◌, ℕ, ◌≤◌, List, [], length, Some, refl, sym, subst, ◌∙◌, ap, inl, inr, arith}
 use Rattle.std.specs.Prelude.{IsTrue}
 use Rattle.std.specs.List.{list_all}
 use Rattle.device_defs.specs.Cells.{Cells, reads}
 use Rattle.device_defs.specs.Told.{told_then}
 use Rattle.record_defs.specs.Records.{Record, is_in_grammar, largest_journal}
-use Rattle.record_defs.specs.Journal.{text, text_size, StandsFor}
+use Rattle.record_defs.specs.Journal.{text}
+use Rattle.record_defs.specs.Areas.{A, end_in, StandsActive}
 use Rattle.record_defs.specs.Acceptance.{AreAccepted}
 use Rattle.record_defs.specs.Table.{File, file_of}
+use Rattle.record_defs.proofs.AreaLaws.{text-active}
 use Rattle.machine_defs.specs.Events.{AreBytes}
 use Rattle.machine_defs.specs.Heard.{HoldsForgery}
 use Rattle.machine_defs.specs.Setups.{object_of}
@@ -32,10 +34,10 @@ are-accepted : (s : Stored) → AreAccepted (records_of s)
 are-accepted stored.FourZeros = (refl, (refl, (refl, tt)))
 are-accepted stored.SixLetters = (refl, (refl, (refl, tt)))
 
-has-room : (s : Stored) → text_size (records_of s) ≤ largest_journal
-has-room stored.FourZeros = (let e : text_size (records_of stored.FourZeros) ≡ 77 = refl in omega (arith, e))
+has-room : (s : Stored) → end_in A (records_of s) ≤ largest_journal
+has-room stored.FourZeros = (let e : end_in A (records_of stored.FourZeros) ≡ 77 = refl in omega (arith, e))
 has-room stored.SixLetters =
-    (let e : text_size (records_of stored.SixLetters) ≡ 77 = refl in omega (arith, e))
+    (let e : end_in A (records_of stored.SixLetters) ≡ 77 = refl in omega (arith, e))
 
 are-bytes : (s : Stored) → AreBytes (stored_bytes s)
 are-bytes stored.FourZeros = refl
@@ -54,19 +56,14 @@ in-effect : (s : Stored) → file_of (records_of s) name_of_file ≡ Some (the-f
 unfolding the-file
 in-effect s = refl
 
-stands : (s : Stored) (image : List ℕ) → image ≡ text (records_of s) → StandsFor image (records_of s)
-stands s image is = record {
-  in_grammar = in-grammar s;
-  gate = 0;
-  rest = [];
-  closed = λ e. omega (arith, e);
-  bytes_are = is;
-}
+stands : (s : Stored) (image : List ℕ) → image ≡ text (records_of s) → StandsActive image A (records_of s)
+stands s image is = subst (λ l. StandsActive l A (records_of s)) (sym is)
+    (text-active (records_of s) (in-grammar s))
 
 known : (s : Stored) (old : Seen) (cells : Cells) → old.disk ≡ Some cells →
     reads cells ≡ text (records_of s) → (setup_numbers s).n ≤ length old.providers →
     IsKnown old (records_of s)
-known s old cells is reads_are enough = known-good (setup_numbers s) old cells (records_of s) is
+known s old cells is reads_are enough = known-good (setup_numbers s) old cells A (records_of s) is
     (record {
       some = λ e. cc;
       accepted = are-accepted s;

@@ -10,7 +10,7 @@ pub mod Judged
 pub mod Truth
 pub mod Questions
 pub mod Profiles
-pub mod Whole
+pub mod Keeping
 pub mod Audits
 pub mod Leaving
 pub mod Rewritten
@@ -24,7 +24,10 @@ pub mod Refused
 pub mod Drops
 pub mod Upgrades
 pub mod Complete
+pub mod Alike
 pub mod Telling
 pub mod Parts
 pub mod Mended
 pub mod BeginRefusals
+pub mod PackRuns
+pub mod Packs

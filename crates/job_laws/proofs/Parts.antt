@@ -1,22 +1,21 @@
 -- What a put leaves that stops before its last append.
-use Rattle.std.proofs.Common.{◌≡◌, ℕ, zero, suc, ◌+◌, ◌*◌, ◌<◌, ◌≤◌, ◌⊎◌, List, [], ◌∷◌, ◌++◌, length, take, drop, Option, None, Some, refl, ap, sym, subst, ◌∙◌, inl, inr, length-append, arith}
+use Rattle.std.proofs.Common.{◌≡◌, ℕ, zero, suc, ◌+◌, ◌*◌, ◌<◌, ◌≤◌, ◌⊎◌, List, [], ◌∷◌, ◌++◌, length, take, drop, Option, None, refl, ap, sym, subst, ◌∙◌, inl, inr, length-append, arith}
+use Rattle.std.specs.Prelude.{IsSomeAnd}
 use Rattle.std.specs.Option.{option_map}
 use Rattle.std.specs.List.{flat_map, range_with_len}
-use Rattle.std.proofs.lemmas.Bool.{cases_lt, false≢true}
 use Rattle.std.proofs.lemmas.List.FromFn.{length-map-range_with_len}
 use Rattle.algebra_laws.proofs.Each.{each_take}
-use Rattle.device_defs.specs.Cells.{Cells}
-use Rattle.device_defs.specs.Images.{EachImage}
+use Rattle.device_defs.proofs.Lasting.{each_image-mono}
 use Rattle.device_defs.specs.Told.{Goes}
 use Rattle.device_defs.specs.Providers.{Provider}
 use Rattle.record_defs.specs.Records.{Setup, Record, PutStart}
 use Rattle.record_defs.specs.Table.{next_id}
-use Rattle.record_defs.specs.Journal.{StandsFor, StandsOrIsEmpty}
+use Rattle.record_defs.specs.Areas.{StandsActive}
 use Rattle.machine_defs.specs.Jobs.{PutJob, Job}
 use Rattle.machine_defs.specs.Setups.{profiled, object_of, stripes_of}
 use Rattle.machine_defs.specs.Actions.{Action, WriteBody, SyncBody, WriteGate, SyncGate, Store, End, append_actions, on_each_provider, store_actions, remove_actions, actions_of, appends_left}
 use Rattle.machine_defs.specs.Events.{IsSpelledKind}
-use Rattle.machine_defs.specs.States.{State, setup_in}
+use Rattle.machine_defs.specs.States.{State, Doubt, setup_in}
 use Rattle.machine_defs.specs.Stands.{StandsPlain, StandsWithDoubt, StandsSwitched}
 use Rattle.machine_defs.specs.Begins.{chosen, beginning}
 use Rattle.machine_defs.specs.Runs.{now}
@@ -27,8 +26,7 @@ use Rattle.command_defs.specs.Blocks.{StoredOn}
 use Rattle.command_defs.specs.Jobs.{past}
 use Rattle.command_defs.specs.JobRuns.{AreSteps}
 use Rattle.command_defs.specs.GivenUp.{after_begin, PartRan, PartRuns, PartLeft}
-use Rattle.opening_defs.specs.Opened.{IsOpenedOver, IsOpenAtRest}
-use Rattle.state_laws.specs.Sound.{IsWholeJournal}
+use Rattle.opening_defs.specs.Opened.{IsOpenAtRest, IsJustOpened}
 use Rattle.state_laws.specs.Orders.{moves_made, IsInOrder}
 use Rattle.state_laws.proofs.Orders.{put-list, put-later, appends_in, appends-move, moves-first}
 use Rattle.lone_laws.specs.Made.{Made}
@@ -39,11 +37,11 @@ use Rattle.job_laws.proofs.Runs.{WalkedOn, walk-on}
 use Rattle.job_laws.proofs.Providers.{IsBelow, called-below, made-keeps}
 use Rattle.job_laws.proofs.Truth.{made-rises}
 use Rattle.job_laws.proofs.Lasts.{none-moving}
-use Rattle.job_laws.proofs.Whole.{begun-whole, steps-whole}
+use Rattle.job_laws.proofs.Keeping.{Keeps, part-keeps, keeps-whole}
 use Rattle.job_laws.proofs.Leaving.{below}
 use Rattle.job_laws.proofs.Removals.{IsWriting, writing-fetches, moves-made}
 use Rattle.job_laws.proofs.Puts.{all-stored, writing-put}
-use Rattle.job_laws.proofs.Telling.{opened_state, state-over, over-opened, get-provider, get-none}
+use Rattle.job_laws.proofs.Telling.{opened_state, state-over, providers-seen, image-kept}
 
 -- ---- so many stores
 
@@ -180,17 +178,17 @@ module _ (start w : State) (name bytes : List ℕ) (profile : ℕ) (job : Job) (
 module _ (records : List Record) (name bytes : List ℕ) (own : Option ℕ) (old new : Seen)
     (R : opens.IsOpened old records) (spelled : IsSpelledKind (PutJob name bytes))
     (named : MayName (PutJob name bytes) own) (same : length new.providers ≡ length old.providers)
-    (A : PartRuns records name bytes own old new) where
+    (A : PartRuns R.area records name bytes own old new) where
   abbrev w : State
-  w = opened_state records A.faults old.providers
+  w = opened_state R.area records A.faults old.providers
 
-  over : IsOpenedOver w records A.faults old.providers
-  over = state-over records A.faults old.providers R.read.accepted
+  over : IsJustOpened w R.area records 1 A.faults old.providers
+  over = state-over records A.faults old R
 
   O : IsOpenAtRest w 1
-  O = over-opened w old records A.faults R over
+  O = over.at_rest
 
-  ran : PartRan records name bytes own old new A.faults w 1
+  ran : PartRan R.area records name bytes own old new A.faults w 1
   ran = A.ran w 1 over
 
   abbrev its : ℕ
@@ -218,47 +216,37 @@ module _ (records : List Record) (name bytes : List ℕ) (own : Option ℕ) (old
   records-are : ran.last.records ≡ after_begin records name
   records-are = started w ran.last name bytes its last.next O walked place
 
-  whole : IsWholeJournal ran.last
-  whole = subst IsWholeJournal (sym ran.runs.last)
-      (steps-whole w O (PutJob name bytes) own ran.runs.begun (beginning w 1 (PutJob name bytes) own) 2
-      ran.runs.steps first.1 steps (begun-whole w O (PutJob name bytes) own 1 ran.runs.job ran.runs.begun
-      ran.runs.begins))
+  kept : Keeps w ran.last
+  kept = subst (Keeps w) (sym ran.runs.last)
+      (part-keeps w O (PutJob name bytes) own 1 ran.runs.job ran.runs.begun
+      (beginning w 1 (PutJob name bytes) own) ran.runs.steps ran.runs.begins first.1 steps)
 
   provider-is : (j : ℕ) → ran.last.providers j ≡ provider_at new.providers j
   unfolding setup_in
-  provider-is j = elim (cases_lt j (length new.providers)) [
-    | inl l ↦ (let e : Some (ran.last.providers j) ≡ Some (provider_at new.providers j) =
-        sym (ran.handed.each j l) ∙ get-provider new.providers j l in
-        let f : ran.last.providers j ≡ provider_at new.providers j = cc in f)
-    | inr l ↦ others w ran.last name bytes its last.next O walked place j (beyond l)
-        ∙ (get-none old.providers j (omega (arith, l, same)) ∙ sym (get-none new.providers j l))
-  ]
-    where
-      beyond : length new.providers ≤ j → (setup_in w).n ≤ j
-      beyond l = (let e = R.enough in omega (arith, e, l, same))
+  provider-is = providers-seen w ran.last old new (setup_in w).n refl R.enough same ran.handed
+      (others w ran.last name bytes its last.next O walked place)
 
   journal-is : ran.last.journal ≡ after_begin records name
-  journal-is = whole.journal ∙ records-are
+  journal-is = keeps-whole w ran.last kept refl ∙ records-are
 
   image-stands : (image : List ℕ) → StandsPlain ran.last image ⊎
       (StandsWithDoubt ran.last image ⊎ StandsSwitched ran.last image) →
-      StandsOrIsEmpty image (after_begin records name)
-  image-stands image (inl (inl h)) = inl (subst (StandsFor image) journal-is h.1)
-  image-stands image (inl (inr h)) = inr (sym journal-is ∙ h.0, h.1)
-  image-stands image (inr (inl h)) =
-      absurd (let e : None ≡ Some h.doubt = sym (sure w ran.last name bytes its last.next O walked place)
-      ∙ h.in_doubt in cc)
-  image-stands image (inr (inr h)) = absurd (false≢true (sym whole.unswitched ∙ h.switching))
-
-  images-stand : (told : Option Cells) →
-      EachImage told (λ image. StandsPlain ran.last image ⊎
-      (StandsWithDoubt ran.last image ⊎ StandsSwitched ran.last image)) →
-      EachImage told (λ image. StandsOrIsEmpty image (after_begin records name))
-  images-stand None h = tt
-  images-stand (Some cells) h = λ image is. image-stands image (h image is)
+      StandsActive image R.area (after_begin records name)
+  image-stands image h = sure-stands
+      (image-kept w ran.last R.area records kept refl refl refl refl R.read.some image h)
+    where
+      sure-stands : StandsActive image R.area ran.last.records ⊎
+          IsSomeAnd (option_map (λ (d : Doubt). d.entry) ran.last.doubt)
+          (λ entry. StandsActive image R.area (entry ∷ ran.last.records)) →
+          StandsActive image R.area (after_begin records name)
+      sure-stands (inl h) = subst (StandsActive image R.area) records-are h
+      sure-stands (inr h) = absurd (subst (λ (d : Option Doubt).
+          IsSomeAnd (option_map (λ (d : Doubt). d.entry) d)
+          (λ entry. StandsActive image R.area (entry ∷ ran.last.records)))
+          (sure w ran.last name bytes its last.next O walked place) h)
 
   -- what a command tells of such a run leaves its start, and its stripes on every provider
-  pub part-left : PartLeft records name bytes own old new
+  pub part-left : PartLeft R.area records name bytes own old new
   unfolding setup_in
   part-left = record {
     faults = A.faults;
@@ -278,7 +266,8 @@ module _ (records : List Record) (name bytes : List ℕ) (own : Option ℕ) (old
     };
     others = λ j l. sym (provider-is j)
         ∙ others w ran.last name bytes its last.next O walked place j l;
-    images = images-stand new.disk ran.images;
-    past_text = subst (λ rs. option_map (past rs) new.disk ≡ option_map (past rs) old.disk) records-are
-        ran.past_text;
+    images = each_image-mono new.disk _ (λ image. StandsActive image R.area (after_begin records name))
+        image-stands ran.images;
+    past_text = subst (λ rs. option_map (past R.area rs) new.disk ≡ option_map (past R.area rs) old.disk)
+        journal-is ran.past_text;
   }

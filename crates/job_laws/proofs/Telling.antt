@@ -1,14 +1,12 @@
 -- From the run of a job, as a command tells it, to what it leaves.
-use Rattle.std.proofs.Common.{◌≡◌, ℕ, zero, suc, ◌<◌, ◌≤◌, ◌⊎◌, List, [], ◌∷◌, length, Option, None, Some, refl, sym, subst, ◌∙◌, inl, inr, arith}
+use Rattle.std.proofs.Common.{◌≡◌, ◌≢◌, ℕ, zero, suc, ◌<◌, ◌≤◌, ◌⊎◌, false, List, [], ◌∷◌, ◌++◌, length, Option, None, Some, refl, ap, sym, subst, ◌∙◌, inl, inr, arith}
 use Rattle.std.specs.Prelude.{slice_get, IsSomeAnd}
 use Rattle.std.specs.Option.{option_map}
 use Rattle.std.proofs.lemmas.Bool.{cases_lt, false≢true}
-use Rattle.device_defs.specs.Cells.{Cells}
-use Rattle.device_defs.specs.Images.{EachImage}
 use Rattle.device_defs.specs.Providers.{Provider}
+use Rattle.device_defs.proofs.Lasting.{each_image-mono}
 use Rattle.record_defs.specs.Records.{Record}
-use Rattle.record_defs.specs.Acceptance.{AreAccepted}
-use Rattle.record_defs.specs.Journal.{StandsFor, StandsOrIsEmpty}
+use Rattle.record_defs.specs.Areas.{Area, StandsActive}
 use Rattle.machine_defs.specs.Jobs.{Kind, PutJob, GetJob, DropJob, AuditJob, RepairJob, UpgradeJob}
 use Rattle.machine_defs.specs.Answers.{Answer}
 use Rattle.machine_defs.specs.Events.{IsSpelledKind}
@@ -17,15 +15,15 @@ use Rattle.machine_defs.specs.States.{State, Doubt}
 use Rattle.machine_defs.specs.Stands.{StandsPlain, StandsWithDoubt, StandsSwitched}
 use Rattle.command_defs.specs.Seen.{Seen, nobody, provider_at}
 use Rattle.command_defs.specs.Opens as opens
+use Rattle.command_defs.specs.Opens.{setup_in_effect}
 use Rattle.command_defs.specs.Ran.{ran_from, ran_alone}
-use Rattle.opening_defs.specs.Opened.{IsOpenedOver, IsOpenAtRest}
-use Rattle.opening_defs.proofs.Opened.{opened-over, has-setup, state_with, opened-with}
+use Rattle.opening_defs.specs.Opened.{AreHanded, IsOpenAtRest, IsJustOpened}
+use Rattle.opening_defs.proofs.Opened.{has-setup, state_with, opened-with}
 use Rattle.command_defs.specs.JobRuns.{RunsJob}
-use Rattle.command_defs.specs.Jobs.{Leaves, LeftAlone, RanAlone, RunsAlone}
-use Rattle.state_laws.specs.Sound.{IsWholeJournal}
+use Rattle.command_defs.specs.Jobs.{Leaves, LeftAlone, RanAlone, RunsAlone, SamePast}
 use Rattle.lone_laws.specs.Walked.{MayName}
 use Rattle.job_laws.proofs.Runs.{job-ends}
-use Rattle.job_laws.proofs.Whole.{runs-whole}
+use Rattle.job_laws.proofs.Keeping.{Keeps, runs-keep, keeps-whole}
 use Rattle.job_laws.proofs.Audits.{audits-leave}
 use Rattle.job_laws.proofs.Repairs.{repairs-leave}
 use Rattle.job_laws.proofs.Gets.{all-leaves}
@@ -34,20 +32,13 @@ use Rattle.job_laws.proofs.Drops.{drop-leaves}
 use Rattle.job_laws.proofs.Upgrades.{upgrade-leaves}
 use Rattle.job_laws.proofs.Refused.{drop-has}
 
--- ---- a state that was opened over records that a start read
+-- ---- over records that a start read there is a state just opened
 
--- a state opened over records that a start read is one just opened
-pub over-opened : (w : State) (old : Seen) (records : List Record) (faults : ℕ) → opens.IsOpened old records →
-    IsOpenedOver w records faults old.providers → IsOpenAtRest w 1
-over-opened w old records faults R V =
-    opened-over w records faults old.providers V R.read.accepted R.read.in_grammar R.read.room
-    (has-setup records R.read.accepted R.read.some) R.enough
-
--- ---- there is such a state
-
--- the state with zeros for the bytes of its files
-abbrev pub opened_state : List Record → ℕ → List Provider → State
-opened_state records faults providers = state_with records faults (provider_at providers) (length providers)
+-- the state in which these records are the journal and the whole history, with zeros for the bytes of its
+-- files
+abbrev pub opened_state : Area → List Record → ℕ → List Provider → State
+opened_state area records faults providers =
+    state_with area records faults (provider_at providers) (length providers)
 
 -- a provider that was handed in, and one that was not
 pub get-provider : (ps : List Provider) (j : ℕ) → j < length ps → slice_get ps j ≡ Some (provider_at ps j)
@@ -60,11 +51,62 @@ get-none [] j l = refl
 get-none (p ∷ ps) zero l = absurd (omega (arith, l))
 get-none (p ∷ ps) (suc j) l = get-none ps j (omega (arith, l))
 
--- over accepted records there is a state that was opened over them
-pub state-over : (records : List Record) (faults : ℕ) (providers : List Provider) → AreAccepted records →
-    IsOpenedOver (opened_state records faults providers) records faults providers
-state-over records faults providers accepted =
-    opened-with records faults providers (provider_at providers) accepted (get-provider providers)
+-- it is one whose vault was just opened over them
+pub state-over : (records : List Record) (faults : ℕ) (old : Seen) (R : opens.IsOpened old records) →
+    IsJustOpened (opened_state R.area records faults old.providers) R.area records 1 faults old.providers
+state-over records faults old R =
+    opened-with R.area records faults old.providers (provider_at old.providers) R.read.accepted
+    R.read.in_grammar R.read.room (has-setup records R.read.accepted R.read.some) R.enough
+    (get-provider old.providers)
+
+-- ---- what a last state tells
+
+-- each provider is as it is seen, where those beyond the setup's stay
+pub providers-seen : (w last : State) (old new : Seen) (n : ℕ) →
+    w.providers ≡ provider_at old.providers → n ≤ length old.providers →
+    length new.providers ≡ length old.providers → AreHanded new.providers last →
+    ((j : ℕ) → n ≤ j → last.providers j ≡ w.providers j) →
+    (j : ℕ) → last.providers j ≡ provider_at new.providers j
+providers-seen w last old new n first enough same handed others j = elim (cases_lt j (length new.providers)) [
+  | inl l ↦ (let e : Some (last.providers j) ≡ Some (provider_at new.providers j) =
+      sym (handed.each j l) ∙ get-provider new.providers j l in
+      let f : last.providers j ≡ provider_at new.providers j = cc in f)
+  | inr l ↦ others j (omega (arith, enough, l, same))
+      ∙ (ap (λ (f : ℕ → Provider). f j) first
+      ∙ (get-none old.providers j (omega (arith, l, same)) ∙ sym (get-none new.providers j l)))
+]
+
+-- records with more on top are some where there were some
+some-more : (added records : List Record) → records ≢ [] → added ++ records ≢ []
+some-more [] records some = some
+some-more (r ∷ added) records some = λ e. cc
+
+-- an image of the disk after a job that kept the area stands for its records, or for them with the one in
+-- doubt
+pub image-kept : (w last : State) (area : Area) (records : List Record) → Keeps w last → w.records ≡ records →
+    w.journal ≡ records → w.area ≡ area → w.is_switching ≡ false → records ≢ [] → (image : List ℕ) →
+    StandsPlain last image ⊎ (StandsWithDoubt last image ⊎ StandsSwitched last image) →
+    StandsActive image area last.records ⊎ IsSomeAnd (option_map (λ (d : Doubt). d.entry) last.doubt)
+    (λ entry. StandsActive image area (entry ∷ last.records))
+image-kept w last area records K history journal area_is unswitched some image h = by h
+  where
+    whole : last.journal ≡ last.records
+    whole = keeps-whole w last K (journal ∙ sym history)
+
+    stands : (rs : List Record) → StandsActive image last.area rs → StandsActive image area rs
+    stands rs h = subst (λ a. StandsActive image a rs) (K.area ∙ area_is) h
+
+    by : StandsPlain last image ⊎ (StandsWithDoubt last image ⊎ StandsSwitched last image) →
+        StandsActive image area last.records ⊎ IsSomeAnd (option_map (λ (d : Doubt). d.entry) last.doubt)
+        (λ entry. StandsActive image area (entry ∷ last.records))
+    by (inl (inl h)) = inl (subst (StandsActive image area) whole (stands last.journal h))
+    by (inl (inr h)) = absurd (some-more K.added records some
+        (sym (K.journal ∙ ap (λ rs. K.added ++ rs) journal) ∙ h.0))
+    by (inr (inl h)) = inr (subst (λ (d : Option Doubt). IsSomeAnd (option_map (λ (d : Doubt). d.entry) d)
+        (λ entry. StandsActive image area (entry ∷ last.records))) (sym h.in_doubt)
+        (subst (λ rs. StandsActive image area (h.doubt.entry ∷ rs)) whole
+        (stands (h.doubt.entry ∷ last.journal) h.stands)))
+    by (inr (inr h)) = absurd (false≢true (sym (K.switch ∙ unswitched) ∙ h.switching))
 
 -- ---- what is left of the run
 
@@ -73,62 +115,33 @@ module _ (records : List Record) (kind : Kind) (own : Option ℕ) (answer : Answ
     (law : (w last : State) (moment : ℕ) → IsOpenAtRest w 1 → RunsJob w moment kind own answer heard last →
     Leaves (ran_from w last heard) kind own answer)
     (R : opens.IsOpened old records) (same : length new.providers ≡ length old.providers)
-    (A : RunsAlone records kind own answer old new heard) where
+    (A : RunsAlone R.area records kind own answer old new heard) where
   abbrev w : State
-  w = opened_state records A.faults old.providers
+  w = opened_state R.area records A.faults old.providers
 
-  over : IsOpenedOver w records A.faults old.providers
-  over = state-over records A.faults old.providers R.read.accepted
+  over : IsJustOpened w R.area records 1 A.faults old.providers
+  over = state-over records A.faults old R
 
-  abbrev ran : RanAlone records kind own answer old new heard A.faults w 1
+  abbrev ran : RanAlone R.area records kind own answer old new heard A.faults w 1
   ran = A.ran w 1 over
 
   left-by : Leaves (ran_from w ran.last heard) kind own answer
-  left-by = law w ran.last 1 (over-opened w old records A.faults R over) ran.runs
+  left-by = law w ran.last 1 over.at_rest ran.runs
 
   provider-is : (j : ℕ) → ran.last.providers j ≡ provider_at new.providers j
-  provider-is j = elim (cases_lt j (length new.providers)) [
-    | inl l ↦ (let e : Some (ran.last.providers j) ≡ Some (provider_at new.providers j) =
-        sym (ran.handed.each j l) ∙ get-provider new.providers j l in
-        let f : ran.last.providers j ≡ provider_at new.providers j = cc in f)
-    | inr l ↦ left-by.others j (let e = R.enough in omega (arith, e, l, same))
-        ∙ (get-none old.providers j (omega (arith, l, same)) ∙ sym (get-none new.providers j l))
-  ]
+  provider-is = providers-seen w ran.last old new (setup_in_effect records).n refl R.enough same ran.handed
+      left-by.others
 
-  abbrev entry_in : Doubt → Record
-  entry_in d = d.entry
+  -- the disk holds the whole history, in the same area
+  kept : Keeps w ran.last
+  kept = runs-keep w over.at_rest kind own ran.last 1 answer heard spelled named ran.runs
 
-  -- the disk holds the whole history
-  whole : IsWholeJournal ran.last
-  whole = runs-whole w (over-opened w old records A.faults R over) kind own ran.last 1 answer heard spelled
-      named ran.runs
-
-  image-stands : (image : List ℕ) → StandsPlain ran.last image ⊎
-      (StandsWithDoubt ran.last image ⊎ StandsSwitched ran.last image) →
-      StandsOrIsEmpty image ran.last.records ⊎ IsSomeAnd (option_map (λ (d : Doubt). d.entry) ran.last.doubt)
-      (λ entry. StandsFor image (entry ∷ ran.last.records))
-  image-stands image (inl (inl h)) = inl (inl (subst (StandsFor image) whole.journal h.1))
-  image-stands image (inl (inr h)) = inl (inr (sym whole.journal ∙ h.0, h.1))
-  image-stands image (inr (inl h)) =
-      inr (subst (λ (d : Option Doubt). IsSomeAnd (option_map (λ (d : Doubt). d.entry) d)
-      (λ entry. StandsFor image (entry ∷ ran.last.records))) (sym h.in_doubt)
-      (subst (λ rs. StandsFor image (h.doubt.entry ∷ rs)) whole.journal h.stands.1))
-  image-stands image (inr (inr h)) = absurd (false≢true (sym whole.unswitched ∙ h.switching))
-
-  images-stand : (told : Option Cells) →
-      EachImage told (λ image. StandsPlain ran.last image ⊎
-      (StandsWithDoubt ran.last image ⊎ StandsSwitched ran.last image)) →
-      EachImage told (λ image. StandsOrIsEmpty image ran.last.records ⊎
-      IsSomeAnd (option_map (λ (d : Doubt). d.entry) ran.last.doubt)
-      (λ entry. StandsFor image (entry ∷ ran.last.records)))
-  images-stand None h = tt
-  images-stand (Some cells) h = λ image is. image-stands image (h image is)
-
-  -- what a job left, with the records that are in effect after its run from some state
+  -- what a job left, with the records that are in effect after its run from some state over this history
   pub record LeftAfter : Type 0 where
-    pub left : LeftAlone records kind own answer old new heard
+    pub left : LeftAlone R.area records kind own answer old new heard
     pub state : State
-    pub over : IsOpenedOver state records A.faults old.providers
+    pub over : IsJustOpened state R.area records 1 A.faults old.providers
+    pub history : state.records ≡ records
     pub after_is : left.after ≡ (A.ran state 1 over).last.records
 
   -- what a command tells of its job's run leaves what a job of its kind leaves
@@ -143,17 +156,23 @@ module _ (records : List Record) (kind : Kind) (own : Option ℕ) (answer : Answ
           (record (ran_alone records old new heard A.faults ran.last.records
           (option_map (λ (d : Doubt). d.entry) ran.last.doubt)) { disk_after = n }) kind own answer)
           ran.faults_are
-          (subst (λ (f : ℕ → Provider). Leaves (record (ran_from w ran.last heard) { new = f }) kind own answer)
+          (subst (λ (f : ℕ → Provider).
+          Leaves (record (ran_from w ran.last heard) { new = f }) kind own answer)
           (λ i j. provider-is j i) left-by);
-      images = images-stand new.disk ran.images;
-      past_text = ran.past_text;
+      images = each_image-mono new.disk _ (λ image. StandsActive image R.area ran.last.records ⊎
+          IsSomeAnd (option_map (λ (d : Doubt). d.entry) ran.last.doubt)
+          (λ entry. StandsActive image R.area (entry ∷ ran.last.records)))
+          (image-kept w ran.last R.area records kept refl refl refl refl R.read.some) ran.images;
+      past_text = subst (λ rs. SamePast R.area kind own answer records rs old.disk new.disk)
+          (keeps-whole w ran.last kept refl) ran.past_text;
     };
     state = w;
     over = over;
+    history = refl;
     after_is = refl;
   }
 
-  pub left-alone : LeftAlone records kind own answer old new heard
+  pub left-alone : LeftAlone R.area records kind own answer old new heard
   left-alone = left-after.left
 
 -- ---- each kind of job

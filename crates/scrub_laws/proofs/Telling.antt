@@ -1,40 +1,35 @@
 -- From the run of a scrub, as its command tells it, to what it leaves.
-use Rattle.std.proofs.Common.{◌≡◌, ℕ, List, [], length, None, Some, ap, sym, subst, ◌∙◌, inl, inr, arith}
+use Rattle.std.proofs.Common.{◌≡◌, ℕ, List, [], length, None, refl, ap, subst}
 use Rattle.std.specs.Option.{option_map}
-use Rattle.std.proofs.lemmas.Bool.{cases_lt}
 use Rattle.record_defs.specs.Records.{Record}
 use Rattle.machine_defs.specs.Answers.{Answer}
 use Rattle.machine_defs.specs.States.{State, Doubt}
 use Rattle.command_defs.specs.Opens as opens
+use Rattle.command_defs.specs.Opens.{setup_in_effect}
 use Rattle.command_defs.specs.Ran.{Ran, ran_from, ran_alone}
 use Rattle.command_defs.specs.Scrubs.{ScrubLeaves, RanScrub, ScrubsAlone, ScrubbedAlone}
 use Rattle.command_defs.specs.Seen.{Seen, provider_at}
-use Rattle.opening_defs.specs.Opened.{IsOpenedOver}
-use Rattle.job_laws.proofs.Telling.{over-opened, opened_state, state-over, get-provider, get-none}
+use Rattle.opening_defs.specs.Opened.{IsJustOpened}
+use Rattle.job_laws.proofs.Telling.{opened_state, state-over, providers-seen}
 use Rattle.scrub_laws.proofs.Ends.{Ended_by, scrub-ends}
 
 module _ (records : List Record) (answer : Answer) (old new : Seen) (R : opens.IsOpened old records)
-    (same : length new.providers ≡ length old.providers) (A : ScrubsAlone records answer old new) where
+    (same : length new.providers ≡ length old.providers) (A : ScrubsAlone R.area records answer old new) where
   abbrev w : State
-  w = opened_state records A.faults old.providers
+  w = opened_state R.area records A.faults old.providers
 
-  over : IsOpenedOver w records A.faults old.providers
-  over = state-over records A.faults old.providers R.read.accepted
+  over : IsJustOpened w R.area records 1 A.faults old.providers
+  over = state-over records A.faults old R
 
   ran : RanScrub records answer old new A.faults w 1
   ran = A.ran w 1 over
 
   ended : Ended_by w ran.last answer
-  ended = scrub-ends w (over-opened w old records A.faults R over) ran.last 1 answer ran.runs
+  ended = scrub-ends w over.at_rest ran.last 1 answer ran.runs
 
   provider-is : (j : ℕ) → ran.last.providers j ≡ provider_at new.providers j
-  provider-is j = elim (cases_lt j (length new.providers)) [
-    | inl l ↦ (let e : Some (ran.last.providers j) ≡ Some (provider_at new.providers j) =
-        sym (ran.handed.each j l) ∙ get-provider new.providers j l in
-        let f : ran.last.providers j ≡ provider_at new.providers j = cc in f)
-    | inr l ↦ ended.leaves.others j (let e = R.enough in omega (arith, e, l, same))
-        ∙ (get-none old.providers j (omega (arith, l, same)) ∙ sym (get-none new.providers j l))
-  ]
+  provider-is = providers-seen w ran.last old new (setup_in_effect records).n refl R.enough same ran.handed
+      ended.leaves.others
 
   records-are : ran.last.records ≡ records
   records-are = ap (λ (v : State). v.records) ended.is_past

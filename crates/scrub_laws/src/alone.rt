@@ -28,7 +28,8 @@ pub fn scrubs_leave()
 
 /// What a scrub leaves whose command tells of its run.
 pub fn told_scrubs_leave()
-    ensures { (records : List Record) (answer : Answer) (old new : Seen) → opens.IsOpened old records
-        → length new.providers ≡ length old.providers → ScrubsAlone records answer old new →
+    ensures { (records : List Record) (answer : Answer) (old new : Seen)
+        → (opened : opens.IsOpened old records)
+        → length new.providers ≡ length old.providers → ScrubsAlone opened.area records answer old new →
         ScrubbedAlone records answer old new }
 {}

@@ -17,3 +17,7 @@ returns-clause-repaired c = refl
 pub returns-clause-listed : goal.returns-clause-listed
 unfolding digits
 returns-clause-listed c = refl
+
+pub returns-clause-packed : goal.returns-clause-packed
+unfolding digits
+returns-clause-packed c = refl

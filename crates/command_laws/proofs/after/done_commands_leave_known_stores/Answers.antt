@@ -1,6 +1,6 @@
 use Rattle.command_laws.proofs.JobEnds.{put-answers}
 use Rattle.std.proofs.Common.{inl, inr}
-use Rattle.command_laws.proofs.DoneStores.{scrub-sure, upgrade-sure, init-sure, put-sure, failed-put-sure, cut-put-sure, long-put-sure, failed-repair-sure, get-sure, drop-sure, list-sure, audit-sure, repair-sure}
+use Rattle.command_laws.proofs.DoneStores.{pack-sure, scrub-sure, upgrade-sure, init-sure, put-sure, failed-put-sure, cut-put-sure, long-put-sure, failed-repair-sure, get-sure, drop-sure, list-sure, audit-sure, repair-sure}
 use Rattle.command_laws.proofs.after.done_commands_leave_known_stores.Goals as goal
 
 pub returns-clause-init : goal.returns-clause-init
@@ -51,3 +51,6 @@ returns-clause-upgrade c records old new end A done K = upgrade-sure records old
 
 pub returns-clause-scrub : goal.returns-clause-scrub
 returns-clause-scrub c records old new end A over K = scrub-sure records old new end A.0 over K
+
+pub returns-clause-pack : goal.returns-clause-pack
+returns-clause-pack c records old new end A done K = pack-sure records old new end A.0 done K

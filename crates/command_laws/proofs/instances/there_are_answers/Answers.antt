@@ -5,6 +5,7 @@ use Rattle.command_laws.proofs.AuditSample.{audit}
 use Rattle.command_laws.proofs.RepairSample.{repair}
 use Rattle.command_laws.proofs.UpgradeSample.{upgrade, upgraded-twice}
 use Rattle.command_laws.proofs.ScrubSample.{scrub}
+use Rattle.command_laws.proofs.PackSample.{pack, pack-refused}
 use Rattle.command_laws.proofs.OwnSample.{own-put, old-refused, unknown-refused}
 use Rattle.command_laws.proofs.InitSample.{init, keyed}
 use Rattle.command_laws.proofs.instances.there_are_answers.Goals as goal
@@ -56,3 +57,9 @@ returns-clause-new_version c = upgraded-twice
 
 pub returns-clause-scrub : goal.returns-clause-scrub
 returns-clause-scrub c = scrub
+
+pub returns-clause-pack : goal.returns-clause-pack
+returns-clause-pack c = pack
+
+pub returns-clause-old_pack : goal.returns-clause-old_pack
+returns-clause-old_pack c = pack-refused

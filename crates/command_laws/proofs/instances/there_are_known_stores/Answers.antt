@@ -1,4 +1,5 @@
-use Rattle.std.proofs.Common.{refl, inl, arith}
+use Rattle.std.proofs.Common.{ℕ, ◌-◌, ◌^◌, refl, inl, arith}
+use Rattle.std.proofs.lemmas.List.{length-replicate}
 use Rattle.command_laws.specs.Instances.{store, held_records}
 use Rattle.command_laws.proofs.Between.{sure-store}
 use Rattle.command_laws.proofs.Samples.{never-rises, never-seen, set_up-sure, held-sure, held-file, none-bad, all-safe}
@@ -6,6 +7,7 @@ use Rattle.command_laws.proofs.LongSample.{reading-sure}
 use Rattle.command_laws.proofs.RepairSample.{due-sure}
 use Rattle.command_laws.proofs.UpgradeSample.{upgraded-sure}
 use Rattle.command_laws.proofs.OwnSample.{own-sure}
+use Rattle.command_laws.proofs.PackSample.{packed-sure}
 use Rattle.command_laws.proofs.UnsetSample.{unset, unset-store, doubtful, doubtful-store}
 use Rattle.command_laws.proofs.instances.there_are_known_stores.Goals as goal
 
@@ -67,3 +69,9 @@ returns-clause-own c = own-sure
 
 pub returns-clause-safe : goal.returns-clause-safe
 returns-clause-safe c = all-safe
+
+pub returns-clause-packed : goal.returns-clause-packed
+returns-clause-packed c = packed-sure
+
+pub returns-clause-filled : goal.returns-clause-filled
+returns-clause-filled c = length-replicate {A = ℕ} (2 ^ 23 - 8) 0

@@ -6,3 +6,6 @@ returns-clause-upgrade c = (refl, omega arith)
 
 pub returns-clause-own : goal.returns-clause-own
 returns-clause-own c = (refl, omega arith, refl, refl, omega arith, omega arith)
+
+pub returns-clause-pack : goal.returns-clause-pack
+returns-clause-pack c = (refl, refl)

@@ -1,4 +1,5 @@
 use Rattle.command_laws.proofs.JobEnds.{put-answers}
+use Rattle.command_laws.proofs.PackEnds.{pack-fetches}
 use Rattle.command_laws.proofs.Failed.{upgrade-fetches, put-fetches, drop-fetches, audit-fetches, list-fetches, init-fetches}
 use Rattle.command_laws.proofs.kept.others_fetch_nothing.Goals as goal
 
@@ -20,3 +21,6 @@ returns-clause-init c = init-fetches
 
 pub returns-clause-upgrade : goal.returns-clause-upgrade
 returns-clause-upgrade c old new end A = upgrade-fetches old new end A.0
+
+pub returns-clause-pack : goal.returns-clause-pack
+returns-clause-pack c old new end A = pack-fetches old new end A.0

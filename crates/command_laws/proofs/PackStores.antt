@@ -1,0 +1,70 @@
+-- The images that a pack leaves are good: each stands for records that a start accepts.
+use Rattle.std.proofs.Common.{◌≡◌, ℕ, ◌≤◌, List, length, None, refl, ap, sym, subst, ◌∙◌, inl, inr}
+use Rattle.std.specs.Prelude.{is_some}
+use Rattle.device_defs.proofs.Lasting.{each_image-mono}
+use Rattle.record_defs.specs.Records.{Record}
+use Rattle.record_defs.specs.Areas.{other_area, StandsActive}
+use Rattle.record_defs.specs.Packed.{AreAlike, packed}
+use Rattle.machine_defs.specs.Answers as answer
+use Rattle.machine_defs.specs.Answers.{Answer}
+use Rattle.machine_defs.specs.Setups.{setup_or_none}
+use Rattle.command_defs.specs.Opens.{IsOpened, setup_in_effect}
+use Rattle.command_defs.specs.Packs.{PackLeaves, PackedAlone}
+use Rattle.command_defs.specs.Refusals.{pack_refusal_over}
+use Rattle.command_defs.specs.Seen.{Seen}
+use Rattle.state_laws.proofs.Packs.{switched-room}
+use Rattle.state_laws.proofs.Records.{second-set_up}
+use Rattle.command_laws.proofs.Knowing.{MayBeGood, AreGood, LeavesGood, none-up}
+use Rattle.command_laws.proofs.PackEnds.{pack-second, pack-alike}
+
+module _ (records : List Record) (old new : Seen) (opened : IsOpened old records)
+    (none : pack_refusal_over opened.area records ≡ None) where
+  alike : AreAlike (packed records) records
+  alike = (pack-alike opened.area records opened.read.accepted none).1
+
+  -- an image of the records before is good
+  good-before : (image : List ℕ) → StandsActive image opened.area records →
+      MayBeGood (setup_in_effect records) image
+  good-before image stands = (
+    opened.area,
+    records,
+    record {
+      some = opened.read.some;
+      accepted = opened.read.accepted;
+      room = opened.read.room;
+      setup = refl;
+      stands = stands;
+    },
+  )
+
+  -- so is one of the packed records
+  good-packed : (image : List ℕ) → StandsActive image (other_area opened.area) (packed records) →
+      MayBeGood (setup_in_effect records) image
+  good-packed image stands =
+      (let up = second-set_up records opened.read.accepted
+      (pack-second opened.area records none) in (
+        other_area opened.area,
+        packed records,
+        record {
+          some = none-up (packed records) (ap is_some alike.setup ∙ up);
+          accepted = (pack-alike opened.area records opened.read.accepted none).0;
+          room = switched-room records opened.area opened.read.accepted opened.read.in_grammar;
+          setup = ap setup_or_none alike.setup;
+          stands = stands;
+        },
+      ))
+
+  good-by : (how : Answer) → PackLeaves opened.area records how old new →
+      AreGood (setup_in_effect records) new.disk
+  good-by (answer.Packed before after) L = each_image-mono new.disk _ _ good-packed L.2
+  good-by answer.DiskFault L = each_image-mono new.disk _ (MayBeGood (setup_in_effect records))
+      (λ image h. elim h [ inl s ↦ good-before image s | inr s ↦ good-packed image s ]) L.1
+  good-by answer.Memory L = each_image-mono new.disk _ _ good-before L
+  good-by how L = absurd L
+
+  -- a pack that ran alone leaves only good images, and as many providers
+  pub pack-good : (how : Answer) → PackedAlone opened.area records how old new → LeavesGood records old new
+  pack-good how P = (
+    good-by how P.leaves,
+    subst (λ ps. (setup_in_effect records).n ≤ length ps) (sym P.providers) opened.enough,
+  )
