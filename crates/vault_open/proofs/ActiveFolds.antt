@@ -3,14 +3,15 @@ use Rattle.std.proofs.Common.{◌≡◌, ◌≢◌, inl, inr, ℕ, ◌+◌, ◌<
 use Rattle.record_defs.specs.Records.{Record}
 use Rattle.record_defs.specs.Areas.{Area, base_of, end_in, HoldsIn}
 use Rattle.record_defs.specs.Acceptance.{refused}
+use Rattle.record_defs.proofs.Sizes.{length-entries}
 use Rattle.journal_core.specs.Gates.{IsReadIn, StopsIn}
-use Rattle.journal_core.proofs.Texts.{length-entries}
 use Rattle.vault_table.specs.Values.{Kept, IsFoldOf}
 use Rattle.vault_table.specs.Causes.{IsCause}
 use Rattle.vault_table.specs.declared.entry.Refused.{Refused}
 use Rattle.vault_table.specs.declared.entry.Refused.TheVariants as fault
+use Rattle.opening_defs.specs.Journals.{IsBadStart, StopsBehind}
 use Rattle.vault_open.specs.Faults.{refusal_answer}
-use Rattle.vault_open.specs.Actives.{IsReadInto, IsActiveFold, IsBadActiveStart, IsActiveFoldFault}
+use Rattle.vault_open.specs.Folding.{IsReadInto, IsFolded, IsFoldFault}
 
 module _ (bytes : List ℕ) (area : Area) (rs : List Record) (t : Kept) (gate : ℕ)
     (is : IsReadInto bytes area rs t gate) where
@@ -19,7 +20,7 @@ module _ (bytes : List ℕ) (area : Area) (rs : List Record) (t : Kept) (gate : 
 
   -- the gate is closed
   pub closed-in : (base : ℕ) → base ≡ base_of area → length bytes ≤ 2 ^ 24 → gate < length bytes →
-      HoldsIn bytes area rs → IsActiveFold bytes area rs t base (gate + 1)
+      HoldsIn bytes area rs → IsFolded bytes area rs t base (gate + 1)
   closed-in base base_is few some holds = record {
     stands = record { active = is.active; holds = holds };
     accepted = is.accepted;
@@ -30,14 +31,18 @@ module _ (bytes : List ℕ) (area : Area) (rs : List Record) (t : Kept) (gate : 
   }
 
   -- where reading stops is the first bad place
-  pub stopped-in : (at : ℕ) → StopsIn bytes area rs at → IsBadActiveStart bytes at
+  pub stopped-in : (at : ℕ) → StopsIn bytes area rs at → IsBadStart bytes at
   stopped-in at stops = inr (record {
     area = area;
     records = rs;
     active = is.active;
     accepted = is.accepted;
-    stops = inl stops;
+    stops = behind stops;
   })
+    where
+      behind : StopsIn bytes area rs at → StopsBehind bytes area rs at
+      behind (inl ends) = inl ends
+      behind (inr breaks) = inr (inl breaks)
 
   module _ (r : Record) (next : ℕ) (more : IsReadIn bytes area (r ∷ rs) next) where
     -- the record is taken
@@ -46,25 +51,25 @@ module _ (bytes : List ℕ) (area : Area) (rs : List Record) (t : Kept) (gate : 
     taken-in new accepted folds =
         record { active = is.active; read = more; accepted = (accepted, is.accepted); folds = folds }
 
-    refuses : refused rs r ≢ None → IsBadActiveStart bytes (gate + 1)
+    refuses : refused rs r ≢ None → IsBadStart bytes (gate + 1)
     refuses why = inr (record {
       area = area;
       records = rs;
       active = is.active;
       accepted = is.accepted;
-      stops = inr (record {
+      stops = inr (inr (record {
         entry = r;
         rest = more.behind;
         in_grammar = more.in_grammar;
         bytes_are = more.bytes_are;
         refused_is = why;
         place = ap (λ (k : ℕ). k + 1) is.read.gate_is;
-      });
+      }));
     })
 
     -- the record is not taken
     pub refusal-in : (why : Refused) → IsCause why (refused rs r) →
-        IsActiveFoldFault bytes (refusal_answer why (gate + 1))
+        IsFoldFault bytes (refusal_answer why (gate + 1))
     refusal-in fault.NoSetup is = refuses (λ e. (let x = sym is ∙ e in cc))
     refusal-in fault.SecondSetup is = refuses (λ e. (let x = sym is ∙ e in cc))
     refusal-in fault.BadId is = refuses (λ e. (let x = sym is ∙ e in cc))

@@ -9,6 +9,8 @@ use Rattle.device_defs.specs.Disks.{written, synced, Torn}
 use Rattle.device_defs.specs.Images.{IsImage, EachImage}
 use Rattle.device_defs.specs.Told.{Goes}
 use Rattle.record_defs.specs.Journal.{text}
+use Rattle.record_defs.specs.Areas.{A}
+use Rattle.record_defs.proofs.AreaLaws.{text-active}
 use Rattle.journal_core.proofs.CellLemmas.{written-behind, settled-loose}
 use Rattle.vault_open.specs.Preparing.{IsBlank, AreShort, emptied}
 
@@ -74,10 +76,6 @@ failed-short write_fault.Failed (Some old) None failed memory short = absurd (fa
 failed-short write_fault.Failed (Some old) (Some new) failed memory short =
     torn-short old new (failed refl) short
 
--- the text of no record stands for none
-pub text-blank : IsBlank (firm (text []))
-text-blank = record {
-  bytes = text [];
-  firm_is = refl;
-  stands = record { in_grammar = refl; gate = 0; rest = []; closed = omega arith; bytes_are = refl };
-}
+-- the text of no record stands for none in the first area
+pub text-blank : IsBlank A (firm (text []))
+text-blank = record { bytes = text []; firm_is = refl; stands = text-active [] refl }

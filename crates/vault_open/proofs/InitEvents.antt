@@ -1,6 +1,7 @@
 -- An init as an event of the machine.
-use Rattle.std.proofs.Common.{◌≡◌, ◌⊎◌, inl, inr, ℕ, ◌<◌, ◌≤◌, ◌&&◌, Bool, true, false, List, [], ◌∷◌, ◌++◌, length, drop, Option, Some, None, Result, Ok, Err, refl, sym, ap, ◌∙◌, subst, arith, append_assoc, length-take}
+use Rattle.std.proofs.Common.{◌≡◌, inl, inr, ℕ, ◌<◌, ◌≤◌, Bool, true, false, List, [], ◌∷◌, length, Option, Some, None, Result, Ok, Err, refl, sym, ap, ◌∙◌, subst, arith, length-take}
 use Rattle.std.specs.Prelude.{IfSome, IsTrue, is_some, IsErrAnd}
+use Rattle.std.specs.List.{list_all}
 use Rattle.std.specs.Option.{option_map}
 use Rattle.std.proofs.lemmas.Bool.{false≢true, cases_lt}
 use Rattle.stream_model.specs.declared.fault.WriteFault.{WriteFault}
@@ -11,34 +12,36 @@ use Rattle.device_defs.specs.Faults.{Rose, HasCause, last_count}
 use Rattle.device_defs.specs.Images.{IsImage, EachImage}
 use Rattle.device_defs.specs.Told.{Goes}
 use Rattle.device_defs.specs.Providers.{Provider}
-use Rattle.record_defs.specs.Records.{Setup, Record, SetUp, PutStart, PutDone, Drop, AuditStart, AuditDone, RepairDone, PutDoneIn, Version, Resume, InEffect, RepairDue, is_setup, is_in_grammar, largest_journal}
-use Rattle.record_defs.specs.Journal.{before_gate, text, text_size, StandsFor}
+use Rattle.device_defs.proofs.PickLaws.{IsImage-reads}
+use Rattle.device_defs.proofs.Lasting.{each_image-mono}
+use Rattle.record_defs.specs.Records.{Setup, Record, SetUp, PutStart, PutDone, Drop, AuditStart, AuditDone, RepairDone, PutDoneIn, Version, Resume, InEffect, RepairDue, is_setup, is_appended, largest_journal}
+use Rattle.record_defs.specs.Areas.{Area, other_area, StandsActive}
+use Rattle.record_defs.specs.Packed.{packed}
 use Rattle.record_defs.specs.Table.{setup_of}
 use Rattle.record_defs.specs.Acceptance.{NoSetup, AreAccepted}
+use Rattle.record_defs.proofs.Standing.{active-front, active-take}
 use Rattle.machine_defs.specs.Events as events
 use Rattle.machine_defs.specs.Events.{Outcome, Init}
 use Rattle.machine_defs.specs.Refusals as refusal
-use Rattle.machine_defs.specs.States.{State, Doubt, brought, journal_end}
+use Rattle.machine_defs.specs.States.{State, Doubt, brought}
+use Rattle.machine_defs.specs.Stands.{StandsForState}
 use Rattle.machine_defs.specs.Openings.{LeavesDoubt, Inits, InitsBy, InitsClosed}
 use Rattle.machine_defs.specs.Machine.{Happens}
-use Rattle.journal_core.specs.Moves.{MayStandFor}
+use Rattle.journal_core.specs.Texts.{StandsFirm, MayStandWith}
 use Rattle.journal_core.proofs.Meanings.{one_meaning, bad_is_none}
-use Rattle.state_laws.specs.Sound.{IsSound, IsUnpacked}
-use Rattle.state_laws.proofs.Records.{AreAppended}
-use Rattle.state_laws.proofs.Written.{unpacked-now, end-now}
+use Rattle.state_laws.specs.Sound.{IsSoundJournal, IsSound}
+use Rattle.state_laws.proofs.Records.{second-set_up}
+use Rattle.state_laws.proofs.Packs.{journal-brought}
 use Rattle.vault_open.specs.declared.fault.InitFault.{InitFault}
 use Rattle.vault_open.specs.declared.fault.InitFault.TheVariants as init_fault
 use Rattle.vault_open.specs.Devices.{Devices, devices, AreDevices}
-use Rattle.opening_defs.specs.Journals.{journal_read, IsSetUpOn, BeginsWithSetup, BeginsOtherwise, IsBadInit}
+use Rattle.opening_defs.specs.Journals.{journal_read, IsFree, IsBlankIn, BeginsWithSetup, BeginsOtherwise, IsBadInit}
+use Rattle.opening_defs.proofs.SetUps.{blank-free}
 use Rattle.vault_open.specs.Causes.{IsInitFault, IsNoWrite}
 use Rattle.vault_open.specs.Inits.{MayInit, MakesInit}
 use Rattle.vault_open.specs.Faults.{init_answer}
 use Rattle.vault_open.specs.Preparing.{IsBlank, IsReadied, IsHalfReady}
-use Rattle.vault_open.proofs.FirstVersion.{ShowsFirst, FirstStands, shows-first, images-first, appended-shown}
-use Rattle.vault_open.proofs.Texts.{short-none}
-use Rattle.device_defs.proofs.PickLaws.{IsImage-reads}
-use Rattle.device_defs.proofs.Lasting.{image-firm, each_image-mono}
-use Rattle.record_defs.proofs.Standing.{stands-front, stands-take}
+use Rattle.vault_open.proofs.Images.{Shows, MayRead, packed-some, more-some, shown-read, shown-short, shown-long, read-accepted, read-fits, doubt-shown, firm-shown, bytes-shown, shown-again}
 
 -- ---- what bytes stand for
 
@@ -145,48 +148,42 @@ module _ (s : Setup) (w : State) (moment : ℕ) (providers : List Provider) wher
 
 -- ---- before it
 
+-- records that are none in the journal are none in the history
+none-recorded : (w : State) → IsSound 8 w → w.journal ≡ [] → w.records ≡ []
+none-recorded w sound none =
+    sym (sound.journal.whole (subst (λ (l : List Record). IsTrue (list_all is_appended l)) (sym none) refl)) ∙ none
+
 module _ (w : State) (providers : List Provider) (old : Cells) (f0 : ℕ) (may : MayInit w (Some old))
     (are : AreDevices (devices (Some old) f0 providers) w) where
   sound : IsSound 8 w
   sound = may.sound
 
-  -- nothing in the journal of the disk is packed
-  appended : AreAppended w.journal
-  appended = appended-shown 8 w (reads old) sound (are.images (reads old) (IsImage-reads old))
+  read : Shows w (reads old)
+  read = are.images (reads old) (IsImage-reads old)
 
-  unpacked : IsUnpacked w
-  unpacked = unpacked-now 8 w sound appended
+  -- what the disk reads in its active area the state may have there
+  may-read : (area : Area) (rs : List Record) → StandsActive (journal_read old) area rs → MayRead w area rs
+  may-read area rs stands = shown-read w (reads old) area rs sound.journal read
+      (active-front largest_journal (reads old) area rs stands)
 
-  end_is : journal_end w ≡ text_size w.records
-  end_is = end-now 8 w sound appended
-
-  read : ShowsFirst w (reads old)
-  read = shows-first w (reads old) unpacked (are.images (reads old) (IsImage-reads old))
+  no-records : (area : Area) → MayRead w area [] → (w.journal ≡ []) × (area ≡ w.area)
+  no-records area (inl (inl e)) = (sym e.0, e.1)
+  no-records area (inl (inr x)) = absurd (packed-some w.journal (sym x.1))
+  no-records area (inr d) = absurd (more-some d.0.entry w.journal (sym d.2))
 
   -- a disk that has no record stands for none
-  free-read : length (reads old) ≤ 9 ⊎ StandsFor (journal_read old) [] → ShowsFirst w (reads old) →
-      w.records ≡ []
-  free-read free (inl (inr empty)) = empty.0
-  free-read (inl short) (inl (inl stands)) = short-none (reads old) w.records stands short
-  free-read (inl short) (inr doubt) =
-      absurd (let e : doubt.doubt.entry ∷ w.records ≡ [] = short-none (reads old) _ doubt.stands short in cc)
-  free-read (inr none) (inl (inl stands)) =
-      one_meaning (reads old) w.records [] stands (stands-front largest_journal (reads old) [] none)
-  free-read (inr none) (inr doubt) =
-      absurd (let e : doubt.doubt.entry ∷ w.records ≡ [] =
-      one_meaning (reads old) _ [] doubt.stands (stands-front largest_journal (reads old) [] none) in cc)
+  none-held : IsFree old → w.journal ≡ []
+  none-held (inl short) = shown-short w (reads old) read short
+  none-held (inr stands) = (no-records stands.0 (may-read stands.0 [] stands.1)).0
 
-  free : length (reads old) ≤ 9 ⊎ StandsFor (journal_read old) [] → w.records ≡ []
-  free is = free-read is read
+  free : IsFree old → w.records ≡ []
+  free is = none-recorded w sound (none-held is)
 
-  fits : text_size w.records ≤ largest_journal
-  fits = (let a = sound.room in let e = end_is in omega (arith, a, e))
-
-  doubt-fits : (d : Doubt) → w.doubt ≡ Some d → text_size (d.entry ∷ w.records) ≤ largest_journal
-  doubt-fits d is = (let a = (sound.doubt d is).room in let e = end_is in omega (arith, a, e))
-
-  doubt-accepted : (d : Doubt) → w.doubt ≡ Some d → AreAccepted (d.entry ∷ w.records)
-  doubt-accepted d is = ((sound.doubt d is).accepted, sound.accepted)
+  -- it is made blank in the area of the state
+  area-of-blank : (area : Area) (blank : Cells) → IsBlankIn old area blank → area ≡ w.area
+  area-of-blank area blank (IsBlankIn.short short first is) =
+      first ∙ sym (sound.journal.first (none-held (inl short)))
+  area-of-blank area blank (IsBlankIn.empty stands is) = (no-records area (may-read area [] stands)).1
 
   le : (f1 : ℕ) → f0 ≤ f1 → w.disk_faults ≤ f1
   le f1 never = (let e = are.faults in omega (arith, e, never))
@@ -197,23 +194,17 @@ module _ (s : Setup) (w : State) (moment : ℕ) (providers : List Provider) (old
     (may : MayInit w (Some old)) (are : AreDevices (devices (Some old) f0 providers) w)
     (valid : is_setup s ≡ true)
     (new : Option Cells) (f1 : ℕ) (never : f0 ≤ f1) where
-  whole-at : (doubt : Option Doubt) → IsUnpacked (left_at s w moment providers doubt f1)
-  whole-at doubt = record {
-    journal = (unpacked w providers old f0 may are).journal;
-    area = (unpacked w providers old f0 may are).area;
-  }
-
-  devices-at : (doubt : Option Doubt) → FirstStands new (left_at s w moment providers doubt f1) →
+  devices-at : (doubt : Option Doubt) → StandsForState new (left_at s w moment providers doubt f1) →
       AreDevices (devices new f1 providers) (left_at s w moment providers doubt f1)
   devices-at doubt images =
       record {
-        images = images-first new (left_at s w moment providers doubt f1) (whole-at doubt) images;
+        images = images;
         faults = refl;
         providers = record { count = are.providers.count; each = are.providers.each };
       }
 
   failed : (doubt : Option Doubt) → LeavesDoubt w s doubt →
-      FirstStands new (left_at s w moment providers doubt f1) → Rose f0 f1 →
+      StandsForState new (left_at s w moment providers doubt f1) → Rose f0 f1 →
       MakesInit w moment s (Err init_fault.DiskFault) (devices new f1 providers)
   failed doubt leaves images rose = record {
     state = left_at s w moment providers doubt f1;
@@ -231,7 +222,7 @@ module _ (s : Setup) (w : State) (moment : ℕ) (providers : List Provider) (old
   }
 
   wanting : (doubt : Option Doubt) → LeavesDoubt w s doubt →
-      FirstStands new (left_at s w moment providers doubt f1) →
+      StandsForState new (left_at s w moment providers doubt f1) →
       MakesInit w moment s (Err init_fault.Memory) (devices new f1 providers)
   wanting doubt leaves images = record {
     state = left_at s w moment providers doubt f1;
@@ -241,122 +232,114 @@ module _ (s : Setup) (w : State) (moment : ℕ) (providers : List Provider) (old
   }
 
   -- each image is one that the disk had
-  still : EachImage new (IsImage old) → FirstStands new (left_at s w moment providers w.doubt f1)
-  still = each_image-mono new (IsImage old) _
-      (λ image is. same image
-      (shows-first w image (unpacked w providers old f0 may are) (are.images image is)))
-    where
-      same : (image : List ℕ) → ShowsFirst w image →
-          ShowsFirst (left_at s w moment providers w.doubt f1) image
-      same image (inl stands) = inl stands
-      same image (inr d) = inr (record { doubt = d.doubt; in_doubt = d.in_doubt; stands = d.stands })
+  still : EachImage new (IsImage old) → StandsForState new (left_at s w moment providers w.doubt f1)
+  still same = shown-again new w (left_at s w moment providers w.doubt f1) refl refl refl refl
+      (each_image-mono new (IsImage old) (Shows w) (λ image is. are.images image is) same)
+
+  abbrev own_doubt : Doubt
+  own_doubt = record { entry = SetUp s; maker = None }
 
   abbrev own : Option Doubt
-  own = Some (record { entry = SetUp s; maker = None })
+  own = Some own_doubt
 
-  own-leaves : w.records ≡ [] → LeavesDoubt w s own
-  own-leaves none = inr (ap (λ (rs : List Record). is_some (setup_of rs)) none, refl)
+  own-leaves : IsFree old → LeavesDoubt w s own
+  own-leaves is = inr (
+    ap (λ (rs : List Record). is_some (setup_of rs)) (free w providers old f0 may are is),
+    refl,
+  )
 
-  short-images : w.records ≡ [] → EachImage new (λ image. length image ≤ 9) →
-      FirstStands new (left_at s w moment providers own f1)
-  short-images none = each_image-mono new (λ image. length image ≤ 9) _
-      (λ image short. inl (inr (none, short)))
-
-  first-images : w.records ≡ [] → MayStandFor [] (SetUp s) new →
-      FirstStands new (left_at s w moment providers own f1)
-  first-images none = each_image-mono new (λ image. StandsFor image [] ⊎ StandsFor image (SetUp s ∷ [])) _ by
-    where
-      by : (image : List ℕ) → StandsFor image [] ⊎ StandsFor image (SetUp s ∷ []) →
-          ShowsFirst (left_at s w moment providers own f1) image
-      by image (inl stands) = inl (inl (subst (λ (rs : List Record). StandsFor image rs) (sym none) stands))
-      by image (inr stands) =
-          inr (record {
-            doubt = record { entry = SetUp s; maker = None };
-            in_doubt = refl;
-            stands = subst (λ (rs : List Record). StandsFor image (SetUp s ∷ rs)) (sym none) stands;
-          })
+  short-images : IsFree old → EachImage new (λ image. length image ≤ 9) →
+      StandsForState new (left_at s w moment providers own f1)
+  short-images is = each_image-mono new (λ image. length image ≤ 9) _
+      (λ image short. inl (inr (none-held w providers old f0 may are is, short)))
 
   half-failed : IsHalfReady old new → Rose f0 f1 →
       MakesInit w moment s (Err init_fault.DiskFault) (devices new f1 providers)
   half-failed (inl same) rose = failed w.doubt (inl refl) (still same) rose
-  half-failed (inr short) rose = failed own (own-leaves (free w providers old f0 may are (inl short.0)))
-      (short-images (free w providers old f0 may are (inl short.0)) short.1) rose
+  half-failed (inr short) rose = failed own (own-leaves (inl short.0)) (short-images (inl short.0) short.1) rose
 
   half-wanting : IsHalfReady old new → MakesInit w moment s (Err init_fault.Memory) (devices new f1 providers)
   half-wanting (inl same) = wanting w.doubt (inl refl) (still same)
-  half-wanting (inr short) = wanting own (own-leaves (free w providers old f0 may are (inl short.0)))
-      (short-images (free w providers old f0 may are (inl short.0)) short.1)
+  half-wanting (inr short) = wanting own (own-leaves (inl short.0)) (short-images (inl short.0) short.1)
 
-  append-failed : (mid : Cells) → IsReadied old mid → MayStandFor [] (SetUp s) new → Rose f0 f1 →
-      MakesInit w moment s (Err init_fault.DiskFault) (devices new f1 providers)
-  append-failed mid ready may_stand rose = failed own
-      (own-leaves (free w providers old f0 may are ready.free))
-      (first-images (free w providers old f0 may are ready.free) may_stand) rose
+  module _ (area : Area) (mid : Cells) (ready : IsReadied area old mid)
+      (left : MayStandWith area [] (SetUp s) new) where
+    was-free : IsFree old
+    was-free = blank-free old ready.blank area ready.blank_is
 
-  append-wanting : (mid : Cells) → IsReadied old mid → MayStandFor [] (SetUp s) new →
-      MakesInit w moment s (Err init_fault.Memory) (devices new f1 providers)
-  append-wanting mid ready may_stand = wanting own (own-leaves (free w providers old f0 may are ready.free))
-      (first-images (free w providers old f0 may are ready.free) may_stand)
+    append-images : StandsForState new (left_at s w moment providers own f1)
+    append-images = doubt-shown new (left_at s w moment providers own f1) area []
+        (none-held w providers old f0 may are was-free)
+        (sym (area-of-blank w providers old f0 may are area ready.blank ready.blank_is)) own_doubt refl left
+
+    append-failed : Rose f0 f1 → MakesInit w moment s (Err init_fault.DiskFault) (devices new f1 providers)
+    append-failed rose = failed own (own-leaves was-free) append-images rose
+
+    append-wanting : MakesInit w moment s (Err init_fault.Memory) (devices new f1 providers)
+    append-wanting = wanting own (own-leaves was-free) append-images
 
 -- ---- what is there already
 
 module _ (s : Setup) (w : State) (moment : ℕ) (providers : List Provider) (old : Cells) (f0 : ℕ)
     (may : MayInit w (Some old)) (are : AreDevices (devices (Some old) f0 providers) w)
     (valid : is_setup s ≡ true)
-    (f1 : ℕ) (never : f0 ≤ f1) (rs : List Record) (long : 9 < length (journal_read old))
-    (stands : StandsFor (journal_read old) rs) (begins : BeginsWithSetup rs) where
-  whole : StandsFor (reads old) rs
-  whole = stands-front largest_journal (reads old) rs stands
+    (f1 : ℕ) (never : f0 ≤ f1) (area : Area) (rs : List Record)
+    (stands : StandsActive (journal_read old) area rs) (begins : BeginsWithSetup rs) where
+  whole : StandsActive (reads old) area rs
+  whole = active-front largest_journal (reads old) area rs stands
 
-  only : (u : State) → u.records ≡ rs → FirstStands (Some (synced old)) u
-  only u same image of =
-      let image_is = image-firm (reads old) image of in
-      inl (inl (subst (λ (l : List Record). StandsFor image l) (sym same)
-      (subst (λ (l : List ℕ). StandsFor l rs) (sym image_is) whole)))
+  here : (a : Area) (l : List Record) → area ≡ a → rs ≡ l → StandsActive (reads old) a l
+  here a l area_is same = subst (λ (x : Area). StandsActive (reads old) x l) area_is
+      (subst (λ (x : List Record). StandsActive (reads old) area x) same whole)
 
-  already-by : ShowsFirst w (reads old) →
+  up : (l : List Record) → rs ≡ l → is_some (setup_of l) ≡ true
+  up l same = subst (λ (x : List Record). is_some (setup_of x) ≡ true) same (begins-up rs begins)
+
+  -- nothing is in doubt any longer
+  settled : is_some (setup_of w.records) ≡ true → Shows (left_at s w moment providers None f1) (reads old) →
       MakesInit w moment s (Err init_fault.Already) (devices (Some (synced old)) f1 providers)
-  already-by (inl (inr empty)) =
-      absurd (let short = empty.1 in omega (arith, long, short, length-take largest_journal (reads old)))
-  already-by (inl (inl st)) =
-      let same = one_meaning (reads old) w.records rs st whole in
+  settled is_up shows = record {
+    state = left_at s w moment providers None f1;
+    happens = happens s w moment providers _ _ may.closed valid (
+      record w { doubt = None },
+      inl refl,
+      is_up,
+      (f1, le w providers old f0 may are f1 never, refl),
+    );
+    devices = record {
+      images = bytes-shown (reads old) (left_at s w moment providers None f1) shows;
+      faults = refl;
+      providers = record { count = are.providers.count; each = are.providers.each };
+    };
+  }
+
+  already-by : MayRead w area rs →
+      MakesInit w moment s (Err init_fault.Already) (devices (Some (synced old)) f1 providers)
+  already-by (inl (inl (same, area_is))) =
+      settled (ap is_some (sym may.sound.journal.alike.setup) ∙ up w.journal same)
+      (inl (inl (here w.area w.journal area_is same)))
+  already-by (inl (inr (switching, same, area_is))) =
+      settled (second-set_up w.records may.sound.accepted (may.sound.switching switching).version)
+      (inr (inr (record {
+        switching = switching;
+        stands = here (other_area w.area) (packed w.journal) area_is same;
+      })))
+  already-by (inr (d, in_doubt, same, area_is)) =
+      let follows = may.sound.doubt d in_doubt in
+      let journal : IsSoundJournal (brought w d.entry) = journal-brought w (brought w d.entry) d.entry
+      refl refl follows.spelled follows.in_journal may.sound.journal in
       record {
-        state = record (record w { doubt = None }) { disk_faults = f1 };
+        state = record (record (brought w d.entry) { doubt = None }) { disk_faults = f1 };
         happens = happens s w moment providers _ _ may.closed valid (
-          record w { doubt = None },
-          inl refl,
-          subst (λ (l : List Record). is_some (setup_of l) ≡ true)
-              (sym same) (begins-up rs begins),
+          record (brought w d.entry) { doubt = None },
+          inr (d, in_doubt, refl),
+          ap is_some (sym journal.alike.setup) ∙ up (d.entry ∷ w.journal) same,
           (f1, le w providers old f0 may are f1 never, refl),
         );
         devices = record {
-          images = images-first (Some (synced old)) (left_at s w moment providers None f1)
-              (record {
-                journal = (unpacked w providers old f0 may are).journal;
-                area = (unpacked w providers old f0 may are).area;
-              }) (only _ same);
-          faults = refl;
-          providers = record { count = are.providers.count; each = are.providers.each };
-        };
-      }
-  already-by (inr d) =
-      let same = one_meaning (reads old) (d.doubt.entry ∷ w.records) rs d.stands whole in
-      record {
-        state = record (record (brought w d.doubt.entry) { doubt = None }) { disk_faults = f1 };
-        happens = happens s w moment providers _ _ may.closed valid (
-          record (brought w d.doubt.entry) { doubt = None },
-          inr (d.doubt, d.in_doubt, refl),
-          subst (λ (l : List Record). is_some (setup_of l) ≡ true) (sym same) (begins-up rs begins),
-          (f1, le w providers old f0 may are f1 never, refl),
-        );
-        devices = record {
-          images = images-first (Some (synced old))
-              (record (record (brought w d.doubt.entry) { doubt = None }) { disk_faults = f1 })
-              (record {
-                journal = ap (λ (l : List Record). d.doubt.entry ∷ l)
-                    (unpacked w providers old f0 may are).journal;
-                area = (unpacked w providers old f0 may are).area;
-              }) (only _ same);
+          images = bytes-shown (reads old)
+              (record (record (brought w d.entry) { doubt = None }) { disk_faults = f1 })
+              (inl (inl (here w.area (d.entry ∷ w.journal) area_is same)));
           faults = refl;
           providers = record { count = are.providers.count; each = are.providers.each };
         };
@@ -364,24 +347,22 @@ module _ (s : Setup) (w : State) (moment : ℕ) (providers : List Provider) (old
 
 module _ (w : State) (providers : List Provider) (old : Cells) (f0 : ℕ) (may : MayInit w (Some old))
     (are : AreDevices (devices (Some old) f0 providers) w) where
-  no-bad : (at : ℕ) → 9 < length (journal_read old) → IsBadInit (journal_read old) at →
-      ShowsFirst w (reads old) → ⊥
-  no-bad at long bad (inl (inr empty)) =
-      (let short = empty.1 in omega (arith, long, short, length-take largest_journal (reads old)))
-  no-bad at long (inl bad) (inl (inl st)) = bad_is_none (journal_read old) at w.records bad
-      (stands-take largest_journal (reads old) w.records st (fits w providers old f0 may are))
-  no-bad at long (inl bad) (inr d) = bad_is_none (journal_read old) at (d.doubt.entry ∷ w.records) bad
-      (stands-take largest_journal (reads old) _ d.stands
-      (doubt-fits w providers old f0 may are d.doubt d.in_doubt))
-  no-bad at long (inr (rs, stands, other, _)) (inl (inl st)) =
-      let same = one_meaning (reads old) w.records rs st
-      (stands-front largest_journal (reads old) rs stands) in
-      others-refused rs (subst AreAccepted same (sound w providers old f0 may are).accepted) other
-  no-bad at long (inr (rs, stands, other, _)) (inr d) =
-      let same = one_meaning (reads old) (d.doubt.entry ∷ w.records) rs d.stands
-      (stands-front largest_journal (reads old) rs stands) in
-      others-refused rs (subst AreAccepted same
-      (doubt-accepted w providers old f0 may are d.doubt d.in_doubt)) other
+  no-bad : (at : ℕ) → 9 < length (journal_read old) → IsBadInit (journal_read old) at → ⊥
+  no-bad at long bad =
+      (let is = shown-long w (reads old) (read w providers old f0 may are)
+      (omega (arith, long, length-take largest_journal (reads old))) in
+      by is.0 is.1 is.2 is.3 bad)
+    where
+      by : (area : Area) (rs : List Record) → StandsActive (reads old) area rs → MayRead w area rs →
+          IsBadInit (journal_read old) at → ⊥
+      by area rs stands may_read (inl bad) = bad_is_none (journal_read old) at area rs bad
+          (active-take largest_journal (reads old) area rs stands
+          (read-fits 8 w may.sound area rs may_read))
+      by area rs stands may_read (inr bad) =
+          (let one = one_meaning (reads old) area bad.area rs bad.records stands
+          (active-front largest_journal (reads old) bad.area bad.records bad.stands) in
+          others-refused bad.records
+          (subst AreAccepted one.1 (read-accepted 8 w may.sound area rs may_read)) bad.otherwise)
 
 -- ---- a store is set up
 
@@ -392,48 +373,26 @@ module _ (s : Setup) (w : State) (moment : ℕ) (providers : List Provider) (old
   abbrev set_up_at : State
   set_up_at = record (brought (record w { doubt = None }) (SetUp s)) { disk_faults = f1 }
 
-  ready : (new : Cells) → IsSetUpOn s old new → IsTrue (is_in_grammar (SetUp s)) →
-      MakesInit w moment s (Ok tt) (devices (Some new) f1 providers)
-  ready new is spelled =
-      let none = free w providers old f0 may are is.free in
+  ready : (area : Area) (mid : Cells) (new : Option Cells) → IsReadied area old mid →
+      IfSome new (StandsFirm area (SetUp s ∷ [])) → MakesInit w moment s (Ok tt) (devices new f1 providers)
+  ready area mid new readied stands =
+      let was_free = blank-free old readied.blank area readied.blank_is in
       record {
         state = set_up_at;
         happens = happens s w moment providers _ _ may.closed valid (
           record w { doubt = None },
           inl refl,
-          ap (λ (rs : List Record). is_some (setup_of rs)) none,
+          ap (λ (rs : List Record). is_some (setup_of rs)) (free w providers old f0 may are was_free),
           (f1, le w providers old f0 may are f1 never, refl),
         );
         devices = record {
-          images = images-first (Some new) set_up_at
-              (record {
-                journal = ap (λ (l : List Record). SetUp s ∷ l)
-                    (unpacked w providers old f0 may are).journal;
-                area = (unpacked w providers old f0 may are).area;
-              }) (shown none);
+          images = firm-shown new set_up_at area (SetUp s ∷ [])
+              (ap (λ (rs : List Record). SetUp s ∷ rs) (none-held w providers old f0 may are was_free))
+              (sym (area-of-blank w providers old f0 may are area readied.blank readied.blank_is)) stands;
           faults = refl;
           providers = record { count = are.providers.count; each = are.providers.each };
         };
       }
-    where
-      rest : List ℕ
-      rest = drop (length (text (SetUp s ∷ []))) (reads old)
-
-      one : StandsFor (text (SetUp s ∷ []) ++ rest) (SetUp s ∷ [])
-      one = record {
-        in_grammar = (λ i. spelled i && true);
-        gate = 0;
-        rest = rest;
-        closed = omega arith;
-        bytes_are = append_assoc (before_gate (SetUp s ∷ [])) (0 ∷ []) rest;
-      }
-
-      shown : w.records ≡ [] → FirstStands (Some new) set_up_at
-      shown none image of =
-          let image_is = image-firm (text (SetUp s ∷ []) ++ rest) image
-          (subst (λ (c : Cells). IsImage c image) is.reads_are of) in
-          inl (inl (subst (λ (l : List Record). StandsFor image (SetUp s ∷ l)) (sym none)
-          (subst (λ (l : List ℕ). StandsFor l (SetUp s ∷ [])) (sym image_is) one)))
 
 -- ---- the same of what a disk tells
 
@@ -459,33 +418,35 @@ module _ (s : Setup) (w : State) (moment : ℕ) (providers : List Provider) wher
   prepared-event (Some old) new f0 f1 init_fault.Already may are valid fault looked half cause =
       subst (λ (o : Option Cells). MakesInit w moment s (Err init_fault.Already) (devices o f1 providers))
       (sym (looked tt))
-      (already-by s w moment providers old f0 may are valid f1 cause.never_falls fault.1.0 fault.0 fault.1.1
-      fault.1.2 (read w providers old f0 may are))
+      (already-by s w moment providers old f0 may are valid f1 cause.never_falls fault.1.1.0 fault.1.0
+      fault.1.1.1 fault.1.2 (may-read w providers old f0 may are fault.1.1.0 fault.1.0 fault.1.1.1))
   prepared-event (Some old) new f0 f1 (init_fault.BadJournal at) may are valid fault looked half cause =
-      absurd (no-bad w providers old f0 may are at fault.0 fault.1 (read w providers old f0 may are))
+      absurd (no-bad w providers old f0 may are at fault.0 fault.1)
 
-  -- an init whose append fails is an event of the machine
-  pub append-event : (old mid new : Option Cells) (f0 f1 : ℕ) (fault : WriteFault) → MayInit w old →
-      AreDevices (devices old f0 providers) w → is_setup s ≡ true
-      → Goes IsReadied old mid → MayStandFor [] (SetUp s) new → HasCause f0 f1 (fault ≡ write_fault.Failed) →
-      MakesInit w moment s (Err (init_answer fault)) (devices new f1 providers)
-  append-event None mid new f0 f1 fault may are valid goes left cause = absurd (untold None refl may)
-  append-event (Some old) None new f0 f1 fault may are valid goes left cause = absurd goes
-  append-event (Some old) (Some mid) new f0 f1 write_fault.Failed may are valid goes left cause =
-      append-failed s w moment providers old f0 may are valid new f1 cause.never_falls mid goes left
-      (cause.rose refl)
-  append-event (Some old) (Some mid) new f0 f1 write_fault.Memory may are valid goes left cause =
-      append-wanting s w moment providers old f0 may are valid new f1 cause.never_falls mid goes left
+  module _ (area : Area) where
+    -- an init whose append fails is an event of the machine
+    pub append-event : (old mid new : Option Cells) (f0 f1 : ℕ) (fault : WriteFault) → MayInit w old →
+        AreDevices (devices old f0 providers) w → is_setup s ≡ true
+        → Goes (IsReadied area) old mid → MayStandWith area [] (SetUp s) new →
+        HasCause f0 f1 (fault ≡ write_fault.Failed) →
+        MakesInit w moment s (Err (init_answer fault)) (devices new f1 providers)
+    append-event None mid new f0 f1 fault may are valid goes left cause = absurd (untold None refl may)
+    append-event (Some old) None new f0 f1 fault may are valid goes left cause = absurd goes
+    append-event (Some old) (Some mid) new f0 f1 write_fault.Failed may are valid goes left cause =
+        append-failed s w moment providers old f0 may are valid new f1 cause.never_falls area mid goes left
+        (cause.rose refl)
+    append-event (Some old) (Some mid) new f0 f1 write_fault.Memory may are valid goes left cause =
+        append-wanting s w moment providers old f0 may are valid new f1 cause.never_falls area mid goes left
 
-  -- an init that is done is an event of the machine
-  pub ready-event : (old new : Option Cells) (f0 f1 : ℕ) → MayInit w old →
-      AreDevices (devices old f0 providers) w → is_setup s ≡ true
-      → Goes (IsSetUpOn s) old new → IsTrue (is_in_grammar (SetUp s)) → f0 ≤ f1 →
-      MakesInit w moment s (Ok tt) (devices new f1 providers)
-  ready-event None new f0 f1 may are valid goes spelled never = absurd (untold None refl may)
-  ready-event (Some old) None f0 f1 may are valid goes spelled never = absurd goes
-  ready-event (Some old) (Some new) f0 f1 may are valid goes spelled never =
-      ready s w moment providers old f0 may are valid f1 never new goes spelled
+    -- an init that is done is an event of the machine
+    pub ready-event : (old mid new : Option Cells) (f0 f1 : ℕ) → MayInit w old →
+        AreDevices (devices old f0 providers) w → is_setup s ≡ true
+        → Goes (IsReadied area) old mid → IfSome new (StandsFirm area (SetUp s ∷ [])) → f0 ≤ f1 →
+        MakesInit w moment s (Ok tt) (devices new f1 providers)
+    ready-event None mid new f0 f1 may are valid goes stands never = absurd (untold None refl may)
+    ready-event (Some old) None new f0 f1 may are valid goes stands never = absurd goes
+    ready-event (Some old) (Some mid) new f0 f1 may are valid goes stands never =
+        ready s w moment providers old f0 may are valid f1 never area mid new goes stands
 
 -- a setup beyond its limits is refused for that cause, whatever the disk reads
 pub bad-refused : (s : Setup) (told : Option Cells) → is_setup s ≡ false →
@@ -494,8 +455,9 @@ bad-refused s None bad = tt
 bad-refused s (Some cells) bad = bad
 
 -- what a disk has on which the append can begin
-pub readied-blank : (told mid : Option Cells) → Goes IsReadied told mid → IfSome mid IsBlank
-readied-blank None None is = tt
-readied-blank None (Some mid) is = absurd is
-readied-blank (Some old) None is = absurd is
-readied-blank (Some old) (Some mid) is = is.blank
+pub readied-blank : (area : Area) (told mid : Option Cells) → Goes (IsReadied area) told mid →
+    IfSome mid (IsBlank area)
+readied-blank area None None is = tt
+readied-blank area None (Some mid) is = absurd is
+readied-blank area (Some old) None is = absurd is
+readied-blank area (Some old) (Some mid) is = is.reads_none

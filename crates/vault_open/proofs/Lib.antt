@@ -1,10 +1,9 @@
 pub mod Answers
 pub mod Limits
-pub mod FirstVersion
 pub mod Texts
+pub mod Images
 pub mod Readings
 pub mod ActiveFolds
-pub mod Foldings
 pub mod Stores
 pub mod Emptied
 pub mod FirstRecord

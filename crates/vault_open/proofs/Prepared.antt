@@ -1,20 +1,21 @@
 -- A disk that is made ready for its first record, and what a failed init leaves of it.
-use Rattle.std.proofs.Common.{◌≡◌, ◌⊎◌, inl, inr, ℕ, ◌<◌, ◌≤◌, List, [], ◌∷◌, length, drop, Option, Some, None, refl, sym, ap, ◌∙◌, subst, arith, length-take}
+use Rattle.std.proofs.Common.{◌≡◌, ◌⊎◌, inl, inr, ℕ, ◌<◌, ◌≤◌, List, [], ◌∷◌, length, Option, Some, None, refl, sym, ap, ◌∙◌, subst, arith, length-take}
 use Rattle.std.specs.Prelude.{IfSome}
 use Rattle.std.specs.Option.{option_map}
-use Rattle.std.proofs.lemmas.List.{drop_all}
 use Rattle.device_defs.specs.Cells.{Cells, reads}
-use Rattle.device_defs.specs.Disks.{synced}
+use Rattle.device_defs.specs.Disks.{written, synced}
 use Rattle.device_defs.specs.Images.{IsImage, EachImage}
 use Rattle.device_defs.specs.Told.{Goes}
 use Rattle.record_defs.specs.Records.{Setup, SetUp, largest_journal}
-use Rattle.record_defs.specs.Journal.{StandsFor}
-use Rattle.record_defs.proofs.Standing.{stands-front}
-use Rattle.journal_core.specs.Moves.{MayStandFor}
+use Rattle.record_defs.specs.Journal.{text, StandsFor}
+use Rattle.record_defs.specs.Areas.{Area, A, StandsActive}
+use Rattle.record_defs.proofs.Standing.{active-front}
+use Rattle.journal_core.specs.Texts.{MayStandWith}
 use Rattle.vault_open.specs.declared.fault.InitFault.{InitFault}
 use Rattle.vault_open.specs.declared.fault.InitFault.TheVariants as init_fault
-use Rattle.opening_defs.specs.Journals.{journal_read, IsResynced, MayBeLeft}
+use Rattle.opening_defs.specs.Journals.{journal_read, IsBlankIn, IsResynced, MayBeLeft}
 use Rattle.opening_defs.proofs.Resyncs.{image-resynced}
+use Rattle.opening_defs.proofs.SetUps.{blank-free}
 use Rattle.vault_open.specs.Causes.{IsInitFault}
 use Rattle.vault_open.specs.Preparing.{IsBlank, IsReadied, IsHalfReady, emptied, IsTextFault}
 use Rattle.vault_open.proofs.Readings.{reads-synced}
@@ -75,36 +76,40 @@ text_fault (Some cells) bytes why s is bad = text-at cells bytes why s is bad
 
 -- ---- how it is made ready
 
--- a short disk, once synced and emptied, is ready
+-- a short disk, once synced and emptied, is ready in the first area
 pub readied-empty : (told mid new : Option Cells) → mid ≡ option_map synced told →
-    new ≡ option_map emptied mid → IfSome told IsShort → Goes IsReadied told new
+    new ≡ option_map emptied mid → IfSome told IsShort → Goes (IsReadied A) told new
 readied-empty None mid new is made short =
-    subst (λ (o : Option Cells). Goes IsReadied None o) (sym (made ∙ ap (option_map emptied) is)) tt
+    subst (λ (o : Option Cells). Goes (IsReadied A) None o) (sym (made ∙ ap (option_map emptied) is)) tt
 readied-empty (Some cells) mid new is made short =
     let short_synced : length (reads (synced cells)) ≤ 9 =
     subst (λ (l : List ℕ). length l ≤ 9) (sym (reads-synced cells)) short in
     let whole = emptied-is (synced cells) short_synced in
-    subst (λ (o : Option Cells). Goes IsReadied (Some cells) o) (sym (made ∙ ap (option_map emptied) is))
+    subst (λ (o : Option Cells). Goes (IsReadied A) (Some cells) o) (sym (made ∙ ap (option_map emptied) is))
     (record {
-      free = inl short;
-      blank = subst IsBlank (sym whole) text-blank;
-      same = ap (λ (c : Cells). drop 9 (reads c)) whole ∙ sym (drop_all 9 (reads cells) short);
+      blank = written 0 (text []) cells;
+      blank_is = IsBlankIn.short short refl refl;
+      synced_is = whole ∙ sym (emptied-is cells short);
+      reads_none = subst (IsBlank A) (sym whole) text-blank;
     })
 
--- a disk that stands for no records, once synced, is ready
-pub readied-read : (told mid : Option Cells) (bytes : List ℕ) → mid ≡ option_map synced told →
-    IsLookedAt told bytes → StandsFor bytes [] → Goes IsReadied told mid
-readied-read None mid bytes is looked stands = subst (λ (o : Option Cells). Goes IsReadied None o) (sym is) tt
-readied-read (Some cells) mid bytes is looked stands =
-    let read : StandsFor (journal_read cells) [] = subst (λ (l : List ℕ). StandsFor l []) looked.1 stands in
-    subst (λ (o : Option Cells). Goes IsReadied (Some cells) o) (sym is) (record {
-      free = inr read;
-      blank = record {
+-- a disk that stands for no records in an area, once synced, is ready there
+pub readied-read : (told mid : Option Cells) (bytes : List ℕ) (area : Area) → mid ≡ option_map synced told →
+    IsLookedAt told bytes → StandsActive bytes area [] → Goes (IsReadied area) told mid
+readied-read None mid bytes area is looked stands =
+    subst (λ (o : Option Cells). Goes (IsReadied area) None o) (sym is) tt
+readied-read (Some cells) mid bytes area is looked stands =
+    let read : StandsActive (journal_read cells) area [] =
+    subst (λ (l : List ℕ). StandsActive l area []) looked.1 stands in
+    subst (λ (o : Option Cells). Goes (IsReadied area) (Some cells) o) (sym is) (record {
+      blank = cells;
+      blank_is = IsBlankIn.empty read refl;
+      synced_is = refl;
+      reads_none = record {
         bytes = reads cells;
         firm_is = refl;
-        stands = stands-front largest_journal (reads cells) [] read;
+        stands = active-front largest_journal (reads cells) area [] read;
       };
-      same = ap (drop 9) (reads-synced cells);
     })
 
 -- ---- what a failed init leaves
@@ -128,10 +133,15 @@ half-left s None new half = tt
 half-left s (Some cells) new half = half-left-at s cells new half
 
 -- what a failed append of the setup leaves of a ready disk is what a failed init may leave
-pub append-left : (s : Setup) (told mid new : Option Cells) → Goes IsReadied told mid →
-    MayStandFor [] (SetUp s) new → IfSome told (λ cells. EachImage new (MayBeLeft s cells))
-append-left s None mid new ready stands = tt
-append-left s (Some cells) None new ready stands = absurd ready
-append-left s (Some cells) (Some mid) new ready stands =
-    each-left s cells new (λ image. StandsFor image [] ⊎ StandsFor image (SetUp s ∷ []))
-    (λ image is. inr (ready.free, inr is)) stands
+pub append-left : (s : Setup) (area : Area) (told mid new : Option Cells) → Goes (IsReadied area) told mid →
+    MayStandWith area [] (SetUp s) new → IfSome told (λ cells. EachImage new (MayBeLeft s cells))
+append-left s area None mid new ready stands = tt
+append-left s area (Some cells) None new ready stands = absurd ready
+append-left s area (Some cells) (Some mid) new ready stands =
+    each-left s cells new (λ image. StandsActive image area [] ⊎ StandsActive image area (SetUp s ∷ []))
+    (λ image is. inr (blank-free cells ready.blank area ready.blank_is, inr (somewhere image is))) stands
+  where
+    somewhere : (image : List ℕ) → StandsActive image area [] ⊎ StandsActive image area (SetUp s ∷ []) →
+        StandsFor image [] ⊎ StandsFor image (SetUp s ∷ [])
+    somewhere image (inl none) = inl (area, none)
+    somewhere image (inr one) = inr (area, one)

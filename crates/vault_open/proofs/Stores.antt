@@ -6,13 +6,14 @@ use Rattle.algebra_laws.proofs.Options.{some-not-none}
 use Rattle.device_defs.specs.Cells.{Cells, reads}
 use Rattle.device_defs.specs.Disks.{synced}
 use Rattle.record_defs.specs.Records.{Record, Setup, is_setup, is_master, largest_journal}
-use Rattle.record_defs.specs.Journal.{before_gate, StandsFor}
+use Rattle.record_defs.specs.Journal.{StandsFor}
+use Rattle.record_defs.specs.Areas.{Area, StandsActive}
 use Rattle.record_defs.specs.Table.{setup_of}
-use Rattle.record_defs.proofs.Standing.{stands-front}
+use Rattle.record_defs.proofs.Standing.{active-front}
 use Rattle.record_codec.specs.Entries.{with_master}
-use Rattle.journal_core.specs.Moves.{IsClosed}
-use Rattle.journal_core.proofs.Meanings.{read_is_closed}
-use Rattle.state_laws.proofs.Records.{none-set_up, all-spelled, setup-spelled}
+use Rattle.journal_core.specs.Texts.{StandsFirm}
+use Rattle.journal_core.proofs.AreaStands.{read-firm}
+use Rattle.state_laws.proofs.Records.{none-set_up, setup-spelled}
 use Rattle.vault_table.specs.Values.{Kept}
 use Rattle.vault_open.specs.declared.fault.StartFault.{StartFault}
 use Rattle.vault_open.specs.declared.fault.StartFault.TheVariants as start_fault
@@ -51,10 +52,14 @@ pub fold_fault : (told : Option Cells) (bytes : List ℕ) (why : StartFault) →
 fold_fault None bytes why is bad = tt
 fold_fault (Some cells) bytes why is bad = fault_at cells bytes why is bad
 
-module _ (bytes : List ℕ) (rs : List Record) (t : Kept) (end : ℕ) (is : IsFolded bytes rs t end) where
+module _ (bytes : List ℕ) (area : Area) (rs : List Record) (t : Kept) (base end : ℕ)
+    (is : IsFolded bytes area rs t base end) where
   none_read : t.setup ≡ None → StandsFor bytes []
-  none_read none = subst (λ (l : List Record). StandsFor bytes l)
-      (none-set_up rs is.accepted (let e = sym is.folds.setup ∙ none in rw e refl)) is.stands
+  none_read none = (
+    area,
+    subst (λ (l : List Record). StandsActive bytes area l)
+        (none-set_up rs is.accepted (let e = sym is.folds.setup ∙ none in rw e refl)) is.stands,
+  )
 
   -- a start over records without a setup is refused: the disk is not set up
   pub none_fault : (told : Option Cells) → IsLookedAt told bytes → t.setup ≡ None →
@@ -65,7 +70,7 @@ module _ (bytes : List ℕ) (rs : List Record) (t : Kept) (end : ℕ) (is : IsFo
   limits : (s : Setup) → t.setup ≡ Some s → IsTrue (is_setup s)
   limits s e =
       let good : IsTrue (is_setup s && is_master s.master) =
-      setup-spelled rs s (all-spelled rs is.stands.in_grammar) (sym is.folds.setup ∙ e) in
+      setup-spelled rs s is.stands.holds.in_grammar (sym is.folds.setup ∙ e) in
       grind (arith, good)
 
   -- ---- the store that is read
@@ -75,38 +80,40 @@ module _ (bytes : List ℕ) (rs : List Record) (t : Kept) (end : ℕ) (is : IsFo
     some none = some-not-none t.setup s found (is.folds.setup ∙ ap setup_of none)
 
     whole : (told : Option Cells) → IsLookedAt told bytes →
-        IfSome told (λ cells. (9 < length (reads cells)) × StandsFor (journal_read cells) rs)
+        IfSome told (λ cells. (9 < length (reads cells)) × StandsActive (journal_read cells) area rs)
     whole None looked = tt
-    whole (Some cells) looked = (looked.0, subst (λ (l : List ℕ). StandsFor l rs) looked.1 is.stands)
+    whole (Some cells) looked =
+        (looked.0, subst (λ (l : List ℕ). StandsActive l area rs) looked.1 is.stands)
 
     -- a disk whose records were folded and have a setup is read as these records
-    pub read : (told : Option Cells) → IsLookedAt told bytes → IsRead told rs
+    pub read : (told : Option Cells) → IsLookedAt told bytes → IsRead told area rs
     read told looked = record {
       some = some;
-      in_grammar = is.stands.in_grammar;
+      in_grammar = is.stands.holds.in_grammar;
       accepted = is.accepted;
       room = is.room;
       reads_are = whole told looked;
     }
 
-  closed : (told now : Option Cells) → now ≡ option_map synced told → IsLookedAt told bytes →
-      IfSome now (IsClosed (before_gate rs))
-  closed None now same looked =
-      subst (λ (o : Option Cells). IfSome o (IsClosed (before_gate rs))) (sym same) tt
-  closed (Some cells) now same looked =
-      subst (λ (o : Option Cells). IfSome o (IsClosed (before_gate rs))) (sym same)
-      (read_is_closed (reads cells) rs
-      (stands-front largest_journal (reads cells) rs
-      (subst (λ (l : List ℕ). StandsFor l rs) looked.1 is.stands)))
+  firm : (told now : Option Cells) → now ≡ option_map synced told → IsLookedAt told bytes →
+      IfSome now (StandsFirm area rs)
+  firm None now same looked = subst (λ (o : Option Cells). IfSome o (StandsFirm area rs)) (sym same) tt
+  firm (Some cells) now same looked =
+      subst (λ (o : Option Cells). IfSome o (StandsFirm area rs)) (sym same)
+      (read-firm (reads cells) area rs
+      (active-front largest_journal (reads cells) area rs
+      (subst (λ (l : List ℕ). StandsActive l area rs) looked.1 is.stands)))
 
-  -- a store with the folded table, its end and the setup with its master is the store of these records
-  pub stored : (store : Store) (told now : Option Cells) → store.table ≡ t → store.end ≡ end →
-      t.setup ≡ Some (with_master store.setup store.master.0)
-      → now ≡ option_map synced told → IsLookedAt told bytes → IsStoreOf store rs now
-  stored store told now table_is end_is found same looked = record {
+  -- a store with the folded table, where its area begins and its text ends and the setup with its master is
+  -- the store of these records
+  pub stored : (store : Store) (told now : Option Cells) → store.table ≡ t → store.base ≡ base →
+      store.end ≡ end → t.setup ≡ Some (with_master store.setup store.master.0)
+      → now ≡ option_map synced told → IsLookedAt told bytes → IsStoreOf store area rs now
+  stored store told now table_is base_is end_is found same looked = record {
     folds = rw table_is is.folds;
     setup = rw table_is found;
     limits = limits (with_master store.setup store.master.0) found;
+    base = base_is ∙ is.base_is;
     end = end_is ∙ is.end_is;
-    closed = closed told now same looked;
+    stands = firm told now same looked;
   }

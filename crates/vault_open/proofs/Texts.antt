@@ -1,20 +1,21 @@
--- What a text is long, and what stands at the front of bytes.
-use Rattle.std.proofs.Common.{◌≡◌, ℕ, ◌≤◌, List, [], ◌∷◌, length, refl, ap, arith, length-append}
+-- What at most nine bytes stand for.
+use Rattle.std.proofs.Common.{◌≡◌, ◌≢◌, ℕ, ◌≤◌, List, [], ◌∷◌, length, refl, arith}
 use Rattle.record_defs.specs.Records.{Record}
-use Rattle.record_defs.specs.Journal.{before_gate, StandsFor}
-use Rattle.record_defs.proofs.Sizes.{length-before_gate}
-use Rattle.record_defs.proofs.Standing.{text_size-least}
+use Rattle.record_defs.specs.Areas.{Area, A, B, StandsActive}
+use Rattle.record_defs.proofs.Standing.{active-long, stands-long}
 
--- at most nine bytes stand for no record
-pub short-none : (bytes : List ℕ) (rs : List Record) → StandsFor bytes rs → length bytes ≤ 9 → rs ≡ []
-short-none bytes [] is short = refl
-short-none bytes (r ∷ rs) is short =
-    let front = before_gate (r ∷ rs) in
-    absurd (omega (
-      arith,
-      ap length is.bytes_are,
-      length-append front (is.gate ∷ is.rest),
-      length-before_gate (r ∷ rs) is.in_grammar,
-      text_size-least rs,
-      short,
-    ))
+some : (r : Record) (rs : List Record) → r ∷ rs ≢ []
+some r rs e = cc
+
+-- they stand for no record
+pub short-none : (bytes : List ℕ) (area : Area) (rs : List Record) → StandsActive bytes area rs →
+    length bytes ≤ 9 → rs ≡ []
+short-none bytes area [] is short = refl
+short-none bytes area (r ∷ rs) is short =
+    absurd (let long = stands-long bytes (r ∷ rs) (some r rs) (area, is) in omega (arith, long, short))
+
+-- and do so in the first area
+pub short-first : (bytes : List ℕ) (area : Area) (rs : List Record) → StandsActive bytes area rs →
+    length bytes ≤ 9 → area ≡ A
+short-first bytes A rs is short = refl
+short-first bytes B rs is short = absurd (let long = active-long bytes B rs is in omega (arith, long, short))

@@ -2,7 +2,6 @@ pub mod Devices
 pub mod Faults
 pub mod Causes
 pub mod Folding
-pub mod Actives
 pub mod Preparing
 pub mod Inits
 pub mod Stores

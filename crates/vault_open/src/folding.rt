@@ -4,10 +4,9 @@ ghost use Rattle.record_defs.specs.Areas.{Area, IsSwitched};
 ghost use Rattle.journal_core.specs.Gates.{IsReadIn};
 ghost use Rattle.vault_open.specs.Faults.{refusal_answer};
 ghost use Rattle.vault_open.specs.Folding.{IsFolded, IsFoldFault};
-ghost use Rattle.vault_open.specs.Actives.{IsActiveFold, IsActiveFoldFault};
 
 use crate::fault::StartFault;
-use journal_core::{active_gate, first_gate, next_record};
+use journal_core::{active_gate, next_record};
 use std::alloc::Global;
 use vault_table::{Refused, Table};
 
@@ -27,8 +26,8 @@ fn fold_area(alloc: Global, bytes: &[u8], base: usize) -> Result<(Table, u64), S
     requires short { length bytes.now ≤ 2 ^ 24 }
     requires first { (area : Area) × IsSwitched bytes.now area × IsReadIn bytes.now area [] base }
     ensures ok { IfOk result (λ x. (area : Area) × (rs : List Record)
-        × IsActiveFold bytes.now area rs x.0 base x.1) }
-    ensures refused { IfErr result (IsActiveFoldFault bytes.now) }
+        × IsFolded bytes.now area rs x.0 base x.1) }
+    ensures refused { IfErr result (IsFoldFault bytes.now) }
 {
     let mut gate = base;
     let mut table = Table::new(alloc)?;
@@ -46,21 +45,10 @@ fn fold_area(alloc: Global, bytes: &[u8], base: usize) -> Result<(Table, u64), S
 pub(crate) fn fold_active(alloc: Global, bytes: &[u8]) -> Result<(Table, u64, u64), StartFault>
     requires { length bytes.now ≤ 2 ^ 24 }
     ensures ok { IfOk result (λ x. (area : Area) × (rs : List Record)
-        × IsActiveFold bytes.now area rs x.0 x.1 x.2) }
-    ensures refused { IfErr result (IsActiveFoldFault bytes.now) }
+        × IsFolded bytes.now area rs x.0 x.1 x.2) }
+    ensures refused { IfErr result (IsFoldFault bytes.now) }
 {
     let base = active_gate(bytes)?;
     let (table, end) = fold_area(alloc, bytes, base)?;
     Ok((table, base as u64, end))
-}
-
-/// The fold of the records of a journal's bytes in the first area alone, and the length of their text, the
-/// closed gate included.
-pub(crate) fn fold_journal(alloc: Global, bytes: &[u8]) -> Result<(Table, u64), StartFault>
-    requires { length bytes.now ≤ 2 ^ 24 }
-    ensures ok { IfOk result (λ x. (rs : List Record) × IsFolded bytes.now rs x.0 x.1) }
-    ensures refused { IfErr result (IsFoldFault bytes.now) }
-{
-    let first = first_gate(bytes)?;
-    fold_area(alloc, bytes, first)
 }

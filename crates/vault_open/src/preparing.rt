@@ -1,4 +1,4 @@
-ghost use Rattle.std.specs.Prelude.{◌≡◌, ◌≤◌, ◌^◌, [], ◌∷◌, List, ℕ, length, IfOk, IfErr, IfSome, OnOk, OnErr, IsErrOf, IsTrue, is_some};
+ghost use Rattle.std.specs.Prelude.{◌≡◌, ◌≤◌, ◌^◌, [], ◌∷◌, List, length, IfOk, IfErr, IfSome, OnOk, OnErr, IsErrOf, IsTrue, is_some};
 ghost use Rattle.std.specs.Option.{option_map};
 ghost use Rattle.stream_model.specs.declared.fault.WriteFault.TheVariants as write_fault;
 ghost use Rattle.device_defs.specs.Cells.{reads};
@@ -6,10 +6,10 @@ ghost use Rattle.device_defs.specs.Disks.{synced};
 ghost use Rattle.device_defs.specs.Faults.{HasCause};
 ghost use Rattle.device_defs.specs.Images.{EachImage};
 ghost use Rattle.device_defs.specs.Told.{Goes};
-ghost use Rattle.record_defs.specs.Records.{Record as Entry, Setup as SetupData, SetUp, is_setup, is_master, is_in_grammar};
-ghost use Rattle.record_defs.specs.Journal.{StandsFor};
+ghost use Rattle.record_defs.specs.Records.{Record as Entry, Setup as SetupData, SetUp, is_setup, is_master};
+ghost use Rattle.record_defs.specs.Areas.{Area, base_of, StandsActive};
 ghost use Rattle.record_codec.specs.Entries.{entry_of, with_master, IsInGrammar};
-ghost use Rattle.journal_core.specs.Moves.{MayStandFor};
+ghost use Rattle.journal_core.specs.Texts.{StandsFirm, MayStandWith};
 ghost use Rattle.vault_open.specs.declared.fault.InitFault.TheVariants as init_fault;
 ghost use Rattle.opening_defs.specs.Journals.{journal_read};
 ghost use Rattle.vault_open.specs.Causes.{IsInitFault, IsNoWrite};
@@ -18,17 +18,14 @@ ghost use Rattle.vault_open.specs.Preparing.{IsBlank, emptied, IsReadied, IsHalf
 use crate::fault::InitFault;
 use crate::reading::read_disk;
 use disk_model::Disk;
-use journal_core::{Append, first_gate, next_record};
+use journal_core::{Append, FIRST_BASE, active_gate, next_record};
 use key_schedule::Master;
 use record_codec::{Record, Setup};
 use std::alloc::Global;
 use stream_model::WriteFault;
 
-/// The text of no record: the magic and a closed gate.
+/// The text of no record in the first area: the magic and a closed gate.
 const NO_RECORD: [u8; 9] = *b"HAILJRN1\0";
-
-/// The offset of the first gate.
-const FIRST_GATE: u64 = 8;
 
 /// Writes the text of no record to the front of a disk.
 fn make_empty<D: Disk>(disk: &mut D) -> Result<(), WriteFault>
@@ -43,44 +40,51 @@ fn make_empty<D: Disk>(disk: &mut D) -> Result<(), WriteFault>
     Ok(())
 }
 
-/// The answer to a journal with a first record.
-fn answer_to(first: &Record) -> InitFault
-    ensures { result ≡ first_answer first.now }
+/// The answer to a journal with a first record, where its area begins at `base`.
+fn answer_to(base: u64, first: &Record) -> InitFault
+    requires { base ≤ 2 ^ 23 }
+    ensures { result ≡ first_answer base first.now }
 {
     match first {
         Record::Setup { .. } => InitFault::Already,
-        _ => InitFault::BadJournal { at: FIRST_GATE + 1 },
+        _ => InitFault::BadJournal { at: base + 1 },
     }
 }
 
 /// The answer to one record more: that to the first one stays.
-fn answer_with(answer: Result<(), InitFault>, entry: &Record) -> Result<(), InitFault>
-    ensures { (rs : List Entry) → IsFirstAnswer rs answer
-        → IsFirstAnswer (entry_of entry.now ∷ rs) result }
+fn answer_with(answer: Result<(), InitFault>, base: u64, entry: &Record) -> Result<(), InitFault>
+    requires { base ≤ 2 ^ 23 }
+    ensures { (rs : List Entry) → IsFirstAnswer base rs answer
+        → IsFirstAnswer base (entry_of entry.now ∷ rs) result }
 {
     match answer {
-        Ok(()) => Err(answer_to(entry)),
+        Ok(()) => Err(answer_to(base, entry)),
         Err(fault) => Err(fault),
     }
 }
 
-/// Whether bytes are a journal with no record, and else why not.
-fn has_no_record(bytes: &[u8]) -> Result<(), InitFault>
-    ensures ok { OnOk result (StandsFor bytes.now []) }
+/// Where the active area begins, of bytes that are a journal with no record, and else why they are none.
+fn has_no_record(bytes: &[u8]) -> Result<u64, InitFault>
+    ensures ok { IfOk result (λ base. (area : Area) × (base ≡ base_of area)
+        × StandsActive bytes.now area []) }
     ensures refused { IfErr result (IsTextFault bytes.now) }
 {
-    let mut gate = first_gate(bytes)?;
+    let base = active_gate(bytes)?;
+    let mut gate = base;
     let mut answer = Ok(());
     while let Some((entry, next)) = next_record(bytes, gate)? {
-        answer = answer_with(answer, &entry);
+        answer = answer_with(answer, base as u64, &entry);
         gate = next;
     }
-    answer
+    answer?;
+    Ok(base as u64)
 }
 
-/// Makes a disk ready for its first record: it reads a journal with no record, and no byte is loose.
-pub(crate) fn prepare<D: Disk>(alloc: Global, disk: &mut D) -> Result<(), InitFault>
-    ensures ok { OnOk result (Goes IsReadied (D.holds disk.old) (D.holds disk.new)) }
+/// Makes a disk ready for its first record, and answers where the active area begins: the disk reads a journal
+/// with no record there, and no byte is loose.
+pub(crate) fn prepare<D: Disk>(alloc: Global, disk: &mut D) -> Result<u64, InitFault>
+    ensures ok { IfOk result (λ base. (area : Area) × (base ≡ base_of area)
+        × Goes (IsReadied area) (D.holds disk.old) (D.holds disk.new)) }
     ensures refused { (s : SetupData)
         → IfErr result (λ why. IfSome (D.holds disk.old)
         (λ cells. IsInitFault (journal_read cells) s why)) }
@@ -91,11 +95,14 @@ pub(crate) fn prepare<D: Disk>(alloc: Global, disk: &mut D) -> Result<(), InitFa
     ensures tells { is_some (D.holds disk.new) ≡ is_some (D.holds disk.old) }
     ensures cause { HasCause (D.faults disk.old) (D.faults disk.new) (IsErrOf result init_fault.DiskFault) }
 {
-    match read_disk(alloc, disk)? {
-        None => make_empty(disk)?,
+    let base = match read_disk(alloc, disk)? {
+        None => {
+            make_empty(disk)?;
+            FIRST_BASE
+        }
         Some(bytes) => has_no_record(&bytes)?,
-    }
-    Ok(())
+    };
+    Ok(base)
 }
 
 /// A master key is one of the grammar.
@@ -117,22 +124,28 @@ fn setup_record(master: [u8; 32], setup: &Setup) -> Record
     }
 }
 
-/// Brings a blank disk its first record, the setup, by the four moves of an append.
+/// Brings a blank disk its first record, the setup, by the four moves of an append, in the area that begins
+/// at `base`.
 pub(crate) fn append_setup<D: Disk>(
     disk: &mut D,
+    base: u64,
     master: &Master,
     setup: &Setup,
 ) -> Result<(), WriteFault>
-    requires { IsTrue (is_setup (with_master setup.now master.now.0)) }
+    requires valid { IsTrue (is_setup (with_master setup.now master.now.0)) }
+    requires place { base ≤ 2 ^ 23 }
     ensures ok { OnOk result (D.holds disk.new ≡ option_map
-        (with_first_record (with_master setup.now master.now.0)) (D.holds disk.old)) }
-    ensures spelled { IsTrue (is_in_grammar (SetUp (with_master setup.now master.now.0))) }
-    ensures left { OnErr result (IfSome (D.holds disk.old) IsBlank → MayStandFor []
-        (SetUp (with_master setup.now master.now.0)) (D.holds disk.new)) }
+        (with_first_record base (with_master setup.now master.now.0)) (D.holds disk.old)) }
+    ensures ready { (area : Area) → base ≡ base_of area → IfSome (D.holds disk.old) (IsBlank area)
+        → OnOk result (IfSome (D.holds disk.new)
+        (StandsFirm area (SetUp (with_master setup.now master.now.0) ∷ []))) }
+    ensures left { (area : Area) → base ≡ base_of area → IfSome (D.holds disk.old) (IsBlank area)
+        → OnErr result (MayStandWith area [] (SetUp (with_master setup.now master.now.0))
+        (D.holds disk.new)) }
     ensures tells { is_some (D.holds disk.new) ≡ is_some (D.holds disk.old) }
     ensures cause { HasCause (D.faults disk.old) (D.faults disk.new) (IsErrOf result write_fault.Failed) }
 {
-    let mut append = Append::new(FIRST_GATE, &setup_record(master.0, setup));
+    let mut append = Append::new(base, &setup_record(master.0, setup));
     append.turn(disk)?;
     append.turn(disk)?;
     append.turn(disk)?;

@@ -20,8 +20,8 @@ use record_codec::Setup;
 use std::alloc::Global;
 
 /// Sets a store up on a disk: its journal has the setup and the key as its one record. A disk of at most nine
-/// bytes counts as empty, and a journal with no record is kept as it is, and what lies beyond 2^24 bytes is
-/// not looked at. After a fault of the disk the call may be made again, unless the store is set up.
+/// bytes counts as empty, a journal with no record stays in its area, and what lies beyond 2^24 bytes is not
+/// looked at. After a fault of the disk the call may be made again, unless the store is set up.
 pub fn init<D: Disk>(
     alloc: Global,
     disk: &mut D,
@@ -49,7 +49,7 @@ pub fn init<D: Disk>(
     if !setup.check() {
         return Err(InitFault::BadSetup);
     }
-    prepare(alloc, disk)?;
-    append_setup(disk, master, setup)?;
+    let base = prepare(alloc, disk)?;
+    append_setup(disk, base, master, setup)?;
     Ok(())
 }

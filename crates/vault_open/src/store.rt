@@ -4,13 +4,14 @@ ghost use Rattle.device_defs.specs.Disks.{synced};
 ghost use Rattle.device_defs.specs.Faults.{HasCause};
 ghost use Rattle.device_defs.specs.Told.{Goes};
 ghost use Rattle.record_defs.specs.Records.{Record};
+ghost use Rattle.record_defs.specs.Areas.{Area};
 ghost use Rattle.opening_defs.specs.Journals.{journal_read, IsRead, IsResynced};
 ghost use Rattle.vault_open.specs.declared.fault.StartFault.TheVariants as start_fault;
 ghost use Rattle.vault_open.specs.Causes.{IsStartFault, LiesInJournal};
 ghost use Rattle.vault_open.specs.Stores.{IsStoreOf};
 
 use crate::fault::StartFault;
-use crate::folding::fold_journal;
+use crate::folding::fold_active;
 use crate::reading::read_disk;
 use disk_model::Disk;
 use key_schedule::Master;
@@ -18,11 +19,13 @@ use record_codec::Setup;
 use std::alloc::Global;
 use vault_table::Table;
 
-/// What a start reads of a disk: the fold of its records, the setup and the key among them, and the length of
-/// their text in bytes, the closed gate included.
+/// What a start reads of a disk: the fold of the records of its active area, the setup and the key among them,
+/// where that area begins, and the offset past the gate that closes its text, in bytes from the start of the
+/// disk.
 #[derive(Drop)]
 pub struct Store {
     pub table: Table,
+    pub base: u64,
     pub end: u64,
     pub setup: Setup,
     pub master: Master,
@@ -32,8 +35,8 @@ pub struct Store {
 /// `StartFault` tells, a disk of at most nine bytes or with no record, bytes that are no journal, a record
 /// that may not follow, a call of the disk that fails, and want of memory.
 pub fn read_store<D: Disk>(alloc: Global, disk: &mut D) -> Result<Store, StartFault>
-    ensures read { IfOk result (λ store. (rs : List Record) × IsRead (D.holds disk.old) rs
-        × IsStoreOf store rs (D.holds disk.new)) }
+    ensures read { IfOk result (λ store. (area : Area) × (rs : List Record)
+        × IsRead (D.holds disk.old) area rs × IsStoreOf store area rs (D.holds disk.new)) }
     ensures refused { IfErr result
         (λ why. IfSome (D.holds disk.old) (λ cells. IsStartFault (journal_read cells) why)) }
     ensures synced { OnOk result (D.holds disk.new ≡ option_map synced (D.holds disk.old)) }
@@ -47,12 +50,13 @@ pub fn read_store<D: Disk>(alloc: Global, disk: &mut D) -> Result<Store, StartFa
     let Some(bytes) = read_disk(alloc, disk)? else {
         return Err(StartFault::NotSetUp);
     };
-    let (table, end) = fold_journal(alloc, &bytes)?;
+    let (table, base, end) = fold_active(alloc, &bytes)?;
     let Some((setup, master)) = table.setup() else {
         return Err(StartFault::NotSetUp);
     };
     Ok(Store {
         table,
+        base,
         end,
         setup,
         master,

@@ -17,13 +17,13 @@ loop-table-init c =
 pub loop-table-smaller : goal.loop-table-smaller
 loop-table-smaller c =
     let i = c.loop-table.invariant in
-    let more = rw c.in-Some.is at (c.in_ok-entry.ensures.taken_in i.0 i.1 i.3.read) in
+    let more = rw c.in-Some.is at (c.in_ok-entry.ensures.taken i.0 i.1 i.3.read) in
     omega (arith, more.0, more.1)
 
 pub loop-table-preserved : goal.loop-table-preserved
 loop-table-preserved c =
     let i = c.loop-table.invariant in
-    let more = rw c.in-Some.is at (c.in_ok-entry.ensures.taken_in i.0 i.1 i.3.read) in (
+    let more = rw c.in-Some.is at (c.in_ok-entry.ensures.taken i.0 i.1 i.3.read) in (
       i.0,
       entry_of c.in-Some.entry ∷ i.1,
       i.2,
@@ -37,12 +37,12 @@ returns-in_err-entry-clause-refused c =
     let i = c.loop-table.invariant in
     let p = err_from_is_err_and c.from_residual-in_err-entry.result c.from_residual-in_err-entry.ensures.1 in
     rw (p.1, p.2) (stopped-in c.args.bytes.now i.0 i.1 c.loop-table.table c.loop-table.gate i.3 _
-    (c.in_err-entry.ensures.bad_in i.0 i.1 i.3.read))
+    (c.in_err-entry.ensures.bad i.0 i.1 i.3.read))
 
 pub returns-in-Err-clause-refused : goal.returns-in-Err-clause-refused
 returns-in-Err-clause-refused c =
     let i = c.loop-table.invariant in
-    let more = rw c.in-Some.is at (c.in_ok-entry.ensures.taken_in i.0 i.1 i.3.read) in
+    let more = rw c.in-Some.is at (c.in_ok-entry.ensures.taken i.0 i.1 i.3.read) in
     rw c.answer_to.ensures
     (refusal-in c.args.bytes.now i.0 i.1 c.loop-table.table c.loop-table.gate i.3
     (entry_of c.in-Some.entry) c.in-Some.next more.3 c.in-Err.why
@@ -51,7 +51,7 @@ returns-in-Err-clause-refused c =
 pub returns-clause-ok : goal.returns-clause-ok
 returns-clause-ok c =
     let i = c.loop-table.invariant in
-    let ended = rw c.in_default.is at (c.in_ok-entry.ensures.taken_in i.0 i.1 i.3.read) in (
+    let ended = rw c.in_default.is at (c.in_ok-entry.ensures.taken i.0 i.1 i.3.read) in (
       i.0,
       i.1,
       closed-in c.args.bytes.now i.0 i.1 c.loop-table.table c.loop-table.gate i.3 c.args.base i.2
@@ -61,17 +61,17 @@ returns-clause-ok c =
 pub apply-requires : goal.apply-requires
 apply-requires c =
     let i = c.loop-table.invariant in
-    let more = rw c.in-Some.is at (c.in_ok-entry.ensures.taken_in i.0 i.1 i.3.read) in
+    let more = rw c.in-Some.is at (c.in_ok-entry.ensures.taken i.0 i.1 i.3.read) in
     more.2.padded
 
 pub overflow_add-gate : goal.overflow_add-gate
 overflow_add-gate c =
     let i = c.loop-table.invariant in
-    let more = rw c.in-Some.is at (c.in_ok-entry.ensures.taken_in i.0 i.1 i.3.read) in
+    let more = rw c.in-Some.is at (c.in_ok-entry.ensures.taken i.0 i.1 i.3.read) in
     record { fits = omega (arith, more.0, more.1, c.requires.short) }
 
 pub overflow_add-result : goal.overflow_add-result
 overflow_add-result c =
     let i = c.loop-table.invariant in
-    let ended = rw c.in_default.is at (c.in_ok-entry.ensures.taken_in i.0 i.1 i.3.read) in
+    let ended = rw c.in_default.is at (c.in_ok-entry.ensures.taken i.0 i.1 i.3.read) in
     record { fits = omega (arith, ended.0, c.requires.short) }

@@ -1,5 +1,6 @@
-use Rattle.std.proofs.Common.{List, ℕ, sym, subst}
+use Rattle.std.proofs.Common.{List, ℕ, refl, sym, subst}
 use Rattle.std.specs.Prelude.{IfSome}
+use Rattle.record_defs.specs.Areas.{A}
 use Rattle.journal_core.proofs.MoveLemmas.{on_err}
 use Rattle.opening_defs.specs.Journals.{journal_read}
 use Rattle.vault_open.specs.Causes.{IsInitFault}
@@ -17,31 +18,38 @@ returns-in_err-make_empty-in-None-clause-left g c =
     c.in_ok-read_disk.ensures.synced (rw c.in-None.is at c.in_ok-read_disk.ensures.empty)
     c.in_err-make_empty-in-None.ensures.left)
 
-pub returns-in_err-has_no_record-in-Some-clause-refused : goal.returns-in_err-has_no_record-in-Some-clause-refused
-returns-in_err-has_no_record-in-Some-clause-refused g c = λ s.
+pub returns-in_err-base-in-Some-clause-refused : goal.returns-in_err-base-in-Some-clause-refused
+returns-in_err-base-in-Some-clause-refused g c = λ s.
     let told = g.D.Disk.holds c.args.disk.now in
     let looked : IsLookedAt told c.in-Some.bytes.items = rw c.in-Some.is at c.in_ok-read_disk.ensures.bytes in
     let looked_at = subst (λ (l : List ℕ). IsLookedAt told l) (sym c.deref.ensures.value) looked in
-    err-from c.from_residual-in_err-has_no_record-in-Some.result _ _
+    err-from c.from_residual-in_err-base-in-Some.result _ _
     (λ why is. subst (λ (f : InitFault). IfSome told (λ cells. IsInitFault (journal_read cells) s f)) (sym is)
-    (text_fault told c.deref.result.now c.in_err-has_no_record-in-Some.field-0.0 s looked_at
-    c.in_err-has_no_record-in-Some.ensures.refused))
-    c.from_residual-in_err-has_no_record-in-Some.ensures.1
+    (text_fault told c.deref.result.now c.in_err-base-in-Some.field-0.0 s looked_at
+    c.in_err-base-in-Some.ensures.refused))
+    c.from_residual-in_err-base-in-Some.ensures.1
 
 pub returns-in_ok-make_empty-in-None-clause-ok : goal.returns-in_ok-make_empty-in-None-clause-ok
-returns-in_ok-make_empty-in-None-clause-ok g c =
-    readied-empty (g.D.Disk.holds c.args.disk.now) (g.D.Disk.holds c.read_disk.new.disk)
-    (g.D.Disk.holds c.make_empty.new.disk)
-    c.in_ok-read_disk.ensures.synced c.in_ok-make_empty-in-None.ensures.ok
-    (rw c.in-None.is at c.in_ok-read_disk.ensures.empty)
+returns-in_ok-make_empty-in-None-clause-ok g c = (
+  A,
+  refl,
+  readied-empty (g.D.Disk.holds c.args.disk.now) (g.D.Disk.holds c.read_disk.new.disk)
+      (g.D.Disk.holds c.make_empty.new.disk)
+      c.in_ok-read_disk.ensures.synced c.in_ok-make_empty-in-None.ensures.ok
+      (rw c.in-None.is at c.in_ok-read_disk.ensures.empty),
+)
 
-pub returns-in_ok-has_no_record-in-Some-clause-ok : goal.returns-in_ok-has_no_record-in-Some-clause-ok
-returns-in_ok-has_no_record-in-Some-clause-ok g c =
+pub returns-in_ok-base-in-Some-clause-ok : goal.returns-in_ok-base-in-Some-clause-ok
+returns-in_ok-base-in-Some-clause-ok g c =
     let told = g.D.Disk.holds c.args.disk.now in
     let looked : IsLookedAt told c.in-Some.bytes.items = rw c.in-Some.is at c.in_ok-read_disk.ensures.bytes in
     let looked_at = subst (λ (l : List ℕ). IsLookedAt told l) (sym c.deref.ensures.value) looked in
-    readied-read told (g.D.Disk.holds c.read_disk.new.disk) c.deref.result.now
-    c.in_ok-read_disk.ensures.synced looked_at c.in_ok-has_no_record-in-Some.ensures.ok
+    let none = c.in_ok-base-in-Some.ensures.ok in (
+      none.0,
+      none.1,
+      readied-read told (g.D.Disk.holds c.read_disk.new.disk) c.deref.result.now none.0
+          c.in_ok-read_disk.ensures.synced looked_at none.2,
+    )
 
 pub returns-in_err-read_disk-clause-left : goal.returns-in_err-read_disk-clause-left
 returns-in_err-read_disk-clause-left g c =
@@ -49,9 +57,9 @@ returns-in_err-read_disk-clause-left g c =
     (half-resynced (g.D.Disk.holds c.args.disk.now)
     (g.D.Disk.holds c.read_disk.new.disk) c.read_disk.ensures.disk)
 
-pub returns-in_err-has_no_record-in-Some-clause-left : goal.returns-in_err-has_no_record-in-Some-clause-left
-returns-in_err-has_no_record-in-Some-clause-left g c =
-    on_err c.from_residual-in_err-has_no_record-in-Some.result _
+pub returns-in_err-base-in-Some-clause-left : goal.returns-in_err-base-in-Some-clause-left
+returns-in_err-base-in-Some-clause-left g c =
+    on_err c.from_residual-in_err-base-in-Some.result _
     (half-resynced (g.D.Disk.holds c.args.disk.now)
     (g.D.Disk.holds c.read_disk.new.disk) c.read_disk.ensures.disk)
 
@@ -64,9 +72,9 @@ returns-in_err-make_empty-in-None-clause-unjudged g c =
     unjudged c.from_residual-in_err-make_empty-in-None.result _
     c.from_residual-in_err-make_empty-in-None.ensures.1 (disk-unjudged c.in_err-make_empty-in-None.field-0.0)
 
-pub returns-in_err-has_no_record-in-Some-clause-unjudged : goal.returns-in_err-has_no_record-in-Some-clause-unjudged
-returns-in_err-has_no_record-in-Some-clause-unjudged g c =
-    unjudged c.from_residual-in_err-has_no_record-in-Some.result _
-    c.from_residual-in_err-has_no_record-in-Some.ensures.1
-    (text-unjudged c.deref.result.now c.in_err-has_no_record-in-Some.field-0.0
-    c.in_err-has_no_record-in-Some.ensures.refused)
+pub returns-in_err-base-in-Some-clause-unjudged : goal.returns-in_err-base-in-Some-clause-unjudged
+returns-in_err-base-in-Some-clause-unjudged g c =
+    unjudged c.from_residual-in_err-base-in-Some.result _
+    c.from_residual-in_err-base-in-Some.ensures.1
+    (text-unjudged c.deref.result.now c.in_err-base-in-Some.field-0.0
+    c.in_err-base-in-Some.ensures.refused)

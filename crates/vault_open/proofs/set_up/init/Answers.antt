@@ -14,7 +14,7 @@ use Rattle.vault_open.specs.Causes.{IsInitFault}
 use Rattle.vault_open.specs.Faults.{init_answer}
 use Rattle.journal_core.proofs.MoveLemmas.{on_err}
 use Rattle.vault_open.proofs.Answers.{err-from, unjudged, disk-unjudged}
-use Rattle.vault_open.proofs.FirstRecord.{set-up-on}
+use Rattle.vault_open.proofs.FirstRecord.{base-low, set-up-on}
 use Rattle.vault_open.proofs.Prepared.{half-left, append-left}
 use Rattle.vault_open.proofs.InitEvents.{bad-refused, bad-setup, prepared-event, append-event, ready-event, err-is, cause-after, readied-blank}
 use Rattle.vault_open.proofs.set_up.init.Goals as goal
@@ -31,37 +31,42 @@ returns-then-not-check-clause-machine g c = λ w providers moment may are.
     bad-setup s w moment providers (g.D.Disk.holds c.args.disk.now) _ may are
     (sym (c.check.ensures c.args.master.now.0) ∙ c.if-not-check.true)
 
-pub returns-in_err-prepare-clause-refused : goal.returns-in_err-prepare-clause-refused
-returns-in_err-prepare-clause-refused g c =
+pub returns-in_err-base-clause-refused : goal.returns-in_err-base-clause-refused
+returns-in_err-base-clause-refused g c =
     let s = with_master c.args.setup.now c.args.master.now.0 in
     err-from c.from_residual.result _ _
     (λ why is. subst (λ (f : InitFault). IfSome (g.D.Disk.holds c.args.disk.now)
-    (λ cells. IsInitFault (journal_read cells) s f)) (sym is) (c.in_err-prepare.ensures.refused s))
+    (λ cells. IsInitFault (journal_read cells) s f)) (sym is) (c.in_err-base.ensures.refused s))
     c.from_residual.ensures.1
 
-pub returns-in_err-prepare-clause-machine : goal.returns-in_err-prepare-clause-machine
-returns-in_err-prepare-clause-machine g c = λ w providers moment may are.
+pub returns-in_err-base-clause-machine : goal.returns-in_err-base-clause-machine
+returns-in_err-base-clause-machine g c = λ w providers moment may are.
     let s = with_master c.args.setup.now c.args.master.now.0 in
     let valid : is_setup s ≡ true = sym (c.check.ensures c.args.master.now.0) ∙ c.if-not-check.false in
-    let why = c.in_err-prepare.field-0.0 in
+    let why = c.in_err-base.field-0.0 in
     let after = devices (g.D.Disk.holds c.prepare.new.disk) (g.D.Disk.faults c.prepare.new.disk) providers in
     let cause = cause-after (g.D.Disk.faults c.args.disk.now) (g.D.Disk.faults c.args.disk.now)
     (g.D.Disk.faults c.prepare.new.disk) _ (why ≡ init_fault.DiskFault) (omega arith)
-    c.in_err-prepare.ensures.cause (λ is. ap (λ (f : InitFault). Err f) is) in
+    c.in_err-base.ensures.cause (λ is. ap (λ (f : InitFault). Err f) is) in
     subst (λ (r : Result Unit InitFault). MakesInit w moment s r after)
     (sym (err-is c.from_residual.result why c.from_residual.ensures.1))
     (prepared-event s w moment providers (g.D.Disk.holds c.args.disk.now) (g.D.Disk.holds c.prepare.new.disk)
     (g.D.Disk.faults c.args.disk.now) (g.D.Disk.faults c.prepare.new.disk) why may are valid
-    (c.in_err-prepare.ensures.refused s) c.in_err-prepare.ensures.looked c.in_err-prepare.ensures.left cause)
+    (c.in_err-base.ensures.refused s) c.in_err-base.ensures.looked c.in_err-base.ensures.left cause)
 
-pub returns-in_err-prepare-clause-left : goal.returns-in_err-prepare-clause-left
-returns-in_err-prepare-clause-left g c =
+pub returns-in_err-base-clause-left : goal.returns-in_err-base-clause-left
+returns-in_err-base-clause-left g c =
     on_err c.from_residual.result _
     (half-left (with_master c.args.setup.now c.args.master.now.0) (g.D.Disk.holds c.args.disk.now)
-    (g.D.Disk.holds c.prepare.new.disk) c.in_err-prepare.ensures.left)
+    (g.D.Disk.holds c.prepare.new.disk) c.in_err-base.ensures.left)
 
 pub append_setup-requires : goal.append_setup-requires
-append_setup-requires g c = sym (c.check.ensures c.args.master.now.0) ∙ c.if-not-check.false
+append_setup-requires g c =
+    let at = c.in_ok-base.ensures.ok in
+    record {
+      valid = sym (c.check.ensures c.args.master.now.0) ∙ c.if-not-check.false;
+      place = base-low at.0 c.in_ok-base.base at.1;
+    }
 
 pub returns-in_err-append_setup-clause-machine : goal.returns-in_err-append_setup-clause-machine
 returns-in_err-append_setup-clause-machine g c = λ w providers moment may are.
@@ -70,60 +75,67 @@ returns-in_err-append_setup-clause-machine g c = λ w providers moment may are.
     let fault = c.in_err-append_setup.field-0.0 in
     let after = devices (g.D.Disk.holds c.append_setup.new.disk)
     (g.D.Disk.faults c.append_setup.new.disk) providers in
-    let first = c.in_ok-prepare.ensures.cause.never_falls in
-    let blank = readied-blank (g.D.Disk.holds c.args.disk.now)
-    (g.D.Disk.holds c.prepare.new.disk) c.in_ok-prepare.ensures.ok in
+    let first = c.in_ok-base.ensures.cause.never_falls in
+    let at = c.in_ok-base.ensures.ok in
+    let blank = readied-blank at.0 (g.D.Disk.holds c.args.disk.now)
+    (g.D.Disk.holds c.prepare.new.disk) at.2 in
     let cause = cause-after (g.D.Disk.faults c.args.disk.now) (g.D.Disk.faults c.prepare.new.disk)
     (g.D.Disk.faults c.append_setup.new.disk) _ (fault ≡ write_fault.Failed) first
     c.in_err-append_setup.ensures.cause (λ is. ap (λ (f : WriteFault). Err f) is) in
     subst (λ (r : Result Unit InitFault). MakesInit w moment s r after)
     (sym (err-is c.from_residual-in_err-append_setup.result
     (init_answer fault) c.from_residual-in_err-append_setup.ensures.1))
-    (append-event s w moment providers (g.D.Disk.holds c.args.disk.now) (g.D.Disk.holds c.prepare.new.disk)
+    (append-event s w moment providers at.0 (g.D.Disk.holds c.args.disk.now) (g.D.Disk.holds c.prepare.new.disk)
     (g.D.Disk.holds c.append_setup.new.disk) (g.D.Disk.faults c.args.disk.now)
-    (g.D.Disk.faults c.append_setup.new.disk) fault may are valid c.in_ok-prepare.ensures.ok
-    (c.in_err-append_setup.ensures.left blank) cause)
+    (g.D.Disk.faults c.append_setup.new.disk) fault may are valid at.2
+    (c.in_err-append_setup.ensures.left at.0 at.1 blank) cause)
 
 pub returns-in_err-append_setup-clause-left : goal.returns-in_err-append_setup-clause-left
 returns-in_err-append_setup-clause-left g c =
-    let blank = readied-blank (g.D.Disk.holds c.args.disk.now)
-    (g.D.Disk.holds c.prepare.new.disk) c.in_ok-prepare.ensures.ok in
+    let at = c.in_ok-base.ensures.ok in
+    let blank = readied-blank at.0 (g.D.Disk.holds c.args.disk.now)
+    (g.D.Disk.holds c.prepare.new.disk) at.2 in
     on_err c.from_residual-in_err-append_setup.result _
-    (append-left (with_master c.args.setup.now c.args.master.now.0) (g.D.Disk.holds c.args.disk.now)
+    (append-left (with_master c.args.setup.now c.args.master.now.0) at.0 (g.D.Disk.holds c.args.disk.now)
     (g.D.Disk.holds c.prepare.new.disk) (g.D.Disk.holds c.append_setup.new.disk)
-    c.in_ok-prepare.ensures.ok (c.in_err-append_setup.ensures.left blank))
+    at.2 (c.in_err-append_setup.ensures.left at.0 at.1 blank))
 
 pub returns-clause-ok : goal.returns-clause-ok
 returns-clause-ok g c =
-    set-up-on (with_master c.args.setup.now c.args.master.now.0) (g.D.Disk.holds c.args.disk.now)
-    (g.D.Disk.holds c.prepare.new.disk) (g.D.Disk.holds c.append_setup.new.disk)
-    c.in_ok-prepare.ensures.ok c.in_ok-append_setup.ensures.ok
+    let at = c.in_ok-base.ensures.ok in
+    set-up-on (with_master c.args.setup.now c.args.master.now.0) at.0 c.in_ok-base.base
+    (g.D.Disk.holds c.args.disk.now) (g.D.Disk.holds c.prepare.new.disk)
+    (g.D.Disk.holds c.append_setup.new.disk) at.1 at.2 c.in_ok-append_setup.ensures.ok
 
 pub returns-clause-machine : goal.returns-clause-machine
 returns-clause-machine g c = λ w providers moment may are.
     let s = with_master c.args.setup.now c.args.master.now.0 in
     let valid : is_setup s ≡ true = sym (c.check.ensures c.args.master.now.0) ∙ c.if-not-check.false in
-    let first = c.in_ok-prepare.ensures.cause.never_falls in
+    let first = c.in_ok-base.ensures.cause.never_falls in
     let second = c.in_ok-append_setup.ensures.cause.never_falls in
-    ready-event s w moment providers (g.D.Disk.holds c.args.disk.now) (g.D.Disk.holds c.append_setup.new.disk)
-    (g.D.Disk.faults c.args.disk.now) (g.D.Disk.faults c.append_setup.new.disk) may are valid
-    (returns-clause-ok g c) c.in_ok-append_setup.ensures.spelled (omega (arith, first, second))
+    let at = c.in_ok-base.ensures.ok in
+    let blank = readied-blank at.0 (g.D.Disk.holds c.args.disk.now)
+    (g.D.Disk.holds c.prepare.new.disk) at.2 in
+    ready-event s w moment providers at.0 (g.D.Disk.holds c.args.disk.now) (g.D.Disk.holds c.prepare.new.disk)
+    (g.D.Disk.holds c.append_setup.new.disk) (g.D.Disk.faults c.args.disk.now)
+    (g.D.Disk.faults c.append_setup.new.disk) may are valid at.2
+    (c.in_ok-append_setup.ensures.ready at.0 at.1 blank) (omega (arith, first, second))
 
 pub returns-then-not-check-clause-bad_setup : goal.returns-then-not-check-clause-bad_setup
 returns-then-not-check-clause-bad_setup g c =
     (λ is. sym (c.check.ensures c.args.master.now.0) ∙ c.if-not-check.true, λ bad. refl)
 
-pub returns-in_err-prepare-clause-unlooked : goal.returns-in_err-prepare-clause-unlooked
-returns-in_err-prepare-clause-unlooked g c = λ is.
-    absurd (unjudged c.from_residual.result c.in_err-prepare.field-0.0 c.from_residual.ensures.1
-    (λ same. c.in_err-prepare.ensures.unjudged (ap (λ (f : InitFault). Err f) same)) is)
+pub returns-in_err-base-clause-unlooked : goal.returns-in_err-base-clause-unlooked
+returns-in_err-base-clause-unlooked g c = λ is.
+    absurd (unjudged c.from_residual.result c.in_err-base.field-0.0 c.from_residual.ensures.1
+    (λ same. c.in_err-base.ensures.unjudged (ap (λ (f : InitFault). Err f) same)) is)
 
-pub returns-in_err-prepare-clause-bad_setup : goal.returns-in_err-prepare-clause-bad_setup
-returns-in_err-prepare-clause-bad_setup g c =
+pub returns-in_err-base-clause-bad_setup : goal.returns-in_err-base-clause-bad_setup
+returns-in_err-base-clause-bad_setup g c =
     let valid : is_setup (with_master c.args.setup.now c.args.master.now.0) ≡ true =
     sym (c.check.ensures c.args.master.now.0) ∙ c.if-not-check.false in (
-      λ is. absurd (unjudged c.from_residual.result c.in_err-prepare.field-0.0 c.from_residual.ensures.1
-          (λ same. c.in_err-prepare.ensures.unjudged (ap (λ (f : InitFault). Err f) same)) is),
+      λ is. absurd (unjudged c.from_residual.result c.in_err-base.field-0.0 c.from_residual.ensures.1
+          (λ same. c.in_err-base.ensures.unjudged (ap (λ (f : InitFault). Err f) same)) is),
       λ bad. absurd (false≢true (sym bad ∙ valid)),
     )
 

@@ -28,8 +28,8 @@ returns-in_default-setup-clause-refused g c =
     let looked : IsLookedAt told c.in-Some.bytes.items = rw c.in-Some.is at c.in_ok-bytes.ensures.bytes in
     let looked_at = subst (λ (l : List ℕ). IsLookedAt told l) (sym c.deref.ensures.value) looked in
     let folded = c.in_ok-table.ensures.ok in
-    none_fault c.deref.result.now folded.0 c.in_ok-table.table c.in_ok-table.end folded.1 told looked_at
-    (sym c.in_default-setup.ensures)
+    none_fault c.deref.result.now folded.0 folded.1 c.in_ok-table.table c.in_ok-table.base c.in_ok-table.end
+    folded.2 told looked_at (sym c.in_default-setup.ensures)
 
 pub returns-clause-read : goal.returns-clause-read
 returns-clause-read g c =
@@ -39,7 +39,9 @@ returns-clause-read g c =
     let folded = c.in_ok-table.ensures.ok in
     let found = sym c.in-Some-setup.ensures in (
       folded.0,
-      read c.deref.result.now folded.0 c.in_ok-table.table c.in_ok-table.end folded.1 _ found told looked_at,
-      stored c.deref.result.now folded.0 c.in_ok-table.table c.in_ok-table.end folded.1 _ told _ refl refl
-          found c.in_ok-bytes.ensures.synced looked_at,
+      folded.1,
+      read c.deref.result.now folded.0 folded.1 c.in_ok-table.table c.in_ok-table.base c.in_ok-table.end
+          folded.2 _ found told looked_at,
+      stored c.deref.result.now folded.0 folded.1 c.in_ok-table.table c.in_ok-table.base c.in_ok-table.end
+          folded.2 _ told _ refl refl refl found c.in_ok-bytes.ensures.synced looked_at,
     )
