@@ -4,7 +4,7 @@ use Rattle.std.proofs.Math.Logic.{∥∥₁_map}
 use Rattle.std.specs.Prelude.{is_some, nat_le, nat_lt}
 use Rattle.std.specs.List.{list_any}
 use Rattle.std.proofs.lemmas.Bool.{cases_Bool, false≢true, lt-ltb}
-use Rattle.machine_defs.specs.Alone.{alone_refusal}
+use Rattle.machine_defs.specs.Alone.{alone_refusal, pack_refusal}
 use Rattle.machine_defs.specs.Jobs.{Job}
 use Rattle.machine_defs.specs.Refusals as refusal
 use Rattle.machine_defs.specs.Refusals.{Refusal, Cause, first_refusal}
@@ -71,6 +71,10 @@ module _ (w : State) (lone : w.alone ≡ None) where
   pub busy_alone : w.is_barred ≡ false → 0 < length w.jobs → alone_refusal w [] ≡ Some refusal.Busy
   busy_alone free some = (let one = lt-ltb 0 (length w.jobs) some in rw (free, one) refl)
 
+  -- nor may a pack
+  pub busy_pack : w.is_barred ≡ false → 0 < length w.jobs → pack_refusal w ≡ Some refusal.Busy
+  busy_pack free some = (let one = lt-ltb 0 (length w.jobs) some in rw (free, one) refl)
+
   -- else it may
   pub free_alone : w.is_barred ≡ false → w.jobs ≡ [] → alone_refusal w [] ≡ None
   free_alone free none = rw (free, none, lone) refl
@@ -113,7 +117,7 @@ pub drawn_stands : (v v' : Desk) (d : Devices) (w : State) → w.jobs ≡ []
     → v'.jobs.items ≡ v.jobs.items → DeskStands v d w → DeskStands v' d (drawn w)
 drawn_stands v v' d w idle core keeps flight jobs S =
     stands_on v v' w (drawn w) d.holds d.faults d.providers d.providers S
-    (record { records = refl; journal = refl; doubt = refl; append = refl; faults = refl; barred = refl })
+    (record { records = refl; journal = refl; area = refl; switching = refl; doubt = refl; append = refl; faults = refl; barred = refl })
     (handed_same d.providers w (drawn w) S.devices.providers refl (λ j. refl))
     (subst (λ (c : CoreView). CoreIs c (drawn w)) (sym core) (core_drawn v.core w idle S.core)) keeps flight
     (subst (λ (items : List Running). AreRunning (setup_in w) items w.jobs) (sym jobs) S.jobs)

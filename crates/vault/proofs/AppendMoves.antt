@@ -6,16 +6,17 @@ use Rattle.device_defs.specs.Faults.{HasCause, Rose}
 use Rattle.device_defs.specs.Providers.{Provider}
 use Rattle.device_defs.specs.Told.{Goes}
 use Rattle.record_defs.specs.Records.{Record}
-use Rattle.record_defs.specs.Journal.{before_gate, text_size}
+use Rattle.record_defs.specs.Areas.{Area, end_in}
 use Rattle.record_defs.specs.Table.{setup_of}
 use Rattle.record_defs.specs.Acceptance.{refused}
-use Rattle.record_defs.proofs.Sizes.{length-before_gate}
+use Rattle.record_defs.proofs.Sizes.{length-entries}
 use Rattle.machine_defs.specs.Actions.{Action, WriteBody, SyncBody, WriteGate, SyncGate, Store, Fetch, Ask, Work, Remove, End}
 use Rattle.machine_defs.specs.Appends.{Moves, Writes, subject_drawn, begun_append, taken_out, moved, doubted, barred, unappended, done_append, IsAt}
 use Rattle.machine_defs.specs.Events.{More, Ended}
 use Rattle.machine_defs.specs.Answers as answers
 use Rattle.machine_defs.specs.Jobs.{Job, job_of, advanced, without_job}
 use Rattle.machine_defs.specs.Setups.{setup_or_none}
+use Rattle.machine_defs.specs.Stands.{StandsForState}
 use Rattle.machine_defs.specs.States.{State, Append, Doubt, setup_in, going_on, ended}
 use Rattle.machine_defs.proofs.JobLists.{number_of, same_value}
 use Rattle.state_laws.specs.Orders.{moves_before}
@@ -23,7 +24,8 @@ use Rattle.state_laws.specs.Sound.{IsGatedDoubt, IsDoubtOf}
 use Rattle.state_laws.proofs.Given.{mover}
 use Rattle.state_laws.proofs.Records.{setup-more}
 use Rattle.journal_core.specs.Appends.{Appends, gate_of, body_of, moves_of}
-use Rattle.journal_core.specs.Moves.{IsClosed, IsAfterMoves, SameFrom}
+use Rattle.journal_core.specs.Moves.{SameFrom}
+use Rattle.journal_core.specs.Texts.{StandsFirm, IsAfterMovesIn}
 use Rattle.journal_core.proofs.BeyondLemmas.{goes_still}
 use Rattle.vault_core.specs.Carried.{ComesNext, IsEntryOf}
 use Rattle.vault_core.specs.Coming.{entry_in, is_move}
@@ -42,12 +44,11 @@ use Rattle.vault.specs.Flights.{HasFailed, MakesMove, GoesOn, EndsAppend, GivesU
 use Rattle.vault.specs.Running.{KeepsAll, IsFed, IsStopped}
 use Rattle.vault.specs.Movers.{IsUnbegun, IsMover}
 use Rattle.vault.specs.Desks.{DeskStands, Comes, IsFlight, DeskMakesStep}
-use Rattle.vault_open.proofs.FirstVersion.{FirstStands, first-images}
+use Rattle.vault_open.proofs.Images.{shown-again, firm-shown}
 use Rattle.vault_core.proofs.Standing.{entry_machine}
 use Rattle.vault_core.proofs.Steps.{none_flies}
-use Rattle.vault.proofs.Unpacked.{unpacked-core, grammar-core, end-core, appended-brought}
-use Rattle.vault.proofs.MoveStep.{moves_on, moves_end, beyond_of, all_images, doubted_images, closed_after, subject_kept}
-use Rattle.vault.proofs.Ways.{setup_same, images_on, handed_same, entry_kept}
+use Rattle.vault.proofs.MoveStep.{moves_on, moves_end, beyond_of, all_images, doubted_images, subject_kept}
+use Rattle.vault.proofs.Ways.{setup_same, handed_same, entry_kept}
 
 true_false : true ≡ false → ⊥
 true_false e = cc
@@ -76,19 +77,30 @@ setup_kept w new a up accepted is = ap (λ (rs : List Record). setup_or_none (se
 -- ---- what the append is at
 
 -- a flight is none where the machine has no append in flight, and some where it has
-no_flight : (o : Option Flight) (a : Append) (rs : List Record) (told : Option Cells) → o ≡ None →
-    IsFlight o (Some a) rs told → ⊥
-no_flight None a rs told is flight = flight
-no_flight (Some f) a rs told is flight = (let e : Some f ≡ None = is in some_none e)
+no_flight : (o : Option Flight) (a : Append) (area : Area) (rs : List Record) (told : Option Cells) →
+    o ≡ None →
+    IsFlight o (Some a) area rs told → ⊥
+no_flight None a area rs told is flight = flight
+no_flight (Some f) a area rs told is flight = (let e : Some f ≡ None = is in some_none e)
   where
     some_none : Some f ≡ None → ⊥
     some_none e = cc
 
--- the disk has a closed gate where none is in flight
-closed_of : (f : Option Flight) (rs : List Record) (told : Option Cells) → IsFlight f None rs told →
-    IfSome told (IsClosed (before_gate rs))
-closed_of None rs told is = is
-closed_of (Some f) rs told is = absurd is
+-- the disk has the area's text, with a closed gate, where none is in flight
+pub closed_of : (f : Option Flight) (area : Area) (rs : List Record) (told : Option Cells) →
+    IsFlight f None area rs told → IfSome told (StandsFirm area rs)
+closed_of None area rs told is = is
+closed_of (Some f) area rs told is = absurd is
+
+-- it is as before the first move of an append
+unmoved : (area : Area) (rs : List Record) (body : List ℕ) (told : Option Cells) →
+    IfSome told (StandsFirm area rs) →
+    IfSome told (IsAfterMovesIn 0 area rs body)
+unmoved area rs body None firm = tt
+unmoved area rs body (Some cells) firm = record {
+  named = firm.named;
+  text = (firm.text.gate, firm.text.rest, firm.text.closed, firm.text.cells_are);
+}
 
 -- a later move of a job finds its append in flight
 module _ (v : Desk) (w : State) (holds : Option Cells) (faults number : ℕ) (ps : List Provider)
@@ -103,19 +115,20 @@ module _ (v : Desk) (w : State) (holds : Option Cells) (faults number : ℕ) (ps
   own : held.0.job ≡ number
   own = held.2.0 ∙ number_of w.jobs number next.job next.runs
 
-  in_flight : IsFlight v.flight (Some held.0) w.records holds
-  in_flight = subst (λ (o : Option Append). IsFlight v.flight o w.records holds) held.1
+  in_flight : IsFlight v.flight (Some held.0) w.area w.journal holds
+  in_flight = subst (λ (o : Option Append). IsFlight v.flight o w.area w.journal holds) held.1
       (stands.flight next.unbarred)
 
   not_none : v.flight ≡ None → ⊥
-  not_none is = no_flight v.flight held.0 w.records holds is in_flight
+  not_none is = no_flight v.flight held.0 w.area w.journal holds is in_flight
 
   goes_on : is_move (Some action) ≡ true → (f : Flight) → v.flight ≡ Some f →
       IsMover v w holds number action f
   goes_on moves f is =
       let sound = stands.core.sound.append held.0 held.1 in
-      let mine : (moves_of f.append ≡ held.0.moves) × Appends w.records held.0.entry f.append holds =
-      subst (λ (o : Option Flight). IsFlight o (Some held.0) w.records holds) is in_flight in
+      let mine : (moves_of f.append ≡ held.0.moves)
+      × Appends w.area w.journal held.0.entry f.append holds =
+      subst (λ (o : Option Flight). IsFlight o (Some held.0) w.area w.journal holds) is in_flight in
       let same : sound.job ≡ next.job = same_value (job_of w.jobs number) sound.job next.job
       (subst (λ n. job_of w.jobs n ≡ Some sound.job) own sound.runs) next.runs in
       record {
@@ -138,12 +151,12 @@ module _ (v : Desk) (w : State) (holds : Option Cells) (faults number : ℕ) (ps
   alone : w.append ≡ None
   alone = none_flies w.append (comes.machine w stands.core).holder
 
-  lies_still : IsFlight v.flight None w.records holds
-  lies_still = subst (λ (o : Option Append). IsFlight v.flight o w.records holds) alone
+  lies_still : IsFlight v.flight None w.area w.journal holds
+  lies_still = subst (λ (o : Option Append). IsFlight v.flight o w.area w.journal holds) alone
       (stands.flight (comes.machine w stands.core).unbarred)
 
   not_some : (f : Flight) → v.flight ≡ Some f → ⊥
-  not_some f is = subst (λ (o : Option Flight). IsFlight o None w.records holds) is lies_still
+  not_some f is = subst (λ (o : Option Flight). IsFlight o None w.area w.journal holds) is lies_still
 
   begins : (f : Flight) → IsUnbegun v.core number f → IsMover v w holds number WriteBody f
   begins f first =
@@ -157,14 +170,15 @@ module _ (v : Desk) (w : State) (holds : Option Cells) (faults number : ℕ) (ps
         writing = entry_now;
         in_flight = λ a is. absurd (none_some a (sym alone ∙ is));
         appends = record {
-          records = grammar-core v.core w stands.core stands.appended;
+          records = stands.core.sound.journal.spelled;
           entry = first.spelled;
-          gate = (let size = length-before_gate w.records (grammar-core v.core w stands.core stands.appended) in
-              let end = end-core v.core w stands.core stands.appended in let g = first.gate in
-              omega (arith, size, end, g));
+          gate = (let size = length-entries w.journal stands.core.sound.journal.spelled in
+              let end = stands.core.end in let g = first.gate in omega (arith, size, end, g));
           body = first.body;
-          disk = subst (λ (n : ℕ). IfSome holds (IsAfterMoves n (before_gate w.records) (body_of f.append)))
-              (sym first.moves) (closed_of v.flight w.records holds lies_still);
+          disk = subst (λ (n : ℕ). IfSome holds (IsAfterMovesIn n w.area w.journal (body_of f.append)))
+              (sym first.moves)
+              (unmoved w.area w.journal (body_of f.append) holds
+              (closed_of v.flight w.area w.journal holds lies_still));
         };
         moves = first.moves;
       }
@@ -225,6 +239,7 @@ gave_away v v0 rest =
       setup = ap (λ (x : Desk). x.setup) rest;
       master = ap (λ (x : Desk). x.master) rest;
       shape = ap (λ (x : Desk). x.shape) rest;
+      base = ap (λ (x : Desk). x.base) rest;
     }
 
 -- its core is fed as that of the vault was
@@ -247,7 +262,7 @@ module _ (v : Desk) (w : State) (holds holds' : Option Cells) (faults faults' mo
   flies : (action : Action) (comes : Comes v.core number action) (later : 0 < moves_before action)
       (m : IsMover v w holds number action f)
       → (a : Append) × (w.append ≡ Some a) × IsAt a (comes.machine w stands.core).job (moves_before action) ×
-      (entry_in v.core number ≡ Some a.entry) × Appends w.records a.entry f.append holds
+      (entry_in v.core number ≡ Some a.entry) × Appends w.area w.journal a.entry f.append holds
   unfolding next
   flies action comes later m =
       let h = held v w holds faults number ps stands action comes later in
@@ -256,7 +271,7 @@ module _ (v : Desk) (w : State) (holds holds' : Option Cells) (faults faults' mo
         h.1,
         h.2,
         m.given ∙ ap (λ (r : Record). Some r) (sym same),
-        subst (λ (r : Record). Appends w.records r f.append holds) (sym same) m.appends,
+        subst (λ (r : Record). Appends w.area w.journal r f.append holds) (sym same) m.appends,
       )
 
   -- past the text with the record of the append the disk reads as before
@@ -268,7 +283,7 @@ module _ (v : Desk) (w : State) (holds holds' : Option Cells) (faults faults' mo
         entry = m.entry;
         writing = m.writing;
         in_flight = m.in_flight;
-        same = beyond_of w.records m.entry f.append holds holds' m.appends beyond;
+        same = beyond_of w.area w.journal m.entry f.append holds holds' m.appends beyond;
       }
 
   -- the disk failed
@@ -282,7 +297,7 @@ module _ (v : Desk) (w : State) (holds holds' : Option Cells) (faults faults' mo
       → DeskMakesStep w moment number result v2 (devices holds faults ps) (devices holds' faults' ps)
   append_failed WriteBody comes move m v1 v2 result made beyond cause core jobs keeps stopped =
       let next = comes.machine w stands.core in
-      let up : GivesUp f.append w.records m.entry holds' = made w.records m.entry m.appends in
+      let up : GivesUp f.append w.area w.journal m.entry holds' = made w.area w.journal m.entry m.appends in
       let new : State = record (barred (ended w next.job)) { disk_faults = faults' } in
       moves_end v v1 v2 w new holds holds' faults faults' moment number ps WriteBody reply.Failed
       answer.DiskFault result stands next
@@ -291,7 +306,7 @@ module _ (v : Desk) (w : State) (holds holds' : Option Cells) (faults faults' mo
       core jobs keeps stopped tt
       (record {
         setup = setup_same w new refl;
-        appended = stands.appended;
+        area = refl;
         handed = handed_same ps w new stands.devices.providers refl (λ j. refl);
         faults = refl;
         images = all_images holds' new (up.before (let k = m.moves in omega (arith, k)));
@@ -301,7 +316,7 @@ module _ (v : Desk) (w : State) (holds holds' : Option Cells) (faults faults' mo
   append_failed SyncBody comes move m v1 v2 result made beyond cause core jobs keeps stopped =
       let next = comes.machine w stands.core in
       let a = flies SyncBody comes (omega arith) m in
-      let up : GivesUp f.append w.records m.entry holds' = made w.records m.entry m.appends in
+      let up : GivesUp f.append w.area w.journal m.entry holds' = made w.area w.journal m.entry m.appends in
       let new : State = record (barred (ended w next.job)) { disk_faults = faults' } in
       moves_end v v1 v2 w new holds holds' faults faults' moment number ps SyncBody reply.Failed
       answer.DiskFault result stands next
@@ -311,7 +326,7 @@ module _ (v : Desk) (w : State) (holds holds' : Option Cells) (faults faults' mo
       core jobs keeps stopped tt
       (record {
         setup = setup_same w new refl;
-        appended = stands.appended;
+        area = refl;
         handed = handed_same ps w new stands.devices.providers refl (λ j. refl);
         faults = refl;
         images = all_images holds' new (up.before (let k = m.moves in omega (arith, k)));
@@ -321,7 +336,7 @@ module _ (v : Desk) (w : State) (holds holds' : Option Cells) (faults faults' mo
   append_failed WriteGate comes move m v1 v2 result made beyond cause core jobs keeps stopped =
       let next = comes.machine w stands.core in
       let a = flies WriteGate comes (omega arith) m in
-      let up : GivesUp f.append w.records a.0.entry holds' = made w.records a.0.entry a.4 in
+      let up : GivesUp f.append w.area w.journal a.0.entry holds' = made w.area w.journal a.0.entry a.4 in
       let new : State = record (doubted (barred (ended w next.job)) a.0 next.job) { disk_faults = faults' } in
       moves_end v v1 v2 w new holds holds' faults faults' moment number ps WriteGate reply.Failed
       answer.DiskFault result stands next
@@ -331,7 +346,7 @@ module _ (v : Desk) (w : State) (holds holds' : Option Cells) (faults faults' mo
       core jobs keeps stopped tt
       (record {
         setup = setup_same w new refl;
-        appended = stands.appended;
+        area = refl;
         handed = handed_same ps w new stands.devices.providers refl (λ j. refl);
         faults = refl;
         images = doubted_images holds' new a.0.entry _ refl refl up.between;
@@ -341,7 +356,7 @@ module _ (v : Desk) (w : State) (holds holds' : Option Cells) (faults faults' mo
   append_failed SyncGate comes move m v1 v2 result made beyond cause core jobs keeps stopped =
       let next = comes.machine w stands.core in
       let a = flies SyncGate comes (omega arith) m in
-      let up : GivesUp f.append w.records a.0.entry holds' = made w.records a.0.entry a.4 in
+      let up : GivesUp f.append w.area w.journal a.0.entry holds' = made w.area w.journal a.0.entry a.4 in
       let new : State = record (barred (ended w next.job)) { disk_faults = faults' } in
       let doubt = in_doubt a.0 w.doubt a.2.1
       (subst (λ (o : Option Append). IsDoubtOf o w.doubt) a.1
@@ -354,7 +369,7 @@ module _ (v : Desk) (w : State) (holds holds' : Option Cells) (faults faults' mo
       core jobs keeps stopped tt
       (record {
         setup = setup_same w new refl;
-        appended = stands.appended;
+        area = refl;
         handed = handed_same ps w new stands.devices.providers refl (λ j. refl);
         faults = refl;
         images = doubted_images holds' new a.0.entry doubt.0 doubt.1 doubt.2 up.between;
@@ -386,7 +401,8 @@ module _ (v : Desk) (w : State) (holds holds' : Option Cells) (faults faults' mo
   append_goes_on WriteBody comes move m v' g made beyond cause flight jobs keeps fed =
       let next = comes.machine w stands.core in
       let job = next.job in
-      let on : GoesOn f.append g.append w.records m.entry holds' = made.3 w.records m.entry m.appends in
+      let on : GoesOn f.append g.append w.area w.journal m.entry holds' =
+      made.3 w.area w.journal m.entry m.appends in
       let writes : Writes w job job.kind m.entry =
       (let same : m.writing.job ≡ job =
       (let e : Some m.writing.job ≡ Some job = sym m.writing.runs ∙ next.runs in cc) in
@@ -398,23 +414,25 @@ module _ (v : Desk) (w : State) (holds holds' : Option Cells) (faults faults' mo
       refl jobs
       (record {
         setup = setup_same w new refl;
-        appended = stands.appended;
+        area = refl;
         handed = handed_same ps w new stands.devices.providers refl (λ j. refl);
         faults = refl;
         images = all_images holds' new (on.before (let k = m.moves in omega (arith, k)));
-        flight = λ free. subst (λ (x : Option Flight). IsFlight x new.append new.records holds') (sym flight)
+        flight = λ free. subst (λ (x : Option Flight). IsFlight x new.append new.area new.journal holds')
+            (sym flight)
             ((let k = m.moves in let n = made.0 in omega (arith, k, n)), on.appends);
       })
       (λ a is mine. m.given
       ∙ ap (λ (x : Append). Some x.entry)
       (one_of (record { job = job.number; entry = m.entry; moves = 1 }) a is))
-      (beyond_of w.records m.entry f.append holds holds' m.appends beyond)
+      (beyond_of w.area w.journal m.entry f.append holds holds' m.appends beyond)
       keeps fed comes.wants
   append_goes_on SyncBody comes move m v' g made beyond cause flight jobs keeps fed =
       let next = comes.machine w stands.core in
       let job = next.job in
       let a = flies SyncBody comes (omega arith) m in
-      let on : GoesOn f.append g.append w.records a.0.entry holds' = made.3 w.records a.0.entry a.4 in
+      let on : GoesOn f.append g.append w.area w.journal a.0.entry holds' =
+      made.3 w.area w.journal a.0.entry a.4 in
       let new : State = record (moved (going_on w (advanced job)) a.0) { disk_faults = faults' } in
       moves_on v v' w new holds holds' faults faults' moment number ps SyncBody job.subject job.older stands
       next tt (λ many. refl)
@@ -423,22 +441,24 @@ module _ (v : Desk) (w : State) (holds holds' : Option Cells) (faults faults' mo
       refl jobs
       (record {
         setup = setup_same w new refl;
-        appended = stands.appended;
+        area = refl;
         handed = handed_same ps w new stands.devices.providers refl (λ j. refl);
         faults = refl;
         images = all_images holds' new (on.before (let k = m.moves in omega (arith, k)));
-        flight = λ free. subst (λ (x : Option Flight). IsFlight x new.append new.records holds') (sym flight)
+        flight = λ free. subst (λ (x : Option Flight). IsFlight x new.append new.area new.journal holds')
+            (sym flight)
             ((let n = made.0 in let k = m.moves in let l = a.2.1 in omega (arith, n, k, l)), on.appends);
       })
       (λ x is mine. a.3 ∙ ap (λ (y : Append). Some y.entry)
       (one_of (record a.0 { moves = a.0.moves + 1 }) x is))
-      (beyond_of w.records a.0.entry f.append holds holds' a.4 beyond)
+      (beyond_of w.area w.journal a.0.entry f.append holds holds' a.4 beyond)
       keeps fed comes.wants
   append_goes_on WriteGate comes move m v' g made beyond cause flight jobs keeps fed =
       let next = comes.machine w stands.core in
       let job = next.job in
       let a = flies WriteGate comes (omega arith) m in
-      let on : GoesOn f.append g.append w.records a.0.entry holds' = made.3 w.records a.0.entry a.4 in
+      let on : GoesOn f.append g.append w.area w.journal a.0.entry holds' =
+      made.3 w.area w.journal a.0.entry a.4 in
       let new : State = record (doubted (moved (going_on w (advanced job)) a.0) a.0 job)
       { disk_faults = faults' } in
       moves_on v v' w new holds holds' faults faults' moment number ps WriteGate job.subject job.older stands
@@ -448,16 +468,17 @@ module _ (v : Desk) (w : State) (holds holds' : Option Cells) (faults faults' mo
       refl jobs
       (record {
         setup = setup_same w new refl;
-        appended = stands.appended;
+        area = refl;
         handed = handed_same ps w new stands.devices.providers refl (λ j. refl);
         faults = refl;
         images = doubted_images holds' new a.0.entry _ refl refl on.between;
-        flight = λ free. subst (λ (x : Option Flight). IsFlight x new.append new.records holds') (sym flight)
+        flight = λ free. subst (λ (x : Option Flight). IsFlight x new.append new.area new.journal holds')
+            (sym flight)
             ((let n = made.0 in let k = m.moves in let l = a.2.1 in omega (arith, n, k, l)), on.appends);
       })
       (λ x is mine. a.3 ∙ ap (λ (y : Append). Some y.entry)
       (one_of (record a.0 { moves = a.0.moves + 1 }) x is))
-      (beyond_of w.records a.0.entry f.append holds holds' a.4 beyond)
+      (beyond_of w.area w.journal a.0.entry f.append holds holds' a.4 beyond)
       keeps fed comes.wants
   append_goes_on SyncGate comes move m v' g made beyond cause flight jobs keeps fed =
       absurd (let k = m.moves in let d = made.0 in let u = g.undone in omega (arith, k, d, u))
@@ -486,7 +507,7 @@ module _ (v : Desk) (w : State) (holds holds' : Option Cells) (faults faults' mo
       let next = comes.machine w stands.core in
       let a = flies SyncGate comes (omega arith) m in
       let job = next.job in
-      let done : EndsAppend w.records a.0.entry holds' = made.1 w.records a.0.entry a.4 in
+      let done : EndsAppend w.area w.journal a.0.entry holds' = made.1 w.area w.journal a.0.entry a.4 in
       let new : State = record (done_append w job a.0) { disk_faults = faults' } in
       moves_on v v' w new holds holds' faults faults' moment number ps SyncGate job.subject
       (taken_out w job job.kind) stands next tt (λ many. refl)
@@ -496,15 +517,15 @@ module _ (v : Desk) (w : State) (holds holds' : Option Cells) (faults faults' mo
       (record {
         setup = setup_kept w new a.0 (stands.core.sound.set_up stands.core.is_open)
             (stands.core.sound.append a.0 a.1).follows.accepted refl;
-        appended = appended-brought a.0.entry w.journal a.4.entry stands.appended;
+        area = refl;
         handed = handed_same ps w new stands.devices.providers refl (λ j. refl);
         faults = refl;
-        images = all_images holds' new done.after;
-        flight = λ free. subst (λ (x : Option Flight). IsFlight x None new.records holds')
-            (sym flight) done.closed;
+        images = firm-shown holds' new new.area new.journal refl refl done.ready;
+        flight = λ free. subst (λ (x : Option Flight). IsFlight x None new.area new.journal holds')
+            (sym flight) done.ready;
       })
       (λ x so mine. absurd (none_some x so))
-      (beyond_of w.records a.0.entry f.append holds holds' a.4 beyond)
+      (beyond_of w.area w.journal a.0.entry f.append holds holds' a.4 beyond)
       keeps fed comes.wants
   append_done WriteBody comes move m v' made beyond cause flight jobs keeps fed =
       absurd (let k = m.moves in let d = made.0 in omega (arith, k, d))
@@ -542,18 +563,17 @@ module _ (v : Desk) (w : State) (holds holds' : Option Cells) (faults faults' mo
       core jobs keeps stopped tt
       (record {
         setup = setup_same w new refl;
-        appended = stands.appended;
+        area = refl;
         handed = handed_same ps w new stands.devices.providers refl (λ j. refl);
         faults = refl;
-        images = subst (λ (t : Option Cells). FirstStands t new) (sym made.1)
-            (images_on holds w new refl refl
-            (first-images holds w (unpacked-core v.core w stands.core stands.appended) stands.devices.images));
-        flight = λ free. subst (λ (x : Option Flight). IsFlight x w.append w.records holds') (sym flight)
-            (subst (λ (o : Option Append). IsFlight None o w.records holds') (sym none)
-            (subst (λ (t : Option Cells). IfSome t (IsClosed (before_gate w.records))) (sym made.1)
-            (closed_of v.flight w.records holds (lies_still v w holds faults number ps stands comes))));
+        images = subst (λ (t : Option Cells). StandsForState t new) (sym made.1)
+            (shown-again holds w new refl refl refl refl stands.devices.images);
+        flight = λ free. subst (λ (x : Option Flight). IsFlight x w.append w.area w.journal holds')
+            (sym flight)
+            (subst (λ (o : Option Append). IsFlight None o w.area w.journal holds') (sym none)
+            (made.2 w.area w.journal m.entry m.appends));
       })
-      none (λ on. goes_still (text_size (records_in_flight new.records new.append)) holds holds' made.1)
+      none (λ on. goes_still (end_in new.area (records_in_flight new.journal new.append)) holds holds' made.1)
       (λ e. cc)
   append_unwritten WriteGate comes move m v1 v2 result made cause core jobs flight keeps stopped =
       let next = comes.machine w stands.core in
@@ -567,19 +587,15 @@ module _ (v : Desk) (w : State) (holds holds' : Option Cells) (faults faults' mo
       core jobs keeps stopped tt
       (record {
         setup = setup_same w new refl;
-        appended = stands.appended;
+        area = refl;
         handed = handed_same ps w new stands.devices.providers refl (λ j. refl);
         faults = refl;
-        images = subst (λ (t : Option Cells). FirstStands t new) (sym made.1)
-            (images_on holds w new refl refl
-            (first-images holds w (unpacked-core v.core w stands.core stands.appended) stands.devices.images));
-        flight = λ free. subst (λ (x : Option Flight). IsFlight x None w.records holds') (sym flight)
-            (subst (λ (t : Option Cells). IfSome t (IsClosed (before_gate w.records))) (sym made.1)
-            (closed_after holds (before_gate w.records) (body_of f.append)
-            (subst (λ (n : ℕ). IfSome holds (IsAfterMoves n (before_gate w.records) (body_of f.append)))
-            m.moves m.appends.disk)));
+        images = subst (λ (t : Option Cells). StandsForState t new) (sym made.1)
+            (shown-again holds w new refl refl refl refl stands.devices.images);
+        flight = λ free. subst (λ (x : Option Flight). IsFlight x None w.area w.journal holds') (sym flight)
+            (made.2 w.area w.journal m.entry m.appends);
       })
-      refl (λ on. goes_still (text_size (records_in_flight new.records new.append)) holds holds' made.1)
+      refl (λ on. goes_still (end_in new.area (records_in_flight new.journal new.append)) holds holds' made.1)
       (λ e. cc)
   append_unwritten SyncBody comes move m v1 v2 result made cause core jobs flight keeps stopped =
       absurd (elim made.0 [

@@ -579,7 +579,7 @@ module _ (v : Desk) (w : State) (holds : Option Cells) (faults moment number k o
         state = new;
         happens = happens;
         stands = stands_on v v' w new holds faults ps ps' stands
-            (record { records = refl; journal = refl; doubt = refl; append = refl; faults = refl; barred = refl })
+            (record { records = refl; journal = refl; area = refl; switching = refl; doubt = refl; append = refl; faults = refl; barred = refl })
             (subst (λ (l : List Provider). AreHanded l new) (sym ps_is)
             (handed_on ps w new k p' stands.devices.providers is_handed_in refl (λ j. refl)))
             core keeps flight are

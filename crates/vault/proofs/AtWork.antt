@@ -204,7 +204,7 @@ over_stands v w old faults older ps enough S =
         append = S.core.append;
         barred = S.core.barred;
       };
-      appended = S.appended;
+      base = S.base;
       setup = same ∙ S.setup;
       shaped = S.shaped;
       jobs = subst (λ (s : Setup). AreRunning s v.jobs.items w.jobs) (sym same) S.jobs;

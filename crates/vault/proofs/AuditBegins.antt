@@ -21,6 +21,7 @@ use Rattle.vault.specs.Rounds.{Round, rounds_in}
 use Rattle.vault.specs.Desks.{DeskStands}
 use Rattle.vault.specs.Tasks.{IsAudit, IsAsked}
 use Rattle.vault.specs.Benches.{IsNewAudit}
+use Rattle.vault_core.proofs.Alike.{table-like}
 use Rattle.vault.proofs.AskOrders.{audit-order, audit-count}
 
 -- no ask is made in the first round yet
@@ -32,7 +33,7 @@ started (x ∷ xs) symbols is =
 module _ (v : Desk) (d : Devices) (w : State) (moment : ℕ) (stands : DeskStands v d w) where
   -- a table has no more files than may be in effect
   pub few-files : length v.core.table.files ≤ most_files
-  few-files = (let e = ap (λ (fs : List File). length fs) stands.core.table.files in
+  few-files = (let e = ap (λ (fs : List File). length fs) (table-like v.core w stands.core).files in
       let f = few-files_of w.records stands.core.sound.accepted in omega (arith, e, f))
 
   -- a new audit's task is at the first action of the machine's new job
@@ -50,7 +51,7 @@ module _ (v : Desk) (d : Devices) (w : State) (moment : ℕ) (stands : DeskStand
       let most = limits.1 in
       let counts_n : t.counts.n ≡ s.n = new.n_is ∙ sym n_is in
       let files : length job.pinned ≡ length v.core.table.files = length-pin_all w (files_of w.records)
-      ∙ sym (ap (λ (fs : List File). length fs) stands.core.table.files) in
+      ∙ sym (ap (λ (fs : List File). length fs) (table-like v.core w stands.core).files) in
       let few : asks_left (actions_left s job) ≤ length job.pinned * (s.rounds * s.n) =
       audit-count s job refl in
       let same : length job.pinned * (s.rounds * s.n) ≡ asks = (λ i. files i * (rounds_is i * n_is i))

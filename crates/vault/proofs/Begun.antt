@@ -87,7 +87,7 @@ module _ (old new : Desk) (d : Devices) (w : State) (moment : ℕ) (kind : Kind)
         begins = (stands.core.is_open, accepted, next, refl);
         stands = stands_on old new w (begun w moment kind own) d.holds d.faults d.providers
             d.providers stands
-            (record { records = refl; journal = refl; doubt = refl; append = refl; faults = refl; barred = refl })
+            (record { records = refl; journal = refl; area = refl; switching = refl; doubt = refl; append = refl; faults = refl; barred = refl })
             (handed_same d.providers w (begun w moment kind own) stands.devices.providers refl (λ j. refl))
             core
             keeps flight

@@ -2,27 +2,29 @@
 use Rattle.std.proofs.Common.{◌≡◌, false, List, Option, Some, None}
 use Rattle.device_defs.specs.Cells.{Cells}
 use Rattle.record_defs.specs.Records.{Record}
+use Rattle.record_defs.specs.Areas.{Area}
 use Rattle.machine_defs.specs.States.{State}
 use Rattle.machine_defs.specs.States as states
 use Rattle.vault.specs.declared.flight.Flight.{Flight}
 use Rattle.vault.specs.declared.desk.Desk.{Desk}
 use Rattle.vault_open.specs.Devices.{Devices}
-use Rattle.vault.proofs.Unpacked.{end-core}
 use Rattle.vault.specs.Desks.{IsFlight, DeskStands, CarriesText, DeskCarries}
 
-carried_text : (f : Option Flight) (append : Option states.Append) (rs : List Record) (told : Option Cells) →
-    IsFlight f append rs told → CarriesText f rs told
-carried_text None None rs told closed = closed
-carried_text (Some f) (Some append) rs told flight = (append.entry, flight.1)
-carried_text None (Some append) rs told never = absurd never
-carried_text (Some f) None rs told never = absurd never
+carried_text : (f : Option Flight) (append : Option states.Append) (area : Area) (rs : List Record)
+    (told : Option Cells) → IsFlight f append area rs told → CarriesText f area rs told
+carried_text None None area rs told closed = closed
+carried_text (Some f) (Some append) area rs told flight = (append.entry, flight.1)
+carried_text None (Some append) area rs told never = absurd never
+carried_text (Some f) None area rs told never = absurd never
 
 -- the disk carries a vault that stands for a state which is not barred
 pub carried : (v : Desk) (d : Devices) (w : State) → DeskStands v d w → w.is_barred ≡ false →
     DeskCarries v d.holds
 carried v d w stands unbarred = (
-  w.records,
+  w.area,
+  w.journal,
   stands.core.table,
-  end-core v.core w stands.core stands.appended,
-  carried_text v.flight w.append w.records d.holds (stands.flight unbarred),
+  stands.base,
+  stands.core.end,
+  carried_text v.flight w.append w.area w.journal d.holds (stands.flight unbarred),
 )

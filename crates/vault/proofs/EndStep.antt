@@ -184,7 +184,7 @@ module _ (v : Desk) (d : Devices) (w : State) (moment number : ℕ) (stands : De
             running.task,
         refl,
       )
-      (record { records = refl; journal = refl; doubt = refl; append = refl; faults = refl; barred = refl })
+      (record { records = refl; journal = refl; area = refl; switching = refl; doubt = refl; append = refl; faults = refl; barred = refl })
       (ap (without_job w.jobs) (number_of w.jobs number coming.job coming.runs))
       at there
       (record {
@@ -192,7 +192,7 @@ module _ (v : Desk) (d : Devices) (w : State) (moment number : ℕ) (stands : De
         jobs = set_same v.jobs.items place r there;
         number = refl;
         heard = refl;
-        keeps = record { setup = refl; master = refl; shape = refl };
+        keeps = record { setup = refl; master = refl; shape = refl; base = refl };
       })
       refl stopped
       (well number subject undecided counts new r.task)

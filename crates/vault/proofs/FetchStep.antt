@@ -33,7 +33,7 @@ use Rattle.vault.specs.Asking.{pin_in, profile_or}
 use Rattle.vault.specs.Benches.{TakesUp, Turns, TurnsTo}
 use Rattle.vault.specs.Orders.{Phase, Between, Fetching, Opened, GoesOn}
 use Rattle.vault.specs.Tasks.{fetched_in, AreOfSetup, Serves, IsAtHand, IsRepair, IsTask, IsRunning}
-use Rattle.vault.proofs.Unpacked.{worked-own}
+use Rattle.vault.proofs.OwnObjects.{worked-own}
 use Rattle.vault.proofs.Kits.{turned_is, bench_size, by_size, served, own_swapped, serves_swapped}
 use Rattle.vault.proofs.Allowed.{IsAllowed, next_allowed}
 use Rattle.vault.proofs.Fetched.{HasBench, none_fetched, order_after, count_before, left_is, after, room_for, runs_on, within}
@@ -241,7 +241,7 @@ module _ (v : Desk) (w : State) (holds : Option Cells) (faults moment number k o
           turned.bench in
           goes_on v v' w new holds faults moment number place ps ps' (Fetch k o s) r r' next_job stands coming
           (given_of found block, (q, call, refl))
-          (record { records = refl; journal = refl; doubt = refl; append = refl; faults = refl; barred = refl })
+          (record { records = refl; journal = refl; area = refl; switching = refl; doubt = refl; append = refl; faults = refl; barred = refl })
           refl refl
           on at there jobs
           (subst (λ (l : List Provider). Rattle.opening_defs.specs.Opened.AreHanded l new) (sym ps_is)

@@ -34,6 +34,7 @@ use Rattle.vault.specs.Desks.{DeskStands, DeskMakesBegin}
 use Rattle.stripe_bench.specs.Bench.{IsBench, bench_object}
 use Rattle.vault.specs.Tasks.{IsGet, IsTask}
 use Rattle.vault.specs.Benches.{IsBenchFor, IsNewGet, stripes_on}
+use Rattle.vault_core.proofs.Alike.{table-like}
 use Rattle.vault.proofs.BenchLemmas.{bench-is}
 use Rattle.vault.proofs.Begun.{causes_of_name}
 use Rattle.vault.proofs.Puts.{name_cause}
@@ -43,7 +44,7 @@ use Rattle.vault.proofs.StripeOrders.{get-order, get-opens, get-fetches, get-wor
 pub found-in : (v : Desk) (d : Devices) (w : State) (name : List ℕ) → DeskStands v d w →
     find_file v.core.table.files name ≡ file_in w name
 found-in v d w name stands =
-    ap (λ files. find_file files name) stands.core.table.files ∙ find-files_of w.records name
+    ap (λ files. find_file files name) (table-like v.core w stands.core).files ∙ find-files_of w.records name
 
 -- a get of a name that is not in effect is refused for that cause
 pub no-such-name : (w : State) (name : List ℕ) → IsTrue (is_name name) → file_in w name ≡ None →

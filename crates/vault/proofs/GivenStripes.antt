@@ -343,7 +343,7 @@ module _ (v v' : Desk) (number stripe : ℕ) (piece : List ℕ) (last : Bool)
       let same : with_job w.jobs job ≡ w.jobs = with_same w.jobs job
       (ap (job_of w.jobs) mine ∙ runs) in
       stands_on v v' w w d.holds d.faults d.providers d.providers S
-      (record { records = refl; journal = refl; doubt = refl; append = refl; faults = refl; barred = refl })
+      (record { records = refl; journal = refl; area = refl; switching = refl; doubt = refl; append = refl; faults = refl; barred = refl })
       (handed_same d.providers w w S.devices.providers refl (λ j. refl)) core g.keeps g.flight
       (subst (λ (rs : List Running). AreRunning s rs w.jobs) (sym g.jobs)
       (subst (AreRunning s (slice_set v.jobs.items g.place g.new)) same

@@ -1,4 +1,4 @@
-pub mod Unpacked
+pub mod OwnObjects
 pub mod Opened
 pub mod Limits
 pub mod JobPlaces
@@ -49,3 +49,7 @@ pub mod Replaced
 pub mod Scrubbed
 pub mod GivenStripes
 pub mod Streams
+pub mod Aside
+pub mod Switching
+pub mod PackSteps
+pub mod PackBegins

@@ -1,26 +1,28 @@
 -- A move of an append is a step of the machine.
 use Rattle.std.proofs.Common.{◌≡◌, ℕ, zero, suc, ◌+◌, ◌≤◌, false, List, [], ◌∷◌, ◌++◌, length, Option, Some, None, refl, sym, ap, subst, ◌∙◌, inl, inr, arith, length-append}
-use Rattle.std.specs.Prelude.{◌≢◌, IfSome, slice_get, slice_set, nat_lt}
+use Rattle.std.specs.Prelude.{◌≢◌, slice_get, slice_set, nat_lt}
 use Rattle.std.proofs.lemmas.Bool.{cases_Bool}
 use Rattle.device_defs.specs.Cells.{Cells}
 use Rattle.device_defs.specs.Providers.{Provider}
 use Rattle.device_defs.specs.Told.{Goes}
 use Rattle.record_defs.specs.Records.{Record, Setup}
 use Rattle.record_defs.specs.Spellings.{spelling}
-use Rattle.record_defs.specs.Journal.{text_size}
-use Rattle.record_defs.proofs.Sizes.{length-spelling, length-before_gate}
+use Rattle.record_defs.specs.Areas.{Area, base_of, end_in}
+use Rattle.record_defs.proofs.Sizes.{length-spelling, length-entries}
 use Rattle.machine_defs.specs.Actions.{Action}
 use Rattle.machine_defs.specs.Answers as answers
 use Rattle.machine_defs.specs.Appends.{subject_drawn}
 use Rattle.machine_defs.specs.Events.{More, Ended}
 use Rattle.machine_defs.specs.Jobs.{Kind, PutJob, GetJob, DropJob, AuditJob, RepairJob, UpgradeJob, Job, with_job, without_job}
 use Rattle.machine_defs.specs.States.{State, Append, Doubt, setup_in}
+use Rattle.machine_defs.specs.Stands.{StandsForState}
 use Rattle.machine_defs.specs.Steps.{Acts}
 use Rattle.machine_defs.proofs.JobLists.{number_of, cond_false}
 use Rattle.record_codec.specs.Entries.{with_master}
 use Rattle.journal_core.specs.declared.append.Append.{Append as AppendValue}
 use Rattle.journal_core.specs.Appends.{Appends, gate_of, body_of}
-use Rattle.journal_core.specs.Moves.{IsClosed, IsAfterMoves, AllStandFor, MayStandFor, SameFrom}
+use Rattle.journal_core.specs.Moves.{SameFrom}
+use Rattle.journal_core.specs.Texts.{AllStandIn, MayStandWith}
 use Rattle.vault_core.specs.Carried.{CoreIs, ComesNext}
 use Rattle.vault_core.specs.Coming.{entry_in}
 use Rattle.vault_core.specs.Replies.{Tells}
@@ -39,9 +41,7 @@ use Rattle.vault.specs.Outcomes.{machine_answer}
 use Rattle.vault.specs.Running.{place_in, KeepsAll, IsFed, IsStopped}
 use Rattle.vault.specs.Desks.{DeskStands, IsFlight, DeskMakesStep}
 use Rattle.vault.specs.Tasks.{AreRunning}
-use Rattle.vault_open.proofs.FirstVersion.{FirstStands, images-first}
-use Rattle.state_laws.proofs.Records.{AreAppended}
-use Rattle.vault.proofs.Unpacked.{unpacked-core}
+use Rattle.vault_open.proofs.Images.{all-shown, doubt-shown}
 use Rattle.vault.proofs.JobPlaces.{place_is, put_back}
 use Rattle.vault.proofs.Moving.{IsMove, moved_on, move_runs}
 use Rattle.vault.proofs.Stops.{IsAside, is_left}
@@ -56,11 +56,11 @@ use Rattle.vault.proofs.Hands.{hands_without}
 pub record IsLeft (v' : Desk) (w new : State) (holds : Option Cells) (count : ℕ)
     (ps : List Provider) : Type 0 where
   pub setup : setup_in new ≡ setup_in w
-  pub appended : AreAppended new.journal
+  pub area : new.area ≡ w.area
   pub handed : AreHanded ps new
   pub faults : new.disk_faults ≡ count
-  pub images : FirstStands holds new
-  pub flight : new.is_barred ≡ false → IsFlight v'.flight new.append new.records holds
+  pub images : StandsForState holds new
+  pub flight : new.is_barred ≡ false → IsFlight v'.flight new.append new.area new.journal holds
 
 stands_left : (v v' v2 : Desk) (w new : State) (holds holds' : Option Cells) (faults faults' : ℕ)
     (ps : List Provider) → DeskStands v (devices holds faults ps) w → IsLeft v' w new holds' faults' ps
@@ -69,17 +69,17 @@ stands_left : (v v' v2 : Desk) (w new : State) (holds holds' : Option Cells) (fa
     AreAtHand (setup_in w) v2.core.jobs v2.jobs.items new.jobs → DeskStands v2 (devices holds' faults' ps) new
 stands_left v v' v2 w new holds holds' faults faults' ps stands left core keeps flight jobs streams = record {
   devices = record {
-    images = images-first holds' new (unpacked-core v2.core new core left.appended) left.images;
+    images = left.images;
     faults = left.faults;
     providers = left.handed;
   };
   core = core;
-  appended = left.appended;
+  base = keeps.base ∙ stands.base ∙ sym (ap base_of left.area);
   setup = left.setup ∙ stands.setup ∙ sym (λ i. with_master (keeps.setup i) (keeps.master i).0);
   shaped = shaped_on v v2 keeps stands.shaped;
   jobs = subst (λ (s : Setup). AreRunning s v2.jobs.items new.jobs) (sym left.setup) jobs;
   streams = subst (λ (s : Setup). AreAtHand s v2.core.jobs v2.jobs.items new.jobs) (sym left.setup) streams;
-  flight = λ free. subst (λ (f : Option Flight). IsFlight f new.append new.records holds') (sym flight)
+  flight = λ free. subst (λ (f : Option Flight). IsFlight f new.append new.area new.journal holds') (sym flight)
       (left.flight free);
 }
 
@@ -174,6 +174,7 @@ moves_end v v1 v2 w new holds holds' faults faults' moment number ps action repl
       setup = stopped.keeps.setup ∙ keeps.setup;
       master = stopped.keeps.master ∙ keeps.master;
       shape = stopped.keeps.shape ∙ keeps.shape;
+      base = stopped.keeps.base ∙ keeps.base;
     } in
     subst (λ (x : Turn). DeskMakesStep w moment number x v2 (devices holds faults ps)
     (devices holds' faults' ps)) (sym gone.turn_is)
@@ -195,10 +196,10 @@ moves_end v v1 v2 w new holds holds' faults faults' moment number ps action repl
 -- ---- texts
 
 -- the text with the record, by what an append writes
-past : (rs : List Record) (r : Record) (a : AppendValue) (holds : Option Cells) → Appends rs r a holds →
-    gate_of a + 1 + length (body_of a) ≡ text_size (r ∷ rs)
-past rs r a holds appends =
-    let size = length-before_gate rs appends.records in
+past : (area : Area) (rs : List Record) (r : Record) (a : AppendValue) (holds : Option Cells) →
+    Appends area rs r a holds → gate_of a + 1 + length (body_of a) ≡ end_in area (r ∷ rs)
+past area rs r a holds appends =
+    let size = length-entries rs appends.records in
     let body : length (body_of a) ≡ length (spelling r ++ 0 ∷ []) = ap length appends.body in
     let gate = appends.gate in
     let long = length-append (spelling r) (0 ∷ []) in
@@ -206,32 +207,25 @@ past rs r a holds appends =
     omega (arith, size, body, gate, long, spelled)
 
 -- what did not change behind the bytes of an append did not behind the text with its record
-pub beyond_of : (rs : List Record) (r : Record) (a : AppendValue) (holds holds' : Option Cells) →
-    Appends rs r a holds → Goes (SameFrom (gate_of a + 1 + length (body_of a))) holds holds' →
-    Goes (SameFrom (text_size (r ∷ rs))) holds holds'
-beyond_of rs r a holds holds' appends =
-    subst (λ (n : ℕ). Goes (SameFrom n) holds holds') (past rs r a holds appends)
+pub beyond_of : (area : Area) (rs : List Record) (r : Record) (a : AppendValue) (holds holds' : Option Cells) →
+    Appends area rs r a holds → Goes (SameFrom (gate_of a + 1 + length (body_of a))) holds holds' →
+    Goes (SameFrom (end_in area (r ∷ rs))) holds holds'
+beyond_of area rs r a holds holds' appends =
+    subst (λ (n : ℕ). Goes (SameFrom n) holds holds') (past area rs r a holds appends)
 
 -- ---- images
 
--- images that stand for the records of a state stand for it in the first version
-pub all_images : (told : Option Cells) (new : State) → AllStandFor new.records told → FirstStands told new
-all_images None new all = tt
-all_images (Some cells) new all = λ image is. inl (inl (all image is))
+-- images that stand for the journal of a state stand for it
+pub all_images : (told : Option Cells) (new : State) → AllStandIn new.area new.journal told →
+    StandsForState told new
+all_images told new = all-shown told new new.area new.journal refl refl
 
--- images that stand for these records, or for them and the one in doubt, do so too
+-- images that stand for it, or for it and the record in doubt, do so too
 pub doubted_images : (told : Option Cells) (new : State) (entry : Record) (d : Doubt) → new.doubt ≡ Some d →
-    d.entry ≡ entry → MayStandFor new.records entry told → FirstStands told new
-doubted_images None new entry d doubt same may = tt
-doubted_images (Some cells) new entry d doubt same may = λ image is. elim (may image is) [
-  | inl s ↦ inl (inl s)
-  | inr s ↦ inr (record {
-    doubt = d;
-    in_doubt = doubt;
-    stands = subst (λ (r : Record). Rattle.record_defs.specs.Journal.StandsFor image (r ∷ new.records))
-        (sym same) s;
-  })
-]
+    d.entry ≡ entry → MayStandWith new.area new.journal entry told → StandsForState told new
+doubted_images told new entry d doubt same may =
+    doubt-shown told new new.area new.journal refl refl d doubt
+    (subst (λ (r : Record). MayStandWith new.area new.journal r told) (sym same) may)
 
 -- ---- the number of a job
 
@@ -258,11 +252,3 @@ subject_kept w job AuditJob many = cond_false (nat_lt job.place 4)
     ]
 subject_kept w job RepairJob many = refl
 subject_kept w job UpgradeJob many = refl
-
--- ---- the append in flight
-
--- behind two moves of an append, the gate before it is still closed
-pub closed_after : (told : Option Cells) (front body : List ℕ) → IfSome told (IsAfterMoves 2 front body) →
-    IfSome told (IsClosed front)
-closed_after None front body is = tt
-closed_after (Some cells) front body is = (is.0, Rattle.device_defs.specs.Cells.firm body ++ is.1, is.2, is.3)

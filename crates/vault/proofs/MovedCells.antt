@@ -6,7 +6,7 @@ use Rattle.device_defs.specs.Providers.{Provider}
 use Rattle.device_defs.specs.Told.{Goes}
 use Rattle.record_defs.specs.Records.{Record}
 use Rattle.record_defs.specs.Spellings.{spelling}
-use Rattle.record_defs.proofs.Sizes.{length-before_gate}
+use Rattle.record_defs.proofs.Sizes.{length-entries}
 use Rattle.machine_defs.specs.Actions.{Action}
 use Rattle.machine_defs.specs.States.{State}
 use Rattle.journal_core.specs.declared.append.Append.{Append}
@@ -23,7 +23,6 @@ use Rattle.vault_open.specs.Devices.{devices}
 use Rattle.vault.specs.Running.{IsStopped}
 use Rattle.vault.specs.Movers.{IsMover}
 use Rattle.vault.specs.Desks.{DeskStands, Comes}
-use Rattle.vault.proofs.Unpacked.{grammar-core, end-core}
 
 -- an append at the closed gate with this record, so many moves of which are made
 pub record IsAppendOf (v : Desk) (n : ℕ) (entry : Record) (a : Append) : Type 0 where
@@ -63,8 +62,8 @@ pub append_of : (v : Desk) (w : State) (holds : Option Cells) (faults number : �
     IsAppendOf v (moves_before_next (next_in v.core number)) entry f.append
 append_of v w holds faults number ps stands action comes f m entry given =
     let same : m.entry ≡ entry = (let e : Some m.entry ≡ Some entry = sym m.given ∙ given in cc) in
-    let size = length-before_gate w.records (grammar-core v.core w stands.core stands.appended) in
-    let end = end-core v.core w stands.core stands.appended in
+    let size = length-entries w.journal m.appends.records in
+    let end = stands.core.end in
     let gate = m.appends.gate in
     record {
       moves = m.moves ∙ sym (ap moves_before_next comes.value);

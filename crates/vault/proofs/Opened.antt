@@ -1,80 +1,63 @@
 -- A desk that was just opened.
-use Rattle.std.proofs.Common.{◌≡◌, ◌<◌, inl, ℕ, List, length, replicate, Option, Some, None, refl, sym, ap, ◌∙◌, subst, arith}
-use Rattle.std.specs.Prelude.{IfSome, slice_get}
+use Rattle.std.proofs.Common.{◌≡◌, ◌<◌, ℕ, List, length, replicate, Option, Some, None, refl, sym, ap, ◌∙◌, subst, arith}
+use Rattle.std.specs.Prelude.{slice_get}
 use Rattle.std.proofs.lemmas.List.{length-replicate, get_or-replicate}
 use Rattle.std.proofs.lemmas.Option.{slice_get-get_or}
 use Rattle.device_defs.specs.Cells.{Cells}
-use Rattle.device_defs.specs.Images.{EachImage}
 use Rattle.device_defs.specs.Providers.{Provider}
-use Rattle.record_defs.specs.Records.{Record, RepairDone}
-use Rattle.record_defs.specs.Journal.{before_gate, text_size, StandsFor}
+use Rattle.record_defs.specs.Records.{Record}
+use Rattle.record_defs.specs.Areas.{Area, base_of, end_in}
 use Rattle.record_defs.specs.Table.{setup_of}
 use Rattle.machine_defs.specs.Setups.{setup_or_none}
 use Rattle.machine_defs.specs.States.{State, setup_in}
-use Rattle.journal_core.specs.Moves.{IsClosed}
-use Rattle.journal_core.proofs.ImageLemmas.{closed_images}
-use Rattle.state_laws.proofs.Records.{AreAppended, all-appended}
-use Rattle.state_laws.proofs.Written.{unpacked-now, end-now}
+use Rattle.state_laws.proofs.Packs.{journal-same}
 use Rattle.state_laws.proofs.Resting.{rest-sound}
 use Rattle.vault_table.specs.Values.{IsFoldOf}
 use Rattle.vault_open.specs.declared.store.Store.{Store}
 use Rattle.vault_open.specs.Devices.{devices}
 use Rattle.vault_open.specs.Stores.{IsStoreOf}
+use Rattle.vault_open.proofs.Images.{firm-shown}
 use Rattle.vault_core.specs.View.{CoreView}
 use Rattle.vault_core.specs.Carried.{CoreIs}
 use Rattle.opening_defs.specs.Journals.{IsRead}
 use Rattle.opening_defs.specs.Opened.{IsJustOpened, IsOpenAtRest}
-use Rattle.opening_defs.proofs.Opened.{opened-over, has-setup, state_with, opened-with}
+use Rattle.opening_defs.proofs.Opened.{has-setup, state_with, opened-with}
 use Rattle.vault.specs.declared.desk.Desk.{Desk}
 use Rattle.vault.specs.Desks.{DeskStands, IsAtWork, DeskCarries}
 use Rattle.vault.specs.Fresh.{IsFreshDesk}
 use Rattle.vault.proofs.AtWork.{works}
-use Rattle.vault_open.proofs.FirstVersion.{FirstStands, images-first}
 use Rattle.machine_defs.proofs.JobLists.{found_none}
 
-module _ (told now : Option Cells) (rs : List Record) (store : Store) (first : ℕ) (v : Desk)
-    (read : IsRead told rs) (is : IsStoreOf store rs now) (fresh : IsFreshDesk v store first) where
-  images : (now : Option Cells) → IfSome now (IsClosed (before_gate rs)) →
-      EachImage now (λ image. StandsFor image rs)
-  images None shut = tt
-  images (Some cells) shut = closed_images rs (RepairDone 0) read.in_grammar refl cells shut
-
-  shown : (w : State) (now : Option Cells) → w.records ≡ rs → EachImage now (λ image. StandsFor image rs) →
-      FirstStands now w
-  shown w None same all = tt
-  shown w (Some cells) same all =
-      λ image of. inl (inl (subst (λ (l : List Record). StandsFor image l) (sym same) (all image of)))
-
+module _ (told now : Option Cells) (area : Area) (rs : List Record) (store : Store) (first : ℕ) (v : Desk)
+    (read : IsRead told area rs) (is : IsStoreOf store area rs now) (fresh : IsFreshDesk v store first) where
   -- the disk that was read carries the desk that was just opened
   pub carries : DeskCarries v now
   carries = (
+    area,
     rs,
     subst (λ (c : CoreView). IsFoldOf rs c.table) (sym fresh.core) is.folds,
+    fresh.base ∙ is.base,
     ap (λ (c : CoreView). c.end) fresh.core ∙ is.end,
-    rw fresh.flight is.closed,
+    rw fresh.flight is.stands,
   )
 
   -- ---- the states that it stands for
 
   module _ (faults : ℕ) (w : State) (providers : List Provider)
-      (j : IsJustOpened w rs first faults providers) where
+      (j : IsJustOpened w area rs first faults providers) where
     in_effect : setup_in w ≡ setup_or_none store.table.setup
     unfolding setup_in
-    in_effect = ap setup_or_none (ap setup_of j.records ∙ sym is.folds.setup)
-
-    appended : AreAppended w.journal
-    appended = subst AreAppended (sym j.at_rest.rest.whole.journal)
-        (all-appended w.records j.at_rest.rest.in_grammar)
+    in_effect = ap setup_or_none
+        (sym j.at_rest.rest.journal.alike.setup ∙ (ap setup_of j.journal ∙ sym is.folds.setup))
 
     core : CoreIs v.core w
     core = subst (λ (c : CoreView). CoreIs c w) (sym fresh.core) (record {
       sound = rest-sound 8 w j.at_rest.rest;
       is_open = j.at_rest.opened;
       none_alone = j.at_rest.rest.idle.3;
-      table = subst (λ (l : List Record). IsFoldOf l store.table) (sym j.records) is.folds;
+      table = subst (λ (l : List Record). IsFoldOf l store.table) (sym j.journal) is.folds;
       setup = sym in_effect;
-      end = is.end ∙ (ap text_size (sym j.records) ∙ sym (end-now 8 w
-          (rest-sound 8 w j.at_rest.rest) appended));
+      end = is.end ∙ sym (λ i. end_in (j.area_is i) (j.journal i));
       jobs = rw j.at_rest.rest.idle.0 tt;
       next_job = sym j.at_rest.next;
       append = rw j.at_rest.rest.idle.1 refl;
@@ -85,18 +68,17 @@ module _ (told now : Option Cells) (rs : List Record) (store : Store) (first : �
     pub stands : DeskStands v (devices now faults providers) w
     stands = record {
       devices = record {
-        images = images-first now w (unpacked-now 8 w (rest-sound 8 w j.at_rest.rest) appended)
-            (shown w now j.records (images now is.closed));
+        images = firm-shown now w area rs j.journal j.area_is is.stands;
         faults = j.faults_are;
         providers = j.handed;
       };
       core = core;
-      appended = appended;
+      base = fresh.base ∙ is.base ∙ sym (ap base_of j.area_is);
       setup = in_effect ∙ ap setup_or_none fresh.setup;
       shaped = fresh.shaped;
       jobs = rw (fresh.jobs, j.at_rest.rest.idle.0) tt;
       streams = λ number t job tasks runs. absurd (found_none w.jobs number job j.at_rest.rest.idle.0 runs);
-      flight = (λ unbarred. rw (fresh.flight, j.at_rest.rest.idle.1, j.records) is.closed);
+      flight = (λ unbarred. rw (fresh.flight, j.at_rest.rest.idle.1, j.area_is, j.journal) is.stands);
     }
 
 -- ---- there is one
@@ -108,11 +90,8 @@ renumbered w first o = record {
   rest = record {
     idle = o.rest.idle;
     undoubted = o.rest.undoubted;
-    whole = record {
-      journal = o.rest.whole.journal;
-      area = o.rest.whole.area;
-      unswitched = o.rest.whole.unswitched;
-    };
+    unswitched = o.rest.unswitched;
+    journal = journal-same w (record w { next_job = first }) refl refl refl o.rest.journal;
     accepted = o.rest.accepted;
     in_grammar = o.rest.in_grammar;
     room = o.rest.room;
@@ -128,16 +107,17 @@ abbrev untold : Provider
 untold = record { held = None; store_faults = 0; other_faults = 0; fetches = 0 }
 
 -- a desk that was just opened is at work
-pub fresh_works : (told now : Option Cells) (rs : List Record) (store : Store) (first : ℕ) (v : Desk)
-    → IsRead told rs → IsStoreOf store rs now → IsFreshDesk v store first → IsAtWork v
-fresh_works told now rs store first v read is fresh =
-    works v w 0 ps (stands told None rs store first v read blank fresh 0 w ps (record {
-      at_rest = renumbered opened first rests;
-      records = refl;
+pub fresh_works : (told now : Option Cells) (area : Area) (rs : List Record) (store : Store) (first : ℕ)
+    (v : Desk) → IsRead told area rs → IsStoreOf store area rs now → IsFreshDesk v store first → IsAtWork v
+fresh_works told now area rs store first v read is fresh =
+    works v w 0 ps (stands told None area rs store first v read blank fresh 0 w ps (record {
+      at_rest = renumbered opened first just.at_rest;
+      journal = refl;
+      area_is = refl;
       faults_are = refl;
       handed = record { count = refl; each = each };
     }))
-    (λ rest number stripes job told runs. absurd (found_none w.jobs number job rests.rest.idle.0 runs))
+    (λ rest number stripes job told runs. absurd (found_none w.jobs number job just.at_rest.rest.idle.0 runs))
   where
     n : ℕ
     n = (setup_or_none (setup_of rs)).n
@@ -146,21 +126,26 @@ fresh_works told now rs store first v read is fresh =
     ps = replicate n untold
 
     opened : State
-    opened = state_with rs 0 (λ j. untold) (length ps)
+    opened = state_with area rs 0 (λ j. untold) (length ps)
 
     w : State
     w = record opened { next_job = first }
 
-    blank : IsStoreOf store rs None
-    blank = record { folds = is.folds; setup = is.setup; limits = is.limits; end = is.end; closed = tt }
+    blank : IsStoreOf store area rs None
+    blank = record {
+      folds = is.folds;
+      setup = is.setup;
+      limits = is.limits;
+      base = is.base;
+      end = is.end;
+      stands = tt;
+    }
 
     each : (j : ℕ) → j < length ps → slice_get ps j ≡ Some untold
     each j below =
         slice_get-get_or ps j untold below
         ∙ ap Some (get_or-replicate n j untold untold (omega (arith, below, length-replicate n untold)))
 
-    rests : IsOpenAtRest opened 1
-    rests =
-        opened-over opened rs 0 ps (opened-with rs 0 ps (λ j. untold) read.accepted each)
-        read.accepted read.in_grammar read.room (has-setup rs read.accepted read.some)
-        (omega (arith, length-replicate n untold))
+    just : IsJustOpened opened area rs 1 0 ps
+    just = opened-with area rs 0 ps (λ j. untold) read.accepted read.in_grammar read.room
+        (has-setup rs read.accepted read.some) (omega (arith, length-replicate n untold)) each

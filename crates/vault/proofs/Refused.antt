@@ -34,6 +34,7 @@ cause w kind own fault.TooManyFiles is = inl (is (search rules))
 cause w kind own fault.RepairDue is = inl (is (search rules))
 cause w kind own fault.NothingDue is = inl (is (search rules))
 cause w kind own fault.JournalFull is = inl (is (search rules))
+cause w kind own fault.PackTooLong is = inl (is (search rules))
 
 -- a begin that is refused leaves what the vault stands for
 pub refused : (old new : Desk) (d : Devices) (w : State) (moment : ℕ) (kind : Kind) (own : Option ℕ)
@@ -47,7 +48,7 @@ refused old new d w moment kind own why stands core jobs keeps flight is = recor
   begins = (stands.core.is_open, cause w kind own why is, refl);
   stands =
       stands_on old new w w d.holds d.faults d.providers d.providers stands
-      (record { records = refl; journal = refl; doubt = refl; append = refl; faults = refl; barred = refl })
+      (record { records = refl; journal = refl; area = refl; switching = refl; doubt = refl; append = refl; faults = refl; barred = refl })
       (handed_same d.providers w w stands.devices.providers refl (λ j. refl))
       (subst (λ (c : CoreView). CoreIs c w) (sym core) stands.core) keeps flight
       (subst (λ (items : List Running). AreRunning (setup_in w) items w.jobs) (sym jobs) stands.jobs)

@@ -88,7 +88,7 @@ module _ (v : Desk) (w : State) (holds : Option Cells) (faults moment number k o
       goes_on v v' w new holds faults moment number f.place ps ps' (Remove k o) f.running f.running
       (advanced job) stands coming
       (q, subst (λ (x : Provider). Removes o x q) seen removes, refl)
-      (record { records = refl; journal = refl; doubt = refl; append = refl; faults = refl; barred = refl })
+      (record { records = refl; journal = refl; area = refl; switching = refl; doubt = refl; append = refl; faults = refl; barred = refl })
       refl refl
       (runs_on w job k o coming.comes f.running f.is)
       (place_is v.jobs.items number ∙ f.at) f.there

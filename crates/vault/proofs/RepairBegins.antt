@@ -21,6 +21,7 @@ use Rattle.vault.specs.Benches.{IsNewRepair, AreServed, is_served}
 use Rattle.vault.specs.Orders.{Between}
 use Rattle.vault.specs.Desks.{DeskStands}
 use Rattle.vault.specs.Tasks.{AreOfSetup, IsRepair}
+use Rattle.vault_core.proofs.Alike.{table-like}
 use Rattle.vault.proofs.BenchLemmas.{bench-is, all-of-setup}
 use Rattle.vault.proofs.Kits.{served, serves}
 use Rattle.vault.proofs.StripeOrders.{repair-order}
@@ -77,7 +78,7 @@ repair-task v d w moment t stands new =
     let are : AreOfSetup s (t.bench ∷ t.others.items) =
     ((v.setup.profile, own), all-of-setup v s stands.shaped stands.setup t.others.items new.others) in
     let files : AreServed (files_of w.records) (t.bench ∷ t.others.items) =
-    subst (λ (fs : List File). AreServed fs (t.bench ∷ t.others.items)) stands.core.table.files new.served in
+    subst (λ (fs : List File). AreServed fs (t.bench ∷ t.others.items)) (table-like v.core w stands.core).files new.served in
     let first : is_served s.profile (t.bench ∷ t.others.items) ≡ true =
     served s s.profile (t.bench ∷ t.others.items)
     (inl (subst (λ (p : ℕ). IsBench s p t.bench) profile_is own)) in

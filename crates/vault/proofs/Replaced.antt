@@ -37,9 +37,9 @@ module _ (d : Devices) (w : State) (ps : List Provider) (providers : ℕ → Pro
       → DeskStands v (devices d.holds d.faults ps) replaced
   desk_replaced v S handed =
       stands_on v v w replaced d.holds d.faults d.providers ps S
-      (record { records = refl; journal = refl; doubt = refl; append = refl; faults = refl; barred = refl })
+      (record { records = refl; journal = refl; area = refl; switching = refl; doubt = refl; append = refl; faults = refl; barred = refl })
       handed (core_replaced v.core S.core)
-      (record { setup = refl; master = refl; shape = refl }) refl S.jobs S.streams
+      (record { setup = refl; master = refl; shape = refl; base = refl }) refl S.jobs S.streams
 
   -- so does a vault that is not held
   pub vault_replaced : (v : Vault) → Stands v d w → AreHanded ps replaced

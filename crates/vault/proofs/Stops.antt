@@ -152,6 +152,7 @@ ends_by v v1 v2 w new holds faults moment number place ps ps' action r r' reply 
       setup = stopped.keeps.setup ∙ aside.keeps.setup;
       master = stopped.keeps.master ∙ aside.keeps.master;
       shape = stopped.keeps.shape ∙ aside.keeps.shape;
+      base = stopped.keeps.base ∙ aside.keeps.base;
     } in
     subst (λ (x : Turn). DeskMakesStep w moment number x v2 (devices holds faults ps)
     (devices holds faults ps')) (sym left.turn_is)

@@ -273,7 +273,7 @@ module _ (v : Desk) (w : State) (holds : Option Cells) (faults moment number k o
           goes_on v v' w new holds faults moment number place ps ps' (Store k o s) r r'
           (advanced coming.job) stands coming
           (q, call, refl)
-          (record { records = refl; journal = refl; doubt = refl; append = refl; faults = refl; barred = refl })
+          (record { records = refl; journal = refl; area = refl; switching = refl; doubt = refl; append = refl; faults = refl; barred = refl })
           refl refl
           (runs_on w coming.job k o s coming.comes r r' runs same_number keeps)
           at there jobs
@@ -319,7 +319,7 @@ module _ (v : Desk) (w : State) (holds : Option Cells) (faults moment number k o
             holds faults moment number place ps ps' (Store k o s) r r' reply.Failed
             (answer.ProviderFault k) result stands coming
             (refl, (q, subst (λ (x : Provider). FailsToStore x q) seen fails, refl))
-            (record { records = refl; journal = refl; doubt = refl; append = refl; faults = refl; barred = refl })
+            (record { records = refl; journal = refl; area = refl; switching = refl; doubt = refl; append = refl; faults = refl; barred = refl })
             (ap (without_job w.jobs) (number_of w.jobs number coming.job coming.runs))
             at there aside flight stopped tt handed (λ e. cc)
 
@@ -331,7 +331,7 @@ module _ (v : Desk) (w : State) (holds : Option Cells) (faults moment number k o
             holds faults moment number place ps ps' (Store k o s) r r' reply.Memory answer.Memory result
             stands coming
             (q, subst (λ (x : Provider). FindsNoMemory x q) seen finds, refl)
-            (record { records = refl; journal = refl; doubt = refl; append = refl; faults = refl; barred = refl })
+            (record { records = refl; journal = refl; area = refl; switching = refl; doubt = refl; append = refl; faults = refl; barred = refl })
             (ap (without_job w.jobs) (number_of w.jobs number coming.job coming.runs))
             at there aside flight stopped tt handed (λ e. cc)
 

@@ -243,7 +243,7 @@ module _ (v v' : Desk) (number : ℕ) (g : IsAbandoned v v' number) where
       let at = sym (place_is v.jobs.items number) ∙ g.at in
       let jobs : (ended w j).jobs ≡ without_job w.jobs number = ap (without_job w.jobs) mine in
       stands_on v v' w (ended w j) d.holds d.faults d.providers d.providers S
-      (record { records = refl; journal = refl; doubt = refl; append = refl; faults = refl; barred = refl })
+      (record { records = refl; journal = refl; area = refl; switching = refl; doubt = refl; append = refl; faults = refl; barred = refl })
       (handed_same d.providers w (ended w j) S.devices.providers refl (λ k. refl)) core g.keeps g.flight
       (subst (λ (js : List Job). AreRunning s v'.jobs.items js) (sym jobs)
       (subst (λ (rs : List Running). AreRunning s rs (without_job w.jobs number)) (sym g.jobs)

@@ -132,7 +132,7 @@ move_by false a old (moved.On f) new h = (
   h.0,
   h.1,
   h.2,
-  λ rs r appends. record {
+  λ area rs r appends. record {
     appends = record {
       records = appends.records;
       entry = appends.entry;
@@ -144,6 +144,6 @@ move_by false a old (moved.On f) new h = (
     between = tt;
   },
 )
-move_by false a old moved.Done new h = (h.0, λ rs r appends. record { closed = tt; after = tt })
-move_by false a old moved.Failed new h = λ rs r appends. record { before = λ few. tt; between = tt }
-move_by false a old moved.Memory new h = (h.0, refl)
+move_by false a old moved.Done new h = (h.0, λ area rs r appends. record { ready = tt })
+move_by false a old moved.Failed new h = λ area rs r appends. record { before = λ few. tt; between = tt }
+move_by false a old moved.Memory new h = (h.0, refl, λ area rs r appends. tt)

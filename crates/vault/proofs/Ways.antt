@@ -8,7 +8,7 @@ use Rattle.device_defs.specs.Cells.{Cells}
 use Rattle.device_defs.specs.Providers.{Provider}
 use Rattle.record_defs.specs.Records.{Setup, Record}
 use Rattle.record_defs.specs.Table.{setup_of}
-use Rattle.record_defs.specs.Journal.{StandsOrIsEmpty, text_size}
+use Rattle.record_defs.specs.Areas.{Area, base_of, end_in}
 use Rattle.machine_defs.specs.Actions.{Action, actions_of, actions_by, actions_left}
 use Rattle.machine_defs.specs.Events.{Outcome, Step, More}
 use Rattle.machine_defs.specs.Jobs.{Kind, PutJob, GetJob, DropJob, AuditJob, RepairJob, UpgradeJob, Given, Job, with_job, job_of}
@@ -17,7 +17,6 @@ use Rattle.machine_defs.specs.Setups.{setup_or_none}
 use Rattle.machine_defs.specs.States.{State, Append, Alone, setup_in, with_provider}
 use Rattle.machine_defs.specs.Steps.{Acts, ActsOrWaits, StepsOn, StepsJob, StepsOne, StepsOpen, Steps, next_action}
 use Rattle.machine_defs.proofs.JobLists.{cond_true, cond_false, number_of}
-use Rattle.state_laws.proofs.Records.{AreAppended}
 use Rattle.vault_core.specs.Carried.{CoreIs, ComesNext}
 use Rattle.vault_core.proofs.InFlight.{flight-entry}
 use Rattle.vault_core.specs.Coming.{entry_in}
@@ -38,8 +37,7 @@ use Rattle.vault_core.specs.declared.reply.Reply.{Reply}
 use Rattle.vault_core.specs.declared.reply.Reply.TheVariants as reply
 use Rattle.vault.specs.Desks.{DeskStands, IsFlight, IsShaped, DeskMakesStep}
 use Rattle.vault.specs.Tasks.{IsRunning, AreRunning}
-use Rattle.vault_open.proofs.FirstVersion.{FirstStands, first-images, images-first}
-use Rattle.vault.proofs.Unpacked.{unpacked-core}
+use Rattle.vault_open.proofs.Images.{shown-again}
 use Rattle.vault.proofs.JobPlaces.{Found, found, place_is, put_back, at_set}
 use Rattle.journal_core.proofs.BeyondLemmas.{goes_still}
 use Rattle.vault.specs.AtHand.{hand_of, HasAtHand, AreAtHand, KeepsStreams}
@@ -79,20 +77,6 @@ pub setup_same : (w new : State) → new.records ≡ w.records → setup_in new 
 unfolding setup_in
 setup_same w new is = ap (λ (rs : List Record). setup_or_none (setup_of rs)) is
 
--- what the images stand for, where neither records nor a doubt changed
-pub images_on : (told : Option Cells) (w new : State) → new.records ≡ w.records → new.doubt ≡ w.doubt →
-    FirstStands told w → FirstStands told new
-images_on None w new records doubt stands = tt
-images_on (Some cells) w new records doubt stands = λ image is. elim (stands image is) [
-  | inl s ↦ inl (subst (StandsOrIsEmpty image) (sym records) s)
-  | inr s ↦ inr (record {
-    doubt = s.doubt;
-    in_doubt = doubt ∙ s.in_doubt;
-    stands = subst (λ (rs : List Record). Rattle.record_defs.specs.Journal.StandsFor image
-        (s.doubt.entry ∷ rs)) (sym records) s.stands;
-  })
-]
-
 -- ---- providers
 
 get_elsewhere : {X : Type 0} (xs : List X) (k j : ℕ) (x : X) → (j ≡ k → ⊥) →
@@ -126,10 +110,13 @@ handed_same ps w new are handed providers =
 
 -- ---- the state after
 
--- a step that changes neither the records nor what is in doubt, nor the append in flight, nor the disk
+-- a step that changes neither the records nor where they are, nor what is in doubt, nor the append in flight,
+-- nor the disk
 pub record IsQuiet (w new : State) : Type 0 where
   pub records : new.records ≡ w.records
   pub journal : new.journal ≡ w.journal
+  pub area : new.area ≡ w.area
+  pub switching : new.is_switching ≡ w.is_switching
   pub doubt : new.doubt ≡ w.doubt
   pub append : new.append ≡ w.append
   pub faults : new.disk_faults ≡ w.disk_faults
@@ -150,17 +137,15 @@ pub stands_on : (v v' : Desk) (w new : State) (holds : Option Cells) (faults : �
     AreRunning (setup_in w) v'.jobs.items new.jobs →
     AreAtHand (setup_in w) v'.core.jobs v'.jobs.items new.jobs → DeskStands v' (devices holds faults ps') new
 stands_on v v' w new holds faults ps ps' stands quiet handed core keeps flight jobs streams =
-    let appended : AreAppended new.journal = subst AreAppended (sym quiet.journal) stands.appended in
     record {
       devices = record {
-        images = images-first holds new (unpacked-core v'.core new core appended)
-            (images_on holds w new quiet.records quiet.doubt
-            (first-images holds w (unpacked-core v.core w stands.core stands.appended) stands.devices.images));
+        images = shown-again holds w new quiet.journal quiet.area quiet.switching quiet.doubt
+            stands.devices.images;
         faults = quiet.faults ∙ stands.devices.faults;
         providers = handed;
       };
       core = core;
-      appended = appended;
+      base = keeps.base ∙ stands.base ∙ sym (ap base_of quiet.area);
       setup = setup_same w new quiet.records ∙ stands.setup
           ∙ sym (λ i. with_master (keeps.setup i) (keeps.master i).0);
       shaped = shaped_on v v' keeps stands.shaped;
@@ -169,10 +154,11 @@ stands_on v v' w new holds faults ps ps' stands quiet handed core keeps flight j
       streams = subst (λ (s : Setup). AreAtHand s v'.core.jobs v'.jobs.items new.jobs)
           (sym (setup_same w new quiet.records)) streams;
       flight = λ free.
-          subst (λ (f : Option Flight). IsFlight f new.append new.records holds) (sym flight)
-          (subst (λ (a : Option Append). IsFlight v.flight a new.records holds) (sym quiet.append)
-          (subst (λ (rs : List Record). IsFlight v.flight w.append rs holds) (sym quiet.records)
-          (stands.flight (sym quiet.barred ∙ free))));
+          subst (λ (f : Option Flight). IsFlight f new.append new.area new.journal holds) (sym flight)
+          (subst (λ (a : Option Append). IsFlight v.flight a new.area new.journal holds) (sym quiet.append)
+          (subst (λ (a : Area). IsFlight v.flight w.append a new.journal holds) (sym quiet.area)
+          (subst (λ (rs : List Record). IsFlight v.flight w.append w.area rs holds) (sym quiet.journal)
+          (stands.flight (sym quiet.barred ∙ free)))));
     }
 
 -- ---- a job goes on
@@ -187,7 +173,7 @@ entry_kept c w number is a flight mine =
 pub same_beyond : (w : State) (holds : Option Cells) (faults : ℕ) (ps ps' : List Provider) →
     IsSameBeyond w (devices holds faults ps) (devices holds faults ps')
 same_beyond w holds faults ps ps' =
-    goes_still (text_size (records_in_flight w.records w.append)) holds holds refl
+    goes_still (end_in w.area (records_in_flight w.journal w.append)) holds holds refl
 
 -- what the step of a job leaves of the stripe that it has at hand
 pub record KeepsHand (c : CoreView) (number : ℕ) (old r : Running) (before job : Job) : Type 0 where

@@ -40,7 +40,7 @@ use Rattle.vault.specs.Desks.{DeskStands, Comes, DeskMakesStep}
 use Rattle.stripe_bench.specs.declared.bench.Bench.{Bench}
 use Rattle.stripe_bench.specs.Bench.{bench_object, turned, IsBench}
 use Rattle.vault.specs.Tasks.{AreOfSetup, Serves, IsAtHand, IsGet, IsRepair, IsTask, IsRunning, HasFetched}
-use Rattle.vault.proofs.Unpacked.{worked-own}
+use Rattle.vault.proofs.OwnObjects.{worked-own}
 use Rattle.vault.proofs.Allowed.{IsAllowed, next_allowed}
 use Rattle.vault.proofs.Kits.{turned_is, bench_after, bench_count, first_count, own_after, serves_after}
 use Rattle.vault.proofs.Stops.{ends_by}
@@ -387,7 +387,7 @@ module _ (v : Desk) (w : State) (d : Devices) (moment number o s : ℕ) (stands 
           goes_on v v' w new d.holds d.faults moment number place d.providers d.providers (Work o s) r r'
           (advanced_with coming.job (Worked o s rows)) stands coming
           (rows, gives w coming.job o s coming.comes r r'.task runs done.0, refl)
-          (record { records = refl; journal = refl; doubt = refl; append = refl; faults = refl; barred = refl })
+          (record { records = refl; journal = refl; area = refl; switching = refl; doubt = refl; append = refl; faults = refl; barred = refl })
           refl refl
           on at there jobs
           (handed_same d.providers w new stands.devices.providers refl (λ j. refl))
@@ -420,7 +420,7 @@ module _ (v : Desk) (w : State) (d : Devices) (moment number o s : ℕ) (stands 
                 (subst (λ (m : ℕ). LosesWork r.task o s m) (sym row_is) loss.0),
             refl,
           )
-          (record { records = refl; journal = refl; doubt = refl; append = refl; faults = refl; barred = refl })
+          (record { records = refl; journal = refl; area = refl; switching = refl; doubt = refl; append = refl; faults = refl; barred = refl })
           (ap (without_job w.jobs) (number_of w.jobs number coming.job coming.runs))
           at there
           (record {

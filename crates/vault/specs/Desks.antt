@@ -1,26 +1,27 @@
 -- How the desk of a vault and its devices stand for a state of the machine.
 --
 --   IsShaped v                    == the shape is that of the setup
---   IsFlight f flight rs told     == no append is in flight, and the disk has the text with a closed gate; or
---                                    that of the machine is, and the disk is as after its moves so far
+--   IsFlight f flight area rs told
+--                                 == no append is in flight, and the disk has the area's text with a closed
+--                                    gate; or that of the machine is, and the disk is as after its moves so
+--                                    far
 --   DeskStands v d w              == the desk and the devices stand for a state in which a vault is open, and
---                                    no record of the journal is a packed one
+--                                    nothing runs alone
 --   EndsIn place rest kind        == the file of a put has these bytes behind its first ones, as far as it may
 --   HasEnds v w rest              == so does that of each open stream, behind the stripes given so far
 --   IsAtWork v                    == whatever its streams are still given, the desk stands for some state,
 --                                    over some devices of which the disk tells nothing: what its parts owe
 --                                    each other, whatever devices it was lent
---   DeskCarries v told            == the disk carries the desk: the text, of the core's length, of records
---                                    that fold to its table, but for what the moves of an append in flight
---                                    have done; a disk that tells nothing carries every desk
+--   DeskCarries v told            == the disk carries the desk: in its area the text, up to the core's end,
+--                                    of records that fold to its table, but for what the moves of an append in
+--                                    flight have done; a disk that tells nothing carries every desk
 --   Comes c job action            == what comes next for a job, by its core; it waits for no stripe
 --   DeskMakesStep, DeskMakesBegin == a step and a begin are events of the machine
-use Rattle.std.specs.Prelude.{◌≡◌, ◌≢◌, ℕ, ◌-◌, ◌*◌, ◌++◌, false, IsTrue, List, length, take, Option, Some, None, Result, IfSome}
-use Rattle.std.specs.List.{list_all}
+use Rattle.std.specs.Prelude.{◌≡◌, ◌≢◌, ℕ, ◌-◌, ◌*◌, ◌++◌, false, List, length, take, Option, Some, None, Result, IfSome}
 use Rattle.device_defs.specs.Cells.{Cells}
 use Rattle.device_defs.specs.Providers.{Provider}
-use Rattle.record_defs.specs.Records.{Record, is_appended, largest_file}
-use Rattle.record_defs.specs.Journal.{before_gate, text_size}
+use Rattle.record_defs.specs.Records.{Record, largest_file}
+use Rattle.record_defs.specs.Areas.{Area, base_of, end_in}
 use Rattle.machine_defs.specs.Actions.{Action}
 use Rattle.machine_defs.specs.Jobs.{Kind, PutJob, Job, job_of}
 use Rattle.machine_defs.specs.Answers as answers
@@ -32,7 +33,7 @@ use Rattle.machine_defs.specs.States as states
 use Rattle.machine_defs.specs.Machine.{Happens}
 use Rattle.record_codec.specs.Entries.{with_master}
 use Rattle.journal_core.specs.Appends.{Appends, moves_of}
-use Rattle.journal_core.specs.Moves.{IsClosed}
+use Rattle.journal_core.specs.Texts.{StandsFirm}
 use Rattle.vault_table.specs.Values.{IsFoldOf}
 use Rattle.vault_core.specs.View.{CoreView, told_in, wants_in}
 use Rattle.vault_core.specs.Coming.{Acts, next_in}
@@ -55,22 +56,22 @@ pub record IsShaped (v : Desk) : Type 0 where
   pub b : v.shape.b ≡ v.setup.b
 
 -- the append in flight, and what the disk holds of it
-abbrev pub IsFlight : Option Flight → Option states.Append → List Record → Option Cells → Type 0
-IsFlight None None rs told = IfSome told (IsClosed (before_gate rs))
-IsFlight (Some f) (Some flight) rs told =
-    (moves_of f.append ≡ flight.moves) × Appends rs flight.entry f.append told
-IsFlight f flight rs told = ⊥
+abbrev pub IsFlight : Option Flight → Option states.Append → Area → List Record → Option Cells → Type 0
+IsFlight None None area rs told = IfSome told (StandsFirm area rs)
+IsFlight (Some f) (Some flight) area rs told =
+    (moves_of f.append ≡ flight.moves) × Appends area rs flight.entry f.append told
+IsFlight f flight area rs told = ⊥
 
 -- the desk and the devices stand for a state
 pub record DeskStands (v : Desk) (d : Devices) (w : State) : Type 0 where
   pub devices : AreDevices d w
   pub core : CoreIs v.core w
-  pub appended : IsTrue (list_all is_appended w.journal)
+  pub base : v.base ≡ base_of w.area
   pub setup : setup_in w ≡ with_master v.setup v.master.0
   pub shaped : IsShaped v
   pub jobs : AreRunning (setup_in w) v.jobs.items w.jobs
   pub streams : AreAtHand (setup_in w) v.core.jobs v.jobs.items w.jobs
-  pub flight : w.is_barred ≡ false → IsFlight v.flight w.append w.records d.holds
+  pub flight : w.is_barred ≡ false → IsFlight v.flight w.append w.area w.journal d.holds
 
 -- the file of a put has these bytes behind its first ones, as far as it may
 abbrev pub EndsIn : ℕ → List ℕ → Kind → Type 0
@@ -94,15 +95,15 @@ IsAtWork v =
     × HasEnds v w rest) ∥₁
 
 -- the records of a text that a disk holds, with the append that is made behind them
-abbrev pub CarriesText : Option Flight → List Record → Option Cells → Type 0
-CarriesText None rs told = IfSome told (IsClosed (before_gate rs))
-CarriesText (Some f) rs told = (entry : Record) × Appends rs entry f.append told
+abbrev pub CarriesText : Option Flight → Area → List Record → Option Cells → Type 0
+CarriesText None area rs told = IfSome told (StandsFirm area rs)
+CarriesText (Some f) area rs told = (entry : Record) × Appends area rs entry f.append told
 
 -- the disk carries the desk
 abbrev pub DeskCarries : Desk → Option Cells → Type 0
 DeskCarries v told =
-    (rs : List Record) × IsFoldOf rs v.core.table × (v.core.end ≡ text_size rs)
-    × CarriesText v.flight rs told
+    (area : Area) × (rs : List Record) × IsFoldOf rs v.core.table × (v.base ≡ base_of area)
+    × (v.core.end ≡ end_in area rs) × CarriesText v.flight area rs told
 
 -- a begin is one of the machine, of a put also with a profile of its own
 pub record DeskMakesBegin (w : State) (moment : ℕ) (kind : Kind) (own : Option ℕ)

@@ -17,7 +17,7 @@ use Rattle.provider_model.specs.Seen.{provider_seen}
 use Rattle.stripe_bench.specs.Calls.{sight}
 use Rattle.device_defs.specs.Told.{Goes}
 use Rattle.record_defs.specs.Records.{Record}
-use Rattle.record_defs.specs.Journal.{text_size}
+use Rattle.record_defs.specs.Areas.{end_in}
 use Rattle.machine_defs.specs.States.{State, Append}
 use Rattle.journal_core.specs.Moves.{SameFrom}
 use Rattle.vault_core.specs.Carried.{IsWriting}
@@ -27,7 +27,7 @@ use Rattle.vault_open.specs.Devices.{Devices, devices}
 abbrev pub devices_seen : {W X : Type 0} → DiskGhosts W → ProviderGhosts X → W → List X → Devices
 devices_seen D P disk providers = devices (D.holds disk) (D.faults disk) (map (provider_seen P) providers)
 
--- the records in effect, with the one of the append in flight
+-- the records of a journal, with the one of the append in flight
 abbrev pub records_in_flight : List Record → Option Append → List Record
 records_in_flight rs None = rs
 records_in_flight rs (Some flight) = flight.entry ∷ rs
@@ -35,15 +35,15 @@ records_in_flight rs (Some flight) = flight.entry ∷ rs
 -- what the disk reads past the text, with the record in flight, is as before
 abbrev pub IsSameBeyond : State → Devices → Devices → Type 0
 IsSameBeyond w old new =
-    Goes (SameFrom (text_size (records_in_flight w.records w.append))) old.holds new.holds
+    Goes (SameFrom (end_in w.area (records_in_flight w.journal w.append))) old.holds new.holds
 
--- past the text of the records in effect, with the one that the job was appending, the disk reads as
--- before; where an append was in flight, it is its record
+-- past the text of the journal, with the record that the job was appending, the disk reads as before; where
+-- an append was in flight, it is its record
 pub record IsSamePast (w : State) (job : ℕ) (old new : Devices) : Type 0 where
   pub entry : Record
   pub writing : IsWriting w job entry
   pub in_flight : (a : Append) → w.append ≡ Some a → a.entry ≡ entry
-  pub same : Goes (SameFrom (text_size (entry ∷ w.records))) old.holds new.holds
+  pub same : Goes (SameFrom (end_in w.area (entry ∷ w.journal))) old.holds new.holds
 
 -- the cells of a disk, or none told
 abbrev pub cells_by : Bool → Option Cells → Option Cells

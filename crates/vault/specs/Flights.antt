@@ -10,10 +10,11 @@ use Rattle.std.specs.Option.{option_map}
 use Rattle.device_defs.specs.Cells.{Cells}
 use Rattle.device_defs.specs.Told.{Goes}
 use Rattle.record_defs.specs.Records.{Record}
-use Rattle.record_defs.specs.Journal.{before_gate}
+use Rattle.record_defs.specs.Areas.{Area}
 use Rattle.journal_core.specs.declared.append.Append.{Append}
 use Rattle.journal_core.specs.Appends.{Appends, gate_of, body_of, moves_of}
-use Rattle.journal_core.specs.Moves.{IsClosed, AllStandFor, MayStandFor, IsWrite, cells_after, MayTear}
+use Rattle.journal_core.specs.Moves.{IsWrite, cells_after, MayTear}
+use Rattle.journal_core.specs.Texts.{StandsFirm, AllStandIn, MayStandWith}
 use Rattle.vault.specs.declared.flight.Moved.{Moved}
 use Rattle.vault.specs.declared.flight.Moved.TheVariants as moved
 
@@ -23,30 +24,37 @@ HasFailed moved.Failed = Unit {0}
 HasFailed m = ⊥
 
 -- after a move behind which others are left
-pub record GoesOn (a b : Append) (rs : List Record) (r : Record) (told : Option Cells) : Type 0 where
-  pub appends : Appends rs r b told
-  pub before : moves_of a < 2 → AllStandFor rs told
-  pub between : MayStandFor rs r told
+pub record GoesOn (a b : Append) (area : Area) (rs : List Record) (r : Record) (told : Option Cells) :
+    Type 0 where
+  pub appends : Appends area rs r b told
+  pub before : moves_of a < 2 → AllStandIn area rs told
+  pub between : MayStandWith area rs r told
 
 -- after the last move
-pub record EndsAppend (rs : List Record) (r : Record) (told : Option Cells) : Type 0 where
-  pub closed : IfSome told (IsClosed (before_gate (r ∷ rs)))
-  pub after : AllStandFor (r ∷ rs) told
+pub record EndsAppend (area : Area) (rs : List Record) (r : Record) (told : Option Cells) : Type 0 where
+  pub ready : IfSome told (StandsFirm area (r ∷ rs))
 
 -- after a move that failed
-pub record GivesUp (a : Append) (rs : List Record) (r : Record) (told : Option Cells) : Type 0 where
-  pub before : moves_of a < 2 → AllStandFor rs told
-  pub between : MayStandFor rs r told
+pub record GivesUp (a : Append) (area : Area) (rs : List Record) (r : Record) (told : Option Cells) :
+    Type 0 where
+  pub before : moves_of a < 2 → AllStandIn area rs told
+  pub between : MayStandWith area rs r told
 
--- a move of an append behind records whose text the disk holds
+-- a move of an append behind records whose text an area of the disk has
 abbrev pub MakesMove : Append → Option Cells → Moved → Option Cells → Type 0
 MakesMove a old (moved.On f) new =
     (moves_of f.append ≡ moves_of a + 1) × (gate_of f.append ≡ gate_of a) × (body_of f.append ≡ body_of a)
-    × ((rs : List Record) (r : Record) → Appends rs r a old → GoesOn a f.append rs r new)
+    × ((area : Area) (rs : List Record) (r : Record) → Appends area rs r a old
+    → GoesOn a f.append area rs r new)
 MakesMove a old moved.Done new =
-    (moves_of a ≡ 3) × ((rs : List Record) (r : Record) → Appends rs r a old → EndsAppend rs r new)
-MakesMove a old moved.Failed new = (rs : List Record) (r : Record) → Appends rs r a old → GivesUp a rs r new
-MakesMove a old moved.Memory new = IsWrite (moves_of a) × (new ≡ old)
+    (moves_of a ≡ 3)
+    × ((area : Area) (rs : List Record) (r : Record) → Appends area rs r a old → EndsAppend area rs r new)
+MakesMove a old moved.Failed new =
+    (area : Area) (rs : List Record) (r : Record) → Appends area rs r a old → GivesUp a area rs r new
+MakesMove a old moved.Memory new =
+    IsWrite (moves_of a) × (new ≡ old)
+    × ((area : Area) (rs : List Record) (r : Record) → Appends area rs r a old
+    → IfSome new (StandsFirm area rs))
 
 -- the cells of a disk after a move
 abbrev pub ChangesCells : Append → Option Cells → Moved → Option Cells → Type 0

@@ -18,6 +18,7 @@ pub record IsFreshDesk (v : Desk) (store : Store) (first : ℕ) : Type 0 where
         append = None;
         barred = false;
       }
+  pub base : v.base ≡ store.base
   pub setup : store.table.setup ≡ Some (with_master v.setup v.master.0)
   pub shaped : IsShaped v
   pub flight : v.flight ≡ None

@@ -21,3 +21,4 @@ pub mod Fresh
 pub mod Benches
 pub mod Ending
 pub mod Files
+pub mod Packing

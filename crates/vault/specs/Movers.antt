@@ -42,5 +42,5 @@ pub record IsMover (v : Desk) (w : State) (told : Option Cells) (job : ℕ) (act
   pub given : entry_in v.core job ≡ Some entry
   pub writing : IsWriting w job entry
   pub in_flight : (a : Append) → w.append ≡ Some a → a.entry ≡ entry
-  pub appends : Appends w.records entry f.append told
+  pub appends : Appends w.area w.journal entry f.append told
   pub moves : moves_of f.append ≡ moves_before action

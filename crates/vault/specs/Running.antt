@@ -6,7 +6,7 @@
 --   IsFed old job reply new              == the core was given a reply
 --   KeepsAll old new                     == nothing but the core, the running jobs and the append in flight
 --                                           may have changed
---   IsSameDesk old new                   == the same jobs with what they work with, the same core, the same
+--   IsSameDesk old new                   == the same jobs with what they work with, the same core, area and
 --                                           append; spare room does not count
 --   IsStopped old job reply answer t new == a job was ended with an answer
 use Rattle.std.specs.Prelude.{◌≡◌, ℕ, ◌==◌, true, List, [], Option, Some, is_some, slice_get, position}
@@ -55,12 +55,14 @@ pub record KeepsAll (old new : Desk) : Type 0 where
   pub setup : new.setup ≡ old.setup
   pub master : new.master ≡ old.master
   pub shape : new.shape ≡ old.shape
+  pub base : new.base ≡ old.base
 
 -- nothing changed but spare room
 pub record IsSameDesk (old new : Desk) : Type 0 where
   pub core : new.core ≡ old.core
   pub setup : new.setup ≡ old.setup
   pub master : new.master ≡ old.master
+  pub base : new.base ≡ old.base
   pub flight : new.flight ≡ old.flight
   pub jobs : new.jobs.items ≡ old.jobs.items
 

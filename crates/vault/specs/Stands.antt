@@ -7,9 +7,9 @@
 --                            with nothing alone in it: that of the machine without what runs alone
 --   HoldsOver w d result v == what a hold comes to: a number is drawn and the vault held under it; or why
 --                            nothing may run alone
---   Carries v told        == the disk carries the vault: the text, of the core's length, of records that
---                            fold to its table, but for what the moves of an append in flight have done; a
---                            disk that tells nothing carries every vault
+--   Carries v told        == the disk carries the vault: in its area the text, up to the core's end, of
+--                            records that fold to its table, but for what the moves of an append in flight
+--                            have done; a disk that tells nothing carries every vault
 --   MakesStep, MakesBegin == a step and a begin are events of the machine
 use Rattle.std.specs.Prelude.{◌≡◌, ◌≢◌, ℕ, ◌+◌, false, [], Option, None, Some, Result, Ok, Err}
 use Rattle.device_defs.specs.Cells.{Cells}

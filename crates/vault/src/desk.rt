@@ -7,12 +7,14 @@ use std::alloc::Global;
 use stripe_bench::Codec;
 use vault_core::Core;
 
-/// What a vault works with: the core, the numbers of its setup, the registers of the decoders, the append in
-/// flight, and what each running job works with.
+/// What a vault works with: the core, where the journal's area begins in bytes from the start of the disk, the
+/// numbers of its setup, the registers of the decoders, the append in flight, and what each running job works
+/// with.
 #[derive(Drop)]
 pub struct Desk {
     pub alloc: Global,
     pub core: Core,
+    pub base: u64,
     pub setup: Setup,
     pub master: Master,
     pub shape: Shape,

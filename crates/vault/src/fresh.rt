@@ -23,6 +23,7 @@ pub(crate) fn open_fresh(alloc: Global, store: Store, first: u32) -> Result<Desk
 {
     let Store {
         table,
+        base,
         end,
         setup,
         master,
@@ -36,6 +37,7 @@ pub(crate) fn open_fresh(alloc: Global, store: Store, first: u32) -> Result<Desk
     Ok(Desk {
         alloc,
         core: Core::new(alloc, table, end, first),
+        base,
         setup,
         master,
         shape,

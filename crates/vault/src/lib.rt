@@ -3,6 +3,7 @@
 
 mod act;
 mod admit;
+mod area;
 mod ask;
 mod auditing;
 mod begin;
@@ -21,6 +22,8 @@ pub mod laws;
 mod making;
 mod mending;
 mod moves;
+mod packing;
+mod packs;
 mod question;
 mod remove;
 mod start;
@@ -33,6 +36,7 @@ mod vault;
 mod work;
 
 pub use heard::{Heard, HeardList};
+pub use packing::{PackAnswer, PackJob, PackTurn};
 pub use turn::{Answer, Ended, Turn};
 pub use vault::Vault;
 pub use vault_core::BeginFault;

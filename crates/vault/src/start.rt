@@ -5,6 +5,7 @@ ghost use Rattle.device_defs.specs.Faults.{HasCause};
 ghost use Rattle.device_defs.specs.Told.{Goes};
 ghost use Rattle.device_defs.specs.Providers.{Provider};
 ghost use Rattle.record_defs.specs.Records.{Record};
+ghost use Rattle.record_defs.specs.Areas.{Area};
 ghost use Rattle.machine_defs.specs.States.{State};
 ghost use Rattle.vault_open.specs.declared.fault.StartFault.TheVariants as start_fault;
 ghost use Rattle.vault_open.specs.Devices.{devices};
@@ -25,8 +26,9 @@ impl Vault {
     /// Opens a vault over what the disk reads; what lies beyond 2^24 bytes is not looked at. Jobs are
     /// numbered from `first` on.
     pub fn start<D: Disk>(alloc: Global, disk: &mut D, first: u32) -> Result<Vault, StartFault>
-        ensures opened { IfOk result (λ v. (rs : List Record) × IsRead (D.holds disk.old) rs
-            × ((w : State) (providers : List Provider) → IsJustOpened w rs first (D.faults disk.new) providers
+        ensures opened { IfOk result (λ v. (area : Area) × (rs : List Record)
+            × IsRead (D.holds disk.old) area rs
+            × ((w : State) (providers : List Provider) → IsJustOpened w area rs first (D.faults disk.new) providers
             → Stands v (devices (D.holds disk.new) (D.faults disk.new) providers) w)) }
         ensures carries { IfOk result (λ v. Carries v (D.holds disk.new)) }
         ensures number { IfOk result (λ v. next_job_of v ≡ first) }

@@ -39,7 +39,8 @@ fn length_with(stripes: u32, size: usize, count: usize) -> u32
 
 /// Whether a stream that waits for a stripe may be given so many bytes, where a stripe has this size.
 fn is_piece(stripe: u32, size: usize, count: usize, last: bool) -> bool
-    ensures { result ≡ true → IsPiece size (Some stripe) count last }
+    ensures yes { result ≡ true → IsPiece size (Some stripe) count last }
+    ensures no { result ≡ false → IsPiece size (Some stripe) count last → ⊥ }
 {
     if u128::from(stripe) * size as u128 + count as u128 > u128::from(LARGEST_FILE) {
         return false;
@@ -133,8 +134,11 @@ impl Desk {
     fn may_give(&self, job: u32, stripe: u32, count: usize, last: bool) -> bool
         requires wants { wants_in self.now.core job ≡ Some stripe }
         requires at_work { IsAtWork self.now }
-        ensures { result ≡ true
+        ensures yes { result ≡ true
             → IsPiece (stripe_by self.now.core.setup (job_in self.now.core.jobs job)) (Some stripe) count last }
+        ensures no { result ≡ false
+            → IsPiece (stripe_by self.now.core.setup (job_in self.now.core.jobs job)) (Some stripe) count last
+            → ⊥ }
     {
         let place = self.place_of(job);
         let size = self.jobs[place].task.piece_size();
@@ -220,11 +224,13 @@ impl Vault {
     }
 
     /// Whether a stream waits for a stripe and may be given so many bytes next: a whole stripe, or its last
-    /// ones.
+    /// ones. Where not, that piece may not be given to the job.
     pub fn may_give(&self, job: u32, count: usize, last: bool) -> bool
         ensures wants { result ≡ true → is_some (wants_of self.now job) ≡ true }
         ensures piece { result ≡ true
             → IsPiece (stripe_of self.now job) (wants_of self.now job) count last }
+        ensures refused { result ≡ false
+            → IsPiece (stripe_of self.now job) (wants_of self.now job) count last → ⊥ }
     {
         match self.desk.core.wants(job) {
             Some(stripe) => self.desk.may_give(job, stripe, count, last),

@@ -38,6 +38,7 @@ use Rattle.machine_defs.proofs.Refused.{left_false, right_false}
 use Rattle.vault_core.specs.Wished.{aim_of_wish, profile_named, IsShort}
 use Rattle.vault_core.specs.Refusing.{aims_in, sight_in, word_refusal_in, or_full, refusal_in}
 use Rattle.vault_core.specs.Making.{starts_for, appends_for, admitted, AreMore, IsMade}
+use Rattle.vault_core.proofs.Alike.{table-like}
 use Rattle.vault_core.proofs.Joins.{made-is}
 use Rattle.vault_core.proofs.Refusals.{way}
 use Rattle.vault_core.proofs.Kept.{rising_push}
@@ -329,7 +330,8 @@ core-begun c w kind moment v job is of begins within spelled own allowed most ma
   jobs = zip-push (IsJobOf c.setup) c.jobs w.jobs (core_job job)
       (beginning w moment kind (profile_named v)) is.jobs
       (made-is c.table c.setup w moment v kind job
-      (subst (λ (k : ℕ). IsMade c.table c.setup k v job) is.next_job made) most is.table is.setup
+      (subst (λ (k : ℕ). IsMade c.table c.setup k v job) is.next_job made) most (table-like c w is)
+      is.setup
       is.sound.files of begins within);
   next_job = ap (λ (k : ℕ). k + 1) is.next_job;
   append = flight-more c v job w.append is.append;

@@ -1,8 +1,16 @@
 -- A core that what runs alone has told something.
-use Rattle.std.proofs.Common.{◌≡◌, ℕ, ◌+◌, true, List, [], ◌∷◌, None, refl, subst, arith}
-use Rattle.machine_defs.specs.States.{State, setup_in}
+use Rattle.std.proofs.Common.{◌≡◌, ◌∙◌, ℕ, ◌+◌, true, false, List, [], ◌∷◌, Option, Some, None, refl, ap, sym, subst, arith}
+use Rattle.std.specs.Prelude.{is_some}
+use Rattle.record_defs.specs.Records.{Setup}
+use Rattle.record_defs.specs.Table.{setup_of, version_of}
+use Rattle.record_defs.specs.Packed.{packed}
+use Rattle.record_defs.specs.Areas.{other_area, end_in}
+use Rattle.machine_defs.specs.States.{State, Append, setup_in}
+use Rattle.machine_defs.specs.Alone.{switched}
 use Rattle.machine_defs.specs.Appends.{barred}
 use Rattle.state_laws.specs.Sound.{IsSound}
+use Rattle.vault_table.specs.Values.{IsFoldOf, forgotten}
+use Rattle.vault_table.proofs.Fold.{is_packed}
 use Rattle.vault_core.specs.declared.own.Core.TheInside.{Inside}
 use Rattle.vault_core.specs.View.{CoreJob, CoreView, AreRising}
 use Rattle.vault_core.specs.Parts.{view_of, IsCore}
@@ -54,3 +62,38 @@ core-bar c w is free sound = record {
   append = subst (IsCoreFlight c) free is.append;
   barred = refl;
 }
+
+-- the table of a packed journal is that of the journal, once it has forgotten what a pack leaves out
+forgotten-is : (c : CoreView) (w : State) → CoreIs c w → version_of w.records ≡ 2 →
+    IsFoldOf (packed w.journal) (forgotten c.table)
+forgotten-is c w is second = by (setup_of w.journal) refl
+    (ap is_some is.sound.journal.alike.setup ∙ is.sound.set_up is.is_open)
+  where
+    by : (o : Option Setup) → setup_of w.journal ≡ o → is_some (setup_of w.journal) ≡ true →
+        IsFoldOf (packed w.journal) (forgotten c.table)
+    by None e h = (let f : false ≡ true = sym (ap is_some e) ∙ h in cc)
+    by (Some s) e h = is_packed c.table w.journal s is.sound.journal.accepted e
+        (is.sound.journal.alike.version ∙ second) is.table
+
+-- a core that is told of the packed journal stands for the state in which the disk holds it
+pub core-moved : (c : CoreView) (w : State) (end : ℕ) → CoreIs c w → version_of w.records ≡ 2 →
+    w.append ≡ None → end ≡ end_in (other_area w.area) (packed w.journal) → IsSound 8 (switched w) →
+    CoreIs (record c { table = forgotten c.table; end = end }) (switched w)
+unfolding setup_in
+core-moved c w end is second free ends sound = record {
+  sound = sound;
+  is_open = is.is_open;
+  none_alone = is.none_alone;
+  table = forgotten-is c w is second;
+  setup = is.setup;
+  end = ends;
+  jobs = is.jobs;
+  next_job = is.next_job;
+  append = by w.append free is.append;
+  barred = is.barred;
+}
+  where
+    by : (o : Option Append) → o ≡ None → IsCoreFlight c o →
+        IsCoreFlight (record c { table = forgotten c.table; end = end }) o
+    by None e f = f
+    by (Some a) e f = (let g : Some a ≡ None = e in cc)

@@ -12,6 +12,7 @@ use Rattle.vault_core.specs.View.{CoreJob, CoreView, job_in, wanted_at}
 use Rattle.vault_core.specs.Coming.{action_next, is_move, written_by, written_of, written_in, entry_of_found, entry_in}
 use Rattle.vault_core.specs.Streams.{IsToldAs}
 use Rattle.vault_core.specs.Carried.{IsJobOf, IsCoreFlight, CoreIs}
+use Rattle.vault_core.proofs.Alike.{table-like}
 use Rattle.vault_core.proofs.Pairs.{pair_some}
 use Rattle.vault_core.proofs.Standing.{same_job}
 use Rattle.vault_core.proofs.Links.{next_same}
@@ -48,7 +49,7 @@ flight-entry c w a is e = by (job_in c.jobs a.job) refl
         let free : wanted_at (setup_in w) j.place j.told ≡ None =
         flies_free (setup_in w) j p.job q stands.0 stands.1.1 stands.1.2 in
         let next : next_action w p.job ≡ action_next c.setup c.table j = next_same w c.table j
-        p.job is.table q free
+        p.job (table-like c w is) q free
         ∙ ap (λ (s : Setup). action_next s c.table j) (sym is.setup) in
         let moves : is_move (action_next c.setup c.table j) ≡ true =
         sym (ap is_move next) ∙ flight-moves c w p.job a is p.runs e in

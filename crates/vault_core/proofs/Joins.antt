@@ -16,7 +16,7 @@ use Rattle.machine_defs.proofs.RecordFacts.{listed_file}
 use Rattle.state_laws.specs.Follows.{AreHeld}
 use Rattle.record_codec.specs.declared.counts.Counts.{Counts}
 use Rattle.record_codec.specs.Entries.{counted}
-use Rattle.vault_table.specs.Values.{Kept, IsFoldOf}
+use Rattle.vault_table.specs.Values.{Kept}
 use Rattle.vault_core.specs.declared.pinned.Pinned.{Pinned}
 use Rattle.vault_core.specs.declared.wish.Wish.{Wish}
 use Rattle.vault_core.specs.declared.wish.Wish.TheVariants as wish
@@ -29,6 +29,7 @@ use Rattle.vault_core.specs.Going.{listed_older}
 use Rattle.vault_core.specs.Parts.{plan_kept, core_job, sums_kept, MayBegin}
 use Rattle.vault_core.specs.Making.{pin_of_file, pins_for, subject_for, IsMade}
 use Rattle.vault_core.specs.Wished.{aim_of_wish, profile_named}
+use Rattle.vault_core.proofs.Alike.{IsLikeFoldOf}
 use Rattle.vault_core.proofs.Links.{shown_aim}
 use Rattle.vault_core.proofs.Begun.{take-zeros}
 
@@ -58,7 +59,7 @@ pins-one : (w : State) (o : Option File) → ((f : File) → o ≡ Some f → le
 pins-one w None h = refl
 pins-one w (Some f) h = ap (λ (p : Pinned). p ∷ []) (pin-file w f (h f refl))
 
-pins-aim : (t : Kept) (w : State) (aim : Aim) → IsFoldOf w.records t → AreHeld w.bytes w.records →
+pins-aim : (t : Kept) (w : State) (aim : Aim) → IsLikeFoldOf w.records t → AreHeld w.bytes w.records →
     pins_by core_pins pin_of_file (find_file t.files) t.files aim
     ≡ map pin_of (pins_by machine_pins (pinned_file w) (file_in w) (files_of w.records) aim)
 pins-aim t w aim fold held = by aim
@@ -79,7 +80,7 @@ pins-aim t w aim fold held = by aim
     by ToUpgrade = refl
 
 -- the files that a job of a wish works on are those that the machine pins
-pub pins-are : (t : Kept) (w : State) (v : Wish) (k : Kind) → IsFoldOf w.records t → AreHeld w.bytes w.records →
+pub pins-are : (t : Kept) (w : State) (v : Wish) (k : Kind) → IsLikeFoldOf w.records t → AreHeld w.bytes w.records →
     IsKindOf v k → pins_for t v ≡ map pin_of (pinned_for w k)
 pins-are t w v k fold held kind =
     ap (pins_by core_pins pin_of_file (find_file t.files) t.files) kind ∙ pins-aim t w (aim_of k) fold held
@@ -105,7 +106,7 @@ subject-kind w k = refl
 
 module _ (t : Kept) (s : Setup) (w : State) (moment : ℕ) (v : Wish) (k : Kind) (job : Job)
     (made : IsMade t s w.next_job v job) (most : s.n ≤ 16)
-    (fold : IsFoldOf w.records t) (setup : s ≡ setup_in w) (held : AreHeld w.bytes w.records)
+    (fold : IsLikeFoldOf w.records t) (setup : s ≡ setup_in w) (held : AreHeld w.bytes w.records)
     (kind : IsAimOf job.told v k) (begins : MayBegin job.told v) where
   -- what does not hang on the length of a put's file is the same of both aims
   same-aim : {X : Type 0} (f : Aim → X) →

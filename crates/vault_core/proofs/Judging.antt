@@ -17,11 +17,12 @@ use Rattle.state_laws.proofs.Orders.{get-drop, audit-list, audit_rest}
 use Rattle.state_laws.proofs.Gates.{decided, audit-same}
 use Rattle.state_laws.proofs.Done.{gate-within}
 use Rattle.state_laws.proofs.Going.{onward, actions-onward}
-use Rattle.vault_table.specs.Values.{Kept, IsFoldOf}
+use Rattle.vault_table.specs.Values.{Kept}
 use Rattle.vault_core.specs.View.{CoreJob, rest_in, wanted_at}
 use Rattle.vault_core.specs.Coming.{asks_next, begins_append, is_last_ask}
 use Rattle.vault_core.specs.Carried.{seen_plan, is_audit, has_asked, IsJobOf}
 use Rattle.vault_core.specs.Fed.{goes_plainly, stepped, judged, number_drawn, drawn, gated}
+use Rattle.vault_core.proofs.Alike.{IsLikeFoldOf}
 use Rattle.vault_core.proofs.Onward.{sums-same, no-sums, asks-none, ask-then, past-first, no-ask-first}
 use Rattle.vault_core.proofs.Told.{told_on}
 use Rattle.vault_core.proofs.Links.{left-here, number_same, taken_same, audit-closed, told-same, shown-subject, shown-older}
@@ -148,7 +149,7 @@ module _ (w : State) (c : CoreJob) (m : Job) (a : Action) (is : IsJobOf (setup_i
       ]
 
 -- the job has begun its append
-pub on-drawn : (w : State) (t : Kept) (c : CoreJob) (m : Job) → IsFoldOf w.records t →
+pub on-drawn : (w : State) (t : Kept) (c : CoreJob) (m : Job) → IsLikeFoldOf w.records t →
     IsJobOf (setup_in w) c m → wanted_at (setup_in w) c.place c.told ≡ None →
     next_action w m ≡ Some WriteBody →
     IsJobOf (setup_in w) (drawn c (number_drawn (setup_in w) t c))
@@ -178,7 +179,7 @@ on-drawn w t c m f is free next = record {
         (is.judged (asked_whole (setup_in w) m p.audit past (ap asks_next stands))))
 
 -- the append of the job is done
-pub on-gated : (w : State) (t : Kept) (cs : List CoreJob) (c : CoreJob) (m : Job) → IsFoldOf w.records t →
+pub on-gated : (w : State) (t : Kept) (cs : List CoreJob) (c : CoreJob) (m : Job) → IsLikeFoldOf w.records t →
     AllZip (IsJobOf (setup_in w)) cs w.jobs → IsJobOf (setup_in w) c m →
     wanted_at (setup_in w) c.place c.told ≡ None →
     next_action w m ≡ Some SyncGate → 0 < (setup_in w).n → IsJobOf (setup_in w) (gated (setup_in w) t

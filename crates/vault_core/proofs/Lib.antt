@@ -15,6 +15,7 @@ pub mod Drawing
 pub mod Pairs
 pub mod NextMoves
 pub mod Fronts
+pub mod Alike
 pub mod Links
 pub mod Onward
 pub mod Judging

@@ -19,13 +19,14 @@ use Rattle.machine_defs.proofs.NextActions.{next_stands}
 use Rattle.vault_core.specs.Streams.{stripe_size}
 use Rattle.state_laws.proofs.Orders.{next-left, get-drop, put-first, put-later, audit-first, audit-later, put-second, audit-second, gates}
 use Rattle.state_laws.proofs.Going.{onward, count-onward}
-use Rattle.vault_table.specs.Values.{Kept, IsFoldOf, id_after}
+use Rattle.vault_table.specs.Values.{Kept, id_after}
 use Rattle.vault_core.specs.declared.pinned.Pinned.{Pinned}
 use Rattle.vault_core.specs.View.{CoreJob, core_pins, planned, planned_by, rest_in, appends_in, wanted_at}
 use Rattle.vault_core.specs.Coming.{is_gone, is_idle, action_next}
 use Rattle.vault_core.specs.Carried.{pin_of, seen_plan, longest, shown, IsPutFrom, HasTold, IsJobOf}
 use Rattle.vault_core.specs.Streams.{IsToldAs}
 use Rattle.vault_core.specs.Fed.{is_pinned_in, removable_in, number_as, number_drawn, taken_as, taken_by}
+use Rattle.vault_core.proofs.Alike.{IsLikeFoldOf}
 use Rattle.vault_core.proofs.Places.{any-map}
 use Rattle.vault_core.proofs.Told.{below}
 use Rattle.vault_core.proofs.Fronts.{shared, shared-stands, shared-appends}
@@ -188,12 +189,12 @@ audit-two s m kind = elim (cases_lt m.place 4) [
 ]
 
 -- a name has the same file in the table of a core and in the records that it was folded from
-pub file_here : (t : Kept) (w : State) (name : List ℕ) → IsFoldOf w.records t →
+pub file_here : (t : Kept) (w : State) (name : List ℕ) → IsLikeFoldOf w.records t →
     find_file t.files name ≡ file_in w name
 file_here t w name f = ap (λ (fs : List File). find_file fs name) f.files ∙ find-files_of w.records name
 
 -- the number that its append draws, or has drawn, is the machine's
-pub number_same : (w : State) (t : Kept) (c : CoreJob) (m : Job) → IsFoldOf w.records t →
+pub number_same : (w : State) (t : Kept) (c : CoreJob) (m : Job) → IsLikeFoldOf w.records t →
     IsJobOf (setup_in w) c m →
     number_drawn (setup_in w) t c ≡ subject_drawn w m m.kind
 number_same w t c m f is =
@@ -234,7 +235,7 @@ removable_same s cs w (Some f) h =
     ap (λ (b : Bool). if b then [] else f.id ∷ []) (pinned_jobs s cs w.jobs f.id h)
 
 -- the object that its append takes out of effect is the machine's
-pub taken_same : (w : State) (t : Kept) (cs : List CoreJob) (c : CoreJob) (m : Job) → IsFoldOf w.records t →
+pub taken_same : (w : State) (t : Kept) (cs : List CoreJob) (c : CoreJob) (m : Job) → IsLikeFoldOf w.records t →
     AllZip (IsJobOf (setup_in w)) cs w.jobs → IsJobOf (setup_in w) c m →
     taken_by (setup_in w) t cs c ≡ taken_out w m m.kind
 taken_same w t cs c m f all is =
@@ -260,7 +261,7 @@ taken_same w t cs c m f all is =
 -- ---- what comes next
 
 -- a drop is idle in a core as in the machine
-pub idle_same : (w : State) (t : Kept) (c : CoreJob) (m : Job) → IsFoldOf w.records t →
+pub idle_same : (w : State) (t : Kept) (c : CoreJob) (m : Job) → IsLikeFoldOf w.records t →
     IsJobOf (setup_in w) c m → is_idle_drop w m m.kind ≡ is_idle t c
 idle_same w t c m f is = by m.kind
     ∙ sym (ap (λ (b : Bool). b && (c.place == 0)) (aim-alike (setup_in w) c m is (is_gone t) (λ name a
@@ -283,7 +284,7 @@ idle_same w t c m f is = by m.kind
     by UpgradeJob = refl
 
 -- the next action is the same
-pub next_same : (w : State) (t : Kept) (c : CoreJob) (m : Job) → IsFoldOf w.records t →
+pub next_same : (w : State) (t : Kept) (c : CoreJob) (m : Job) → IsLikeFoldOf w.records t →
     IsJobOf (setup_in w) c m → wanted_at (setup_in w) c.place c.told ≡ None →
     next_action w m ≡ action_next (setup_in w) t c
 next_same w t c m f is free =

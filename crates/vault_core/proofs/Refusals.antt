@@ -37,6 +37,7 @@ use Rattle.vault_core.specs.Reserves.{sizes_of, room_behind, reserved_of}
 use Rattle.vault_core.specs.Carried.{longest, IsAimOf, IsShortAim, IsJobOf, CoreIs, refusal_of}
 use Rattle.vault_core.proofs.Links.{appends-is, aim-alike}
 use Rattle.vault_core.specs.Refusing.{aims_in, sight_in, aims_kept, puts_name, taken_names, or_full, refusal_in}
+use Rattle.vault_core.proofs.Alike.{IsLikeFoldOf, table-like}
 
 -- ---- lists of jobs, as they are kept and as they are seen
 
@@ -305,20 +306,23 @@ sight-same c w is = λ i. record {
   is_barred = is.barred i;
   is_alone = sym (ap (λ (o : Option Alone). is_some o) is.none_alone) i;
   aims = aims-same c.setup c.jobs w.jobs is.jobs i;
-  files = is.table.files i;
-  due = is.table.due i;
-  version = is.table.version i;
+  files = like.files i;
+  due = like.due i;
+  version = like.version i;
   setup = is.setup i;
   used = used i;
-  next_id = is.table.id i;
-  next_audit = is.table.audit i;
+  next_id = like.id i;
+  next_audit = like.audit i;
 }
   where
+    like : IsLikeFoldOf w.records c.table
+    like = table-like c w is
+
     used : (c.end + sum_by (reserved_of c.table.version c.setup) c.jobs) ≡ room_used w
     used = (let a = is.end in
         let b = room-jobs c.table.version c.setup c.jobs w.jobs is.jobs
         ∙ (ap (λ (t : Setup). sum_by (reserved c.table.version t) w.jobs) is.setup
-        ∙ ap (λ (i : ℕ). sum_by (reserved i (setup_in w)) w.jobs) is.table.version) in
+        ∙ ap (λ (i : ℕ). sum_by (reserved i (setup_in w)) w.jobs) like.version) in
         omega (arith, a, b))
 
 any-bare : (p : Aim → Bool) → ((name : List ℕ) (size : ℕ) → p (ToPut name 0) ≡ p (ToPut name size)) →

@@ -15,7 +15,7 @@ use Rattle.machine_defs.specs.States.{State, Append, setup_in}
 use Rattle.machine_defs.specs.Appends.{Writes, done_record, is_first_append}
 use Rattle.machine_defs.specs.Left.{most_left, most_after}
 use Rattle.machine_defs.specs.Steps.{is_idle_drop, next_action, holder_of}
-use Rattle.vault_table.specs.Values.{Kept, IsFoldOf, id_after}
+use Rattle.vault_table.specs.Values.{Kept, id_after}
 use Rattle.state_laws.proofs.Orders.{in_order-first, get-drop}
 use Rattle.vault_core.specs.declared.action.Action.{Action as ActionValue}
 use Rattle.vault_core.specs.declared.action.Action.TheVariants as act
@@ -27,6 +27,7 @@ use Rattle.vault_core.proofs.Told.{below}
 use Rattle.vault_core.proofs.Fronts.{shared, shared-early}
 use Rattle.vault_core.specs.Coming.{Acts, Waits, IsNoJob, IsBarred, seen_action, seen_next, is_idle, action_next, is_move, asks_next, waits_or_acts, next_of, next_in, most_of, left_in, written_as, written_by, entry_of_job, entry_of_found, entry_in}
 use Rattle.vault_core.specs.Carried.{IsJobOf, IsCoreFlight, CoreIs, ComesNext, IsNextOf, IsEntryOf}
+use Rattle.vault_core.proofs.Alike.{IsLikeFoldOf, table-like}
 use Rattle.vault_core.proofs.Pairs.{pair_some, pair_none}
 use Rattle.vault_core.proofs.Links.{shown_aim, aim-is, profile-is, subject-is, aim-alike, rest-is, appends-is, stands-is, put-two, audit-two, next_same}
 use Rattle.vault_core.proofs.Judging.{asked_whole}
@@ -74,7 +75,7 @@ no_ask o h = refl
 
 -- the record that a job of a core writes is the machine's
 writes_same : (w : State) (t : Kept) (c : CoreJob) (m : Job) (entry : Record) →
-    IsFoldOf w.records t → IsJobOf (setup_in w) c m → wanted_at (setup_in w) c.place c.told ≡ None →
+    IsLikeFoldOf w.records t → IsJobOf (setup_in w) c m → wanted_at (setup_in w) c.place c.told ≡ None →
     is_move (slice_get (planned (setup_in w) c.plan) c.place) ≡ true →
     written_by (setup_in w) t c ≡ Some entry → Writes w m m.kind entry
 writes_same w t c m entry f is free mv e = by m.kind refl
@@ -324,7 +325,7 @@ comes_next c w k a held is free h =
       unbarred = sym is.barred ∙ h.unbarred;
       job = p.job;
       runs = p.runs;
-      comes = next_same w c.table h.job p.job is.table
+      comes = next_same w c.table h.job p.job (table-like c w is)
           (same_job c.setup (setup_in w) h.job p.job is.setup p.is) (free_here c w k h.job is free h.runs)
           ∙ (ap (λ (s : Setup). action_next s c.table h.job) (sym is.setup) ∙ h.comes);
       holder = holder_same c w.append a is.append ∙ h.waits;
@@ -444,7 +445,7 @@ entry_none c w k is free h m runs = by (job_in c.jobs k) refl
         let r : p.job ≡ m = cc in
         let q : IsJobOf (setup_in w) j m = subst (IsJobOf (setup_in w) j) r
         (same_job c.setup (setup_in w) j p.job is.setup p.is) in
-        let next : next_action w m ≡ action_next c.setup c.table j = next_same w c.table j m is.table q
+        let next : next_action w m ≡ action_next c.setup c.table j = next_same w c.table j m (table-like c w is) q
         (free_here c w k j is free f)
         ∙ ap (λ (s : Setup). action_next s c.table j) (sym is.setup) in
         let entry : entry_of_job c.setup c.table j ≡ None = sym (ap (entry_of_found c.setup c.table) f) ∙ h in
@@ -470,13 +471,13 @@ entry_machine c w k (Some r) is free e =
     let q = same_job c.setup (setup_in w) f.0 p.job is.setup p.is in
     let a = in_append c.setup c.table f.0 r f.1.1 in
     let next : next_action w p.job ≡ action_next c.setup c.table f.0 = next_same w c.table f.0
-    p.job is.table q (free_here c w k f.0 is free f.1.0)
+    p.job (table-like c w is) q (free_here c w k f.0 is free f.1.0)
     ∙ ap (λ (s : Setup). action_next s c.table f.0) (sym is.setup) in
     record {
       job = p.job;
       runs = p.runs;
       moves = ap is_move next ∙ a.0;
-      writes = writes_same w c.table f.0 p.job r is.table q (free_here c w k f.0 is free f.1.0)
+      writes = writes_same w c.table f.0 p.job r (table-like c w is) q (free_here c w k f.0 is free f.1.0)
           (subst (λ (s : Setup). is_move (slice_get (planned s f.0.plan) f.0.place) ≡ true) is.setup
           (head_moves c.setup c.table f.0 a.0))
           (ap (λ (s : Setup). written_by s c.table f.0) (sym is.setup) ∙ a.1);

@@ -42,6 +42,7 @@ use Rattle.vault_core.specs.Carried.{IsJobOf, IsCoreFlight, CoreIs}
 use Rattle.vault_core.specs.Fed.{is_own, freed, stopped, barred_at, with_at, stepped, judged, goes_plainly, number_as, number_drawn, drawn, gated, HasGated}
 use Rattle.vault_core.specs.declared.reply.Reply.TheVariants as reply
 use Rattle.vault_core.specs.Replies.{IsEndAnswer, Tells}
+use Rattle.vault_core.proofs.Alike.{table-like}
 use Rattle.vault_core.proofs.Pairs.{IsFirst, pair_some, pair_with, pair_without, in_set_same, in_set_other, in_remove_other}
 use Rattle.vault_core.proofs.Standing.{acts_comes, comes_next, same_job, free_here, in_append}
 use Rattle.vault_core.proofs.Judging.{sums-on, on-moved, on-judged, on-drawn, on-gated}
@@ -119,6 +120,7 @@ on_machine c w new k place r action outcome moment s is free l h =
 pub record Stays (w new : State) : Type 0 where
   pub is_open : new.is_open ≡ w.is_open
   pub records : new.records ≡ w.records
+  pub journal : new.journal ≡ w.journal
   pub end : journal_end new ≡ journal_end w
   pub next_job : new.next_job ≡ w.next_job
   pub alone : new.alone ≡ w.alone
@@ -135,7 +137,7 @@ set_stands c w new k place cj m flight is sound first stays bar js number job fl
       sound = sound;
       is_open = stays.is_open ∙ is.is_open;
       none_alone = stays.alone ∙ is.none_alone;
-      table = subst (λ (rs : List Record). IsFoldOf rs c.table) (sym stays.records) is.table;
+      table = subst (λ (rs : List Record). IsFoldOf rs c.table) (sym stays.journal) is.table;
       setup = is.setup ∙ sym setup;
       end = is.end ∙ sym stays.end;
       jobs = subst (AllZip (IsJobOf c.setup) (set c.jobs place cj)) (sym js)
@@ -158,7 +160,7 @@ remove_stands c w new k place flight b is sound first stays bar js fl =
       sound = sound;
       is_open = stays.is_open ∙ is.is_open;
       none_alone = stays.alone ∙ is.none_alone;
-      table = subst (λ (rs : List Record). IsFoldOf rs c.table) (sym stays.records) is.table;
+      table = subst (λ (rs : List Record). IsFoldOf rs c.table) (sym stays.journal) is.table;
       setup = is.setup ∙ sym setup;
       end = is.end ∙ sym stays.end;
       jobs = subst (AllZip (IsJobOf c.setup) (remove c.jobs place)) (sym js)
@@ -293,6 +295,7 @@ module _ (c : CoreView) (w new : State) (k place : ℕ) (cj : CoreJob) (a : Acti
       (record {
         is_open = ap (λ (s : State). s.is_open) e;
         records = ap (λ (s : State). s.records) e;
+        journal = ap (λ (s : State). s.journal) e;
         end = ap journal_end e;
         next_job = ap (λ (s : State). s.next_job) e;
         alone = ap (λ (s : State). s.alone) e;
@@ -310,6 +313,7 @@ module _ (c : CoreView) (w new : State) (k place : ℕ) (cj : CoreJob) (a : Acti
       (record {
         is_open = ap (λ (s : State). s.is_open) e;
         records = ap (λ (s : State). s.records) e;
+        journal = ap (λ (s : State). s.journal) e;
         end = ap journal_end e;
         next_job = ap (λ (s : State). s.next_job) e;
         alone = ap (λ (s : State). s.alone) e;
@@ -468,13 +472,14 @@ drawn_arm c w new k place cj outcome o entry told faults e =
     o.job.given) =
     subst (λ (s : Setup). IsJobOf (setup_in w) (drawn cj (number_drawn s c.table cj))
     (onward o.job (subject_drawn w o.job o.job.kind) o.job.given)) (sym o.stands.setup)
-    (on-drawn w c.table cj o.job o.stands.table o.is o.free o.next) in
+    (on-drawn w c.table cj o.job (table-like c w o.stands) o.is o.free o.next) in
     let f : new.append ≡ Some (record { job = o.job.number; entry = entry; moves = 1 }) =
     ap (λ (s : State). s.append) e in
     let stays : Stays w new =
     record {
       is_open = ap (λ (s : State). s.is_open) e;
       records = ap (λ (s : State). s.records) e;
+      journal = ap (λ (s : State). s.journal) e;
       end = ap journal_end e;
       next_job = ap (λ (s : State). s.next_job) e;
       alone = ap (λ (s : State). s.alone) e;
@@ -515,8 +520,9 @@ gated_arm : (c cnew : CoreView) (w new : State) (k place : ℕ) (cj : CoreJob) (
     (faults : ℕ) → new ≡ record (done_append w o.job y) { disk_faults = faults } → CoreIs cnew new
 gated_arm c cnew w new k place cj outcome o y at own gates faults e =
     let writes = written_now c w new k place cj SyncGate outcome o y at (own ∙ o.number) in
-    let has = gates y.entry w.records writes o.stands.table (o.stands.sound.append y at).follows.accepted in
+    let has = gates y.entry w.journal writes o.stands.table (o.stands.sound.append y at).follows.in_journal in
     let records : new.records ≡ y.entry ∷ w.records = ap (λ (s : State). s.records) e in
+    let journal : new.journal ≡ y.entry ∷ w.journal = ap (λ (s : State). s.journal) e in
     let setup : setup_in new ≡ setup_in w = setup_same new w (ap setup_of records
     ∙ no_setup c.table (appends_in c.setup cj) cj.plan.profile cj.plan.subject cj.sums cj.plan.aim y.entry
     w.records writes) in
@@ -524,7 +530,7 @@ gated_arm c cnew w new k place cj outcome o y at own gates faults e =
     (let p = (setup-providers 8 w o.stands.sound o.stands.is_open).0 in omega (arith, p)) in
     let all : AllZip (IsJobOf (setup_in w)) c.jobs w.jobs =
     subst (λ (s : Setup). AllZip (IsJobOf s) c.jobs w.jobs) o.stands.setup o.stands.jobs in
-    let job = on-gated w c.table c.jobs cj o.job o.stands.table all o.is o.free o.next some in
+    let job = on-gated w c.table c.jobs cj o.job (table-like c w o.stands) all o.is o.free o.next some in
     let zip : AllZip (IsJobOf (setup_in w)) (set c.jobs place (gated (setup_in w) c.table c.jobs cj))
     (with_job w.jobs (decided o.job (taken_out w o.job o.job.kind))) =
     pair_with (setup_in w) c.jobs w.jobs k place (gated (setup_in w) c.table c.jobs cj)
@@ -537,7 +543,7 @@ gated_arm c cnew w new k place cj outcome o y at own gates faults e =
       sound = o.sound;
       is_open = ap (λ (s : State). s.is_open) e ∙ o.stands.is_open;
       none_alone = ap (λ (s : State). s.alone) e ∙ o.stands.none_alone;
-      table = subst (λ (rs : List Record). IsFoldOf rs cnew.table) (sym records) has.table;
+      table = subst (λ (rs : List Record). IsFoldOf rs cnew.table) (sym journal) has.table;
       setup = o.stands.setup ∙ sym setup;
       end = (let a = ap journal_end e in let b = o.stands.end in
           let d : end_in w.area (y.entry ∷ w.journal) ≡ end_in w.area w.journal + (1 + record_size y.entry) =
@@ -640,6 +646,7 @@ more_done c w new k place cj SyncBody o p h = by w.append refl o.acts
         (record {
           is_open = ap (λ (s : State). s.is_open) g.1.2;
           records = ap (λ (s : State). s.records) g.1.2;
+          journal = ap (λ (s : State). s.journal) g.1.2;
           end = ap journal_end g.1.2;
           next_job = ap (λ (s : State). s.next_job) g.1.2;
           alone = ap (λ (s : State). s.alone) g.1.2;
@@ -658,6 +665,7 @@ more_done c w new k place cj WriteGate o p h = by w.append refl o.acts
         (record {
           is_open = ap (λ (s : State). s.is_open) g.1.2;
           records = ap (λ (s : State). s.records) g.1.2;
+          journal = ap (λ (s : State). s.journal) g.1.2;
           end = ap journal_end g.1.2;
           next_job = ap (λ (s : State). s.next_job) g.1.2;
           alone = ap (λ (s : State). s.alone) g.1.2;
@@ -734,6 +742,7 @@ moves_fail w m WriteBody flight new n h = (
   record {
     is_open = ap (λ (s : State). s.is_open) h.3;
     records = ap (λ (s : State). s.records) h.3;
+    journal = ap (λ (s : State). s.journal) h.3;
     end = ap journal_end h.3;
     next_job = ap (λ (s : State). s.next_job) h.3;
     alone = ap (λ (s : State). s.alone) h.3;
@@ -745,6 +754,7 @@ moves_fail w m SyncBody (Some y) new n h = (
   record {
     is_open = ap (λ (s : State). s.is_open) h.1.3;
     records = ap (λ (s : State). s.records) h.1.3;
+    journal = ap (λ (s : State). s.journal) h.1.3;
     end = ap journal_end h.1.3;
     next_job = ap (λ (s : State). s.next_job) h.1.3;
     alone = ap (λ (s : State). s.alone) h.1.3;
@@ -756,6 +766,7 @@ moves_fail w m WriteGate (Some y) new n h = (
   record {
     is_open = ap (λ (s : State). s.is_open) h.1.3;
     records = ap (λ (s : State). s.records) h.1.3;
+    journal = ap (λ (s : State). s.journal) h.1.3;
     end = ap journal_end h.1.3;
     next_job = ap (λ (s : State). s.next_job) h.1.3;
     alone = ap (λ (s : State). s.alone) h.1.3;
@@ -767,6 +778,7 @@ moves_fail w m SyncGate (Some y) new n h = (
   record {
     is_open = ap (λ (s : State). s.is_open) h.1.3;
     records = ap (λ (s : State). s.records) h.1.3;
+    journal = ap (λ (s : State). s.journal) h.1.3;
     end = ap journal_end h.1.3;
     next_job = ap (λ (s : State). s.next_job) h.1.3;
     alone = ap (λ (s : State). s.alone) h.1.3;
@@ -820,6 +832,7 @@ memory_ends c w new k place cj WriteBody o r =
     (record {
       is_open = ap (λ (s : State). s.is_open) h.2;
       records = ap (λ (s : State). s.records) h.2;
+      journal = ap (λ (s : State). s.journal) h.2;
       end = ap journal_end h.2;
       next_job = ap (λ (s : State). s.next_job) h.2;
       alone = ap (λ (s : State). s.alone) h.2;
@@ -837,6 +850,7 @@ memory_ends c w new k place cj WriteGate o r = by w.append refl o.acts
         (record {
           is_open = ap (λ (s : State). s.is_open) h.1.2;
           records = ap (λ (s : State). s.records) h.1.2;
+          journal = ap (λ (s : State). s.journal) h.1.2;
           end = ap journal_end h.1.2;
           next_job = ap (λ (s : State). s.next_job) h.1.2;
           alone = ap (λ (s : State). s.alone) h.1.2;

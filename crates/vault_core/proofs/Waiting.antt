@@ -319,7 +319,14 @@ module _ (c : CoreView) (k place stripes : ℕ) (s : IsStreamAt c k place stripe
       remove_stands c w (ended w m) k place c.append c.barred is
       (plain-ended 8 w is.sound m (subst (λ (i : ℕ). job_of w.jobs i ≡ Some m) (sym n) r)
       (unmoved w is m.number n)) (first c k place stripes s)
-      (record { is_open = refl; records = refl; end = refl; next_job = refl; alone = refl })
+      (record {
+        is_open = refl;
+        records = refl;
+        journal = refl;
+        end = refl;
+        next_job = refl;
+        alone = refl;
+      })
       is.barred (ap (without_job w.jobs) n) (flight w.append refl is.append)
     where
       flight : (o : Option Append) → w.append ≡ o → IsCoreFlight c o →

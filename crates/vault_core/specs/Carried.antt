@@ -12,8 +12,8 @@
 --   IsShortAim aim          == a put of this aim has at most 2^22 bytes
 --   IsCoreFlight c append   == the append in flight is that of the same job, and its record is the one that
 --                              this job writes
---   CoreIs c w              == a core stands for a state of the machine: its vault is open, and nothing runs
---                              alone
+--   CoreIs c w              == a core stands for a state of the machine: its vault is open, nothing runs
+--                              alone, and its table is that of the journal that the disk holds
 --   refusal_of fault        == the machine's refusal
 --   begun w moment kind own == the state after a begin, of a put also with a profile of its own
 --   IsNextOf w number next  == what comes next for a job in a state of the machine
@@ -129,7 +129,7 @@ pub record CoreIs (c : CoreView) (w : State) : Type 0 where
   pub sound : IsSound 8 w
   pub is_open : w.is_open ≡ true
   pub none_alone : w.alone ≡ None
-  pub table : IsFoldOf w.records c.table
+  pub table : IsFoldOf w.journal c.table
   pub setup : c.setup ≡ setup_in w
   pub end : c.end ≡ journal_end w
   pub jobs : AllZip (IsJobOf c.setup) c.jobs w.jobs
@@ -151,6 +151,7 @@ refusal_of fault.RepairDue = refusal.RepairDue
 refusal_of fault.NothingDue = refusal.NothingDue
 refusal_of fault.NewVersion = refusal.NewVersion
 refusal_of fault.JournalFull = refusal.JournalFull
+refusal_of fault.PackTooLong = refusal.PackTooLong
 refusal_of fault.Memory = refusal.Memory
 
 -- the state after a begin, of a put also with a profile of its own

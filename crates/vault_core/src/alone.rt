@@ -1,6 +1,10 @@
 //! What a core is told by what runs alone, a scrub or a pack.
 ghost use Rattle.std.specs.Prelude.{◌≡◌, ◌<◌, ◌≤◌, ◌+◌, ◌-◌, ◌^◌, [], true, None};
 ghost use Rattle.machine_defs.specs.States.{State};
+ghost use Rattle.record_defs.specs.Table.{version_of};
+ghost use Rattle.record_defs.specs.Packed.{packed};
+ghost use Rattle.record_defs.specs.Areas.{other_area, end_in};
+ghost use Rattle.machine_defs.specs.Alone.{switched};
 ghost use Rattle.machine_defs.specs.Appends.{barred};
 ghost use Rattle.state_laws.specs.Sound.{IsSound};
 ghost use Rattle.vault_table.specs.Values.{forgotten};
@@ -34,7 +38,10 @@ impl Core {
         requires idle { self.old.jobs ≡ [] }
         requires least { 9 ≤ end }
         requires most { end ≤ 2 ^ 24 }
-        ensures { self.new ≡ record self.old { table = forgotten self.old.table; end = end } }
+        ensures moved { self.new ≡ record self.old { table = forgotten self.old.table; end = end } }
+        ensures stands { (w : State) → CoreIs self.old w → version_of w.records ≡ 2 → w.append ≡ None
+            → end ≡ end_in (other_area w.area) (packed w.journal) → IsSound 8 (switched w)
+            → CoreIs self.new (switched w) }
     {
         self.table.forget();
         self.end = end;

@@ -3,14 +3,13 @@ ghost use Rattle.std.specs.Prelude.{◌≡◌, ◌≤◌, ◌<◌, ◌^◌, IsTr
 ghost use Rattle.machine_defs.specs.Appends.{done_record};
 ghost use Rattle.record_defs.specs.Records.{AuditDone, RepairDone, Version, all_profiles};
 ghost use Rattle.std.specs.List.{All};
-ghost use Rattle.record_codec.specs.Entries.{entry_of, counted, HasSpelling, IsInGrammar, IsPadded};
+ghost use Rattle.record_codec.specs.Entries.{entry_of, counted, IsInGrammar, IsPadded};
 
 use record_codec::{Counts, Record};
 
 /// The last record of a put: in the second version it has the file's profile.
 pub fn put_done(version: u8, id: u64, length: u32, profile: u8) -> Record
     ensures value { entry_of result ≡ done_record version id length profile }
-    ensures spelled { length ≤ 2 ^ 22 → IsTrue (nat_lt profile all_profiles) → HasSpelling result }
     ensures in_grammar { length ≤ 2 ^ 22 → IsTrue (nat_lt profile all_profiles) → IsInGrammar result }
 {
     if version == 2 {
@@ -33,7 +32,6 @@ fn fit(numbers: &[u32])
 pub fn audit_done(number: u64, undecided: u32, counts: Counts) -> Record
     ensures value { entry_of result ≡ AuditDone number undecided (counted counts) }
     ensures in_grammar { 4 ≤ counts.n → counts.n ≤ 16 → IsPadded counts → IsInGrammar result }
-    ensures spelled { 4 ≤ counts.n → counts.n ≤ 16 → IsPadded counts → HasSpelling result }
 {
     fit(&counts.by);
     Record::AuditDone {
@@ -47,7 +45,6 @@ pub fn audit_done(number: u64, undecided: u32, counts: Counts) -> Record
 pub fn repair_done(number: u64) -> Record
     ensures value { entry_of result ≡ RepairDone number }
     ensures in_grammar { IsInGrammar result }
-    ensures spelled { HasSpelling result }
 {
     Record::RepairDone { number }
 }
@@ -56,7 +53,6 @@ pub fn repair_done(number: u64) -> Record
 pub fn second_version() -> Record
     ensures value { entry_of result ≡ Version }
     ensures in_grammar { IsInGrammar result }
-    ensures spelled { HasSpelling result }
 {
     Record::Version
 }

@@ -2,7 +2,7 @@ ghost use Rattle.std.specs.Prelude.{◌≡◌, ◌<◌, ◌≤◌, ◌==◌, ℕ
 ghost use Rattle.record_defs.specs.Records.{Setup};
 ghost use Rattle.std.specs.Option.{option_map};
 ghost use Rattle.std.specs.List.{list_any};
-ghost use Rattle.record_codec.specs.Entries.{entry_of, HasSpelling, IsInGrammar};
+ghost use Rattle.record_codec.specs.Entries.{entry_of, IsInGrammar};
 ghost use Rattle.vault_core.specs.declared.pinned.Pinned.{Pinned as PinnedFile};
 ghost use Rattle.vault_core.specs.Coming.{seen_action, action_next, entry_of_job, written_as, is_last_ask, is_idle, is_move, provider_of};
 ghost use Rattle.vault_core.specs.Rest.{call_of, rest_of};
@@ -127,8 +127,6 @@ impl Job {
         ensures value { option_map entry_of result ≡ written_as table.now self.now.appends
             self.now.profile self.now.subject (sums_kept self.now) (aim_of_wish self.now.wish) }
         ensures there { has_append self.now.wish ≡ true → IsSome result }
-        ensures spelled { (n : ℕ) → 4 ≤ n → n ≤ 16 → IsSet n self.now
-            → IfSome result (λ entry. HasSpelling entry) }
         ensures in_grammar { (n : ℕ) → 4 ≤ n → n ≤ 16 → IsSet n self.now
             → IfSome result (λ entry. IsInGrammar entry) }
     {
@@ -161,8 +159,6 @@ impl Job {
             → option_map entry_of result ≡ entry_of_job s table.now (core_job self.now) }
         ensures there { (s : Setup) → IsJobKept s self.now
             → is_move (action_next s table.now (core_job self.now)) ≡ true → IsSome result }
-        ensures spelled { (n : ℕ) → 4 ≤ n → n ≤ 16 → IsSet n self.now
-            → IfSome result (λ entry. HasSpelling entry) }
         ensures in_grammar { (n : ℕ) → 4 ≤ n → n ≤ 16 → IsSet n self.now
             → IfSome result (λ entry. IsInGrammar entry) }
     {

@@ -10,7 +10,7 @@ ghost use Rattle.machine_defs.specs.Sights.{sight_of, is_shut};
 ghost use Rattle.machine_defs.specs.Refusals as refusal;
 ghost use Rattle.machine_defs.specs.Refusals.{first_refusal};
 ghost use Rattle.column_defs.specs.Verdicts.{Sums};
-ghost use Rattle.record_codec.specs.Entries.{entry_of, counted, HasSpelling, IsInGrammar, IsPadded};
+ghost use Rattle.record_codec.specs.Entries.{entry_of, counted, IsInGrammar, IsPadded};
 ghost use Rattle.vault_core.specs.View.{job_in, CoreJob, wants_in, is_open_stream};
 ghost use Rattle.vault_core.specs.Coming.{seen_next, waits_or_acts, next_in, left_in, entry_in, is_last_ask_of, called_provider, calls_disk};
 ghost use Rattle.vault_core.specs.Reserves.{Reserves};
@@ -62,7 +62,7 @@ impl Core {
         (self.setup, self.master)
     }
 
-    /// The table of the records in effect.
+    /// The table of the journal that the disk holds.
     pub fn table(&self) -> &Table
         ensures { result.now ≡ self.now.table }
     {
@@ -159,7 +159,6 @@ impl Core {
     fn writing(&self, job: u32) -> Option<Record>
         ensures value { option_map entry_of result ≡ entry_in self.now job }
         ensures there { calls_disk (next_in self.now job) ≡ true → IsSome result }
-        ensures spelled { IfSome result (λ entry. HasSpelling entry) }
         ensures in_grammar { IfSome result (λ entry. IsInGrammar entry) }
         ensures room { IfSome result (λ entry. self.now.end + (1 + record_size (entry_of entry)) ≤ 2 ^ 24) }
     {
@@ -173,7 +172,6 @@ impl Core {
         ensures there { calls_disk (next_in self.now job) ≡ true → IsSome result }
         ensures machine { (w : State) → CoreIs self.now w → wants_in self.now job ≡ None
             → IsEntryOf w job (option_map entry_of result) }
-        ensures spelled { IfSome result (λ entry. HasSpelling entry) }
         ensures in_grammar { IfSome result (λ entry. IsInGrammar entry) }
         ensures room { IfSome result (λ entry. self.now.end + (1 + record_size (entry_of entry)) ≤ 2 ^ 24) }
     {

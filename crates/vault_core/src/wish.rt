@@ -54,6 +54,8 @@ pub enum BeginFault {
     NewVersion,
     /// The records of this job find no room in the journal, or its number would come too near the last one.
     JournalFull,
+    /// The journal stands in the first area, and its text reaches into the second, which a pack would write.
+    PackTooLong,
     /// Memory ran out.
     Memory,
 }

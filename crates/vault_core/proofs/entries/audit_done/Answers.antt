@@ -1,4 +1,3 @@
-use Rattle.record_codec.proofs.Values.{has_spelling}
 use Rattle.vault_core.proofs.Grammar.{audit_done_in_grammar}
 use Rattle.vault_core.proofs.entries.audit_done.Goals as goal
 
@@ -7,6 +6,3 @@ returns-clause-in_grammar c =
     λ least most padded. audit_done_in_grammar c.args.number c.args.undecided c.args.counts
     c.ranges.number.fits c.ranges.undecided.fits least most padded
     c.fit.ensures
-
-pub returns-clause-spelled : goal.returns-clause-spelled
-returns-clause-spelled c = λ least most padded. has_spelling _ (returns-clause-in_grammar c least most padded)

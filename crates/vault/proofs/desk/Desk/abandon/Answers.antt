@@ -22,7 +22,7 @@ returns-clause-stands c = λ w d j S runs.
           item_at c.args.self.now.jobs.items c.args.job c.place_of-place.result c.remove-running.result
           c.place_of-place.ensures c.remove-running.ensures.value;
       jobs = c.remove-running.ensures.items;
-      keeps = record { setup = refl; master = refl; shape = refl };
+      keeps = record { setup = refl; master = refl; shape = refl; base = refl };
       flight = refl;
       stands = c.abandon.ensures.stands;
       gone = c.abandon.ensures.ended;
@@ -42,7 +42,7 @@ returns-clause-at_work c =
           item_at c.args.self.now.jobs.items c.args.job c.place_of-place.result c.remove-running.result
           c.place_of-place.ensures c.remove-running.ensures.value;
       jobs = c.remove-running.ensures.items;
-      keeps = record { setup = refl; master = refl; shape = refl };
+      keeps = record { setup = refl; master = refl; shape = refl; base = refl };
       flight = refl;
       stands = c.abandon.ensures.stands;
       gone = c.abandon.ensures.ended;

@@ -11,14 +11,14 @@ use Rattle.vault.proofs.desk.Desk.admit_stream.Goals as goal
 pub returns-then-is_err-clause-machine : goal.returns-then-is_err-clause-machine
 returns-then-is_err-clause-machine c = λ w d moment bytes stands spelled few is.
     refused c.args.self.now _ d w moment (PutJob c.args.name bytes) c.args.profile fault.Memory stands refl
-    c.reserve.ensures.items (record { setup = refl; master = refl; shape = refl }) refl
+    c.reserve.ensures.items (record { setup = refl; master = refl; shape = refl; base = refl }) refl
     (λ memory. absurd (memory refl))
 
 pub returns-in-Err-clause-machine : goal.returns-in-Err-clause-machine
 returns-in-Err-clause-machine c = λ w d moment bytes stands spelled few is.
     refused c.args.self.now _ d w moment (PutJob c.args.name bytes) c.args.profile c.in-Err.why stands
     c.in-Err.ensures.unchanged c.reserve.ensures.items
-    (record { setup = refl; master = refl; shape = refl }) refl
+    (record { setup = refl; master = refl; shape = refl; base = refl }) refl
     (c.in-Err.ensures.refused w bytes stands.core few)
 
 pub returns-in-Ok-clause-machine : goal.returns-in-Ok-clause-machine
@@ -36,4 +36,4 @@ returns-in-Ok-clause-machine c = λ w d moment bytes stands spelled few is.
     (record { within = omega arith; last = λ stripe e. absurd (omega (arith, e)) })
     (c.push_reserved.ensures.items
     ∙ ap (λ (l : List Running). l ++ running ∷ []) c.reserve.ensures.items)
-    (record { setup = refl; master = refl; shape = refl }) refl
+    (record { setup = refl; master = refl; shape = refl; base = refl }) refl

@@ -76,7 +76,7 @@ returns-clause-machine g c = λ w moment holds faults is_told stands.
     c.is_last_ask-is_last.ensures
     c.reply-reply.ensures
     refl
-    (record { setup = refl; master = refl; shape = refl })
+    (record { setup = refl; master = refl; shape = refl; base = refl })
     refl
     (record {
       step = c.feed.ensures.step;

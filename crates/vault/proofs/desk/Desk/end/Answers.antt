@@ -37,7 +37,7 @@ returns-clause-machine c = λ w moment d stands.
         step = c.feed.ensures.step;
         streams = record { setup = c.feed.ensures.setup; none = c.feed.ensures.streams; told = c.feed.ensures.told };
       };
-      keeps = record { setup = refl; master = refl; shape = refl };
+      keeps = record { setup = refl; master = refl; shape = refl; base = refl };
     })
 
 pub feed-requires-clause-reply : goal.feed-requires-clause-reply

@@ -49,7 +49,7 @@ returns-clause-machine g c = λ w moment holds faults is_told stands.
     c.requires.there))
     (map-set seen c.args.providers.now c.args.provider c.fetch.new.from)
     refl
-    (record { setup = refl; master = refl; shape = refl })
+    (record { setup = refl; master = refl; shape = refl; base = refl })
     refl
     (record {
       step = c.feed.ensures.step;

@@ -77,7 +77,7 @@ returns-clause-stands c =
       number_is = refl;
       takes = c.take-size.ensures.taken;
       jobs = refl;
-      keeps = record { setup = refl; master = refl; shape = refl };
+      keeps = record { setup = refl; master = refl; shape = refl; base = refl };
       flight = refl;
       total = c.length_with-length.result;
       total_is = total_with c.args.self.now c.args.job c.in-Some.stripe c.place_of-place.result
@@ -112,7 +112,7 @@ returns-clause-at_work c =
       number_is = refl;
       takes = c.take-size.ensures.taken;
       jobs = refl;
-      keeps = record { setup = refl; master = refl; shape = refl };
+      keeps = record { setup = refl; master = refl; shape = refl; base = refl };
       flight = refl;
       total = c.length_with-length.result;
       total_is = total_with c.args.self.now c.args.job c.in-Some.stripe c.place_of-place.result

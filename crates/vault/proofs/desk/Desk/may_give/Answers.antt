@@ -1,4 +1,4 @@
-use Rattle.std.proofs.Common.{ℕ, Some, ap, subst, ◌∙◌, arith}
+use Rattle.std.proofs.Common.{ℕ, Some, ap, sym, subst, ◌∙◌, arith}
 use Rattle.std.specs.Prelude.{is_some}
 use Rattle.vault.specs.Streams.{IsPiece}
 use Rattle.vault.proofs.JobPlaces.{item_at, place_within}
@@ -12,8 +12,8 @@ pub index-requires : goal.index-requires
 index-requires c =
     omega (arith, place_within c.args.self.now.jobs.items c.args.job _ c.place_of-place.ensures)
 
-pub returns : goal.returns
-returns c = λ yes.
+pub returns-clause-yes : goal.returns-clause-yes
+returns-clause-yes c = λ yes.
     subst (λ (x : ℕ). IsPiece x (Some c.args.stripe) c.args.count c.args.last)
     (c.piece_size-size.ensures
     ∙ size_there c.args.self.now c.args.job c.args.stripe c.place_of-place.result c.index.result.now
@@ -21,4 +21,15 @@ returns c = λ yes.
     (item_at c.args.self.now.jobs.items c.args.job c.place_of-place.result c.index.result.now
     c.place_of-place.ensures c.index.ensures)
     c.requires.at_work)
-    (c.is_piece.ensures yes)
+    (c.is_piece.ensures.yes yes)
+
+pub returns-clause-no : goal.returns-clause-no
+returns-clause-no c = λ no piece.
+    c.is_piece.ensures.no no
+    (subst (λ (x : ℕ). IsPiece x (Some c.args.stripe) c.args.count c.args.last)
+    (sym (c.piece_size-size.ensures
+    ∙ size_there c.args.self.now c.args.job c.args.stripe c.place_of-place.result c.index.result.now
+    c.requires.wants c.place_of-place.ensures
+    (item_at c.args.self.now.jobs.items c.args.job c.place_of-place.result c.index.result.now
+    c.place_of-place.ensures c.index.ensures)
+    c.requires.at_work)) piece)

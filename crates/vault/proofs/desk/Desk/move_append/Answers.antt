@@ -40,6 +40,7 @@ returns-in-On-clause-machine g c = λ w moment providers is_told stands.
       setup = keeps.setup;
       master = keeps.master;
       shape = keeps.shape;
+      base = keeps.base;
     })
     (fed_away c.args.self.now c.take_flight.new.self c.args.job reply.Done _ c.take_flight.ensures.rest
     (record {
@@ -62,6 +63,7 @@ returns-in-Done-clause-machine g c = λ w moment providers is_told stands.
       setup = keeps.setup;
       master = keeps.master;
       shape = keeps.shape;
+      base = keeps.base;
     })
     (fed_away c.args.self.now c.take_flight.new.self c.args.job reply.Done _ c.take_flight.ensures.rest
     (record {

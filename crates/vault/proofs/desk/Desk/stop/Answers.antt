@@ -24,7 +24,7 @@ returns-clause-stopped c =
         step = c.feed.ensures.step;
         streams = record { setup = c.feed.ensures.setup; none = c.feed.ensures.streams; told = c.feed.ensures.told };
       };
-      keeps = record { setup = refl; master = refl; shape = refl };
+      keeps = record { setup = refl; master = refl; shape = refl; base = refl };
     }
 
 pub returns-clause-acted : goal.returns-clause-acted

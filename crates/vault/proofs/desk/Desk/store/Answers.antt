@@ -64,7 +64,7 @@ returns-in-Ok-clause-machine g c = λ w moment holds faults is_told stands.
     c.requires.there))
     (map-set seen c.args.providers.now c.args.provider c.store.new.to)
     _ (stores_by is_told _ _ _ _ _ (was_stored _ _ _ _ _ _ _ c.in-Ok.is c.store.ensures.stored)) refl
-    (record { setup = refl; master = refl; shape = refl }) refl (record {
+    (record { setup = refl; master = refl; shape = refl; base = refl }) refl (record {
       step = c.feed.ensures.step;
       streams = record { setup = c.feed.ensures.setup; none = c.feed.ensures.streams; told = c.feed.ensures.told };
     })
@@ -84,7 +84,7 @@ returns-in-Err-Failed-clause-machine g c = λ w moment holds faults is_told stan
     (slice_get-get_or c.args.providers.now c.args.provider c.index-providers-index.result
     c.requires.there))
     (map-set seen c.args.providers.now c.args.provider c.store.new.to)
-    _ _ _ refl refl (record { setup = refl; master = refl; shape = refl }) refl
+    _ _ _ refl refl (record { setup = refl; master = refl; shape = refl; base = refl }) refl
     (fails_by is_told _ _
     (was_failed _ _ _ _ _ _ _ c.in-Err-Failed.is c.in-Err-Failed.field-0-is c.store.ensures.stored))
     c.stop.ensures.stopped
@@ -104,7 +104,7 @@ returns-in-Err-Memory-clause-machine g c = λ w moment holds faults is_told stan
     (slice_get-get_or c.args.providers.now c.args.provider c.index-providers-index.result
     c.requires.there))
     (map-set seen c.args.providers.now c.args.provider c.store.new.to)
-    _ _ _ refl refl (record { setup = refl; master = refl; shape = refl }) refl
+    _ _ _ refl refl (record { setup = refl; master = refl; shape = refl; base = refl }) refl
     (no_memory_by is_told _ _
     (found_no_memory _ _ _ _ _ _ _ c.in-Err-Memory.is c.in-Err-Memory.field-0-is c.store.ensures.stored))
     c.stop-in-Err-Memory.ensures.stopped

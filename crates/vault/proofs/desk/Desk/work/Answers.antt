@@ -42,7 +42,7 @@ returns-in-Ok-clause-machine c = λ w moment d stands.
     c.index_mut.result.now at there
     (record { number = c.index_mut.result.now.number; task = c.work.new.self }) refl
     _ _ _ c.in-Ok.is c.work.ensures refl
-    (record { setup = refl; master = refl; shape = refl }) refl (record {
+    (record { setup = refl; master = refl; shape = refl; base = refl }) refl (record {
       step = c.feed.ensures.step;
       streams = record { setup = c.feed.ensures.setup; none = c.feed.ensures.streams; told = c.feed.ensures.told };
     })
@@ -56,7 +56,7 @@ returns-in-Err-clause-machine c = λ w moment d stands.
     c.index_mut.result.now at there
     (record { number = c.index_mut.result.now.number; task = c.work.new.self }) refl
     _ _ _ _ _ _ c.in-Err.is refl c.work.ensures refl refl
-    (record { setup = refl; master = refl; shape = refl }) refl c.stop.ensures.stopped
+    (record { setup = refl; master = refl; shape = refl; base = refl }) refl c.stop.ensures.stopped
 
 pub index_mut-requires : goal.index_mut-requires
 index_mut-requires c =

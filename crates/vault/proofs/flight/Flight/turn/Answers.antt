@@ -6,10 +6,14 @@ returns-in-Ok-false-clause-made g c =
       e.next,
       e.gate,
       e.body,
-      λ rs r a. record { appends = e.moved rs r a; before = e.before rs r a; between = e.between rs r a },
+      λ area rs r a. record {
+        appends = e.moved area rs r a;
+        before = e.before area rs r a;
+        between = e.between area rs r a;
+      },
     )
 
 pub returns-in-Err-Failed-clause-made : goal.returns-in-Err-Failed-clause-made
 returns-in-Err-Failed-clause-made g c =
     let e = c.in-Err-Failed.ensures in
-    λ rs r a. record { before = e.before rs r a; between = e.between rs r a }
+    λ area rs r a. record { before = e.before area rs r a; between = e.between area rs r a }

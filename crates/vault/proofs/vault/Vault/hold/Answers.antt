@@ -33,7 +33,7 @@ invariant_of-self c =
     let few : length v.core.jobs ≤ 0 = omega (arith, c.running.ensures.value, c.if-running-gt0.false) in
     record {
       at_work = drawn_works v (record v { core = c.draw-number.new.self }) few
-          c.draw-number.ensures.drawn (record { setup = refl; master = refl; shape = refl }) refl refl
+          c.draw-number.ensures.drawn (record { setup = refl; master = refl; shape = refl; base = refl }) refl refl
           c.args.self.now.at_work;
     }
 
@@ -49,7 +49,7 @@ returns-clause-holds c = λ w d stands.
       record {
         held = refl;
         desk = drawn_stands v (record v { core = c.draw-number.new.self }) d w idle
-            c.draw-number.ensures.drawn (record { setup = refl; master = refl; shape = refl }) refl refl
+            c.draw-number.ensures.drawn (record { setup = refl; master = refl; shape = refl; base = refl }) refl refl
             stands.desk;
         idle = idle;
         unbarred = free;

@@ -15,4 +15,10 @@ returns-in-Some-clause-wants c = λ yes. ap is_some (sym c.in-Some.ensures)
 pub returns-in-Some-clause-piece : goal.returns-in-Some-clause-piece
 returns-in-Some-clause-piece c = λ yes.
     subst (λ (o : Option ℕ). IsPiece (stripe_of c.args.self.now c.args.job) o c.args.count c.args.last)
-    c.in-Some.ensures (c.may_give.ensures yes)
+    c.in-Some.ensures (c.may_give.ensures.yes yes)
+
+pub returns-in-Some-clause-refused : goal.returns-in-Some-clause-refused
+returns-in-Some-clause-refused c = λ no piece.
+    c.may_give.ensures.no no
+    (subst (λ (o : Option ℕ). IsPiece (stripe_of c.args.self.now c.args.job) o c.args.count c.args.last)
+    (sym c.in-Some.ensures) piece)

@@ -1,5 +1,5 @@
 use Rattle.std.proofs.Common.{◌≡◌, Ok, Err, refl, ap, arith, sym, subst}
-use Rattle.record_defs.proofs.Standing.{text_size-least}
+use Rattle.record_defs.proofs.Standing.{base-least}
 use Rattle.vault_core.specs.View.{CoreView, IsStreamless}
 use Rattle.vault_open.specs.declared.fault.StartFault.{StartFault}
 use Rattle.vault.proofs.Opened.{carries, stands, fresh_works}
@@ -9,13 +9,13 @@ use Rattle.std.proofs.lemmas.List.Elements.{All-nil}
 pub open_fresh-requires-clause-least : goal.open_fresh-requires-clause-least
 open_fresh-requires-clause-least g c =
     let r = c.in_ok-store.ensures.read in
-    omega (arith, r.2.end, text_size-least r.0)
+    omega (arith, r.3.end, base-least r.0)
 
 pub invariant_of-result : goal.invariant_of-result
 invariant_of-result g c =
     let r = c.in_ok-store.ensures.read in
     record {
-      at_work = fresh_works _ _ r.0 c.in_ok-store.store c.args.first c.in_ok-desk.desk r.1 r.2
+      at_work = fresh_works _ _ r.0 r.1 c.in_ok-store.store c.args.first c.in_ok-desk.desk r.2 r.3
           c.in_ok-desk.ensures.ok;
     }
 
@@ -24,9 +24,10 @@ returns-clause-opened g c =
     let r = c.in_ok-store.ensures.read in (
       r.0,
       r.1,
+      r.2,
       λ w providers j. record {
         free = refl;
-        desk = stands _ _ r.0 c.in_ok-store.store c.args.first c.in_ok-desk.desk r.1 r.2
+        desk = stands _ _ r.0 r.1 c.in_ok-store.store c.args.first c.in_ok-desk.desk r.2 r.3
             c.in_ok-desk.ensures.ok _ w providers j;
       },
     )
@@ -34,7 +35,7 @@ returns-clause-opened g c =
 pub returns-clause-carries : goal.returns-clause-carries
 returns-clause-carries g c =
     let r = c.in_ok-store.ensures.read in
-    carries _ _ r.0 c.in_ok-store.store c.args.first c.in_ok-desk.desk r.1 r.2 c.in_ok-desk.ensures.ok
+    carries _ _ r.0 r.1 c.in_ok-store.store c.args.first c.in_ok-desk.desk r.2 r.3 c.in_ok-desk.ensures.ok
 
 -- an answer is no refusal
 not_refused : {X : Type 0} (x : X) (why : StartFault) → Ok x ≡ Err why → ⊥

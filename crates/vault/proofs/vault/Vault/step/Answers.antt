@@ -127,7 +127,7 @@ returns-in-Waiting-clause-one_provider_call g c = λ j called.
 
 pub returns-in-Waiting-clause-waits : goal.returns-in-Waiting-clause-waits
 returns-in-Waiting-clause-waits g c = λ none. (
-  (record { core = refl; setup = refl; master = refl; flight = refl; jobs = refl }, refl),
+  (record { core = refl; setup = refl; master = refl; base = refl; flight = refl; jobs = refl }, refl),
   refl,
   refl,
 )
@@ -167,7 +167,7 @@ returns-in-NoSuchJob-clause-one_provider_call g c = λ j called.
 
 pub returns-in-NoSuchJob-clause-waits : goal.returns-in-NoSuchJob-clause-waits
 returns-in-NoSuchJob-clause-waits g c = λ none. (
-  (record { core = refl; setup = refl; master = refl; flight = refl; jobs = refl }, refl),
+  (record { core = refl; setup = refl; master = refl; base = refl; flight = refl; jobs = refl }, refl),
   refl,
   refl,
 )
@@ -207,7 +207,7 @@ returns-in-MustReopen-clause-one_provider_call g c = λ j called.
 
 pub returns-in-MustReopen-clause-waits : goal.returns-in-MustReopen-clause-waits
 returns-in-MustReopen-clause-waits g c = λ none. (
-  (record { core = refl; setup = refl; master = refl; flight = refl; jobs = refl }, refl),
+  (record { core = refl; setup = refl; master = refl; base = refl; flight = refl; jobs = refl }, refl),
   refl,
   refl,
 )

@@ -5,6 +5,7 @@ use Rattle.vault_core.specs.Carried.{CoreIs}
 use Rattle.vault_core.specs.Parts.{view_of}
 use Rattle.vault_core.specs.View.{CoreView}
 use Rattle.vault_core.specs.declared.wish.Wish.TheVariants as wish
+use Rattle.vault_core.proofs.Alike.{table-like}
 use Rattle.vault_core.proofs.Joins.{pins-are}
 use Rattle.vault_core.proofs.own.Core.all_pinned.Goals as goal
 
@@ -18,5 +19,6 @@ returns c = λ w is.
     let here : CoreIs (view_of c.before.self.inside) w =
     subst (λ (v : CoreView). CoreIs v w) (sym c.before.self.view_is) is in
     on_ok _ _
-    (λ pinned e. e ∙ pins-are c.before.self.inside.table w wish.Audit AuditJob here.table here.sound.files refl)
+    (λ pinned e. e ∙ pins-are c.before.self.inside.table w wish.Audit AuditJob
+    (table-like (view_of c.before.self.inside) w here) here.sound.files refl)
     c.pin_all.result c.pin_all.ensures

@@ -18,7 +18,7 @@ apply-requires c =
     let here = gate_here c.self.inside c.args.self.now c.args.place c.index.result.now c.self.view_is
     c.self.invariant c.index.ensures c.requires.gate in
     let n = providers (setup_kept c.self.inside) c.self.invariant.set_up in
-    (c.in-Some.ensures.spelled c.self.inside.setup.n n.0 n.1 here.kept.steady.stays).padded
+    (c.in-Some.ensures.in_grammar c.self.inside.setup.n n.0 n.1 here.kept.steady.stays).padded
 
 pub fail-requires : goal.fail-requires
 fail-requires c = (gate_here c.self.inside c.args.self.now c.args.place c.index.result.now c.self.view_is
@@ -45,7 +45,7 @@ size-requires c =
     let here = gate_here c.self.inside c.args.self.now c.args.place c.index.result.now c.self.view_is
     c.self.invariant c.index.ensures c.requires.gate in
     let n = providers (setup_kept c.self.inside) c.self.invariant.set_up in
-    c.in-Some.ensures.spelled c.self.inside.setup.n n.0 n.1 here.kept.steady.stays
+    c.in-Some.ensures.in_grammar c.self.inside.setup.n n.0 n.1 here.kept.steady.stays
 
 pub index_mut-job-requires : goal.index_mut-job-requires
 index_mut-job-requires c = let l = place_len c.self.inside c.args.place

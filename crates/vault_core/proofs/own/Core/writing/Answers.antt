@@ -22,11 +22,6 @@ returns-clause-there c = λ moves.
     (sym c.self.view_is)
     (moves-job c.args.self.now c.args.job _ (sym c.in_ok-running.ensures.found) moves))
 
-pub returns-clause-spelled : goal.returns-clause-spelled
-returns-clause-spelled c = c.entry_over.ensures.spelled c.args.self.now.setup.n
-    c.in_ok-running.ensures.providers.0 c.in_ok-running.ensures.providers.1
-    c.in_ok-running.ensures.kept.steady.stays
-
 pub returns-clause-in_grammar : goal.returns-clause-in_grammar
 returns-clause-in_grammar c = c.entry_over.ensures.in_grammar c.args.self.now.setup.n
     c.in_ok-running.ensures.providers.0 c.in_ok-running.ensures.providers.1

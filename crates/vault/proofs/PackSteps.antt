@@ -1,0 +1,588 @@
+-- A pack of the journal is one of the machine.
+use Rattle.std.proofs.Common.{◌≡◌, ◌⊎◌, ℕ, zero, suc, ◌+◌, ◌<◌, ◌≤◌, ◌==◌, Bool, true, false, List, Option, Some, None, refl, sym, ap, ◌∙◌, subst, inl, inr, arith}
+use Rattle.std.specs.Prelude.{IfSome}
+use Rattle.std.proofs.Math.Logic.{∥∥₁_map}
+use Rattle.std.proofs.lemmas.Bool.{false≢true, eq-eqb}
+use Rattle.algebra_laws.proofs.Options.{some-not-none}
+use Rattle.device_defs.specs.Cells.{Cells}
+use Rattle.device_defs.specs.Faults.{Rose}
+use Rattle.device_defs.specs.Providers.{Provider}
+use Rattle.record_defs.specs.Records.{Record}
+use Rattle.record_defs.specs.Areas.{Area, other_area, text_length}
+use Rattle.record_defs.specs.Packed.{packed}
+use Rattle.machine_defs.specs.Alone as machine
+use Rattle.machine_defs.specs.Alone.{is_too_long, pack_refusal, new_pack, packing, switching, switched, unalone, barred_pack}
+use Rattle.machine_defs.specs.Answers as answers
+use Rattle.machine_defs.specs.Events.{Outcome, Step, More, Ended}
+use Rattle.machine_defs.specs.Machine.{Happens}
+use Rattle.machine_defs.specs.States as states
+use Rattle.machine_defs.specs.States.{State, Alone, Packing, setup_in}
+use Rattle.machine_defs.specs.Steps.{StepsMine, StepsOne, StepsOpen, Steps}
+use Rattle.state_laws.specs.Sound.{IsSound}
+use Rattle.state_laws.proofs.Aside.{alone-sound}
+use Rattle.state_laws.proofs.Packs.{journal-same}
+use Rattle.journal_core.specs.Moves.{IsWrite}
+use Rattle.journal_core.specs.Texts.{StandsFirm, AllStandIn, MayStandIn}
+use Rattle.journal_pack.specs.declared.pack.Pack.{Pack}
+use Rattle.journal_pack.specs.Packs.{to_of, text_of, moves_of, Packs}
+use Rattle.opening_defs.specs.Opened.{AreHanded}
+use Rattle.vault_core.specs.Carried.{IsCoreFlight}
+use Rattle.vault_core.specs.View.{CoreView}
+use Rattle.vault_open.specs.Devices.{Devices, devices, AreDevices}
+use Rattle.vault_open.proofs.Images.{all-shown, switched-shown, firm-shown, shown-again}
+use Rattle.vault.specs.declared.desk.Desk.{Desk}
+use Rattle.vault.specs.declared.flight.Flight.{Flight}
+use Rattle.vault.specs.declared.packing.PackJob.{PackJob}
+use Rattle.vault.specs.declared.packing.PackAnswer.TheVariants as answer
+use Rattle.vault.specs.declared.packing.PackTurn.TheVariants as turn
+use Rattle.vault.specs.declared.vault.Vault.{Vault}
+use Rattle.vault.specs.Desks.{DeskStands, IsAtWork, IsFlight}
+use Rattle.vault.specs.Devices.{cells_by}
+use Rattle.vault.specs.Packing.{plain, IsQuiet, IsPackOf, StandsPacking, MakesPackStep}
+use Rattle.vault.proofs.Aside.{aside, unalone-is, plain-sound, again, none-flies}
+use Rattle.vault.proofs.Switching.{idle, clear}
+use Rattle.vault.proofs.Ways.{handed_same}
+use Rattle.machine_defs.proofs.JobLists.{found_none}
+
+-- ---- the moves
+
+-- a move that was made
+pub record IsTurned (p q : Pack) (old new : Option Cells) : Type 0 where
+  pub next : moves_of q ≡ moves_of p + 1
+  pub to : to_of q ≡ to_of p
+  pub text : text_of q ≡ text_of p
+  pub moved : (area : Area) (rs qs : List Record) → Packs area rs qs p old → Packs area rs qs q new
+  pub before : (area : Area) (rs qs : List Record) → Packs area rs qs p old → moves_of p < 2
+      → AllStandIn area rs new
+  pub between : (area : Area) (rs qs : List Record) → Packs area rs qs p old → MayStandIn area rs qs new
+  pub after : (area : Area) (rs qs : List Record) → Packs area rs qs p old → moves_of q ≡ 4
+      → AllStandIn (other_area area) qs new
+  pub ready : (area : Area) (rs qs : List Record) → Packs area rs qs p old → moves_of q ≡ 4
+      → IfSome new (StandsFirm (other_area area) qs)
+
+-- a move that failed
+pub record IsTorn (p : Pack) (old new : Option Cells) : Type 0 where
+  pub before : (area : Area) (rs qs : List Record) → Packs area rs qs p old → moves_of p < 2
+      → AllStandIn area rs new
+  pub between : (area : Area) (rs qs : List Record) → Packs area rs qs p old → MayStandIn area rs qs new
+
+-- a write that found no memory
+pub record IsUnwritten (p : Pack) (old new : Option Cells) : Type 0 where
+  pub write : IsWrite (moves_of p)
+  pub kept : (area : Area) (rs qs : List Record) → Packs area rs qs p old → IfSome new (StandsFirm area rs)
+
+-- what they show holds of a disk that tells nothing
+pub turned_by : (is_told : Bool) (p q : Pack) (old new : Option Cells) → IsTurned p q old new
+    → IsTurned p q (cells_by is_told old) (cells_by is_told new)
+turned_by true p q old new t = t
+turned_by false p q old new t = record {
+  next = t.next;
+  to = t.to;
+  text = t.text;
+  moved = λ area rs qs on. record {
+    writes = record { to = t.to ∙ on.writes.to; text = t.text ∙ on.writes.text };
+    in_grammar = on.in_grammar;
+    apart = on.apart;
+    disk = tt;
+  };
+  before = λ area rs qs on few. tt;
+  between = λ area rs qs on. tt;
+  after = λ area rs qs on four. tt;
+  ready = λ area rs qs on four. tt;
+}
+
+pub torn_by : (is_told : Bool) (p : Pack) (old new : Option Cells) → IsTorn p old new
+    → IsTorn p (cells_by is_told old) (cells_by is_told new)
+torn_by true p old new t = t
+torn_by false p old new t = record { before = λ area rs qs on few. tt; between = λ area rs qs on. tt }
+
+pub unwritten_by : (is_told : Bool) (p : Pack) (old new : Option Cells) → IsUnwritten p old new
+    → IsUnwritten p (cells_by is_told old) (cells_by is_told new)
+unwritten_by true p old new t = t
+unwritten_by false p old new t = record { write = t.write; kept = λ area rs qs on. tt }
+
+-- ---- a core that is barred
+
+barred_flight : (c : CoreView) (o : Option states.Append) → IsCoreFlight c o →
+    IsCoreFlight (record c { barred = true }) o
+barred_flight c None is = is
+barred_flight c (Some a) is = is
+
+-- a desk that is barred stands for the barred state
+again_barred : (v v' : Desk) (w : State) (d e : Devices) (before now : Bool) (old faults : ℕ)
+    → DeskStands v d (aside w before old) → v' ≡ record v { core = record v.core { barred = true } }
+    → IsSound 8 (record (aside w now faults) { is_barred = true })
+    → AreDevices e (record (aside w now faults) { is_barred = true })
+    → DeskStands v' e (record (aside w now faults) { is_barred = true })
+unfolding setup_in
+again_barred v v' w d e before now old faults S is sound devices =
+    subst (λ (x : Desk). DeskStands x e (record (aside w now faults) { is_barred = true })) (sym is) (record {
+      devices = devices;
+      core = record {
+        sound = sound;
+        is_open = S.core.is_open;
+        none_alone = refl;
+        table = S.core.table;
+        setup = S.core.setup;
+        end = S.core.end;
+        jobs = S.core.jobs;
+        next_job = S.core.next_job;
+        append = barred_flight v.core w.append S.core.append;
+        barred = refl;
+      };
+      base = S.base;
+      setup = S.setup;
+      shaped = record { n = S.shaped.n; l = S.shaped.l; b = S.shaped.b };
+      jobs = S.jobs;
+      streams = S.streams;
+      flight = λ free. absurd (false≢true (sym free));
+    })
+
+-- a sound state with no append in flight is sound where no job goes on
+barred-sound : (w : State) → w.is_open ≡ true → w.append ≡ None → IsSound 8 w
+    → IsSound 8 (record w { is_barred = true })
+unfolding setup_in
+barred-sound w opened clear S = record {
+  accepted = S.accepted;
+  spelled = S.spelled;
+  journal = journal-same w (record w { is_barred = true }) refl refl refl S.journal;
+  room = S.room;
+  files = S.files;
+  names = S.names;
+  ids = S.ids;
+  audits = S.audits;
+  closed = λ closed. absurd (false≢true (sym closed ∙ opened));
+  set_up = S.set_up;
+  handed = S.handed;
+  few = S.few;
+  numbered = S.numbered;
+  jobs = S.jobs;
+  in_journal = S.in_journal;
+  lone = S.lone;
+  packing = S.packing;
+  switching = λ e. (let s = S.switching e in record {
+    version = s.version;
+    undoubted = s.undoubted;
+    jobs = s.jobs;
+    packing = λ o free. absurd (false≢true (sym free));
+  });
+  upgrade = S.upgrade;
+  one_check = S.one_check;
+  apart = S.apart;
+  append = λ a h. absurd (some-not-none w.append a h clear);
+  barred = λ b. clear;
+  undoubted = λ o free. absurd (false≢true (sym free));
+  doubt = S.doubt;
+}
+
+-- a quiet desk that is barred goes on to be at work
+pub barred-works : (v v' : Desk) → IsQuiet v → v' ≡ record v { core = record v.core { barred = true } }
+    → IsAtWork v → IsAtWork v'
+barred-works v v' quiet is at = λ rest bytes.
+    ∥∥₁_map (at rest bytes) (λ x.
+    let w = x.0 in
+    let d = devices None x.1 x.2 in
+    let S = x.3 in
+    let none = idle v quiet w d S in (
+      record (aside w w.is_switching w.disk_faults) { is_barred = true },
+      x.1,
+      x.2,
+      again_barred v v' w d d w.is_switching w.is_switching w.disk_faults w.disk_faults
+          (subst (λ (y : State). DeskStands v d y) (unalone-is w S.core.none_alone) S) is
+          (barred-sound (aside w w.is_switching w.disk_faults) S.core.is_open (clear v quiet w d S)
+          (subst (IsSound 8) (unalone-is w S.core.none_alone) S.core.sound))
+          (record {
+            images = tt;
+            faults = S.devices.faults;
+            providers = handed_same x.2 w (record (aside w w.is_switching w.disk_faults) { is_barred = true })
+                S.devices.providers refl (λ j. refl);
+          }),
+      λ number stripes job told runs. absurd (found_none w.jobs number job none runs),
+    ))
+
+-- where nothing is in flight and no append is, the disk has the journal
+pub lies : (f : Option Flight) (o : Option states.Append) (area : Area)
+    (rs : List Record) (told : Option Cells) → f ≡ None → o ≡ None → IfSome told (StandsFirm area rs)
+    → IsFlight f o area rs told
+lies f o area rs told none clear firm = rw (none, clear) firm
+
+-- a pack that made a move, not the fourth, is one of the vault as before
+pub pack-on : (v : Vault) (job next : PackJob) → IsPackOf v job → next.number ≡ job.number
+    → to_of next.pack ≡ to_of job.pack → text_of next.pack ≡ text_of job.pack → moves_of job.pack < 4
+    → IsPackOf v next
+pack-on v job next is number to text few = record {
+  held = is.held ∙ ap Some (sym number);
+  quiet = is.quiet;
+  text = λ l. record {
+    writes = λ area base. (let on = (is.text few).writes area base in
+        record { to = to ∙ on.to; text = text ∙ on.text });
+    version = (is.text few).version;
+  };
+}
+
+-- ---- steps
+
+module _ (v : Vault) (job : PackJob) (w : State) (told : Option Cells) (faults : ℕ) (ps : List Provider)
+    (S : StandsPacking v job (devices told faults ps) w) where
+  opened : w.is_open ≡ true
+  opened = S.beside.desk.core.is_open
+
+  mine : (S.pack.number == job.number) ≡ true
+  mine = eq-eqb S.pack.number job.number (sym S.number_is)
+
+  -- a step of the pack is one of the machine
+  happens : (outcome : Outcome) (new : State) → machine.Packs w S.pack S.pack.moves outcome new
+      → (limit moment : ℕ) → Happens limit moment w (Step job.number) outcome new
+  happens outcome new packs limit moment =
+      subst (λ (b : Bool). Steps w job.number b outcome new) (sym opened)
+      (subst (λ (b : Bool). StepsOpen w job.number b outcome new) (sym S.beside.unbarred)
+      (subst (λ (o : Option Alone). StepsOne w job.number o outcome new) (sym S.alone)
+      (subst (λ (b : Bool). StepsMine w job.number (Packing S.pack) b outcome new) (sym mine) packs)))
+
+  sound : (outcome : Outcome) (new : State) → machine.Packs w S.pack S.pack.moves outcome new → IsSound 8 new
+  sound outcome new packs = alone-sound 8 w S.sound opened S.beside.unbarred S.beside.idle (Packing S.pack)
+      outcome new S.alone packs
+
+  handed : (new : State) → new.handed ≡ w.handed → ((j : ℕ) → new.providers j ≡ w.providers j)
+      → AreHanded ps new
+  handed new same each = handed_same ps w new S.devices.providers same each
+
+  none : w.append ≡ None
+  none = none-flies w S.beside.idle S.sound
+
+  on_way : moves_of job.pack < 4 → Packs w.area w.journal (packed w.journal) job.pack told
+  on_way few = S.on_way few
+
+  -- the desk stands for the state without the pack, with another count of faults
+  beside : (faults' : ℕ) → IsSound 8 (aside w false faults')
+      → DeskStands v.desk (devices None faults' ps) (aside w false faults')
+  beside faults' fine =
+      again v.desk w (devices None faults ps) (devices None faults' ps) false false w.disk_faults faults'
+      S.beside.desk fine
+      (record { images = tt; faults = refl; providers = handed (aside w false faults') refl (λ j. refl) })
+      S.beside.desk.flight
+
+  -- ---- a move is made
+
+  module _ (next : PackJob) (told' : Option Cells) (faults' : ℕ) (number_is : next.number ≡ job.number)
+      (before_is : next.before ≡ job.before) (t : IsTurned job.pack next.pack told told')
+      (falls_not : faults ≤ faults') where
+    low : w.disk_faults ≤ faults'
+    low = subst (λ (n : ℕ). n ≤ faults') (sym S.devices.faults) falls_not
+
+    moves : moves_of next.pack ≡ S.pack.moves + 1
+    moves = t.next ∙ ap (λ (k : ℕ). k + 1) S.moves_are
+
+    -- the first or the second
+    pub goes_first : moves_of job.pack < 2 → IsPackOf v next
+        → MakesPackStep w job.number (turn.More next) v (devices told' faults' ps)
+    goes_first few is_of =
+        let new : State = record (packing w S.pack) { disk_faults = faults' } in
+        let made : machine.Packs w S.pack S.pack.moves More new =
+        by S.pack.moves (subst (λ (k : ℕ). k < 2) S.moves_are few) in
+        let fine = sound More new made in
+        record {
+          state = new;
+          happens = happens More new made;
+          stands = record {
+            pack = record S.pack { moves = S.pack.moves + 1 };
+            alone = refl;
+            number_is = number_is ∙ S.number_is;
+            before_is = before_is ∙ S.before_is;
+            moves_are = moves;
+            is_of = is_of;
+            sound = fine;
+            devices = record {
+              images = all-shown told' new w.area w.journal refl refl
+                  (t.before w.area w.journal (packed w.journal) (on_way (omega (arith, few))) few);
+              faults = refl;
+              providers = handed new refl (λ j. refl);
+            };
+            beside = record {
+              held = is_of.held;
+              desk = beside faults' (plain-sound new fine);
+              idle = S.beside.idle;
+              unbarred = S.beside.unbarred;
+            };
+            on_way = λ l. t.moved w.area w.journal (packed w.journal) (on_way (omega (arith, few)));
+            switching = λ three. absurd (let n = t.next in omega (arith, three, n, few));
+            made = λ four. absurd (let n = t.next in omega (arith, four, n, few));
+          };
+        }
+      where
+        by : (k : ℕ) → k < 2
+            → machine.Packs w S.pack k More (record (packing w S.pack) { disk_faults = faults' })
+        by zero l = (faults', low, refl)
+        by (suc zero) l = (faults', low, refl)
+        by (suc (suc k)) l = absurd (omega (arith, l))
+
+    -- the third
+    pub goes_third : moves_of job.pack ≡ 2 → IsPackOf v next
+        → MakesPackStep w job.number (turn.More next) v (devices told' faults' ps)
+    goes_third two is_of =
+        let new : State = record (switching (packing w S.pack)) { disk_faults = faults' } in
+        let made : machine.Packs w S.pack S.pack.moves More new =
+        subst (λ (k : ℕ). machine.Packs w S.pack k More new) (sym two ∙ S.moves_are) (faults', low, refl) in
+        let fine = sound More new made in
+        record {
+          state = new;
+          happens = happens More new made;
+          stands = record {
+            pack = record S.pack { moves = S.pack.moves + 1 };
+            alone = refl;
+            number_is = number_is ∙ S.number_is;
+            before_is = before_is ∙ S.before_is;
+            moves_are = moves;
+            is_of = is_of;
+            sound = fine;
+            devices = record {
+              images = switched-shown told' new w.area w.journal refl refl refl
+                  (t.between w.area w.journal (packed w.journal) (on_way (omega (arith, two))));
+              faults = refl;
+              providers = handed new refl (λ j. refl);
+            };
+            beside = record {
+              held = is_of.held;
+              desk = beside faults' (plain-sound new fine);
+              idle = S.beside.idle;
+              unbarred = S.beside.unbarred;
+            };
+            on_way = λ l. t.moved w.area w.journal (packed w.journal) (on_way (omega (arith, two)));
+            switching = λ three. refl;
+            made = λ four. absurd (let n = t.next in omega (arith, four, n, two));
+          };
+        }
+
+    -- the fourth, with which the packed journal is that of the vault
+    pub goes_fourth : moves_of job.pack ≡ 3 → (v' : Vault) → IsPackOf v' next
+        → DeskStands v'.desk (devices None faults ps) (switched (plain w))
+        → MakesPackStep w job.number (turn.More next) v' (devices told' faults' ps)
+    goes_fourth three v' is_of desk =
+        let new : State = record (switched (packing w S.pack)) { disk_faults = faults' } in
+        let made : machine.Packs w S.pack S.pack.moves More new =
+        subst (λ (k : ℕ). machine.Packs w S.pack k More new) (sym three ∙ S.moves_are) (faults', low, refl) in
+        let fine = sound More new made in
+        let on = on_way (omega (arith, three)) in
+        let four : moves_of next.pack ≡ 4 = (let n = t.next in omega (arith, n, three)) in
+        record {
+          state = new;
+          happens = happens More new made;
+          stands = record {
+            pack = record S.pack { moves = S.pack.moves + 1 };
+            alone = refl;
+            number_is = number_is ∙ S.number_is;
+            before_is = before_is ∙ S.before_is;
+            moves_are = moves;
+            is_of = is_of;
+            sound = fine;
+            devices = record {
+              images = all-shown told' new (other_area w.area) (packed w.journal) refl refl
+                  (t.after w.area w.journal (packed w.journal) on four);
+              faults = refl;
+              providers = handed new refl (λ j. refl);
+            };
+            beside = record {
+              held = is_of.held;
+              desk = again v'.desk (switched w) (devices None faults ps) (devices None faults' ps) false false
+                  w.disk_faults faults' desk (plain-sound new fine)
+                  (record { images = tt; faults = refl; providers = handed (plain new) refl (λ j. refl) })
+                  desk.flight;
+              idle = S.beside.idle;
+              unbarred = S.beside.unbarred;
+            };
+            on_way = λ l. absurd (omega (arith, l, four));
+            switching = λ so. absurd (omega (arith, so, four));
+            made = λ so. (
+              t.ready w.area w.journal (packed w.journal) on four,
+              record { to = t.to ∙ on.writes.to; text = t.text ∙ on.writes.text },
+            );
+          };
+        }
+
+  -- ---- its end
+
+  -- all moves are made
+  pub ends_made : moves_of job.pack ≡ 4 → (v' : Vault) (after : ℕ) → v'.held ≡ None → v'.desk ≡ v.desk
+      → after ≡ text_length w.area w.journal
+      → MakesPackStep w job.number (turn.Done (answer.Packed job.before after)) v' (devices told faults ps)
+  ends_made four v' after free same size =
+      let made : machine.Packs w S.pack S.pack.moves (Ended (answers.Packed job.before after)) (unalone w) =
+      subst (λ (k : ℕ). machine.Packs w S.pack k (Ended (answers.Packed job.before after)) (unalone w))
+      (sym four ∙ S.moves_are) (S.before_is, size, refl) in
+      record {
+        state = unalone w;
+        happens = happens (Ended (answers.Packed job.before after)) (unalone w) made;
+        stands = record {
+          free = free;
+          desk = subst (λ (x : Desk). DeskStands x (devices told faults ps) (unalone w)) (sym same)
+              (again v.desk w (devices None faults ps) (devices told faults ps) false w.is_switching w.disk_faults
+              w.disk_faults S.beside.desk (sound (Ended (answers.Packed job.before after)) (unalone w) made)
+              (record {
+                images = shown-again told w (unalone w) refl refl refl refl S.devices.images;
+                faults = S.devices.faults;
+                providers = handed (unalone w) refl (λ j. refl);
+              })
+              (λ unbarred. lies v.desk.flight w.append w.area w.journal told S.is_of.quiet.flight none
+              (S.made four).0));
+        };
+      }
+
+  module _ (told' : Option Cells) (faults' : ℕ) (v' : Vault) (free : v'.held ≡ None) (falls_not : faults ≤ faults')
+    where
+      fallen : w.disk_faults ≤ faults'
+      fallen = subst (λ (n : ℕ). n ≤ faults') (sym S.devices.faults) falls_not
+
+      -- a write found no memory
+      pub ends_unwritten : IsUnwritten job.pack told told' → moves_of job.pack < 4 → v'.desk ≡ v.desk
+          → MakesPackStep w job.number (turn.Done answer.Memory) v' (devices told' faults' ps)
+      ends_unwritten t few same =
+          let new : State = record (unalone w) { disk_faults = faults' } in
+          let made : machine.Packs w S.pack S.pack.moves (Ended answers.Memory) new =
+          elim t.write [
+            | inl none ↦ subst (λ (k : ℕ). machine.Packs w S.pack k (Ended answers.Memory) new)
+                (sym none ∙ S.moves_are) (faults', fallen, refl)
+            | inr two ↦ subst (λ (k : ℕ). machine.Packs w S.pack k (Ended answers.Memory) new)
+                (sym two ∙ S.moves_are) (faults', fallen, refl)
+          ] in
+          let kept = t.kept w.area w.journal (packed w.journal) (on_way few) in
+          record {
+            state = new;
+            happens = happens (Ended answers.Memory) new made;
+            stands = record {
+              free = free;
+              desk = subst (λ (x : Desk). DeskStands x (devices told' faults' ps) new) (sym same)
+                  (again v.desk w (devices None faults ps) (devices told' faults' ps) false w.is_switching
+                  w.disk_faults faults' S.beside.desk (sound (Ended answers.Memory) new made)
+                  (record {
+                    images = firm-shown told' new w.area w.journal refl refl kept;
+                    faults = refl;
+                    providers = handed new refl (λ j. refl);
+                  })
+                  (λ unbarred. lies v.desk.flight w.append w.area w.journal told' S.is_of.quiet.flight none kept));
+            };
+          }
+
+      module _ (t : IsTorn job.pack told told') (rose : Rose faults faults')
+          (barred : v'.desk ≡ record v.desk { core = record v.desk.core { barred = true } }) where
+        risen : Rose w.disk_faults faults'
+        risen = subst (λ (n : ℕ). Rose n faults') (sym S.devices.faults) rose
+
+        -- the first or the second move failed
+        pub fails_first : moves_of job.pack < 2
+            → MakesPackStep w job.number (turn.Done answer.DiskFault) v' (devices told' faults' ps)
+        fails_first few =
+            let new : State = record (barred_pack w) { disk_faults = faults' } in
+            let made : machine.Packs w S.pack S.pack.moves (Ended answers.DiskFault) new =
+            by S.pack.moves (subst (λ (k : ℕ). k < 2) S.moves_are few) in
+            record {
+              state = new;
+              happens = happens (Ended answers.DiskFault) new made;
+              stands = record {
+                free = free;
+                desk = again_barred v.desk v'.desk w (devices None faults ps) (devices told' faults' ps) false
+                    w.is_switching w.disk_faults faults' S.beside.desk barred
+                    (sound (Ended answers.DiskFault) new made)
+                    (record {
+                      images = all-shown told' new w.area w.journal refl refl
+                          (t.before w.area w.journal (packed w.journal) (on_way (omega (arith, few))) few);
+                      faults = refl;
+                      providers = handed new refl (λ j. refl);
+                    });
+              };
+            }
+          where
+            by : (k : ℕ) → k < 2 → machine.Packs w S.pack k (Ended answers.DiskFault)
+                (record (barred_pack w) { disk_faults = faults' })
+            by zero l = (faults', fallen, risen, refl)
+            by (suc zero) l = (faults', fallen, risen, refl)
+            by (suc (suc k)) l = absurd (omega (arith, l))
+
+        -- the third
+        pub fails_third : moves_of job.pack ≡ 2
+            → MakesPackStep w job.number (turn.Done answer.DiskFault) v' (devices told' faults' ps)
+        fails_third two =
+            let new : State = record (switching (barred_pack w)) { disk_faults = faults' } in
+            let made : machine.Packs w S.pack S.pack.moves (Ended answers.DiskFault) new =
+            subst (λ (k : ℕ). machine.Packs w S.pack k (Ended answers.DiskFault) new) (sym two ∙ S.moves_are)
+            (faults', fallen, risen, refl) in
+            record {
+              state = new;
+              happens = happens (Ended answers.DiskFault) new made;
+              stands = record {
+                free = free;
+                desk = again_barred v.desk v'.desk w (devices None faults ps) (devices told' faults' ps) false
+                    true w.disk_faults faults' S.beside.desk barred (sound (Ended answers.DiskFault) new made)
+                    (record {
+                      images = switched-shown told' new w.area w.journal refl refl refl
+                          (t.between w.area w.journal (packed w.journal) (on_way (omega (arith, two))));
+                      faults = refl;
+                      providers = handed new refl (λ j. refl);
+                    });
+              };
+            }
+
+        -- the fourth
+        pub fails_fourth : moves_of job.pack ≡ 3
+            → MakesPackStep w job.number (turn.Done answer.DiskFault) v' (devices told' faults' ps)
+        fails_fourth three =
+            let new : State = record (barred_pack w) { disk_faults = faults' } in
+            let made : machine.Packs w S.pack S.pack.moves (Ended answers.DiskFault) new =
+            subst (λ (k : ℕ). machine.Packs w S.pack k (Ended answers.DiskFault) new) (sym three ∙ S.moves_are)
+            (faults', fallen, risen, refl) in
+            record {
+              state = new;
+              happens = happens (Ended answers.DiskFault) new made;
+              stands = record {
+                free = free;
+                desk = again_barred v.desk v'.desk w (devices None faults ps) (devices told' faults' ps) false
+                    w.is_switching w.disk_faults faults' S.beside.desk barred
+                    (sound (Ended answers.DiskFault) new made)
+                    (record {
+                      images = switched-shown told' new w.area w.journal refl refl (S.switching three)
+                          (t.between w.area w.journal (packed w.journal) (on_way (omega (arith, three))));
+                      faults = refl;
+                      providers = handed new refl (λ j. refl);
+                    });
+              };
+            }
+
+-- ---- all moves of one kind
+
+-- how many moves are made
+pub few_moves : (n : ℕ) → n < 4 → (n < 2) ⊎ ((n ≡ 2) ⊎ (n ≡ 3))
+few_moves zero l = inl (omega arith)
+few_moves (suc zero) l = inl (omega arith)
+few_moves (suc (suc zero)) l = inr (inl refl)
+few_moves (suc (suc (suc zero))) l = inr (inr refl)
+few_moves (suc (suc (suc (suc n)))) l = absurd (omega (arith, l))
+
+-- a move that failed
+pub fails : (v : Vault) (job : PackJob) (w : State) (told : Option Cells) (faults : ℕ) (ps : List Provider)
+    (S : StandsPacking v job (devices told faults ps) w) (told' : Option Cells) (faults' : ℕ) (v' : Vault)
+    → v'.held ≡ None → faults ≤ faults' → IsTorn job.pack told told' → Rose faults faults'
+    → v'.desk ≡ record v.desk { core = record v.desk.core { barred = true } } → moves_of job.pack < 4
+    → MakesPackStep w job.number (turn.Done answer.DiskFault) v' (devices told' faults' ps)
+fails v job w told faults ps S told' faults' v' free falls_not t rose barred few =
+    elim (few_moves (moves_of job.pack) few) [
+      | inl first ↦
+          fails_first v job w told faults ps S told' faults' v' free falls_not t rose barred first
+      | inr (inl two) ↦
+          fails_third v job w told faults ps S told' faults' v' free falls_not t rose barred two
+      | inr (inr three) ↦
+          fails_fourth v job w told faults ps S told' faults' v' free falls_not t rose barred three
+    ]
+
+-- a move behind which the fourth is not made
+pub goes : (v : Vault) (job : PackJob) (w : State) (told : Option Cells) (faults : ℕ) (ps : List Provider)
+    (S : StandsPacking v job (devices told faults ps) w) (next : PackJob) (told' : Option Cells) (faults' : ℕ)
+    → next.number ≡ job.number → next.before ≡ job.before → IsTurned job.pack next.pack told told'
+    → faults ≤ faults' → moves_of job.pack < 3 → IsPackOf v next
+    → MakesPackStep w job.number (turn.More next) v (devices told' faults' ps)
+goes v job w told faults ps S next told' faults' number before t falls_not few is_of =
+    elim (few_moves (moves_of job.pack) (omega (arith, few))) [
+      | inl first ↦
+          goes_first v job w told faults ps S next told' faults' number before t falls_not first is_of
+      | inr (inl two) ↦
+          goes_third v job w told faults ps S next told' faults' number before t falls_not two is_of
+      | inr (inr three) ↦ absurd (omega (arith, few, three))
+    ]

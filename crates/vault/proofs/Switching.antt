@@ -1,0 +1,142 @@
+-- A desk whose packed journal takes the place of its journal.
+use Rattle.std.proofs.Common.{◌≡◌, ℕ, ◌≤◌, true, false, List, [], length, None, refl, sym, ap, ◌∙◌, subst, arith, sum_by}
+use Rattle.std.proofs.Math.Logic.{∥∥₁_map}
+use Rattle.std.specs.Prelude.{IfSome, IsTrue}
+use Rattle.std.specs.List.{list_all}
+use Rattle.std.proofs.lemmas.Bool.{false≢true}
+use Rattle.algebra_laws.proofs.Options.{some-not-none}
+use Rattle.record_defs.specs.Records.{Record, is_in_grammar}
+use Rattle.record_defs.specs.Areas.{Area, other_area, end_in}
+use Rattle.record_defs.specs.Packed.{packed}
+use Rattle.record_defs.specs.Table.{version_of}
+use Rattle.packed_laws.proofs.Spelled.{packed-spelled}
+use Rattle.machine_defs.specs.Alone.{switched}
+use Rattle.machine_defs.specs.Space.{reserved}
+use Rattle.machine_defs.specs.States.{State, setup_in}
+use Rattle.machine_defs.proofs.JobLists.{found_none}
+use Rattle.state_laws.specs.Sound.{IsSound}
+use Rattle.state_laws.proofs.Packs.{journal-packed, switched-room}
+use Rattle.journal_core.specs.Texts.{StandsFirm}
+use Rattle.journal_pack.specs.declared.pack.Pack.{Pack}
+use Rattle.journal_pack.specs.Packs.{to_of, WritesText}
+use Rattle.journal_pack.proofs.Tabled.{packed-folds}
+use Rattle.vault_core.specs.Carried.{CoreIs}
+use Rattle.vault_core.specs.View.{CoreJob}
+use Rattle.vault_open.specs.Devices.{Devices, devices, AreDevices}
+use Rattle.vault.specs.declared.desk.Desk.{Desk}
+use Rattle.vault.specs.Desks.{DeskStands, IsAtWork}
+use Rattle.vault.specs.Packing.{IsQuiet, IsTextOf}
+use Rattle.vault.proofs.Aside.{none-flies, none-doubted}
+use Rattle.vault.proofs.Free.{none_run}
+
+-- a sound state with the packed journal in place of its journal is sound
+pub switched-sound : (w : State) → w.is_open ≡ true → w.is_barred ≡ false → w.jobs ≡ [] →
+    version_of w.records ≡ 2 → IsSound 8 w → IsSound 8 (switched w)
+unfolding setup_in
+switched-sound w opened unbarred idle second S =
+    let clear = none-flies w idle S in
+    let undoubted = none-doubted w idle opened unbarred S in
+    record {
+      accepted = S.accepted;
+      spelled = S.spelled;
+      journal = journal-packed w (switched w) refl refl second S.journal;
+      room = (let none = ap (sum_by (reserved (version_of w.records) (setup_in w))) idle in
+          let fits = switched-room w.journal w.area S.journal.accepted S.journal.spelled in
+          omega (arith, none, fits));
+      files = S.files;
+      names = S.names;
+      ids = S.ids;
+      audits = S.audits;
+      closed = S.closed;
+      set_up = S.set_up;
+      handed = S.handed;
+      few = S.few;
+      numbered = S.numbered;
+      jobs = S.jobs;
+      in_journal = λ k j h. absurd (found_none w.jobs k j idle h);
+      lone = S.lone;
+      packing = S.packing;
+      switching = λ e. absurd (false≢true e);
+      upgrade = S.upgrade;
+      one_check = S.one_check;
+      apart = S.apart;
+      append = λ a h. absurd (some-not-none w.append a h clear);
+      barred = S.barred;
+      undoubted = S.undoubted;
+      doubt = λ d h. absurd (some-not-none w.doubt d h undoubted);
+    }
+
+pub no-job : (js : List CoreJob) → js ≡ [] → length js ≤ 0
+no-job js e = omega (arith, ap length e)
+
+-- ---- a desk that is quiet
+
+module _ (v : Desk) (quiet : IsQuiet v) (w : State) (d : Devices) (S : DeskStands v d w) where
+  pub idle : w.jobs ≡ []
+  idle = none_run v.core.setup v.core.jobs w.jobs S.core.jobs (no-job v.core.jobs quiet.idle)
+
+  pub unbarred : w.is_barred ≡ false
+  unbarred = sym S.core.barred ∙ quiet.unbarred
+
+  pub clear : w.append ≡ None
+  clear = none-flies w idle S.core.sound
+
+  module _ (p : Pack) (text : IsTextOf v p) where
+    pub second : version_of w.records ≡ 2
+    second = sym S.core.sound.journal.alike.version ∙ (sym S.core.table.version ∙ text.version)
+
+    -- what it writes is the packed journal
+    pub writes : WritesText (other_area w.area) (packed w.journal) p
+    writes = subst (λ (qs : List Record). WritesText (other_area w.area) qs p)
+        (packed-folds w.journal v.core.table S.core.table) (text.writes w.area S.base)
+
+    pub sound : IsSound 8 (switched w)
+    sound = switched-sound w S.core.is_open unbarred idle second S.core.sound
+
+    -- the end of its text is that of the packed journal
+    pub ends : (end : ℕ) → ((area : Area) (qs : List Record) → IsTrue (list_all is_in_grammar qs)
+        → WritesText area qs p → end ≡ end_in area qs) → end ≡ end_in (other_area w.area) (packed w.journal)
+    ends end is = is (other_area w.area) (packed w.journal)
+        (packed-spelled w.journal S.core.sound.journal.accepted S.core.sound.journal.spelled) writes
+
+    -- with another base and a core that was told of it the desk stands for the state that has it
+    pub moved-stands : (v' : Desk) (e : Devices) → v' ≡ record v { base = to_of p; core = v'.core }
+        → CoreIs v'.core (switched w) → AreDevices e (switched w)
+        → IfSome e.holds (StandsFirm (other_area w.area) (packed w.journal)) → DeskStands v' e (switched w)
+    unfolding setup_in
+    moved-stands v' e is core devices firm =
+        let flies : v.flight ≡ None = quiet.flight in
+        subst (λ (x : Desk). DeskStands x e (switched w)) (sym is) (record {
+          devices = devices;
+          core = core;
+          base = writes.to;
+          setup = S.setup;
+          shaped = record { n = S.shaped.n; l = S.shaped.l; b = S.shaped.b };
+          jobs = S.jobs;
+          streams = λ number t job tasks runs. absurd (found_none w.jobs number job idle runs);
+          flight = λ free. rw (flies, clear) firm;
+        })
+
+-- so it goes on to be at work
+pub moved-works : (v v' : Desk) (p : Pack) → IsQuiet v → IsTextOf v p
+    → v' ≡ record v { base = to_of p; core = v'.core }
+    → ((w : State) (d : Devices) → DeskStands v d w → CoreIs v'.core (switched w)) → IsAtWork v → IsAtWork v'
+moved-works v v' p quiet text is core at = λ rest bytes.
+    ∥∥₁_map (at rest bytes) (λ x. (
+      switched x.0,
+      x.1,
+      x.2,
+      moved-stands v quiet x.0 (devices None x.1 x.2) x.3 p text v' (devices None x.1 x.2) is
+          (core x.0 (devices None x.1 x.2) x.3)
+          (record {
+            images = tt;
+            faults = x.3.devices.faults;
+            providers = record {
+              count = x.3.devices.providers.count;
+              each = x.3.devices.providers.each;
+            };
+          })
+          tt,
+      λ number stripes job told runs.
+          absurd (found_none x.0.jobs number job (idle v quiet x.0 (devices None x.1 x.2) x.3) runs),
+    ))

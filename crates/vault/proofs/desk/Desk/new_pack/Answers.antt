@@ -1,0 +1,29 @@
+use Rattle.std.proofs.Common.{◌≤◌, ◌^◌, List, ap, sym, subst, arith}
+use Rattle.std.specs.Prelude.{IsSome, All}
+use Rattle.record_defs.specs.Areas.{entries_size}
+use Rattle.journal_core.specs.Lists.{newest_first}
+use Rattle.record_codec.specs.declared.records.Record.{Record}
+use Rattle.record_codec.specs.Entries.{IsInGrammar}
+use Rattle.vault_table.specs.Values.{Kept, IsFoldOf}
+use Rattle.vault.proofs.PackBegins.{two-bases, has-setup, spelled, short}
+use Rattle.vault.proofs.desk.Desk.new_pack.Goals as goal
+
+pub pack_records-requires-clause-set_up : goal.pack_records-requires-clause-set_up
+pack_records-requires-clause-set_up c = subst (λ (t : Kept). IsSome t.setup) (sym c.table.ensures)
+    (has-setup c.args.self.now c.requires.at_work)
+
+pub new-requires-clause-area : goal.new-requires-clause-area
+new-requires-clause-area c = two-bases c.args.self.now c.requires.at_work
+
+pub new-requires-clause-spelled : goal.new-requires-clause-spelled
+new-requires-clause-spelled c = subst (λ (l : List Record). All IsInGrammar l) (sym c.deref.ensures.value)
+    (spelled c.args.self.now c.requires.at_work c.in-Ok.records.items
+    (λ rs folds. c.in-Ok.ensures.spelled rs (subst (λ (t : Kept). IsFoldOf rs t) (sym c.table.ensures) folds)))
+
+pub new-requires-clause-short : goal.new-requires-clause-short
+new-requires-clause-short c =
+    let few : entries_size (newest_first c.in-Ok.records.items) ≤ 2 ^ 17 =
+    short c.args.self.now c.requires.at_work (newest_first c.in-Ok.records.items)
+    (λ rs folds. c.in-Ok.ensures.short rs (subst (λ (t : Kept). IsFoldOf rs t) (sym c.table.ensures) folds)) in
+    let same = ap (λ (l : List Record). entries_size (newest_first l)) c.deref.ensures.value in
+    omega (arith, few, same)
