@@ -10,16 +10,16 @@ use Rattle.device_defs.specs.Images.{EachImage}
 use Rattle.device_defs.specs.Providers.{Provider}
 use Rattle.device_defs.specs.Told.{Goes}
 use Rattle.record_defs.specs.Records.{Record, Setup, is_in_grammar, largest_journal}
-use Rattle.record_defs.specs.Journal.{text_size}
 use Rattle.record_defs.specs.Acceptance.{AreAccepted}
-use Rattle.record_defs.specs.Areas.{A}
+use Rattle.record_defs.specs.Areas.{Area, A, end_in}
 use Rattle.machine_defs.specs.Events as events
 use Rattle.machine_defs.specs.Events.{Outcome, Reopen}
 use Rattle.machine_defs.specs.Refusals as refusal
 use Rattle.machine_defs.specs.States.{State, setup_in}
 use Rattle.machine_defs.specs.Openings.{IsSetUp, Rereads, Reopens}
 use Rattle.machine_defs.specs.Stands.{StandsForState}
-use Rattle.state_laws.specs.Sound.{IsUnpacked, IsSound, IsAtRest}
+use Rattle.state_laws.specs.Sound.{IsSound, IsAtRest}
+use Rattle.state_laws.proofs.Packs.{journal-whole}
 use Rattle.state_laws.proofs.Resting.{rest-sound}
 use Rattle.vault_open.specs.declared.fault.StartFault.{StartFault}
 use Rattle.vault_open.specs.declared.fault.StartFault.TheVariants as start_fault
@@ -39,7 +39,8 @@ use Rattle.hail_client.specs.Start.{provider_or_empty}
 use Rattle.hail_client.specs.Stands.{StandsClosed, StandsBy, IsMadeAnew, IsStanding, OpensOver}
 use Rattle.hail_client.proofs.Held.{zeros, zeros-held}
 use Rattle.hail_client.proofs.Fresh.{each-at}
-use Rattle.hail_client.proofs.Reopened.{stands-opened, count-is, has-setup, opened}
+use Rattle.hail_client.proofs.Reopened.{stands-opened, count-is, up, opened}
+use Rattle.hail_client.proofs.Settled.{same-left}
 use Rattle.hail_client.proofs.Reopening.{WasOpened}
 use Rattle.vault_open.proofs.InitEvents.{err-is}
 
@@ -54,12 +55,12 @@ untold-goes step None None is goes = refl
 untold-goes step None (Some new) is goes = absurd goes
 untold-goes step (Some old) new is goes = absurd (false≢true (sym is))
 
--- a state in which no vault is open, over these records
-abbrev pub closed-over : List Record → ℕ → ℕ → List Provider → State
-closed-over rs next faults ps = record {
+-- a state in which no vault is open, over these records, which the disk holds in this area
+abbrev pub closed-over : Area → List Record → ℕ → ℕ → List Provider → State
+closed-over area rs next faults ps = record {
   records = rs;
   journal = rs;
-  area = A;
+  area = area;
   is_switching = false;
   bytes = zeros rs;
   audits = λ number. 0;
@@ -75,13 +76,14 @@ closed-over rs next faults ps = record {
   is_barred = false;
 }
 
-rests-over : (rs : List Record) → AreAccepted rs → IsTrue (list_all is_in_grammar rs) →
-    text_size rs ≤ largest_journal →
-    (next faults : ℕ) (ps : List Provider) → IsAtRest (closed-over rs next faults ps)
-rests-over rs accepted spelled room next faults ps = record {
+rests-over : (area : Area) (rs : List Record) → (rs ≡ [] → area ≡ A) → AreAccepted rs →
+    IsTrue (list_all is_in_grammar rs) → end_in area rs ≤ largest_journal →
+    (next faults : ℕ) (ps : List Provider) → IsAtRest (closed-over area rs next faults ps)
+rests-over area rs first accepted spelled room next faults ps = record {
   idle = (refl, refl, refl, refl);
   undoubted = refl;
-  whole = record { journal = refl; area = refl; unswitched = refl };
+  unswitched = refl;
+  journal = journal-whole (closed-over area rs next faults ps) refl first accepted spelled;
   accepted = accepted;
   in_grammar = spelled;
   room = room;
@@ -90,18 +92,18 @@ rests-over rs accepted spelled room next faults ps = record {
   handed = λ is. absurd (false≢true is);
 }
 
-none-rests : (next faults : ℕ) (ps : List Provider) → IsAtRest (closed-over [] next faults ps)
-none-rests = rests-over [] tt refl (omega arith)
+none-rests : (next faults : ℕ) (ps : List Provider) → IsAtRest (closed-over A [] next faults ps)
+none-rests = rests-over A [] (λ none. refl) tt refl (omega arith)
 
 -- devices that stand for it
-stands-over : (rs : List Record) →
-    ((next faults : ℕ) (ps : List Provider) → IsAtRest (closed-over rs next faults ps)) →
+stands-over : (area : Area) (rs : List Record) →
+    ((next faults : ℕ) (ps : List Provider) → IsAtRest (closed-over area rs next faults ps)) →
     (next faults : ℕ) (ps : List Provider) (holds : Option Cells) →
-    StandsForState holds (closed-over rs next faults ps) →
-    StandsClosed next (devices holds faults ps) (closed-over rs next faults ps)
-stands-over rs rest next faults ps holds images = record {
+    StandsForState holds (closed-over area rs next faults ps) →
+    StandsClosed next (devices holds faults ps) (closed-over area rs next faults ps)
+stands-over area rs rest next faults ps holds images = record {
   devices = record { images = images; faults = refl; providers = record { count = refl; each = each-at ps } };
-  sound = rest-sound 8 (closed-over rs next faults ps) (rest next faults ps);
+  sound = rest-sound 8 (closed-over area rs next faults ps) (rest next faults ps);
   closed = refl;
   next_job_is = refl;
 }
@@ -114,20 +116,20 @@ untold-images holds w is = subst (λ (o : Option Cells). StandsForState o w) (sy
 pub closed-standing : (c : Client) (faults : ℕ) (ps : List Provider) (holds : Option Cells) →
     is_some c.vault ≡ false → holds ≡ None → IsStanding c (devices holds faults ps)
 closed-standing c faults ps holds none is =
-    let start = closed-over [] c.next_job faults ps in
+    let start = closed-over A [] c.next_job faults ps in
     record {
       state = start;
-      stands = subst (λ (o : Option Vault). StandsBy o c.scrub c.next_job (devices holds faults ps) start)
+      stands = subst (λ (o : Option Vault). StandsBy o c.alone c.next_job (devices holds faults ps) start)
           (sym (is_some-none c.vault none))
-          (stands-over [] none-rests c.next_job faults ps holds (untold-images holds start is));
+          (stands-over A [] none-rests c.next_job faults ps holds (untold-images holds start is));
     }
 
 -- ---- reopenings
 
 -- a closed state whose disk is read again stays
-same-rereads-over : (rs : List Record) (next f : ℕ) (ps : List Provider) →
-    Rereads (closed-over rs next f ps) (closed-over rs next f ps)
-same-rereads-over rs next f ps = (rs, A, inl (refl, refl), inl refl)
+same-rereads-over : (area : Area) (rs : List Record) (next f : ℕ) (ps : List Provider) →
+    Rereads (closed-over area rs next f ps) (closed-over area rs next f ps)
+same-rereads-over area rs next f ps = (rs, area, inl (refl, refl), inl refl)
 
 module _ (moment next f g : ℕ) (ps : List Provider) (old new : Option Cells) (old_is : old ≡ None)
     (new_is : new ≡ None) (never : f ≤ g) where
@@ -135,18 +137,18 @@ module _ (moment next f g : ℕ) (ps : List Provider) (old new : Option Cells) (
   AnewBy outcome c = IsMadeAnew moment next Reopen outcome c (devices old f ps) (devices new g ps)
 
   -- no vault is open afterwards, over the same records
-  closed-anew : (rs : List Record) → ((n h : ℕ) (qs : List Provider) → IsAtRest (closed-over rs n h qs)) →
+  closed-anew : (area : Area) (rs : List Record) → ((n h : ℕ) (qs : List Provider) → IsAtRest (closed-over area rs n h qs)) →
       (why : refusal.Refusal) →
-      Reopens (closed-over rs next f ps) (events.Refused why) (closed-over rs next g ps) →
+      Reopens (closed-over area rs next f ps) (events.Refused why) (closed-over area rs next g ps) →
       AnewBy (events.Refused why) (without_vault next)
-  closed-anew rs rest why happens = record {
-    before = closed-over rs next f ps;
-    stands_before = stands-over rs rest next f ps old (untold-images old (closed-over rs next f ps) old_is);
+  closed-anew area rs rest why happens = record {
+    before = closed-over area rs next f ps;
+    stands_before = stands-over area rs rest next f ps old (untold-images old (closed-over area rs next f ps) old_is);
     makes = record {
-      state = closed-over rs next g ps;
+      state = closed-over area rs next g ps;
       spelled = tt;
       happens = happens;
-      stands = stands-over rs rest next g ps new (untold-images new (closed-over rs next g ps) new_is);
+      stands = stands-over area rs rest next g ps new (untold-images new (closed-over area rs next g ps) new_is);
     };
   }
 
@@ -154,57 +156,61 @@ module _ (moment next f g : ℕ) (ps : List Provider) (old new : Option Cells) (
       UnlessBadJournal (Err (reopen_fault.NotOpened why))
       (AnewBy (events.Refused (start_refusal why)) (without_vault next))
   fault-anew start_fault.DiskFault rose =
-      closed-anew [] none-rests refusal.DiskFault (g, never, rose refl, refl)
-  fault-anew start_fault.Memory rose = closed-anew [] none-rests refusal.Memory (g, never, refl)
-  fault-anew start_fault.NotSetUp rose = closed-anew [] none-rests refusal.NotSetUp
-      (closed-over [] next f ps, same-rereads-over [] next f ps, refl, (g, never, refl))
+      closed-anew A [] none-rests refusal.DiskFault (g, never, rose refl, refl)
+  fault-anew start_fault.Memory rose = closed-anew A [] none-rests refusal.Memory (g, never, refl)
+  fault-anew start_fault.NotSetUp rose = closed-anew A [] none-rests refusal.NotSetUp
+      (closed-over A [] next f ps, same-rereads-over A [] next f ps, refl, (g, never, refl))
   fault-anew (start_fault.BadJournal at) rose = tt
 
 -- records were read
-module _ (told : Option Cells) (rs : List Record) (is_read : IsRead told rs) (v : Vault)
+module _ (told : Option Cells) (area : Area) (rs : List Record) (is_read : IsRead told area rs) (v : Vault)
     (holds : Option Cells) (g next : ℕ)
-    (stands : (u : State) (qs : List Provider) → IsJustOpened u rs next g qs →
+    (stands : (u : State) (qs : List Provider) → IsJustOpened u area rs next g qs →
     Stands v (devices holds g qs) u) where
-  rest : (n h : ℕ) (qs : List Provider) → IsAtRest (closed-over rs n h qs)
-  rest = rests-over rs is_read.accepted is_read.in_grammar is_read.room
+  rest : (n h : ℕ) (qs : List Provider) → IsAtRest (closed-over area rs n h qs)
+  rest = rests-over area rs (λ none. absurd (is_read.some none)) is_read.accepted is_read.in_grammar is_read.room
 
   module _ (f : ℕ) (ps : List Provider) where
     abbrev start : State
-    start = closed-over rs next f ps
+    start = closed-over area rs next f ps
 
     sound : IsSound 8 start
     sound = rest-sound 8 start (rest next f ps)
 
-    unpacked : IsUnpacked start
-    unpacked = record { journal = refl; area = refl }
-
     is-up : IsSetUp start
-    is-up = has-setup start sound is_read.some
+    is-up = up start rs rs area sound (same-left start) is_read.some
 
     -- the vault that was opened has as many providers as the setup that it read
     pub uses-as : provider_count v ≡ (setup_in start).n
-    uses-as = count-is start rs sound unpacked is_read.in_grammar
-        (inl refl) is_read.some v holds g next refl stands
+    uses-as = count-is start rs rs area sound (same-left start) is_read.some v holds g next refl stands
 
     -- with enough providers, the vault that was opened stands for an open state over them
     pub stands-open : provider_count v ≤ length ps →
-        Stands v (devices holds g ps) (opened start rs (provider_or_empty ps) (length ps) g)
+        Stands v (devices holds g ps) (opened start rs rs area (provider_or_empty ps) (length ps) g)
     stands-open enough =
-        stands-opened start rs sound unpacked is_read.in_grammar
-        (inl refl) is_read.some v holds g next refl stands (provider_or_empty ps) ps
+        stands-opened start rs rs area sound (same-left start) is_read.some v holds g next refl stands
+        (provider_or_empty ps) ps
         (record { count = refl; each = each-at ps })
         (let e = uses-as in omega (arith, enough, e))
 
     -- there is a state that was just opened over them
     pub just-opened : provider_count v ≤ length ps →
-        IsJustOpened (record (closed-over rs next g ps) { is_open = true }) rs next g ps
+        IsJustOpened (record (closed-over area rs next g ps) { is_open = true }) area rs next g ps
     unfolding setup_in
     just-opened enough = record {
       at_rest = record {
         rest = (let r = rest next g ps in record {
           idle = r.idle;
           undoubted = r.undoubted;
-          whole = record { journal = refl; area = refl; unswitched = refl };
+          unswitched = refl;
+          journal = (let j = r.journal in record {
+            accepted = j.accepted;
+            spelled = j.spelled;
+            alike = j.alike;
+            started = j.started;
+            whole = j.whole;
+            first = j.first;
+          });
           accepted = r.accepted;
           in_grammar = r.in_grammar;
           room = r.room;
@@ -215,7 +221,8 @@ module _ (told : Option Cells) (rs : List Record) (is_read : IsRead told rs) (v 
         opened = refl;
         next = refl;
       };
-      records = refl;
+      journal = refl;
+      area_is = refl;
       faults_are = refl;
       handed = record { count = refl; each = each-at ps };
     }
@@ -226,9 +233,9 @@ module _ (told : Option Cells) (rs : List Record) (is_read : IsRead told rs) (v 
           IsMadeAnew moment next Reopen (events.Refused refusal.TooFewProviders) (without_vault next)
           (devices old f ps) (devices holds g ps)
       few-anew few =
-          closed-anew moment next f g ps old holds old_is holds_is never rs rest refusal.TooFewProviders (
+          closed-anew moment next f g ps old holds old_is holds_is never area rs rest refusal.TooFewProviders (
             start,
-            same-rereads-over rs next f ps,
+            same-rereads-over area rs next f ps,
             is-up,
             (let e = uses-as in omega (arith, few, e)),
             (g, never, refl),
@@ -239,13 +246,13 @@ module _ (told : Option Cells) (rs : List Record) (is_read : IsRead told rs) (v 
           (devices old f ps) (devices holds g ps)
       opened-anew enough streamless = record {
         before = start;
-        stands_before = stands-over rs rest next f ps old (untold-images old start old_is);
+        stands_before = stands-over area rs rest next f ps old (untold-images old start old_is);
         makes = record {
-          state = opened start rs (provider_or_empty ps) (length ps) g;
+          state = opened start rs rs area (provider_or_empty ps) (length ps) g;
           spelled = tt;
           happens = (
             start,
-            same-rereads-over rs next f ps,
+            same-rereads-over area rs next f ps,
             is-up,
             (let e = uses-as in omega (arith, enough, e)),
             (g, never, refl),
@@ -286,7 +293,7 @@ module _ (c left : Client) (left_is : left ≡ without_vault (client_next_job c)
         subst (λ (x : Client). WasOpened v old new g x.next_job) left_is was in
         subst (λ (x : Client). IsMadeAnew moment (client_next_job c) Reopen
         (events.Refused refusal.TooFewProviders) x (devices old f ps) (devices new g ps)) (sym left_is)
-        (few-anew old all.0 all.1 v new g (client_next_job c) all.2 f ps moment old (is_some-none old none)
+        (few-anew old all.0 all.1 all.2 v new g (client_next_job c) all.3 f ps moment old (is_some-none old none)
         (untold-goes IsResynced old new none goes) never few))
 
     -- a reopening with enough providers opens, as an event of some closed state
@@ -299,7 +306,7 @@ module _ (c left : Client) (left_is : left ≡ without_vault (client_next_job c)
         subst (λ (x : Client). IsMadeAnew moment (client_next_job c) Reopen events.Opened
         (with_vault v streamless x.next_job) (devices old f ps) (devices new g ps))
         (sym left_is)
-        (opened-anew old all.0 all.1 v new g (client_next_job c) all.2 f ps moment old (is_some-none old none)
+        (opened-anew old all.0 all.1 all.2 v new g (client_next_job c) all.3 f ps moment old (is_some-none old none)
         (untold-goes IsResynced old new none goes) never enough streamless))
 
     -- a client that holds no vault stands, with its devices, for some closed state
@@ -316,12 +323,13 @@ module _ (c left : Client) (left_is : left ≡ without_vault (client_next_job c)
       (let all : WasOpened v old new g (client_next_job c) =
       subst (λ (x : Client). WasOpened v old new g x.next_job) left_is was in
       record {
-        records = all.0;
-        is_read = all.1;
-        each = λ w providers just. all.2 w providers just;
+        area = all.0;
+        records = all.1;
+        is_read = all.2;
+        each = λ w providers just. all.3 w providers just;
         one = λ providers as_many. (
-          record (closed-over all.0 (client_next_job c) g providers) { is_open = true },
-          just-opened old all.0 all.1 v new g (client_next_job c) all.2 g providers
+          record (closed-over all.0 all.1 (client_next_job c) g providers) { is_open = true },
+          just-opened old all.0 all.1 all.2 v new g (client_next_job c) all.3 g providers
               (omega (arith, enough, as_many)),
         );
       })

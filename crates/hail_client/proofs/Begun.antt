@@ -15,8 +15,8 @@ use Rattle.vault.specs.declared.vault.Vault.{Vault}
 use Rattle.vault_open.specs.Devices.{Devices, devices, AreDevices}
 use Rattle.vault_open.specs.Inits.{MayInit, MakesInit}
 use Rattle.vault_open.specs.Inits.{init_outcome}
+use Rattle.hail_client.specs.declared.alone.Alone.{Alone}
 use Rattle.hail_client.specs.declared.client.Client.{Client}
-use Rattle.hail_client.specs.declared.scrub.ScrubJob.{ScrubJob}
 use Rattle.hail_client.specs.Stands.{StandsBy, ClientStands, MakesEvent}
 use Rattle.hail_client.proofs.Standing.{open-of}
 
@@ -67,17 +67,17 @@ module _ (w : State) (moment : ℕ) (s : Setup) (spelled : IsSpelled (Init s)) w
     state = w;
     spelled = spelled;
     happens = subst (λ b. Inits w s b (Refused refusal.Already) w)
-        (sym (open-of c.vault c.scrub c.next_job d w S ∙ some)) refl;
+        (sym (open-of c.vault c.alone c.next_job d w S ∙ some)) refl;
     stands = S;
   }
 
-  init-by : (o : Option Vault) (scrub : Option ScrubJob) (next : ℕ) (old new : Option Cells) (f g : ℕ) (ps : List Provider)
+  init-by : (o : Option Vault) (x : Option Alone) (next : ℕ) (old new : Option Cells) (f g : ℕ) (ps : List Provider)
       (result : Result Unit InitFault) → is_some o ≡ false → IsSome old →
       (MayInit w old → AreDevices (devices old f ps) w → MakesInit w moment s result (devices new g ps)) →
-      StandsBy o scrub next (devices old f ps) w →
-      (M : MakesInit w moment s result (devices new g ps)) × StandsBy o scrub next (devices new g ps) M.state
-  init-by (Some v) scrub next old new f g ps result none told makes S = absurd (false≢true (sym none))
-  init-by None scrub next old new f g ps result none told makes S =
+      StandsBy o x next (devices old f ps) w →
+      (M : MakesInit w moment s result (devices new g ps)) × StandsBy o x next (devices new g ps) M.state
+  init-by (Some v) x next old new f g ps result none told makes S = absurd (false≢true (sym none))
+  init-by None x next old new f g ps result none told makes S =
       (let M = makes (record { sound = S.sound; closed = S.closed; told_is = told }) S.devices in
       let k = inits-keep w M.state s w.is_open (init_outcome result) M.happens in (
         M,
@@ -97,5 +97,5 @@ module _ (w : State) (moment : ℕ) (s : Setup) (spelled : IsSpelled (Init s)) w
       ClientStands c (devices old f ps) w →
       MakesEvent w moment (Init s) (init_outcome result) c (devices new g ps)
   init-closed c old new f g ps result none told makes S =
-      (let M = init-by c.vault c.scrub c.next_job old new f g ps result none told makes S in
+      (let M = init-by c.vault c.alone c.next_job old new f g ps result none told makes S in
       record { state = M.0.state; spelled = spelled; happens = M.0.happens; stands = M.1 })

@@ -3,11 +3,19 @@ use Rattle.std.proofs.Common.{◌≡◌, ℕ, zero, suc, [], ◌∷◌, replicat
 use Rattle.std.specs.Prelude.{slice_get, slice_index, IsSome}
 use Rattle.std.proofs.lemmas.Bool.{cases_Bool, false≢true}
 use Rattle.device_defs.specs.Providers.{Provider}
-use Rattle.record_defs.specs.Journal.{text, StandsFor}
+use Rattle.device_defs.specs.Cells.{firm}
+use Rattle.journal_core.specs.Texts.{StandsFirm}
+use Rattle.journal_core.proofs.AreaStands.{read-firm}
+use Rattle.journal_pack.specs.Moves.{IsAfterPack}
+use Rattle.journal_pack.specs.Packs.{moves_of, WritesText}
+use Rattle.record_defs.specs.Areas.{A, B, StandsActive, text_length}
+use Rattle.record_defs.specs.Packed.{packed}
+use Rattle.record_defs.specs.Journal.{text}
+use Rattle.record_defs.proofs.AreaLaws.{text-active}
 use Rattle.record_defs.specs.Table.{File, is_same_name}
 use Rattle.column_defs.specs.Objects.{Object}
-use Rattle.machine_defs.specs.Alone.{new_scrub}
-use Rattle.machine_defs.specs.Events.{Names, Closed, BeginScrub, Begun}
+use Rattle.machine_defs.specs.Alone.{new_scrub, new_pack}
+use Rattle.machine_defs.specs.Events.{Names, Closed, BeginScrub, BeginPack, Begun}
 use Rattle.machine_defs.specs.Given.{pinned_profile}
 use Rattle.machine_defs.specs.Machine.{Happens}
 use Rattle.machine_defs.specs.Setups.{profiled, object_of}
@@ -18,20 +26,24 @@ use Rattle.machine_defs.specs.Stands.{IsFresh}
 use Rattle.machine_defs.specs.Survival.{IsKept}
 use Rattle.machine_defs.proofs.JobLists.{cond_true, cond_false}
 use Rattle.state_laws.specs.Follows.{AreHeld}
-use Rattle.state_laws.specs.Sound.{IsAtRest}
+use Rattle.state_laws.specs.Sound.{IsSound, IsAtRest}
 use Rattle.state_laws.proofs.Events.{events-sound}
+use Rattle.state_laws.proofs.Packs.{journal-whole}
 use Rattle.state_laws.proofs.Resting.{rest-sound}
 use Rattle.hail_scrub.proofs.Starts.{hold_begins, held_stands}
 use Rattle.hail_scrub.specs.Stands.{ScrubIs, ScrubStands}
+use Rattle.vault.specs.declared.packing.PackJob.{PackJob}
 use Rattle.vault.specs.declared.vault.Vault.{Vault}
+use Rattle.vault.specs.Packing.{pack_number, IsPackOf}
 use Rattle.vault.specs.Stands.{StandsBeside}
+use Rattle.hail_client.specs.declared.alone.Alone.TheVariants as alone
 use Rattle.hail_client.specs.declared.client.Client.{Client}
-use Rattle.vault_open.specs.Devices.{AreDevices}
-use Rattle.hail_client.specs.Examples.{closed_client, fresh, hidden, stored, stored_state, stored_open, stored_scrub, scrubbed_state, notes}
+use Rattle.vault_open.specs.Devices.{devices, AreDevices}
+use Rattle.hail_client.specs.Examples.{closed_client, fresh, hidden, stored, stored_state, stored_open, stored_scrub, scrubbed_state, notes, raised_records, raised, raised_open, packing_state}
 use Rattle.hail_client.specs.Start.{start_of, TellAll}
 use Rattle.hail_client.specs.Stands.{ClientStands, IsReached}
 use Rattle.hail_client.proofs.Fresh.{is-start, are-devices, untold-start, each-at}
-use Rattle.hail_client.proofs.Settled.{firm-stands}
+use Rattle.vault_open.proofs.Images.{bytes-shown}
 use Rattle.hail_client.proofs.Standing.{start-stands, stands-of}
 
 -- a disk that reads nothing is one before its first use
@@ -93,7 +105,8 @@ stored-rests : IsAtRest stored_state
 stored-rests = record {
   idle = (refl, refl, refl, refl);
   undoubted = refl;
-  whole = record { journal = refl; area = refl; unswitched = refl };
+  unswitched = refl;
+  journal = journal-whole stored_state refl (λ none. refl) (refl, (refl, (refl, tt))) refl;
   accepted = (refl, (refl, (refl, tt)));
   in_grammar = refl;
   room = omega arith;
@@ -102,14 +115,14 @@ stored-rests = record {
   handed = λ is. absurd (false≢true is);
 }
 
-text-stands : StandsFor (text one_file) one_file
-text-stands = record { in_grammar = refl; gate = 0; rest = []; closed = omega arith; bytes_are = refl }
+text-stands : StandsActive (text one_file) A one_file
+text-stands = text-active one_file refl
 
 -- a closed client over a disk with one file stands for the state at rest over its journal
 pub stored-stands : ClientStands closed_client stored stored_state
 stored-stands = record {
   devices = record {
-    images = firm-stands (text one_file) stored_state refl (inl text-stands);
+    images = bytes-shown (text one_file) stored_state (inl (inl text-stands));
     faults = refl;
     providers = record { count = refl; each = each-at stored.providers };
   };
@@ -129,7 +142,8 @@ unfolding setup_in
 open-rests = record {
   idle = (refl, refl, refl, refl);
   undoubted = refl;
-  whole = record { journal = refl; area = refl; unswitched = refl };
+  unswitched = refl;
+  journal = journal-whole stored_open refl (λ none. refl) (refl, (refl, (refl, tt))) refl;
   accepted = (refl, (refl, (refl, tt)));
   in_grammar = refl;
   room = omega arith;
@@ -173,16 +187,86 @@ scrub-stands = held_stands stored_open 0 stored_scrub stored.providers
 
 -- a client that has begun it stands for that state
 pub scrubbing-stands : (c : Client) (v : Vault) → c.vault ≡ Some v →
-    c.scrub ≡ Some (record { number = 1; scrub = stored_scrub }) →
+    c.alone ≡ Some (alone.Scrub (record { number = 1; scrub = stored_scrub })) →
     StandsBeside v stored (record stored_open { next_job = 2 }) 1 → ClientStands c stored scrubbed_state
-scrubbing-stands c v is some B =
-    stands-of c (Some v) (Some (record { number = 1; scrub = stored_scrub })) c.next_job is some refl stored
+scrubbing-stands c v is some S =
+    stands-of c (Some v) (Some (alone.Scrub (record { number = 1; scrub = stored_scrub }))) c.next_job is some refl stored
     scrubbed_state
     (record {
       scrub = new_scrub stored_open 0;
       number_is = refl;
-      beside = B;
+      beside = S;
       stands = scrub-stands;
       sound = events-sound 8 0 stored_open (rest-sound 8 stored_open open-rests) (omega arith, omega arith)
           BeginScrub (Begun 1) scrubbed_state tt scrub-begins;
+    })
+
+-- ---- a pack
+
+raised-rests : IsAtRest raised_open
+unfolding setup_in
+raised-rests = record {
+  idle = (refl, refl, refl, refl);
+  undoubted = refl;
+  unswitched = refl;
+  journal = journal-whole raised_open refl (λ none. refl) (refl, (refl, tt)) refl;
+  accepted = (refl, (refl, tt));
+  in_grammar = refl;
+  room = omega arith;
+  files = λ name file is. absurd (let e : None ≡ Some file = is in cc);
+  set_up = λ is. refl;
+  handed = λ is. omega arith;
+}
+
+raised-stands : StandsActive (text raised_records) A raised_records
+raised-stands = text-active raised_records refl
+
+-- the pack begins
+pub pack-begins : Happens 8 0 raised_open BeginPack (Begun 1) packing_state
+pack-begins = (refl, refl, refl, refl)
+
+pub packing-sound : IsSound 8 packing_state
+packing-sound = events-sound 8 0 raised_open (rest-sound 8 raised_open raised-rests) (omega arith, omega arith)
+    BeginPack (Begun 1) packing_state tt pack-begins
+
+-- the devices are those of the state behind its begin
+pub packing-devices : AreDevices raised packing_state
+packing-devices = record {
+  images = bytes-shown (text raised_records) packing_state (inl (inl raised-stands));
+  faults = refl;
+  providers = record { count = refl; each = each-at raised.providers };
+}
+
+-- the disk is as it is before the first move
+raised-firm : StandsFirm A raised_records (firm (text raised_records))
+raised-firm = read-firm (text raised_records) A raised_records raised-stands
+
+-- a client that has begun it stands for that state
+pub packing-stands : (c : Client) (v : Vault) (job : PackJob) → c.vault ≡ Some v → c.alone ≡ Some (alone.Pack job) →
+    pack_number job ≡ 1 → job.before ≡ text_length A raised_records → moves_of job.pack ≡ 0 →
+    IsPackOf v job → WritesText B (packed raised_records) job.pack →
+    StandsBeside v (devices None 0 raised.providers) (record raised_open { next_job = 2 }) 1 →
+    ClientStands c raised packing_state
+packing-stands c v job is some number before moves is_of writes S =
+    stands-of c (Some v) (Some (alone.Pack job)) c.next_job is some refl raised packing_state
+    (record {
+      pack = new_pack raised_open;
+      alone = refl;
+      number_is = number;
+      before_is = before;
+      moves_are = moves;
+      is_of = is_of;
+      sound = packing-sound;
+      devices = packing-devices;
+      beside = subst (StandsBeside v (devices None 0 raised.providers) (record raised_open { next_job = 2 }))
+          (sym number) S;
+      on_way = λ going. record {
+        writes = writes;
+        in_grammar = refl;
+        apart = omega arith;
+        disk = subst (λ (n : ℕ). IsAfterPack n A raised_records (packed raised_records)
+            (firm (text raised_records))) (sym moves) raised-firm;
+      };
+      switching = λ e. absurd (let f : 0 ≡ 3 = sym moves ∙ e in omega (arith, f));
+      made = λ e. absurd (let f : 0 ≡ 4 = sym moves ∙ e in omega (arith, f));
     })

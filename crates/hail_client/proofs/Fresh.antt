@@ -1,17 +1,16 @@
 -- A disk before its first use, and the state before the first event.
-use Rattle.std.proofs.Common.{◌≡◌, ◌⊎◌, inl, inr, ℕ, zero, suc, ◌<◌, true, false, List, [], ◌∷◌, length, Option, Some, None, refl, ap, sym, subst, arith}
+use Rattle.std.proofs.Common.{◌≡◌, ◌⊎◌, inl, inr, ℕ, zero, suc, ◌<◌, true, false, List, [], ◌∷◌, length, Option, Some, None, refl, ap, sym, subst, ◌∙◌, arith}
 use Rattle.device_defs.specs.Cells.{Cells, reads, firm, loose_from}
 use Rattle.std.specs.Prelude.{IsTrue, IsSome, slice_get}
 use Rattle.std.specs.List.{list_all}
 use Rattle.device_defs.specs.Providers.{Provider}
 use Rattle.record_defs.specs.Records.{Record, Setup, SetUp, is_in_grammar}
-use Rattle.record_defs.specs.Journal.{StandsFor, StandsOrIsEmpty}
-use Rattle.record_defs.specs.Areas.{A}
+use Rattle.record_defs.specs.Areas.{Area, A, StandsActive}
 use Rattle.machine_defs.specs.States.{State, IsStart, AreFirst}
 use Rattle.machine_defs.specs.Stands.{IsFresh, StandsForState}
 use Rattle.vault_open.specs.Devices.{Devices, AreDevices}
 use Rattle.hail_client.specs.Start.{provider_or_empty, start_of, TellAll}
-use Rattle.hail_client.proofs.Settled.{firm-stands}
+use Rattle.vault_open.proofs.Images.{Shows, bytes-shown}
 
 -- cells of which none is loose
 none-loose : (at : ℕ) (cells : Cells) → loose_from at cells ≡ [] → cells ≡ firm (reads cells)
@@ -19,27 +18,29 @@ none-loose at [] e = refl
 none-loose at ((b, false) ∷ cells) e = ap (λ (l : Cells). (b, false) ∷ l) (none-loose (suc at) cells e)
 none-loose at ((b, true) ∷ cells) e = absurd cc
 
-fresh-reads : (bytes : List ℕ) (rs : List Record) →
-    ((bytes ≡ []) × (rs ≡ [])) ⊎ ((s : Setup) × (rs ≡ SetUp s ∷ []) × StandsFor bytes rs) →
-    StandsOrIsEmpty bytes rs
-fresh-reads bytes rs (inl (empty, none)) = inr (none, (let e = ap length empty in omega (arith, e)))
-fresh-reads bytes rs (inr (s, one, stands)) = inl stands
+fresh-reads : (bytes : List ℕ) (rs : List Record) (w : State) →
+    ((bytes ≡ []) × (rs ≡ [])) ⊎ ((s : Setup) × (rs ≡ SetUp s ∷ []) × StandsActive bytes A rs) →
+    w.journal ≡ rs → w.area ≡ A → Shows w bytes
+fresh-reads bytes rs w (inl (empty, none)) same area =
+    inl (inr (same ∙ none, (let e = ap length empty in omega (arith, e))))
+fresh-reads bytes rs w (inr (s, one, stands)) same area =
+    inl (inl (subst (λ (a : Area). StandsActive bytes a w.journal) (sym area)
+    (subst (λ (l : List Record). StandsActive bytes A l) (sym same) stands)))
 
 -- a disk before its first use stands for each state with its records, in area A
 pub fresh-stands : (cells : Cells) (rs : List Record) (w : State) → IsFresh cells rs → w.journal ≡ rs →
     w.area ≡ A → StandsForState (Some cells) w
 fresh-stands cells rs w fresh same area =
     subst (λ (c : Cells). StandsForState (Some c) w) (sym (none-loose 0 cells fresh.firm))
-    (firm-stands (reads cells) w area
-    (subst (StandsOrIsEmpty (reads cells)) (sym same) (fresh-reads (reads cells) rs fresh.stands)))
+    (bytes-shown (reads cells) w (fresh-reads (reads cells) rs w fresh.stands same area))
 
 -- ---- the state before the first event
 
 fresh-first : (bytes : List ℕ) (rs : List Record) →
-    ((bytes ≡ []) × (rs ≡ [])) ⊎ ((s : Setup) × (rs ≡ SetUp s ∷ []) × StandsFor bytes rs) → AreFirst rs
+    ((bytes ≡ []) × (rs ≡ [])) ⊎ ((s : Setup) × (rs ≡ SetUp s ∷ []) × StandsActive bytes A rs) → AreFirst rs
 fresh-first bytes rs (inl (empty, none)) = inl none
 fresh-first bytes rs (inr (s, one, stands)) = inr
-    (s, spelled (subst (λ (l : List Record). IsTrue (list_all is_in_grammar l)) one stands.in_grammar), one)
+    (s, spelled (subst (λ (l : List Record). IsTrue (list_all is_in_grammar l)) one stands.holds.in_grammar), one)
   where
     spelled : IsTrue (list_all is_in_grammar (SetUp s ∷ [])) → IsTrue (is_in_grammar (SetUp s))
     spelled all = grind (arith, all)

@@ -15,3 +15,5 @@ pub mod Held
 pub mod Anew
 pub mod Kept
 pub mod Examples
+pub mod NoJob
+pub mod Packed

@@ -9,6 +9,7 @@ use Rattle.device_defs.specs.Faults.{Rose}
 use Rattle.device_defs.specs.Providers.{Provider}
 use Rattle.device_defs.specs.Told.{Goes}
 use Rattle.record_defs.specs.Records.{Record}
+use Rattle.record_defs.specs.Areas.{Area}
 use Rattle.machine_defs.specs.Events.{Reopen, Opened, Refused}
 use Rattle.machine_defs.specs.Refusals.{TooFewProviders}
 use Rattle.machine_defs.specs.States.{State}
@@ -35,8 +36,8 @@ use Rattle.vault_open.proofs.InitEvents.{err-is}
 -- records that a start read, and the vault that was opened over them
 abbrev pub WasOpened : Vault → Option Cells → Option Cells → ℕ → ℕ → Type 0
 WasOpened v old new faults first =
-    (rs : List Record) × IsRead old rs ×
-    ((w : State) (providers : List Provider) → IsJustOpened w rs first faults providers →
+    (area : Area) × (rs : List Record) × IsRead old area rs ×
+    ((w : State) (providers : List Provider) → IsJustOpened w area rs first faults providers →
     Stands v (devices new faults providers) w)
 
 module _ (w : State) (moment : ℕ) (c left : Client) where
@@ -57,9 +58,9 @@ module _ (w : State) (moment : ℕ) (c left : Client) where
       (without_vault (client_next_job c)) (devices new g ps))
       (sym (err-is result (reopen_fault.NotOpened why) is))
       (reopened.fault-event w moment (client_next_job c) old f g ps
-      (sound-of c.vault c.scrub c.next_job (devices (Some old) f ps) w S)
-      (devices-of c.vault c.scrub c.next_job (devices (Some old) f ps) w S)
-      (next-of c.vault c.scrub c.next_job (devices (Some old) f ps) w S) never new why goes cause lies rose))
+      (sound-of c.vault c.alone c.next_job (devices (Some old) f ps) w S)
+      (devices-of c.vault c.alone c.next_job (devices (Some old) f ps) w S)
+      (next-of c.vault c.alone c.next_job (devices (Some old) f ps) w S) never new why goes cause lies rose))
 
   -- a client's reopening with too few providers is one that the machine refuses
   pub few-event : (old new : Option Cells) (f g : ℕ) (ps : List Provider) (v : Vault) → IsSome old →
@@ -74,9 +75,9 @@ module _ (w : State) (moment : ℕ) (c left : Client) where
       subst (λ (x : Client). MakesEvent w moment Reopen (Refused TooFewProviders) x (devices new g ps))
       (sym left_is)
       (reopened.few-event w moment (client_next_job c) old f g ps
-      (sound-of c.vault c.scrub c.next_job (devices (Some old) f ps) w S)
-      (devices-of c.vault c.scrub c.next_job (devices (Some old) f ps) w S)
-      (next-of c.vault c.scrub c.next_job (devices (Some old) f ps) w S) never new all.0 all.1 is v all.2 few))
+      (sound-of c.vault c.alone c.next_job (devices (Some old) f ps) w S)
+      (devices-of c.vault c.alone c.next_job (devices (Some old) f ps) w S)
+      (next-of c.vault c.alone c.next_job (devices (Some old) f ps) w S) never new all.0 all.1 all.2 is v all.3 few))
 
   -- a client's reopening with enough providers is one that the machine makes
   pub opened-event : (old new : Option Cells) (f g : ℕ) (ps : List Provider) (v : Vault) → IsSome old →
@@ -92,7 +93,7 @@ module _ (w : State) (moment : ℕ) (c left : Client) where
       subst (λ (x : Client). MakesEvent w moment Reopen Opened
       (with_vault v streamless x.next_job) (devices new g ps)) (sym left_is)
       (reopened.opened-event w moment (client_next_job c) old f g ps
-      (sound-of c.vault c.scrub c.next_job (devices (Some old) f ps) w S)
-      (devices-of c.vault c.scrub c.next_job (devices (Some old) f ps) w S)
-      (next-of c.vault c.scrub c.next_job (devices (Some old) f ps) w S) never new all.0 all.1 is v all.2 enough
+      (sound-of c.vault c.alone c.next_job (devices (Some old) f ps) w S)
+      (devices-of c.vault c.alone c.next_job (devices (Some old) f ps) w S)
+      (next-of c.vault c.alone c.next_job (devices (Some old) f ps) w S) never new all.0 all.1 all.2 is v all.3 enough
       streamless))

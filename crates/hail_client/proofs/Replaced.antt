@@ -13,17 +13,21 @@ use Rattle.machine_defs.specs.States.{State, with_provider}
 use Rattle.machine_defs.specs.Replacements.{ReplacesAt, ReplacesIf}
 use Rattle.machine_defs.specs.Machine.{Happens}
 use Rattle.state_laws.proofs.Events.{devices-sound}
+use Rattle.vault.specs.declared.packing.PackJob.{PackJob}
 use Rattle.vault.specs.declared.vault.Vault.{Vault}
+use Rattle.vault.specs.Packing.{StandsPacking, plain}
 use Rattle.opening_defs.specs.Opened.{AreHanded}
 use Rattle.vault_open.specs.Devices.{devices}
 use Rattle.hail_scrub.specs.Stands.{ScrubIs}
 use Rattle.vault.proofs.Replaced.{vault_replaced, held_replaced}
 use Rattle.vault.proofs.Ways.{handed_on, setup_same}
+use Rattle.hail_client.specs.declared.alone.Alone.{Alone}
+use Rattle.hail_client.specs.declared.alone.Alone.TheVariants as alone
+use Rattle.hail_client.specs.declared.alone.ScrubJob.{ScrubJob}
 use Rattle.hail_client.specs.declared.client.Client.{Client}
-use Rattle.hail_client.specs.declared.scrub.ScrubJob.{ScrubJob}
 use Rattle.hail_client.specs.Outcomes.{replace_outcome}
 use Rattle.hail_client.specs.Stands.{StandsBy, StandsHeld, ClientStands, MakesEvent}
-use Rattle.hail_client.proofs.Settled.{same-images}
+use Rattle.vault_open.proofs.Images.{shown-again}
 use Rattle.hail_client.proofs.Standing.{devices-of}
 
 -- what a provider that tells goes to, or one that does not
@@ -79,16 +83,40 @@ module _ (holds : Option Cells) (faults : ℕ) (ps qs : List Provider) where
       sound = devices-sound 8 w providers w.disk_faults S.sound;
     }
 
+    -- so does one beside a pack
+    packing-after : (v : Vault) (job : PackJob) → StandsPacking v job (devices holds faults ps) w →
+        AreHanded qs (after w providers) → StandsPacking v job (devices holds faults qs) (after w providers)
+    packing-after v job S handed = record {
+      pack = S.pack;
+      alone = S.alone;
+      number_is = S.number_is;
+      before_is = S.before_is;
+      moves_are = S.moves_are;
+      is_of = S.is_of;
+      sound = devices-sound 8 w providers w.disk_faults S.sound;
+      devices = record {
+        images = shown-again holds w (after w providers) refl refl refl refl S.devices.images;
+        faults = S.devices.faults;
+        providers = handed;
+      };
+      beside = held_replaced (devices None faults ps) (plain w) qs providers v job.number S.beside
+          (record { count = handed.count; each = handed.each });
+      on_way = S.on_way;
+      switching = S.switching;
+      made = S.made;
+    }
+
     -- so does a client
-    stands-after : (o : Option Vault) (s : Option ScrubJob) (next : ℕ) →
+    stands-after : (o : Option Vault) (s : Option Alone) (next : ℕ) →
         StandsBy o s next (devices holds faults ps) w → AreHanded qs (after w providers) →
         StandsBy o s next (devices holds faults qs) (after w providers)
     stands-after (Some v) None next S handed =
         vault_replaced (devices holds faults ps) w qs providers v S handed
-    stands-after (Some v) (Some job) next S handed = held-after v job S handed
+    stands-after (Some v) (Some (alone.Scrub job)) next S handed = held-after v job S handed
+    stands-after (Some v) (Some (alone.Pack job)) next S handed = packing-after v job S handed
     stands-after None s next S handed = record {
       devices = record {
-        images = same-images holds w (after w providers) refl refl refl refl S.devices.images;
+        images = shown-again holds w (after w providers) refl refl refl refl S.devices.images;
         faults = S.devices.faults;
         providers = handed;
       };
@@ -107,7 +135,7 @@ pub not-handed : (event : Event) (w : State) (moment j : ℕ) (IsThere : Held �
     ClientStands c (devices holds faults ps) w →
     MakesEvent w moment event NothingHeld c (devices holds faults ps)
 not-handed event w moment j IsThere change c holds faults ps spelled is beyond S =
-    let count = (devices-of c.vault c.scrub c.next_job (devices holds faults ps) w S).providers.count in
+    let count = (devices-of c.vault c.alone c.next_job (devices holds faults ps) w S).providers.count in
     let out : nat_lt j w.handed ≡ false = le-ltb j w.handed (omega (arith, count, beyond)) in
     record {
       state = w;
@@ -127,7 +155,7 @@ pub handed : (event : Event) (w : State) (moment j : ℕ) (IsThere : Held → Ty
     ClientStands c (devices holds faults ps) w →
     MakesEvent w moment event (replace_outcome answer) c (devices holds faults qs)
 handed event w moment j IsThere change c holds faults ps qs p q answer spelled is within p_is qs_are made S =
-    let are = (devices-of c.vault c.scrub c.next_job (devices holds faults ps) w S).providers in
+    let are = (devices-of c.vault c.alone c.next_job (devices holds faults ps) w S).providers in
     let inside : nat_lt j w.handed ≡ true = lt-ltb j w.handed
     (let count = are.count in omega (arith, count, within)) in
     let seen : p ≡ w.providers j =
@@ -143,7 +171,7 @@ handed event w moment j IsThere change c holds faults ps qs p q answer spelled i
           (subst (λ b. ReplacesIf b w j IsThere change (replace_outcome answer)
           (after w changed)) (sym inside)
           (by_answer answer (subst (λ (x : Provider). Replaces IsThere change answer x q) seen made)));
-      stands = stands-after holds faults ps qs w changed c.vault c.scrub c.next_job S after_is;
+      stands = stands-after holds faults ps qs w changed c.vault c.alone c.next_job S after_is;
     }
   where
     by_answer : (answer : Bool) → Replaces IsThere change answer (w.providers j) q →

@@ -14,6 +14,7 @@ use Rattle.vault_open.specs.Devices.{Devices}
 use Rattle.hail_client.specs.declared.client.Client.{Client}
 use Rattle.hail_client.specs.declared.turn.ClientTurn.{ClientTurn}
 use Rattle.hail_client.specs.declared.turn.ClientTurn.TheVariants as client_turn
+use Rattle.hail_client.specs.declared.turn.PackStep.TheVariants as pack_step
 use Rattle.hail_client.specs.Outcomes.{step_outcome, is_more, HeardIs}
 use Rattle.hail_client.specs.Stands.{MakesEvent, IsReached, RunsJobOn}
 
@@ -26,6 +27,8 @@ told-more (Some (client_turn.Job turn.NoSuchJob)) e = absurd (false≢true e)
 told-more (Some (client_turn.Job turn.MustReopen)) e = absurd (false≢true e)
 told-more (Some (client_turn.Scrub n scrub_turn.More)) e = refl
 told-more (Some (client_turn.Scrub n (scrub_turn.Done answer))) e = absurd (false≢true e)
+told-more (Some (client_turn.Pack pack_step.More)) e = refl
+told-more (Some (client_turn.Pack (pack_step.Done answer))) e = absurd (false≢true e)
 told-more None e = absurd (false≢true e)
 
 -- and only such a step is
@@ -37,6 +40,8 @@ is-more (Some (client_turn.Job turn.NoSuchJob)) e = absurd cc
 is-more (Some (client_turn.Job turn.MustReopen)) e = absurd cc
 is-more (Some (client_turn.Scrub n scrub_turn.More)) e = refl
 is-more (Some (client_turn.Scrub n (scrub_turn.Done answer))) e = absurd cc
+is-more (Some (client_turn.Pack pack_step.More)) e = refl
+is-more (Some (client_turn.Pack (pack_step.Done answer))) e = absurd cc
 is-more None e = absurd cc
 
 -- steps of a job were made behind a run, and it goes on

@@ -3,7 +3,7 @@ use mathlib.Core.HLevel.{⊥_prop}
 use Rattle.std.proofs.Common.{◌≡◌, ◌≢◌, ℕ, ◌==◌, ◌<◌, ◌≤◌, ◌^◌, Bool, true, false, List, [], ◌∷◌, length, Option, Some, None, refl, ap, sym, subst, ◌∙◌, arith}
 use Rattle.std.specs.Prelude.{slice_get}
 use Rattle.std.specs.Coded.{Unit-prop, le_prop}
-use Rattle.std.proofs.Math.Logic.{∥∥₁_elim, ∥∥₁_map}
+use Rattle.std.proofs.Math.Logic.{∥∥₁_elim}
 use Rattle.std.proofs.lemmas.Bool.{false≢true, eq-eqb}
 use Rattle.device_defs.specs.Cells.{Cells}
 use Rattle.device_defs.specs.Providers.{Provider}
@@ -11,14 +11,11 @@ use Rattle.journal_core.proofs.BeyondLemmas.{goes_still}
 use Rattle.machine_defs.specs.Alone.{unalone, Scrubs, StepsScrub}
 use Rattle.machine_defs.specs.Actions.{Action, WriteBody, SyncBody, WriteGate, SyncGate, Store, Fetch, Ask, Work, Remove, End}
 use Rattle.machine_defs.specs.Answers as answers
-use Rattle.machine_defs.specs.Events.{Step, Outcome, Ended, Refused}
-use Rattle.machine_defs.specs.Heard.{heard_by}
-use Rattle.machine_defs.specs.Jobs.{Job, job_of}
+use Rattle.machine_defs.specs.Events.{Step, Outcome, Ended}
 use Rattle.machine_defs.proofs.JobLists.{cond_true}
 use Rattle.machine_defs.specs.Machine.{Happens}
-use Rattle.machine_defs.specs.Refusals.{NoSuchJob}
-use Rattle.machine_defs.specs.States.{State, Alone, Scrub, Scrubbing, setup_in}
-use Rattle.machine_defs.specs.Steps.{Steps, StepsOpen, StepsOne, StepsMine, StepsJob}
+use Rattle.machine_defs.specs.States.{State, Scrub, Scrubbing, setup_in}
+use Rattle.machine_defs.specs.Steps.{StepsMine}
 use Rattle.record_defs.specs.Records.{Setup}
 use Rattle.state_laws.specs.Sound.{IsSound}
 use Rattle.state_laws.proofs.Events.{events-sound}
@@ -30,18 +27,18 @@ use Rattle.hail_scrub.specs.declared.turn.ScrubTurn.{ScrubTurn}
 use Rattle.hail_scrub.specs.declared.turn.ScrubTurn.TheVariants as turn
 use Rattle.hail_scrub.specs.Stands.{ScrubIs, ScrubStands, MakesScrubStep, scrub_outcome}
 use Rattle.hail_scrub.specs.Views.{ScrubView, scrub_left, next_to_do, called_by}
-use Rattle.vault.specs.declared.turn.Turn.TheVariants as vault_turn
 use Rattle.vault.specs.declared.vault.Vault.{Vault}
 use Rattle.vault.specs.Seen.{coming_of, provider_count}
 use Rattle.vault.specs.Stands.{Stands, StandsBeside}
 use Rattle.vault.proofs.Replaced.{held_replaced}
 use Rattle.vault_core.specs.Coming.{Acts, IsNoJob, calls_disk, called_provider}
 use Rattle.vault_open.specs.Devices.{Devices, devices}
-use Rattle.hail_client.specs.AtWork.{IsScrub, IsBesideVault, IsAtWork}
+use Rattle.hail_client.specs.AtWork.{IsScrub, IsBesideVault}
+use Rattle.hail_client.specs.declared.alone.Alone.TheVariants as alone
+use Rattle.hail_client.specs.declared.alone.ScrubJob.{ScrubJob}
 use Rattle.hail_client.specs.declared.client.Client.{Client}
-use Rattle.hail_client.specs.declared.scrub.ScrubJob.{ScrubJob}
 use Rattle.hail_client.specs.declared.turn.ClientTurn.TheVariants as client_turn
-use Rattle.hail_client.specs.Client.{scrub_coming, coming_by, client_coming}
+use Rattle.hail_client.specs.Client.{uses_by, scrub_coming, coming_by, client_coming}
 use Rattle.hail_client.specs.Start.{provider_or_empty}
 use Rattle.hail_client.specs.Stands.{StandsHeld, ClientStands, ClientMakesStep}
 use Rattle.hail_client.proofs.Fresh.{each-at}
@@ -121,8 +118,8 @@ next-by v (action ∷ rest) is acts going = by action (acts action rest refl) (a
 module _ (v new : ScrubView) (ps qs : List Provider) (t : ScrubTurn)
     (makes : (w : State) (m : Scrub) → ScrubStands v ps w m → MakesScrubStep w m t new qs) where
   module _ (is : IsScrub v) where
-    abbrev alone : State
-    alone = record is.state {
+    abbrev lone : State
+    lone = record is.state {
       alone = Some (Scrubbing is.scrub);
       providers = provider_or_empty ps;
       handed = length ps;
@@ -130,29 +127,29 @@ module _ (v new : ScrubView) (ps qs : List Provider) (t : ScrubTurn)
       is_barred = false;
     }
 
-    stands-alone : ScrubStands v ps alone is.scrub
+    stands-alone : ScrubStands v ps lone is.scrub
     stands-alone = record {
       alone = refl;
       handed = record { count = refl; each = each-at ps };
-      scrub = subst (λ (s : Setup). ScrubIs v s is.scrub) (sym (setup_same is.state alone refl)) is.is;
+      scrub = subst (λ (s : Setup). ScrubIs v s is.scrub) (sym (setup_same is.state lone refl)) is.is;
     }
 
-    made-alone : MakesScrubStep alone is.scrub t new qs
-    made-alone = makes alone is.scrub stands-alone
+    made-alone : MakesScrubStep lone is.scrub t new qs
+    made-alone = makes lone is.scrub stands-alone
 
     steps-mine : (b : Bool) → b ≡ true → (outcome : Outcome) (u : State) →
-        StepsMine alone is.scrub.number (Scrubbing is.scrub) b outcome u →
-        StepsScrub alone is.scrub is.scrub.todo outcome u
+        StepsMine lone is.scrub.number (Scrubbing is.scrub) b outcome u →
+        StepsScrub lone is.scrub is.scrub.todo outcome u
     steps-mine true e outcome u h = h
     steps-mine false e outcome u h = absurd (false≢true e)
 
     acts : (action : Action) (rest : List Action) → v.todo ≡ action ∷ rest → IsScrubAction action
     acts action rest todo =
         (let h = steps-mine (is.scrub.number == is.scrub.number)
-        (eq-eqb is.scrub.number is.scrub.number refl) (scrub_outcome (setup_in alone).n t) made-alone.state
+        (eq-eqb is.scrub.number is.scrub.number refl) (scrub_outcome (setup_in lone).n t) made-alone.state
         (made-alone.happens 8 0 refl refl) in
-        acts-as-scrub alone made-alone.state is.scrub action rest (scrub_outcome (setup_in alone).n t)
-        (subst (λ (l : List Action). StepsScrub alone is.scrub l (scrub_outcome (setup_in alone).n t)
+        acts-as-scrub lone made-alone.state is.scrub action rest (scrub_outcome (setup_in lone).n t)
+        (subst (λ (l : List Action). StepsScrub lone is.scrub l (scrub_outcome (setup_in lone).n t)
         made-alone.state) (is.is.todo_is ∙ todo) h))
 
 -- a fact by cases that has one proof
@@ -177,12 +174,15 @@ next-at v job new ps qs t makes at = next-by job.scrub job.scrub.todo refl
     (λ B. acts job.scrub new ps qs t makes B.scrub action rest todo))
     (∥∥₁_elim at le_prop (λ B. B.going))
 
--- a scrub that a client has runs beside its vault
-pub beside-at : (o : Option Vault) (s : Option ScrubJob) (v : Vault) (job : ScrubJob) → o ≡ Some v →
-    s ≡ Some job → ∥ IsAtWork o s ∥₁ → ∥ IsBesideVault v job ∥₁
-beside-at o s v job is some at =
-    ∥∥₁_map at (λ x. subst (λ (q : Option ScrubJob). IsAtWork (Some v) q) some
-    (subst (λ (p : Option Vault). IsAtWork p s) is x))
+-- it has a step left
+pub going-at : (v : Vault) (job : ScrubJob) → ∥ IsBesideVault v job ∥₁ → 0 < scrub_left job.scrub
+going-at v job at = ∥∥₁_elim at le_prop (λ B. B.going)
+
+-- and uses no more providers than there are
+pub there-at : (o : Option Vault) (v : Vault) (job : ScrubJob) (n : ℕ) → o ≡ Some v → uses_by o ≤ n →
+    ∥ IsBesideVault v job ∥₁ → job.scrub.providers ≤ n
+there-at o v job n is enough at =
+    ∥∥₁_elim at le_prop (λ B. (let f = B.fits in let e = ap uses_by is in omega (arith, f, e, enough)))
 
 -- where it goes on, it is still one
 pub scrub-on : (v new : ScrubView) (ps qs : List Provider)
@@ -207,12 +207,12 @@ beside-on v job new ps qs going count makes B = record {
 -- ---- what comes next for a client
 
 -- for a job, where no scrub runs
-pub vault-coming : (c : Client) (v : Vault) (number : ℕ) → c.vault ≡ Some v → c.scrub ≡ None →
+pub vault-coming : (c : Client) (v : Vault) (number : ℕ) → c.vault ≡ Some v → c.alone ≡ None →
     client_coming c number ≡ coming_of v number
 vault-coming c v number is none = λ i. coming_by (is i) (none i) number
 
 module _ (c : Client) (v : Vault) (job : ScrubJob) (number : ℕ) (is : c.vault ≡ Some v)
-    (some : c.scrub ≡ Some job) (same : job.number ≡ number) (next : IsNext job.scrub) where
+    (some : c.alone ≡ Some (alone.Scrub job)) (same : job.number ≡ number) (next : IsNext job.scrub) where
   coming : client_coming c number ≡ scrub_coming (next_to_do job.scrub)
   coming =
       (λ i. coming_by (is i) (some i) number)
@@ -226,6 +226,10 @@ module _ (c : Client) (v : Vault) (job : ScrubJob) (number : ℕ) (is : c.vault 
   pub calls-one : (j : ℕ) → called_provider (client_coming c number) ≡ Some j →
       called_by (next_to_do job.scrub) ≡ Some j
   calls-one j e = sym next.provider ∙ (sym (ap called_provider coming) ∙ e)
+
+  -- it calls none where none is called
+  pub calls-nobody : called_provider (client_coming c number) ≡ None → called_by (next_to_do job.scrub) ≡ None
+  calls-nobody e = sym next.provider ∙ (sym (ap called_provider coming) ∙ e)
 
   -- something is next for it
   pub has-next : {X : Type 0} → client_coming c number ≡ IsNoJob → X
@@ -297,13 +301,13 @@ freed v left job holds faults ps qs w S new a frees made =
 
 -- ---- as steps of a client
 
-module _ (c : Client) (v : Vault) (job : ScrubJob) (is : c.vault ≡ Some v) (some : c.scrub ≡ Some job)
+module _ (c : Client) (v : Vault) (job : ScrubJob) (is : c.vault ≡ Some v) (some : c.alone ≡ Some (alone.Scrub job))
     (holds : Option Cells) (faults : ℕ) (ps : List Provider) where
   abbrev Held : State → Type 0
   Held w = StandsHeld v job (devices holds faults ps) w
 
   held-by : (w : State) → ClientStands c (devices holds faults ps) w → Held w
-  held-by w S = parts-of c (Some v) (Some job) is some (devices holds faults ps) w S
+  held-by w S = parts-of c (Some v) (Some (alone.Scrub job)) is some (devices holds faults ps) w S
 
   module _ (next : Client) (qs : List Provider) (t : ScrubTurn) (number n : ℕ) (fits : number < 2 ^ 32)
       (same : job.number ≡ number) (n_is : n ≡ v.desk.setup.n) (new : ScrubView)
@@ -334,58 +338,28 @@ module _ (c : Client) (v : Vault) (job : ScrubJob) (is : c.vault ≡ Some v) (so
   -- one that goes on
   pub goes-on : (next : Client) (qs : List Provider) (number n : ℕ) (fits : number < 2 ^ 32)
       (same : job.number ≡ number) (n_is : n ≡ v.desk.setup.n) (new : ScrubView) →
-      next.vault ≡ Some v → next.scrub ≡ Some (record { number = job.number; scrub = new }) →
+      next.vault ≡ Some v → next.alone ≡ Some (alone.Scrub (record { number = job.number; scrub = new })) →
       ((w : State) (m : Scrub) → ScrubStands job.scrub ps w m → MakesScrubStep w m turn.More new qs) →
       (w : State) (moment : ℕ) → ClientStands c (devices holds faults ps) w →
       ClientMakesStep w moment number (Some (client_turn.Scrub n turn.More)) next (devices holds faults ps)
       (devices holds faults qs)
-  goes-on next qs number n fits same n_is new vault scrub makes =
+  goes-on next qs number n fits same n_is new vault alone_is makes =
       steps-scrub next qs turn.More number n fits same n_is new makes
-      (λ w S made. stands-of next (Some v) (Some (record { number = job.number; scrub = new })) next.next_job
-      vault scrub refl (devices holds faults qs) made.state
+      (λ w S made. stands-of next (Some v) (Some (alone.Scrub (record { number = job.number; scrub = new }))) next.next_job
+      vault alone_is refl (devices holds faults qs) made.state
       (held-on v job holds faults ps qs w S new (subst (λ (k : ℕ). k < 2 ^ 32) (sym same) fits) made))
 
   -- one that ends
   pub ends : (next : Client) (left : Vault) (qs : List Provider) (number n : ℕ) (fits : number < 2 ^ 32)
       (same : job.number ≡ number) (n_is : n ≡ v.desk.setup.n) (new : ScrubView) (a : ScrubAnswer) →
-      next.vault ≡ Some left → next.scrub ≡ None →
+      next.vault ≡ Some left → next.alone ≡ None →
       ((u : State) (d : Devices) (k : ℕ) → StandsBeside v d u k → Stands left d u) →
       ((w : State) (m : Scrub) → ScrubStands job.scrub ps w m → MakesScrubStep w m (turn.Done a) new qs) →
       (w : State) (moment : ℕ) → ClientStands c (devices holds faults ps) w →
       ClientMakesStep w moment number (Some (client_turn.Scrub n (turn.Done a))) next
       (devices holds faults ps) (devices holds faults qs)
-  ends next left qs number n fits same n_is new a vault scrub frees makes =
+  ends next left qs number n fits same n_is new a vault alone_is frees makes =
       steps-scrub next qs (turn.Done a) number n fits same n_is new makes
-      (λ w S made. stands-of next (Some left) None next.next_job vault scrub refl (devices holds faults qs)
+      (λ w S made. stands-of next (Some left) None next.next_job vault alone_is refl (devices holds faults qs)
       made.state
       (freed v left job holds faults ps qs w S new a (λ u k h. frees u (devices holds faults qs) k h) made))
-
-  -- beside a scrub no job is there
-  pub idle-heard : (w : State) → ClientStands c (devices holds faults ps) w → (number : ℕ) →
-      heard_by (job_of w.jobs number) ≡ []
-  idle-heard w C number = ap (λ (js : List Job). heard_by (job_of js number)) (held-by w C).beside.idle
-
-  -- a step of any other number finds no job
-  pub finds-none : (number : ℕ) → number < 2 ^ 32 → (job.number == number) ≡ false →
-      (w : State) (moment : ℕ) → ClientStands c (devices holds faults ps) w →
-      ClientMakesStep w moment number (Some (client_turn.Job vault_turn.NoSuchJob)) c
-      (devices holds faults ps) (devices holds faults ps)
-  finds-none number fits other w moment C =
-      (let S = held-by w C in
-      record {
-        makes = record {
-          state = w;
-          spelled = fits;
-          happens =
-              subst (λ b. Steps w number b (Refused NoSuchJob) w) (sym S.beside.desk.core.is_open)
-              (subst (λ b. StepsOpen w number b (Refused NoSuchJob) w) (sym S.beside.unbarred)
-              (subst (λ (a : Option Alone). StepsOne w number a (Refused NoSuchJob) w) (sym S.stands.alone)
-              (subst (λ b. StepsMine w number (Scrubbing S.scrub) b (Refused NoSuchJob) w)
-              (sym (ap (λ (k : ℕ). k == number) (sym S.number_is) ∙ other))
-              (subst (λ (js : List Job). StepsJob w (job_of js number) (Refused NoSuchJob) w)
-              (sym S.beside.idle) refl))));
-          stands = C;
-        };
-        beyond = λ ended. goes_still _ holds holds refl;
-        torn = λ ended. absurd (let e : Refused NoSuchJob ≡ Ended answers.DiskFault = ended in cc);
-      })

@@ -1,13 +1,14 @@
 -- How a client begins a scrub.
-use Rattle.std.proofs.Common.{◌≡◌, ℕ, ◌+◌, ◌<◌, ◌≤◌, ◌||◌, Bool, true, false, [], Option, Some, None, Result, Ok, Err, refl, ap, sym, subst, ◌∙◌, inl, inr, arith}
+use Rattle.std.proofs.Common.{◌≡◌, ℕ, ◌+◌, ◌<◌, ◌≤◌, ◌||◌, Bool, true, false, List, [], Option, Some, None, Result, Ok, Err, refl, ap, sym, subst, ◌∙◌, inl, inr, arith}
 use Rattle.std.specs.Prelude.{is_some, nat_lt, length}
 use Rattle.std.proofs.Math.Logic.{∥∥₁_prop}
 use Rattle.machine_defs.specs.Alone.{alone_refusal, new_scrub, BeginsScrub}
 use Rattle.machine_defs.specs.Events.{BeginScrub, Begun, Refused, Closed}
 use Rattle.machine_defs.specs.Machine.{Happens}
 use Rattle.machine_defs.specs.Refusals as refusal
-use Rattle.machine_defs.specs.Refusals.{Refusal}
-use Rattle.machine_defs.specs.States.{State, Alone, Scrubbing, setup_in}
+use Rattle.machine_defs.specs.Refusals.{Refusal, Cause}
+use Rattle.machine_defs.specs.States as states
+use Rattle.machine_defs.specs.States.{State, setup_in}
 use Rattle.machine_defs.proofs.JobLists.{cond_true, cond_false}
 use Rattle.record_defs.specs.Records.{Setup}
 use Rattle.state_laws.proofs.Events.{events-sound}
@@ -25,11 +26,13 @@ use Rattle.vault.specs.Seen.{held_by, provider_count, IsUnchanged}
 use Rattle.vault.specs.Stands.{Stands, StandsBeside, HoldsOver}
 use Rattle.vault.proofs.AtWork.{by_work}
 use Rattle.hail_client.specs.AtWork.{IsAtWork}
+use Rattle.hail_client.specs.declared.alone.Alone.{Alone}
+use Rattle.hail_client.specs.declared.alone.Alone.TheVariants as alone
+use Rattle.hail_client.specs.declared.alone.ScrubJob.{ScrubJob}
 use Rattle.hail_client.specs.declared.client.Client.{Client}
-use Rattle.hail_client.specs.declared.scrub.ScrubJob.{ScrubJob}
 use Rattle.hail_client.specs.Outcomes.{client_begin_outcome}
 use Rattle.hail_client.specs.Stands.{StandsBy, StandsHeld, ClientStands, MakesEvent}
-use Rattle.hail_client.proofs.Beside.{same-held}
+use Rattle.hail_client.proofs.Beside.{beside-of, same-alone}
 use Rattle.hail_client.proofs.Standing.{stands-of, parts-of, open-of}
 
 or-true : (b : Bool) → (b || true) ≡ true
@@ -41,23 +44,23 @@ abbrev pub IsBusy : Result ℕ BeginFault → Type 0
 IsBusy result = result ≡ Err fault.Busy
 
 -- beside what runs alone nothing else begins to
-alone-busy : (w : State) (a : Alone) → w.is_barred ≡ false → w.alone ≡ Some a →
-    alone_refusal w [] ≡ Some refusal.Busy
-alone-busy w a free alone =
+pub alone-busy : (w : State) (a : states.Alone) → w.is_barred ≡ false → w.alone ≡ Some a →
+    (more : List Cause) → alone_refusal w more ≡ Some refusal.Busy
+alone-busy w a free alone_is more =
     cond_false w.is_barred _ _ free
     ∙ cond_true (nat_lt 0 (length w.jobs) || is_some w.alone) _ _
-    (ap (λ (x : Option Alone). nat_lt 0 (length w.jobs) || is_some x) alone ∙ or-true (nat_lt 0 (length w.jobs)))
+    (ap (λ (x : Option states.Alone). nat_lt 0 (length w.jobs) || is_some x) alone_is ∙ or-true (nat_lt 0 (length w.jobs)))
 
 module _ (c new : Client) (d : Devices) (w : State) (moment : ℕ) where
   -- a begin of a scrub is refused for want of memory
-  pub no-memory : ClientStands c d w → c.vault ≡ new.vault → c.scrub ≡ new.scrub → c.next_job ≡ new.next_job →
+  pub no-memory : ClientStands c d w → c.vault ≡ new.vault → c.alone ≡ new.alone → c.next_job ≡ new.next_job →
       is_some c.vault ≡ true →
       MakesEvent w moment BeginScrub (client_begin_outcome (Some (Err fault.Memory))) new d
-  no-memory S vault scrub number opened = record {
+  no-memory S vault alone_is number opened = record {
     state = w;
     spelled = tt;
-    happens = (open-of c.vault c.scrub c.next_job d w S ∙ opened, inr refl, refl);
-    stands = stands-of new c.vault c.scrub c.next_job (sym vault) (sym scrub) (sym number) d w S;
+    happens = (open-of c.vault c.alone c.next_job d w S ∙ opened, inr refl, refl);
+    stands = stands-of new c.vault c.alone c.next_job (sym vault) (sym alone_is) (sym number) d w S;
   }
 
   -- a client with no vault open begins none
@@ -66,7 +69,7 @@ module _ (c new : Client) (d : Devices) (w : State) (moment : ℕ) where
     state = w;
     spelled = tt;
     happens =
-        (open-of c.vault c.scrub c.next_job d w S ∙ ap (λ (o : Option Vault). is_some o) none, refl);
+        (open-of c.vault c.alone c.next_job d w S ∙ ap (λ (o : Option Vault). is_some o) none, refl);
     stands = S;
   }
 
@@ -77,37 +80,38 @@ module _ (v next : Vault) (w : State) (d : Devices) (moment : ℕ) (why : BeginF
     (busy : is_some (held_by v) ≡ true → IsBusy (Err why))
     (unchanged : IsUnchanged v next) where
   -- what a hold that was refused comes to
-  refused-by : (o : Option ScrubJob) (number : ℕ) → StandsBy (Some v) o number d w →
+  refused-by : (o : Option Alone) (number : ℕ) → StandsBy (Some v) o number d w →
       BeginsScrub moment w (Refused (refusal_of why)) w × StandsBy (Some next) o number d w
   refused-by None number S =
       (let h = holds S in ((S.desk.core.is_open, inl h.0, refl), h.1))
-  refused-by (Some job) number S =
-      (let e : IsBusy (Err why) = busy (ap is_some S.beside.held) in
+  refused-by (Some x) number S =
+      (let A = beside-of v x d w S in
+      let e : IsBusy (Err why) = busy (ap is_some A.held) in
       let same : why ≡ fault.Busy = cc in (
         (
-          S.beside.desk.core.is_open,
-          inl (alone-busy w (Scrubbing S.scrub) S.beside.unbarred S.stands.alone
+          A.is_open,
+          inl (alone-busy w A.what A.unbarred A.alone_is []
               ∙ sym (ap (λ (f : BeginFault). Some (refusal_of f)) same)),
           refl,
         ),
-        same-held v next job d w unchanged S,
+        same-alone v next x d w unchanged S,
       ))
 
 -- a hold that was refused is a begin of a scrub that the machine refuses
 pub scrub-refused : (c new : Client) (v next : Vault) (why : BeginFault) → c.vault ≡ Some v →
-    new.vault ≡ Some next → new.scrub ≡ c.scrub → new.next_job ≡ c.next_job →
+    new.vault ≡ Some next → new.alone ≡ c.alone → new.next_job ≡ c.next_job →
     ((w : State) (d : Devices) → Stands v d w → HoldsOver w d (Err why) next) →
     (is_some (held_by v) ≡ true → IsBusy (Err why)) → IsUnchanged v next →
     (w : State) (d : Devices) (moment : ℕ) → ClientStands c d w →
     MakesEvent w moment BeginScrub (client_begin_outcome (Some (Err why))) new d
-scrub-refused c new v next why is new_is scrub number holds busy unchanged w d moment C =
-    (let h = refused-by v next w d moment why (holds w d) busy unchanged c.scrub c.next_job
-    (parts-of c (Some v) c.scrub is refl d w C) in
+scrub-refused c new v next why is new_is alone_is number holds busy unchanged w d moment C =
+    (let h = refused-by v next w d moment why (holds w d) busy unchanged c.alone c.next_job
+    (parts-of c (Some v) c.alone is refl d w C) in
     record {
       state = w;
       spelled = tt;
       happens = h.0;
-      stands = stands-of new (Some next) c.scrub c.next_job new_is scrub number d w h.1;
+      stands = stands-of new (Some next) c.alone c.next_job new_is alone_is number d w h.1;
     })
 
 -- a vault that was held just now was not held before
@@ -125,7 +129,7 @@ module _ (v next : Vault) (number : ℕ) (scrub : ScrubView)
   abbrev job : ScrubJob
   job = record { number = number; scrub = scrub }
 
-  begun-by : (o : Option ScrubJob) (k : ℕ) (w : State) (d : Devices) (moment : ℕ) → StandsBy (Some v) o k d w →
+  begun-by : (o : Option Alone) (k : ℕ) (w : State) (d : Devices) (moment : ℕ) → StandsBy (Some v) o k d w →
       Happens 8 moment w BeginScrub (Begun number) (held w moment) × StandsHeld next job d (held w moment)
   begun-by None k w d moment S =
       (let h = holds w d S in
@@ -143,24 +147,24 @@ module _ (v next : Vault) (number : ℕ) (scrub : ScrubView)
         },
       ))
   begun-by (Some other) k w d moment S =
-      absurd (let e : IsBusy (Ok number) = busy (ap is_some S.beside.held) in cc)
+      absurd (let e : IsBusy (Ok number) = busy (ap is_some (beside-of v other d w S).held) in cc)
 
   -- a scrub and a hold are a begin of a scrub
-  pub scrub-begun : (c new : Client) → c.vault ≡ Some v → new.vault ≡ Some next → new.scrub ≡ Some job →
+  pub scrub-begun : (c new : Client) → c.vault ≡ Some v → new.vault ≡ Some next → new.alone ≡ Some (alone.Scrub job) →
       (w : State) (d : Devices) (moment : ℕ) → ClientStands c d w →
       MakesEvent w moment BeginScrub (client_begin_outcome (Some (Ok number))) new d
-  scrub-begun c new is new_is scrub_is w d moment C =
-      (let h = begun-by c.scrub c.next_job w d moment (parts-of c (Some v) c.scrub is refl d w C) in
+  scrub-begun c new is new_is alone_is w d moment C =
+      (let h = begun-by c.alone c.next_job w d moment (parts-of c (Some v) c.alone is refl d w C) in
       record {
         state = held w moment;
         spelled = tt;
         happens = h.0;
-        stands = stands-of new (Some next) (Some job) new.next_job new_is scrub_is refl d (held w moment) h.1;
+        stands = stands-of new (Some next) (Some (alone.Scrub job)) new.next_job new_is alone_is refl d (held w moment) h.1;
       })
 
   -- and the scrub runs beside the vault
   pub scrub-works : held_by next ≡ Some number → 0 < scrub_left scrub → scrub.providers ≤ provider_count v →
-      ∥ IsAtWork (Some next) (Some job) ∥₁
+      ∥ IsAtWork (Some next) (Some (alone.Scrub job)) ∥₁
   scrub-works held_is going fits =
       by_work ∥∥₁_prop v.desk (λ w faults ps desk.
       let d = devices None faults ps in

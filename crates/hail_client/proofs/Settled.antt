@@ -1,149 +1,108 @@
--- What a disk that tells reads, of the records in effect and the one in doubt.
-use Rattle.std.proofs.Common.{◌≡◌, ◌⊎◌, inl, inr, ℕ, ◌≤◌, List, [], ◌∷◌, length, Option, Some, None, refl, ap, sym, subst, ◌∙◌, arith, length-take}
-use Rattle.device_defs.specs.Cells.{Cells, reads, firm}
-use Rattle.device_defs.proofs.Lasting.{image-firm, each_image-mono}
-use Rattle.record_defs.specs.Records.{Record, largest_journal}
-use Rattle.record_defs.specs.Journal.{text_size, StandsFor, StandsOrIsEmpty}
-use Rattle.record_defs.specs.Acceptance.{AreAccepted}
-use Rattle.record_defs.specs.Areas.{Area, A, other_area}
+-- What is left in effect where the vault is given up and the disk is read again.
+use Rattle.std.proofs.Common.{◌≡◌, ◌≢◌, ◌⊎◌, inl, inr, ℕ, ◌≤◌, List, [], ◌∷◌, length, Some, None, refl, ap, sym, subst, ◌∙◌, arith}
+use Rattle.std.specs.Prelude.{is_some}
+use Rattle.record_defs.specs.Records.{Record}
+use Rattle.record_defs.specs.Areas.{Area, other_area, StandsActive}
 use Rattle.record_defs.specs.Packed.{packed}
-use Rattle.record_defs.proofs.Standing.{stands-front}
 use Rattle.machine_defs.specs.Events.{Stop, Stopped}
-use Rattle.machine_defs.specs.States.{State, Doubt, Settles}
-use Rattle.machine_defs.specs.Openings.{reread, Rereads}
-use Rattle.machine_defs.specs.Stands.{StandsIn, StandsPlain, StandsForState}
-use Rattle.journal_core.proofs.Meanings.{one_meaning}
-use Rattle.state_laws.specs.Sound.{IsUnpacked, IsSound}
+use Rattle.machine_defs.specs.States.{State, Doubt}
+use Rattle.machine_defs.specs.Openings.{IsSetUp, MayHold, reread, Rereads}
+use Rattle.state_laws.specs.Sound.{IsSoundJournal, IsSound}
 use Rattle.state_laws.proofs.Events.{events-sound}
-use Rattle.opening_defs.specs.Journals.{journal_read}
-use Rattle.vault_open.proofs.Texts.{short-none}
-use Rattle.vault_open.proofs.FirstVersion.{Shows, ShowsFirst}
-use Rattle.state_laws.proofs.Written.{unpacked-end}
+use Rattle.opening_defs.proofs.Opened.{has-setup}
+use Rattle.vault_open.proofs.Images.{Shows, MayRead, packed-some, more-some, shown-read, shown-short}
 
--- ---- what bytes stand for
+-- the records that are in effect, and the journal that the disk is read to hold in this area: those of before,
+-- or the packed journal in the other area; or both with the record in doubt
+abbrev pub AreLeft : State → List Record → List Record → Area → Type 0
+AreLeft w rs js area = ((rs ≡ w.records) × MayHold w js area)
+    ⊎ ((d : Doubt) × (w.doubt ≡ Some d) × (rs ≡ d.entry ∷ w.records) × (js ≡ d.entry ∷ w.journal)
+    × (area ≡ w.area))
 
--- bytes stand for one list of records
-one-reading : (bytes : List ℕ) (a b : List Record) → StandsOrIsEmpty bytes a → StandsOrIsEmpty bytes b → a ≡ b
-one-reading bytes a b (inl s) (inl t) = one_meaning bytes a b s t
-one-reading bytes a b (inl s) (inr (none, short)) = short-none bytes a s short ∙ sym none
-one-reading bytes a b (inr (none, short)) (inl t) = none ∙ sym (short-none bytes b t short)
-one-reading bytes a b (inr (none, short)) (inr (also, still)) = none ∙ sym also
+-- the vault given up, with these records, this journal in its area and nothing in doubt
+abbrev pub left_with : State → List Record → List Record → Area → State
+left_with w rs js area = record (reread w js area) { doubt = None; records = rs }
 
--- a disk with no loose byte stands for what it reads
-pub firm-stands : (bytes : List ℕ) (w : State) → w.area ≡ A → StandsOrIsEmpty bytes w.journal →
-    StandsForState (Some (firm bytes)) w
-firm-stands bytes w area is image of =
-    inl (shown (subst (λ (l : List ℕ). StandsOrIsEmpty l w.journal) (sym (image-firm bytes image of)) is))
-  where
-    shown : StandsOrIsEmpty image w.journal → StandsPlain w image
-    shown (inl stands) = inl (area, stands)
-    shown (inr empty) = inr empty
-
--- images that stand for a state stand for one that holds the same
-pub same-images : (told : Option Cells) (w new : State) → new.journal ≡ w.journal → new.area ≡ w.area →
-    new.is_switching ≡ w.is_switching → new.doubt ≡ w.doubt → StandsForState told w → StandsForState told new
-same-images told w new journal area switching doubt = each_image-mono told (Shows w) (Shows new) by
-  where
-    by : (image : List ℕ) → Shows w image → Shows new image
-    by image (inl (inl s)) =
-        inl (inl (subst (λ (a : Area). StandsIn a image new.journal) (sym area)
-        (subst (λ (l : List Record). StandsIn w.area image l) (sym journal) s)))
-    by image (inl (inr e)) = inl (inr (journal ∙ e.0, e.1))
-    by image (inr (inl d)) = inr (inl (record {
-      doubt = d.doubt;
-      in_doubt = doubt ∙ d.in_doubt;
-      stands = subst (λ (a : Area). StandsIn a image (d.doubt.entry ∷ new.journal)) (sym area)
-          (subst (λ (l : List Record). StandsIn w.area image (d.doubt.entry ∷ l)) (sym journal) d.stands);
-    }))
-    by image (inr (inr x)) = inr (inr (record {
-      switching = switching ∙ x.switching;
-      stands = subst (λ (a : Area). StandsIn (other_area a) image (packed new.journal)) (sym area)
-          (subst (λ (l : List Record). StandsIn (other_area w.area) image (packed l)) (sym journal) x.stands);
-    }))
-
--- ---- what is in effect once nothing is in doubt
-
--- the records in effect and the journal that the disk holds, or these with the one in doubt
-abbrev pub AreLeft : State → List Record → List Record → Type 0
-AreLeft w rs js = ((rs ≡ w.records) × (js ≡ w.journal))
-    ⊎ ((d : Doubt) × (w.doubt ≡ Some d) × (rs ≡ d.entry ∷ w.records) × (js ≡ d.entry ∷ w.journal))
-
--- the vault given up, with these records, this journal and nothing in doubt
-abbrev pub left_with : State → List Record → List Record → State
-left_with w rs js = record (reread w w.journal w.area) { doubt = None; records = rs; journal = js }
-
--- to give up the vault over what a disk may hold of the record in doubt is to read that disk again
-pub left-rereads : (w : State) (rs js : List Record) → AreLeft w rs js → Rereads w (left_with w rs js)
-left-rereads w rs js left = (w.journal, w.area, inl (refl, refl), by left)
-  where
-    by : AreLeft w rs js → Settles (reread w w.journal w.area) (left_with w rs js)
-    by (inl e) = inl (λ i. left_with w (e.0 i) (e.1 i))
-    by (inr (d, in_doubt, same, held)) = inr (d, in_doubt, λ i. left_with w (same i) (held i))
+-- to give up the vault over what a disk may hold is to read that disk again
+pub left-rereads : (w : State) (rs js : List Record) (area : Area) → AreLeft w rs js area →
+    Rereads w (left_with w rs js area)
+left-rereads w rs js area (inl (same, may)) = (js, area, may, inl (λ i. left_with w (same i) js area))
+left-rereads w rs js area (inr (d, in_doubt, same, held, here)) = (
+  w.journal,
+  w.area,
+  inl (refl, refl),
+  inr (d, in_doubt, λ i. left_with w (same i) (held i) (here i)),
+)
 
 -- what is so left of a sound state is sound
-pub left-sound : (w : State) (rs js : List Record) → IsSound 8 w → AreLeft w rs js →
-    IsSound 8 (left_with w rs js)
-left-sound w rs js sound left = events-sound 8 0 w sound (omega arith, omega arith) (Stop []) Stopped
-    (left_with w rs js) refl (left-rereads w rs js left)
+pub left-sound : (w : State) (rs js : List Record) (area : Area) → IsSound 8 w → AreLeft w rs js area →
+    IsSound 8 (left_with w rs js area)
+left-sound w rs js area sound left = events-sound 8 0 w sound (omega arith, omega arith) (Stop []) Stopped
+    (left_with w rs js area) refl (left-rereads w rs js area left)
 
--- ---- where what the disk holds is the whole history, in area A
+-- the state as it was, with the vault given up, is one of these
+pub same-left : (w : State) → AreLeft w w.records w.journal w.area
+same-left w = inl (refl, inl (refl, refl))
 
--- the records in effect, or these with the one in doubt
-abbrev pub AreKept : State → List Record → Type 0
-AreKept w rs = (rs ≡ w.records) ⊎ ((d : Doubt) × (w.doubt ≡ Some d) × (rs ≡ d.entry ∷ w.records))
+-- where a journal may be read, so much is in effect with it
+pub read-left : (w : State) (area : Area) (js : List Record) → MayRead w area js →
+    (rs : List Record) × AreLeft w rs js area
+read-left w area js (inl may) = (w.records, inl (refl, may))
+read-left w area js (inr (d, in_doubt, same, here)) =
+    (d.entry ∷ w.records, inr (d, in_doubt, refl, same, here))
 
--- such a journal leaves just the records that it reads
-pub kept-left : (w : State) (rs : List Record) → IsUnpacked w → AreKept w rs → AreLeft w rs rs
-kept-left w rs whole (inl e) = inl (e, e ∙ sym whole.journal)
-kept-left w rs whole (inr (d, in_doubt, e)) =
-    inr (d, in_doubt, e, e ∙ ap (λ (l : List Record). d.entry ∷ l) (sym whole.journal))
+-- a sound state whose journal has a record has a setup in effect
+pub left-set_up : (w : State) → IsSound 8 w → w.journal ≢ [] → IsSetUp w
+left-set_up w sound some =
+    sym (ap is_some sound.journal.alike.setup) ∙ has-setup w.journal sound.journal.accepted some
 
--- the vault given up, with these records and nothing in doubt
-abbrev pub settled : State → List Record → State
-settled w rs = left_with w rs rs
+-- ---- what one image leaves
 
--- such a journal is one still once nothing is in doubt
-pub settled-unpacked : (w : State) (rs : List Record) → IsUnpacked w → IsUnpacked (settled w rs)
-settled-unpacked w rs whole = record { journal = refl; area = whole.area }
+-- the records and the journal that are left, where an image shows them
+pub record IsLeft (w : State) (image : List ℕ) : Type 0 where
+  pub records : List Record
+  pub journal : List Record
+  pub area : Area
+  pub left : AreLeft w records journal area
+  pub shows : Shows (left_with w records journal area) image
 
--- such a journal that is read again settles the record in doubt
-pub rereads : (w : State) (rs : List Record) → IsUnpacked w → AreKept w rs → Rereads w (settled w rs)
-rereads w rs whole kept = left-rereads w rs rs (kept-left w rs whole kept)
+-- an image that stands for what may be in effect leaves what it shows
+pub image-left : (w : State) (image : List ℕ) → Shows w image → IsLeft w image
+image-left w image (inl plain) = record {
+  records = w.records;
+  journal = w.journal;
+  area = w.area;
+  left = same-left w;
+  shows = inl plain;
+}
+image-left w image (inr (inl d)) = record {
+  records = d.doubt.entry ∷ w.records;
+  journal = d.doubt.entry ∷ w.journal;
+  area = w.area;
+  left = inr (d.doubt, d.in_doubt, refl, refl, refl);
+  shows = inl (inl d.stands);
+}
+image-left w image (inr (inr x)) = record {
+  records = w.records;
+  journal = packed w.journal;
+  area = other_area w.area;
+  left = inl (refl, inr (x.switching, refl, refl));
+  shows = inl (inl x.stands);
+}
 
--- a sound state with such a journal is sound once nothing is in doubt
-pub settled-sound : (w : State) (rs : List Record) → IsSound 8 w → IsUnpacked w → AreKept w rs →
-    IsSound 8 (settled w rs)
-settled-sound w rs sound whole kept = left-sound w rs rs sound (kept-left w rs whole kept)
-
--- an image stands for one of the two
-pub image-kept : (w : State) (image : List ℕ) → ShowsFirst w image →
-    (rs : List Record) × AreKept w rs × StandsOrIsEmpty image rs
-image-kept w image (inl s) = (w.records, inl refl, s)
-image-kept w image (inr d) = (d.doubt.entry ∷ w.records, inr (d.doubt, d.in_doubt, refl), inl d.stands)
-
--- what bytes stand for is the one of the two that they stand for as an image
-pub read-kept : (w : State) (bytes : List ℕ) (rs : List Record) → StandsOrIsEmpty bytes rs →
-    ShowsFirst w bytes → AreKept w rs
-read-kept w bytes rs is read =
-    (let k = image-kept w bytes read in subst (AreKept w) (one-reading bytes k.0 rs k.2 is) k.1)
-
--- both are accepted and fit the journal
-pub kept-accepted : (w : State) (rs : List Record) → IsSound 8 w → IsUnpacked w → AreKept w rs →
-    AreAccepted rs
-kept-accepted w rs sound whole kept = (settled-sound w rs sound whole kept).accepted
-
--- the records that such a journal reads fit into the largest journal
-pub kept-fits : (w : State) (rs : List Record) → IsSound 8 w → IsUnpacked w → AreKept w rs →
-    text_size rs ≤ largest_journal
-kept-fits w rs sound whole kept =
-    (let a = (settled-sound w rs sound whole kept).room in
-    let e = unpacked-end (settled w rs) (settled-unpacked w rs whole) in omega (arith, a, e))
-
--- the bytes that are looked at are as many as are read, where these are few
-pub short-read : (cells : Cells) → length (journal_read cells) ≤ 9 → length (reads cells) ≤ 9
-short-read cells short = (let e = length-take largest_journal (reads cells) in omega (arith, e, short))
-
--- records that the largest journal's part of a disk stands for are those that the disk reads
-pub whole-read : (cells : Cells) (rs : List Record) → StandsFor (journal_read cells) rs →
-    StandsFor (reads cells) rs
-whole-read cells rs is = stands-front largest_journal (reads cells) rs is
+-- a disk on which nothing is set up has no record in its journal
+pub none-read : (w : State) (image : List ℕ) → IsSoundJournal w → Shows w image →
+    (length image ≤ 9) ⊎ ((area : Area) × StandsActive image area []) →
+    (w.journal ≡ []) × Shows (left_with w w.records w.journal w.area) image
+none-read w image journal shows (inl short) =
+    (let none = shown-short w image shows short in (none, inl (inr (none, short))))
+none-read w image journal shows (inr (area, stands)) = by (shown-read w image area [] journal shows stands)
+  where
+    by : MayRead w area [] → (w.journal ≡ []) × Shows (left_with w w.records w.journal w.area) image
+    by (inl (inl (same, here))) = (
+      sym same,
+      inl (inl (subst (λ (a : Area). StandsActive image a w.journal) here
+          (subst (λ (l : List Record). StandsActive image area l) same stands))),
+    )
+    by (inl (inr (switching, same, other))) = absurd (packed-some w.journal (sym same))
+    by (inr (d, in_doubt, same, here)) = absurd (more-some d.entry w.journal (sym same))

@@ -1,15 +1,25 @@
 -- What a client is at work on, whatever devices it was lent.
 --
---   IsScrub v            == a scrub is one of the machine
---   IsBesideVault v job  == a scrub runs beside this vault, which is held under its number
---   IsAtWork vault scrub == a scrub is there only beside an open vault, and runs there
-use Rattle.std.specs.Prelude.{◌≡◌, ◌<◌, ◌≤◌, Option, None, Some}
+--   alone_number x        == the job number of what runs alone
+--   IsScrub v             == a scrub is one of the machine
+--   IsBesideVault v job   == a scrub runs beside this vault, which is held under its number
+--   IsBeside v x          == what runs alone runs beside this vault: such a scrub, or a pack of this vault
+--   IsAtWork vault alone  == something runs alone only beside an open vault, and runs there
+use Rattle.std.specs.Prelude.{◌≡◌, ℕ, ◌<◌, ◌≤◌, Option, None, Some}
 use Rattle.machine_defs.specs.States.{State, Scrub, setup_in}
 use Rattle.hail_scrub.specs.Stands.{ScrubIs}
 use Rattle.hail_scrub.specs.Views.{ScrubView, scrub_left}
 use Rattle.vault.specs.declared.vault.Vault.{Vault}
+use Rattle.vault.specs.Packing.{pack_number, IsPackOf}
 use Rattle.vault.specs.Seen.{provider_count, held_by}
-use Rattle.hail_client.specs.declared.scrub.ScrubJob.{ScrubJob}
+use Rattle.hail_client.specs.declared.alone.Alone.{Alone}
+use Rattle.hail_client.specs.declared.alone.Alone.TheVariants as alone
+use Rattle.hail_client.specs.declared.alone.ScrubJob.{ScrubJob}
+
+-- the job number of what runs alone
+abbrev pub alone_number : Alone → ℕ
+alone_number (alone.Scrub job) = job.number
+alone_number (alone.Pack job) = pack_number job
 
 -- a scrub is one of the machine
 pub record IsScrub (v : ScrubView) : Type 0 where
@@ -24,8 +34,13 @@ pub record IsBesideVault (v : Vault) (job : ScrubJob) : Type 0 where
   pub fits : job.scrub.providers ≤ provider_count v
   pub scrub : IsScrub job.scrub
 
--- a scrub is there only beside an open vault
-abbrev pub IsAtWork : Option Vault → Option ScrubJob → Type 0
+-- what runs alone runs beside a vault
+abbrev pub IsBeside : Vault → Alone → Type 0
+IsBeside v (alone.Scrub job) = IsBesideVault v job
+IsBeside v (alone.Pack job) = IsPackOf v job
+
+-- something runs alone only beside an open vault
+abbrev pub IsAtWork : Option Vault → Option Alone → Type 0
 IsAtWork vault None = Unit {0}
-IsAtWork None (Some job) = ⊥
-IsAtWork (Some v) (Some job) = IsBesideVault v job
+IsAtWork None (Some x) = ⊥
+IsAtWork (Some v) (Some x) = IsBeside v x

@@ -10,10 +10,16 @@
 --   stored_open    == the same with a vault open
 --   stored_scrub   == a scrub of that file that has done nothing yet
 --   scrubbed_state == the state behind the begin of that scrub
-use Rattle.std.specs.Prelude.{true, false, [], ◌∷◌, ◌++◌, map, replicate, codes, Some, None}
+--   raised_records == a setup of four providers, and the second version of the journal
+--   raised         == a disk that reads their text, and four providers that hold nothing
+--   raised_open    == the state at rest over that journal, with a vault open
+--   packing_state  == the state behind the begin of a pack of it
+use Rattle.std.specs.Prelude.{true, false, List, [], ◌∷◌, ◌++◌, map, replicate, codes, Some, None}
 use Rattle.device_defs.specs.Cells.{firm}
 use Rattle.device_defs.specs.Providers.{Provider}
+use Rattle.record_defs.specs.Examples.{four_set_up}
 use Rattle.record_defs.specs.Journal.{text}
+use Rattle.record_defs.specs.Records.{Record, Version}
 use Rattle.record_defs.specs.Table.{File}
 use Rattle.code_defs.specs.Points.{upto}
 use Rattle.machine_defs.specs.Actions.{Fetch, Work, End}
@@ -22,6 +28,7 @@ use Rattle.machine_defs.specs.Setups.{profiled, object_of}
 use Rattle.machine_defs.specs.States.{State}
 use Rattle.hail_scrub.specs.Begins.{held}
 use Rattle.hail_scrub.specs.Views.{Between, ScrubView}
+use Rattle.vault.specs.Packing.{pack_begun}
 use Rattle.vault_open.specs.Devices.{Devices, devices}
 use Rattle.hail_client.specs.declared.client.Client.{Client}
 use Rattle.hail_client.specs.Client.{without_vault}
@@ -76,3 +83,19 @@ stored_scrub = record {
 -- the state behind the begin of that scrub
 abbrev pub scrubbed_state : State
 scrubbed_state = held stored_open 0
+
+-- a setup of four providers, and the second version of the journal
+abbrev pub raised_records : List Record
+raised_records = Version ∷ four_set_up
+
+-- a disk that reads their text, and four providers that hold nothing
+abbrev pub raised : Devices
+raised = devices (Some (firm (text raised_records))) 0 (replicate 4 empty_provider)
+
+-- the state at rest over that journal, with a vault open
+abbrev pub raised_open : State
+raised_open = record (opened raised_records []) { providers = provider_or_empty raised.providers; handed = 4 }
+
+-- the state behind the begin of a pack of it
+abbrev pub packing_state : State
+packing_state = pack_begun raised_open

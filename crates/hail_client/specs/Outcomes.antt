@@ -3,9 +3,10 @@
 --   client_begin_outcome result == of a begin
 --   UnlessBegun result P        == P holds unless the begin was accepted
 --   step_outcome result         == of a step
---   is_more result              == the job of a step, or its scrub, goes on
+--   is_more result              == the job of a step, or its scrub or pack, goes on
 --   IfJob result P              == P holds of the turn, where the step was one of a job of the vault
---   HeardIs turn entries        == the end of a job tells that it heard these; a scrub hears nothing
+--   HeardIs turn entries        == the end of a job tells that it heard these; a scrub and a pack hear nothing
+--   UnlessPack result P         == P holds, where the step was none of a pack
 --   reopen_outcome result       == of a reopening
 --   UnlessBadJournal result P   == P holds unless what the reopening read was no journal, which is no outcome
 --                                  of the machine
@@ -26,8 +27,11 @@ use Rattle.hail_scrub.specs.Stands.{scrub_outcome}
 use Rattle.vault.specs.declared.turn.Turn.{Turn}
 use Rattle.vault.specs.declared.turn.Turn.TheVariants as turn
 use Rattle.vault.specs.Outcomes as vault
+use Rattle.vault.specs.Packing.{pack_answer}
 use Rattle.hail_client.specs.declared.turn.ClientTurn.{ClientTurn}
 use Rattle.hail_client.specs.declared.turn.ClientTurn.TheVariants as client_turn
+use Rattle.hail_client.specs.declared.turn.PackStep.{PackStep}
+use Rattle.hail_client.specs.declared.turn.PackStep.TheVariants as pack_step
 use Rattle.hail_client.specs.declared.fault.ReopenFault.{ReopenFault}
 use Rattle.hail_client.specs.declared.fault.ReopenFault.TheVariants as reopen_fault
 
@@ -41,16 +45,23 @@ abbrev pub UnlessBegun : Option (Result ℕ BeginFault) → Type 0 → Type 0
 UnlessBegun (Some (Ok job)) P = Unit {0}
 UnlessBegun result P = P
 
+-- the outcome of a step of a pack
+abbrev pub pack_step_outcome : PackStep → Outcome
+pack_step_outcome pack_step.More = events.More
+pack_step_outcome (pack_step.Done answer) = events.Ended (pack_answer answer)
+
 -- the outcome of a step
 abbrev pub step_outcome : Option ClientTurn → Outcome
 step_outcome None = events.Closed
 step_outcome (Some (client_turn.Job t)) = vault.outcome_of t
 step_outcome (Some (client_turn.Scrub n t)) = scrub_outcome n t
+step_outcome (Some (client_turn.Pack t)) = pack_step_outcome t
 
 -- the job of a step goes on
 abbrev pub is_more : Option ClientTurn → Bool
 is_more (Some (client_turn.Job turn.More)) = true
 is_more (Some (client_turn.Scrub n scrub_turn.More)) = true
+is_more (Some (client_turn.Pack pack_step.More)) = true
 is_more result = false
 
 -- a fact of the turn, where the step was one of a job of the vault
@@ -58,10 +69,16 @@ abbrev pub IfJob : Option ClientTurn → (Turn → Type 0) → Type 0
 IfJob (Some (client_turn.Job t)) P = P t
 IfJob result P = Unit {0}
 
--- what was heard by the end of a job; a scrub hears nothing
+-- what was heard by the end of a job; a scrub and a pack hear nothing
 abbrev pub HeardIs : ClientTurn → List Entry → Type 0
 HeardIs (client_turn.Job t) entries = vault.IfEnded t (λ ended. ended.heard ≡ entries)
 HeardIs (client_turn.Scrub n t) entries = entries ≡ []
+HeardIs (client_turn.Pack t) entries = entries ≡ []
+
+-- a fact of a step, where it was none of a pack
+abbrev pub UnlessPack : Option ClientTurn → Type 0 → Type 0
+UnlessPack (Some (client_turn.Pack t)) P = Unit {0}
+UnlessPack result P = P
 
 -- why a start gave no vault
 abbrev pub start_refusal : StartFault → Refusal

@@ -1,13 +1,15 @@
 -- How a client and its devices stand for a state of the machine, and how a call is one event of it.
 --
 --   ClientStands c d w                             == client and devices stand for a state: a vault is open
---                                                     in both, and stands for it, beside the scrub that runs
---                                                     alone, if one does; or none is open; the state is sound
+--                                                     in both, and stands for it, beside the scrub or the
+--                                                     pack that runs alone, if one does; or none is open; the
+--                                                     state is sound
 --   MakesEvent w moment event outcome c d          == from a state, after so many events, an event has this
 --                                                     outcome, and client and devices stand for the state
 --                                                     after it
---   ClientMakesStep w moment job answer c old new  == a step is an event of the machine, and past the text of
---                                                     the records the disk reads as before
+--   ClientMakesStep w moment job answer c old new  == a step is an event of the machine, and, unless it is one
+--                                                     of a pack, past the text of the records the disk reads
+--                                                     as before
 --   moment_of m                                    == this event as a moment of a run
 --   IsStanding c d                                 == client and devices stand for some state
 --   IsMadeAnew moment next event outcome c old new == from some closed state over the devices, the next job
@@ -20,12 +22,13 @@
 --                                                     name
 --   IsReached start ms c d                         == the moments are a run from a state, and client and
 --                                                     devices stand for the last state of it
---   RunsJobOn start ms job turn c d                == behind these moments a job or a scrub was stepped until
---                                                     this turn, at which it did not go on
+--   RunsJobOn start ms job turn c d                == behind these moments a job, a scrub or a pack was
+--                                                     stepped until this turn, at which it did not go on
 use Rattle.std.specs.Prelude.{◌≡◌, ◌≢◌, ℕ, false, List, ◌∷◌, ◌++◌, length, Option, Some, None, IfSome}
 use Rattle.device_defs.specs.Cells.{Cells}
 use Rattle.device_defs.specs.Providers.{Provider}
 use Rattle.record_defs.specs.Records.{Record}
+use Rattle.record_defs.specs.Areas.{Area}
 use Rattle.record_defs.specs.Journal.{StandsFor}
 use Rattle.record_defs.specs.Table.{File, file_of}
 use Rattle.machine_defs.specs.Answers as answers
@@ -44,11 +47,14 @@ use Rattle.vault_open.specs.Devices.{Devices, devices, AreDevices}
 use Rattle.vault.specs.Devices.{IsSameBeyond, IsSamePast}
 use Rattle.opening_defs.specs.Journals.{IsRead}
 use Rattle.opening_defs.specs.Opened.{IsJustOpened}
+use Rattle.vault.specs.Packing.{StandsPacking}
 use Rattle.vault.specs.Stands.{Stands, StandsBeside}
+use Rattle.hail_client.specs.declared.alone.Alone.{Alone}
+use Rattle.hail_client.specs.declared.alone.Alone.TheVariants as alone
+use Rattle.hail_client.specs.declared.alone.ScrubJob.{ScrubJob}
 use Rattle.hail_client.specs.declared.client.Client.{Client}
-use Rattle.hail_client.specs.declared.scrub.ScrubJob.{ScrubJob}
 use Rattle.hail_client.specs.declared.turn.ClientTurn.{ClientTurn}
-use Rattle.hail_client.specs.Outcomes.{step_outcome, HeardIs}
+use Rattle.hail_client.specs.Outcomes.{step_outcome, HeardIs, UnlessPack}
 
 -- no vault is open in a state
 pub record StandsClosed (next_job : ℕ) (d : Devices) (w : State) : Type 0 where
@@ -65,16 +71,21 @@ pub record StandsHeld (v : Vault) (job : ScrubJob) (d : Devices) (w : State) : T
   pub stands : ScrubStands job.scrub d.providers w scrub
   pub sound : IsSound 8 w
 
--- an open vault stands for a state, with the scrub beside it, or none is open in it; the next job has this
--- number
-abbrev pub StandsBy : Option Vault → Option ScrubJob → ℕ → Devices → State → Type 0
-StandsBy None scrub next d w = StandsClosed next d w
+-- something runs alone in a state, beside an open vault
+abbrev pub StandsAlone : Vault → Alone → Devices → State → Type 0
+StandsAlone v (alone.Scrub job) d w = StandsHeld v job d w
+StandsAlone v (alone.Pack job) d w = StandsPacking v job d w
+
+-- an open vault stands for a state, with what runs alone beside it, or none is open in it; the next job has
+-- this number
+abbrev pub StandsBy : Option Vault → Option Alone → ℕ → Devices → State → Type 0
+StandsBy None x next d w = StandsClosed next d w
 StandsBy (Some v) None next d w = Stands v d w
-StandsBy (Some v) (Some job) next d w = StandsHeld v job d w
+StandsBy (Some v) (Some x) next d w = StandsAlone v x d w
 
 -- client and devices stand for a state
 abbrev pub ClientStands : Client → Devices → State → Type 0
-ClientStands c d w = StandsBy c.vault c.scrub c.next_job d w
+ClientStands c d w = StandsBy c.vault c.alone c.next_job d w
 
 -- client and devices stand for some state
 pub record IsStanding (c : Client) (d : Devices) : Type 0 where
@@ -89,13 +100,15 @@ pub record MakesEvent (w : State) (moment : ℕ) (event : Event) (outcome : Outc
   pub happens : Happens 8 moment w event outcome state
   pub stands : ClientStands c d state
 
--- a step is an event of the machine; past the text with the record in flight the disk reads as before, and
--- where a call of it failed, past the text with the record that was being appended
+-- a step is an event of the machine; unless it is one of a pack, which writes into the other area, past the
+-- text with the record in flight the disk reads as before, and where a call of it failed, past the text with
+-- the record that was being appended
 pub record ClientMakesStep (w : State) (moment job : ℕ) (answer : Option ClientTurn) (c : Client)
     (old new : Devices) : Type 0 where
   pub makes : MakesEvent w moment (Step job) (step_outcome answer) c new
-  pub beyond : step_outcome answer ≢ Ended answers.DiskFault → IsSameBeyond makes.state old new
-  pub torn : step_outcome answer ≡ Ended answers.DiskFault → IsSamePast w job old new
+  pub beyond : UnlessPack answer
+      (step_outcome answer ≢ Ended answers.DiskFault → IsSameBeyond makes.state old new)
+  pub torn : UnlessPack answer (step_outcome answer ≡ Ended answers.DiskFault → IsSamePast w job old new)
 
 -- from some closed state over these devices an event is one of the machine
 pub record IsMadeAnew (moment next : ℕ) (event : Event) (outcome : Outcome) (c : Client)
@@ -108,12 +121,13 @@ pub record IsMadeAnew (moment next : ℕ) (event : Event) (outcome : Outcome) (c
 -- is one
 pub record OpensOver (read : Option Cells) (next handed : ℕ) (c : Client) (holds : Option Cells)
     (faults : ℕ) : Type 0 where
+  pub area : Area
   pub records : List Record
-  pub is_read : IsRead read records
-  pub each : (w : State) (providers : List Provider) → IsJustOpened w records next faults providers →
+  pub is_read : IsRead read area records
+  pub each : (w : State) (providers : List Provider) → IsJustOpened w area records next faults providers →
       ClientStands c (devices holds faults providers) w
   pub one : (providers : List Provider) → length providers ≡ handed
-      → (w : State) × IsJustOpened w records next faults providers
+      → (w : State) × IsJustOpened w area records next faults providers
 
 -- an image stands for records that have this file under a name
 pub record ImageHasFile (name : List ℕ) (file : File) (image : List ℕ) : Type 0 where

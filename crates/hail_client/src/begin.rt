@@ -1,5 +1,5 @@
 ghost use Rattle.std.specs.Prelude.{◌≡◌, ◌<◌, ◌-◌, ◌^◌, ℕ, IfSome};
-ghost use Rattle.machine_defs.specs.Events.{Begin, BeginScrub, AreBytes};
+ghost use Rattle.machine_defs.specs.Events.{Begin, BeginScrub, BeginPack, AreBytes};
 ghost use Rattle.machine_defs.specs.Jobs.{GetJob, DropJob, AuditJob, RepairJob, UpgradeJob};
 ghost use Rattle.machine_defs.specs.States.{State};
 ghost use Rattle.vault_open.specs.Devices.{Devices};
@@ -8,8 +8,8 @@ ghost use Rattle.hail_client.specs.Client.{client_next_job, IsSame};
 ghost use Rattle.hail_client.specs.Outcomes.{client_begin_outcome, UnlessBegun};
 ghost use Rattle.hail_client.specs.Stands.{ClientStands, MakesEvent};
 
+use crate::alone::{Alone, ScrubJob};
 use crate::client::Client;
-use crate::scrub::ScrubJob;
 use hail_field::Memory;
 use std::alloc::Global;
 use stream_model::Bytes;
@@ -117,7 +117,7 @@ impl Client {
     }
 
     /// Begins to scrub all files in effect. It runs alone, with no job beside it: it is refused as busy while
-    /// a job or a scrub runs, and all begins are while it runs.
+    /// a job, a scrub or a pack runs, and all begins are while it runs.
     pub fn begin_scrub(&mut self, alloc: Global) -> Option<Result<u32, BeginFault>>
         requires { client_next_job self.old < 2 ^ 32 - 1 }
         ensures machine { (w : State) (d : Devices) (moment : ℕ) → ClientStands self.old d w
@@ -132,12 +132,34 @@ impl Client {
                 };
                 match vault.hold() {
                     Ok(number) => {
-                        self.scrub = Some(ScrubJob { number, scrub });
+                        self.alone = Some(Alone::Scrub(ScrubJob { number, scrub }));
                         Some(Ok(number))
                     }
                     Err(fault) => Some(Err(fault)),
                 }
             }
+            None => None,
+        }
+    }
+
+    /// Begins to pack the journal into the area of the disk that is not active. It runs alone, as a scrub does;
+    /// it is refused too where the journal has its first version, and where its text reaches from the first
+    /// area into the second.
+    pub fn begin_pack(&mut self) -> Option<Result<u32, BeginFault>>
+        requires { client_next_job self.old < 2 ^ 32 - 1 }
+        ensures machine { (w : State) (d : Devices) (moment : ℕ) → ClientStands self.old d w
+            → MakesEvent w moment BeginPack (client_begin_outcome result) self.new d }
+        ensures unchanged { UnlessBegun result (IsSame self.old self.new) }
+    {
+        match &mut self.vault {
+            Some(vault) => match vault.begin_pack() {
+                Ok(job) => {
+                    let number = job.number;
+                    self.alone = Some(Alone::Pack(job));
+                    Some(Ok(number))
+                }
+                Err(fault) => Some(Err(fault)),
+            },
             None => None,
         }
     }

@@ -2,21 +2,21 @@ ghost use Rattle.std.specs.Prelude.{IfSome};
 ghost use Rattle.vault.specs.Streams.{IsStreamless};
 ghost use Rattle.hail_client.specs.AtWork.{IsAtWork};
 
-use crate::scrub::ScrubJob;
+use crate::alone::Alone;
 use vault::Vault;
 use vault_table::Table;
 
 /// The number of the first job.
 const FIRST_JOB: u32 = 1;
 
-/// A client: a vault with its jobs, where one is open, and the scrub that runs alone, where one does, over a
-/// disk and providers, which it does not hold: each call is lent them.
+/// A client: a vault with its jobs, where one is open, and the scrub or the pack that runs alone, where one
+/// does, over a disk and providers, which it does not hold: each call is lent them.
 #[derive(Drop)]
 pub struct Client {
     pub(crate) vault: Option<Vault>,
-    pub(crate) scrub: Option<ScrubJob>,
+    pub(crate) alone: Option<Alone>,
     pub(crate) next_job: u32,
-    ghost at_work: { ∥ IsAtWork vault scrub ∥₁ },
+    ghost at_work: { ∥ IsAtWork vault alone ∥₁ },
     ghost streamless: { ∥ IfSome vault IsStreamless ∥₁ },
 }
 
@@ -40,7 +40,7 @@ impl Client {
     {
         Client {
             vault: None,
-            scrub: None,
+            alone: None,
             next_job: FIRST_JOB,
         }
     }
@@ -84,6 +84,6 @@ impl Client {
         }
     }
 
-    /// Gives the client up, and its vault, where one is open, and its scrub.
+    /// Gives the client up, and its vault, where one is open, and what runs alone.
     pub fn close(self) {}
 }

@@ -5,12 +5,16 @@ ghost use Rattle.device_defs.specs.Images.{EachImage};
 ghost use Rattle.record_codec.specs.Entries.{with_master};
 ghost use Rattle.record_defs.specs.Records.{Record, is_master};
 ghost use Rattle.record_defs.specs.Table.{File};
-ghost use Rattle.record_defs.specs.Areas.{A};
-ghost use Rattle.machine_defs.specs.Events.{Event, Init, BeginScrub, Begun, Outcome, IsSpelled};
+ghost use Rattle.record_defs.specs.Areas.{A, B, text_length};
+ghost use Rattle.record_defs.specs.Packed.{packed};
+ghost use Rattle.journal_pack.specs.Packs.{moves_of, WritesText};
+ghost use Rattle.machine_defs.specs.Events.{Event, Init, BeginScrub, BeginPack, Begun, Outcome, IsSpelled};
 ghost use Rattle.machine_defs.specs.Alone.{new_scrub};
 ghost use Rattle.machine_defs.specs.Machine.{Happens};
 ghost use Rattle.hail_scrub.specs.Stands.{ScrubStands};
+ghost use Rattle.vault.specs.declared.packing.PackJob.{PackJob};
 ghost use Rattle.vault.specs.declared.vault.Vault.{Vault};
+ghost use Rattle.vault.specs.Packing.{pack_number, IsPackOf};
 ghost use Rattle.vault.specs.Stands.{StandsBeside};
 ghost use Rattle.machine_defs.specs.Runs.{Moment, now};
 ghost use Rattle.machine_defs.specs.Halves.{AllTell};
@@ -18,10 +22,11 @@ ghost use Rattle.machine_defs.specs.Stands.{IsFresh, StandsForState};
 ghost use Rattle.machine_defs.specs.States.{State, IsStart, AreFirst};
 ghost use Rattle.machine_defs.specs.Survival.{IsKept};
 ghost use Rattle.state_laws.specs.Sound.{IsSound};
-ghost use Rattle.vault_open.specs.Devices.{Devices, AreDevices};
+ghost use Rattle.vault_open.specs.Devices.{Devices, devices, AreDevices};
+ghost use Rattle.hail_client.specs.declared.alone.Alone.TheVariants as alone;
 ghost use Rattle.hail_client.specs.declared.client.Client.{Client};
 ghost use Rattle.hail_client.specs.Client.{client_next_job, uses};
-ghost use Rattle.hail_client.specs.Examples.{closed_client, fresh, hidden, stored, stored_state, stored_open, stored_scrub, scrubbed_state, notes};
+ghost use Rattle.hail_client.specs.Examples.{closed_client, fresh, hidden, stored, stored_state, stored_open, stored_scrub, scrubbed_state, notes, raised_records, raised, raised_open, packing_state};
 ghost use Rattle.hail_client.specs.Start.{start_of, TellAll};
 ghost use Rattle.hail_client.specs.Stands.{ClientStands, MakesEvent, IsReached, ImageHasFile, moment_of};
 
@@ -138,6 +143,20 @@ pub fn a_scrub_of_a_stored_file_begins()
     ensures begins { Happens 8 0 stored_open BeginScrub (Begun 1) scrubbed_state }
     ensures scrub { ScrubStands stored_scrub stored.providers scrubbed_state (new_scrub stored_open 0) }
     ensures stands { (c : Client) (v : Vault) → c.vault ≡ Some v
-        → c.scrub ≡ Some (record { number = 1; scrub = stored_scrub })
+        → c.alone ≡ Some (alone.Scrub (record { number = 1; scrub = stored_scrub }))
         → StandsBeside v stored (record stored_open { next_job = 2 }) 1 → ClientStands c stored scrubbed_state }
+{}
+
+/// Over a journal of the second version a pack begins, and a client that has begun it stands for the machine's
+/// state behind the begin: its vault is held under the number that was drawn, and the pack, of which no move is
+/// made, writes the packed records into the second area.
+pub fn a_pack_begins()
+    ensures begins { Happens 8 0 raised_open BeginPack (Begun 1) packing_state }
+    ensures devices { AreDevices raised packing_state × IsSound 8 packing_state }
+    ensures stands { (c : Client) (v : Vault) (job : PackJob) → c.vault ≡ Some v
+        → c.alone ≡ Some (alone.Pack job) → pack_number job ≡ 1
+        → job.before ≡ text_length A raised_records → moves_of job.pack ≡ 0 → IsPackOf v job
+        → WritesText B (packed raised_records) job.pack
+        → StandsBeside v (devices None 0 raised.providers) (record raised_open { next_job = 2 }) 1
+        → ClientStands c raised packing_state }
 {}

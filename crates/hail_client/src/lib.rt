@@ -1,7 +1,8 @@
-//! A client over its devices, with a vault open or none, and a scrub or none. Each call is one event of the
-//! machine of jobs.
+//! A client over its devices, with a vault open or none, and a scrub or a pack that runs alone, or none. Each
+//! call is one event of the machine of jobs.
 #![tactic(auto)]
 
+mod alone;
 mod begin;
 mod client;
 mod fault;
@@ -9,10 +10,9 @@ pub mod laws;
 mod open;
 mod replace;
 mod run;
-mod scrub;
 mod step;
 mod turn;
 
 pub use client::Client;
 pub use fault::ReopenFault;
-pub use turn::ClientTurn;
+pub use turn::{ClientTurn, PackStep};

@@ -73,7 +73,7 @@ impl Client {
         init(alloc, disk, master, setup)
     }
 
-    /// Gives up an open vault with its jobs, or its scrub, and opens one over what the disk reads, where so
+    /// Gives up an open vault with its jobs, or what runs alone beside it, and opens one over what the disk reads, where so
     /// many providers are handed in. Job numbers go on. After an error no vault is open.
     pub fn reopen<D: Disk>(
         &mut self,
@@ -122,7 +122,7 @@ impl Client {
         Ok(())
     }
 
-    /// Gives up an open vault with its jobs, or its scrub, and stops the disk, of which one of its images is
+    /// Gives up an open vault with its jobs, or what runs alone beside it, and stops the disk, of which one of its images is
     /// left: a disk in memory makes it by the picks.
     pub fn stop<D: Disk>(&mut self, disk: &mut D, picks: &[u8])
         ensures machine { (w : State) (providers : List Provider) (moment : ℕ)
@@ -139,24 +139,24 @@ impl Client {
         disk.stop(picks);
     }
 
-    /// Gives up an open vault with its jobs, or its scrub.
+    /// Gives up an open vault with its jobs, or what runs alone beside it.
     fn give_up(&mut self)
         ensures closed { self.new ≡ without_vault (client_next_job self.old) }
     {
         self.next_job = self.next_job();
-        let _ = self.scrub.take();
+        let _ = self.alone.take();
         if let Some(vault) = self.vault.take() {
             vault.close();
         }
     }
 
-    /// Has this vault for its own, and no other, and no scrub. Condition: no stream of it is open.
+    /// Has this vault for its own, and no other, with nothing alone beside it. Condition: no stream of it is open.
     fn hold(&mut self, vault: Vault)
         requires { IsStreamless vault }
         ensures held { (streamless : IsStreamless vault)
             → self.new ≡ with_vault vault streamless self.old.next_job }
     {
-        self.scrub = None;
+        self.alone = None;
         if let Some(older) = self.vault.replace(vault) {
             older.close();
         }

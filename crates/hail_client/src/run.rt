@@ -9,27 +9,28 @@ ghost use Rattle.hail_client.specs.Outcomes.{is_more, IfJob};
 ghost use Rattle.hail_client.specs.Stands.{IsStanding, IsReached, RunsJobOn};
 
 use crate::client::Client;
-use crate::turn::ClientTurn;
+use crate::turn::{ClientTurn, PackStep};
 use disk_model::Disk;
 use hail_scrub::ScrubTurn;
 use provider_model::Provider;
 use vault::Turn;
 
-/// Whether a job or a scrub goes on after a step.
+/// Whether a job, a scrub or a pack goes on after a step.
 fn goes_on(answer: &Option<ClientTurn>) -> bool
     ensures { result ≡ is_more answer.now }
 {
     match answer {
         Some(ClientTurn::Job(turn)) => matches!(turn, Turn::More),
         Some(ClientTurn::Scrub { turn, .. }) => matches!(turn, ScrubTurn::More),
+        Some(ClientTurn::Pack(step)) => matches!(step, PackStep::More),
         None => false,
     }
 }
 
 impl Client {
-    /// Makes as many steps of a job or a scrub as it takes until the answer is not that it goes on; None where
-    /// no vault is open. Condition: where a vault is open, client and devices stand for some state, as they do at each
-    /// moment of a run.
+    /// Makes as many steps of a job, a scrub or a pack as it takes until the answer is not that it goes on; None
+    /// where no vault is open. Condition: where a vault is open, client and devices stand for some state, as they
+    /// do at each moment of a run.
     pub fn run<D: Disk, P: Provider>(
         &mut self,
         job: u32,

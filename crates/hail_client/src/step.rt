@@ -16,19 +16,20 @@ ghost use Rattle.vault_core.specs.Coming.{IsNoJob, calls_disk, called_provider};
 ghost use Rattle.hail_client.specs.Client.{uses, is_open, client_left, client_coming, client_entry, client_closed_gate, IsSame};
 ghost use Rattle.hail_client.specs.Stands.{ClientStands, ClientMakesStep};
 
+use crate::alone::Alone;
 use crate::client::Client;
-use crate::turn::ClientTurn;
+use crate::turn::{ClientTurn, PackStep};
 use disk_model::Disk;
 use hail_scrub::ScrubTurn;
 use provider_model::Provider;
-use vault::Turn;
 use vault::laws::only_streams_wait;
+use vault::{PackTurn, Turn};
 
 impl Client {
-    /// Makes the next action of a job, or of the scrub whose number it is, with its one call of a device, if
-    /// it has one; None where no vault is open. Beside a scrub no job runs. Conditions: as many providers as
-    /// the open vault uses, or more, of which only these are used; and the disk is the one that it was opened
-    /// over.
+    /// Makes the next action of a job, or of the scrub or the pack whose number it is, with its one call of a
+    /// device, if it has one; None where no vault is open. Beside a scrub or a pack no job runs. Conditions: as
+    /// many providers as the open vault uses, or more, of which only these are used; and the disk is the one
+    /// that it was opened over.
     pub fn step<D: Disk, P: Provider>(
         &mut self,
         job: u32,
@@ -72,34 +73,44 @@ impl Client {
         ensures closed { result ≡ None
             → (self.new ≡ self.old) × (disk.new ≡ disk.old) × (providers.new ≡ providers.old) }
     {
-        match &mut self.vault {
-            Some(vault) => match &mut self.scrub {
-                Some(running) => {
-                    if running.number != job {
-                        return Some(ClientTurn::Job(Turn::NoSuchJob));
-                    }
-                    let n = vault.setup().n;
-                    match running.scrub.step(providers) {
-                        ScrubTurn::More => Some(ClientTurn::Scrub {
+        let Some(vault) = &mut self.vault else {
+            return None;
+        };
+        let Some(alone) = self.alone.take() else {
+            only_streams_wait();
+            return Some(ClientTurn::Job(vault.step(job, disk, providers)));
+        };
+        if alone.number() != job {
+            self.alone = Some(alone);
+            return Some(ClientTurn::Job(Turn::NoSuchJob));
+        }
+        match alone {
+            Alone::Scrub(mut running) => {
+                let n = vault.setup().n;
+                match running.scrub.step(providers) {
+                    ScrubTurn::More => {
+                        self.alone = Some(Alone::Scrub(running));
+                        Some(ClientTurn::Scrub {
                             providers: n,
                             turn: ScrubTurn::More,
-                        }),
-                        ScrubTurn::Done(answer) => {
-                            self.scrub = None;
-                            vault.release();
-                            Some(ClientTurn::Scrub {
-                                providers: n,
-                                turn: ScrubTurn::Done(answer),
-                            })
-                        }
+                        })
+                    }
+                    ScrubTurn::Done(answer) => {
+                        vault.release();
+                        Some(ClientTurn::Scrub {
+                            providers: n,
+                            turn: ScrubTurn::Done(answer),
+                        })
                     }
                 }
-                None => {
-                    only_streams_wait();
-                    Some(ClientTurn::Job(vault.step(job, disk, providers)))
+            }
+            Alone::Pack(running) => match vault.step_pack(running, disk) {
+                PackTurn::More(next) => {
+                    self.alone = Some(Alone::Pack(next));
+                    Some(ClientTurn::Pack(PackStep::More))
                 }
+                PackTurn::Done(answer) => Some(ClientTurn::Pack(PackStep::Done(answer))),
             },
-            None => None,
         }
     }
 }

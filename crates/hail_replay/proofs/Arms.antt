@@ -12,7 +12,7 @@ use Rattle.second_half_laws.proofs.Onward.{onward}
 use Rattle.vault.specs.declared.vault.Vault.{Vault}
 use Rattle.vault_open.specs.Devices.{Devices, devices}
 use Rattle.hail_client.specs.declared.client.Client.{Client}
-use Rattle.hail_client.specs.declared.scrub.ScrubJob.{ScrubJob}
+use Rattle.hail_client.specs.declared.alone.Alone.{Alone}
 use Rattle.hail_client.specs.declared.turn.ClientTurn.{ClientTurn}
 use Rattle.hail_client.specs.declared.fault.ReopenFault.{ReopenFault}
 use Rattle.hail_client.specs.Client.{is_open, client_next_job, next_job_by, uses, uses_by, client_coming, coming_by, IsSame, IsSameVault}
@@ -40,7 +40,7 @@ somewhere c d S = elim (cases_Bool (is_open c)) [
 
 -- the number of the next job of both
 numbers : (c : Client) (d : Devices) (w : State) → ClientStands c d w → w.next_job ≡ client_next_job c
-numbers c d w S = next-of c.vault c.scrub c.next_job d w S
+numbers c d w S = next-of c.vault c.alone c.next_job d w S
 
 -- ---- begins
 
@@ -94,7 +94,7 @@ closed-kept c next d closed same =
 -- no more providers are used than are handed in
 pub enough : (c : Client) (d : Devices) → StandsWhereOpen c d → uses c ≤ length d.providers
 enough c d S = elim (cases_Bool (is_open c)) [
-  | inl t ↦ (let X = S t in enough-of c.vault c.scrub c.next_job d X.state X.stands)
+  | inl t ↦ (let X = S t in enough-of c.vault c.alone c.next_job d X.state X.stands)
   | inr f ↦ none c.vault f
 ]
   where
@@ -104,9 +104,9 @@ enough c d S = elim (cases_Bool (is_open c)) [
 
 -- where no vault is open, no job comes next
 pub closed-coming : (c : Client) (job : ℕ) → is_open c ≡ false → client_coming c job ≡ IsNoJob
-closed-coming c job closed = at c.vault c.scrub closed
+closed-coming c job closed = at c.vault c.alone closed
   where
-    at : (o : Option Vault) (s : Option ScrubJob) → is_some o ≡ false → coming_by o s job ≡ IsNoJob
+    at : (o : Option Vault) (s : Option Alone) → is_some o ≡ false → coming_by o s job ≡ IsNoJob
     at None s f = refl
     at (Some v) s f = absurd (false≢true (sym f))
 
@@ -115,8 +115,8 @@ module _ (c next : Client) (d e : Devices) (tells : is_some e.holds ≡ is_some 
   handed-same : (w u : State) → ClientStands c d w → ClientStands next e u → Same w u →
       length e.providers ≡ length d.providers
   handed-same w u S T same =
-      sym (devices-of next.vault next.scrub next.next_job e u T).providers.count ∙ same.handed
-      ∙ (devices-of c.vault c.scrub c.next_job d w S).providers.count
+      sym (devices-of next.vault next.alone next.next_job e u T).providers.count ∙ same.handed
+      ∙ (devices-of c.vault c.alone c.next_job d w S).providers.count
 
   kept-by : (w u : State) → ClientStands c d w → ClientStands next e u → Same w u → NoCountFell d e →
       KeepsStanding c next d e
@@ -137,8 +137,8 @@ module _ (c next : Client) (d e : Devices) (tells : is_some e.holds ≡ is_some 
       let M = makes X.state 0 X.stands in
       let same = steps X.state job X.state.is_open outcome M.state M.happens in
       kept-by X.state M.state X.stands M.stands same
-      (fell X.state M.state d e (devices-of c.vault c.scrub c.next_job d X.state X.stands)
-      (devices-of next.vault next.scrub next.next_job e M.state M.stands)
+      (fell X.state M.state d e (devices-of c.vault c.alone c.next_job d X.state X.stands)
+      (devices-of next.vault next.alone next.next_job e M.state M.stands)
       (handed-same X.state M.state X.stands M.stands same)
       (onward X.state 8 0 (Step job) outcome M.state M.happens)))
 
@@ -153,8 +153,8 @@ module _ (c next : Client) (d e : Devices) (tells : is_some e.holds ≡ is_some 
       (going X.state job R.steps R.runs.before R.reached.run.2)
       (step_of X.state (R.steps ++ []) R.last job R.runs.step R.reached.run) in
       kept-by X.state R.last.state X.stands R.reached.stands same
-      (fell X.state R.last.state d e (devices-of c.vault c.scrub c.next_job d X.state X.stands)
-      (devices-of next.vault next.scrub next.next_job e R.last.state R.reached.stands)
+      (fell X.state R.last.state d e (devices-of c.vault c.alone c.next_job d X.state X.stands)
+      (devices-of next.vault next.alone next.next_job e R.last.state R.reached.stands)
       (handed-same X.state R.last.state X.stands R.reached.stands same)
       (onward-over X.state (R.last ∷ (R.steps ++ [])) R.reached.run)))
 
@@ -171,7 +171,7 @@ module _ (c : Client) (event : Event) (outcome : Outcome) (holds : Option Cells)
   counts-at told n X =
       (let M = makes X.state told n 0 X.stands in
       fell X.state M.state (devices told n ps) (devices told n qs)
-      (devices-of c.vault c.scrub c.next_job _ X.state X.stands) (devices-of c.vault c.scrub c.next_job _ M.state M.stands)
+      (devices-of c.vault c.alone c.next_job _ X.state X.stands) (devices-of c.vault c.alone c.next_job _ M.state M.stands)
       (handed-same c c (devices told n ps) (devices told n qs) refl X.state M.state X.stands M.stands
       (leaves X.state M.state M.happens))
       (onward X.state 8 0 event outcome M.state M.happens))

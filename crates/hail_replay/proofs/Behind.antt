@@ -15,6 +15,7 @@ use Rattle.hail_scrub.specs.declared.turn.ScrubTurn.TheVariants as scrubs
 use Rattle.hail_client.specs.declared.client.Client.{Client}
 use Rattle.hail_client.specs.declared.turn.ClientTurn.{ClientTurn}
 use Rattle.hail_client.specs.declared.turn.ClientTurn.TheVariants as turns
+use Rattle.hail_client.specs.declared.turn.PackStep.TheVariants as packs
 use Rattle.hail_client.specs.Client.{is_open}
 use Rattle.hail_client.specs.Outcomes.{step_outcome, HeardIs}
 use Rattle.hail_client.specs.Stands.{ClientStands, MakesEvent, IsReached, RunsJobOn}
@@ -48,6 +49,8 @@ turn-heard w job (Some (turns.Job turn.NoSuchJob)) h = refl
 turn-heard w job (Some (turns.Job turn.MustReopen)) h = refl
 turn-heard w job (Some (turns.Scrub n scrubs.More)) h = refl
 turn-heard w job (Some (turns.Scrub n (scrubs.Done answer))) h = h
+turn-heard w job (Some (turns.Pack packs.More)) h = refl
+turn-heard w job (Some (turns.Pack (packs.Done answer))) h = h
 turn-heard w job None h = refl
 
 -- a call that is one event
@@ -86,7 +89,7 @@ run start ms job t next e R = record {
 
 -- a vault is open in both or in none
 pub open-same : (c : Client) (d : Devices) (w : State) → ClientStands c d w → w.is_open ≡ is_open c
-open-same c d w S = open-of c.vault c.scrub c.next_job d w S
+open-same c d w S = open-of c.vault c.alone c.next_job d w S
 
 -- a job that was not run, since no vault is open
 pub not-run : (job : ℕ) → job < 2 ^ 32 → (c : Client) (d : Devices) → is_open c ≡ false →

@@ -153,7 +153,7 @@ pub carries-on : (start : State) (before : List Moment) (done : List Instruction
 carries-on start before done later lines heard c d L e H = record {
   carried_out = H.carried_out;
   run = H.reached.run;
-  last = devices-of c.vault c.scrub c.next_job e (now start (later ++ called_behind start before)) H.reached.stands;
+  last = devices-of c.vault c.alone c.next_job e (now start (later ++ called_behind start before)) H.reached.stands;
   heard_is = H.heard_is;
   counted = λ count n fails. failures_rose 8 start later
       (called_behind start before) count n H.reached.run fails;

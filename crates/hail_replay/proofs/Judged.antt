@@ -5,6 +5,7 @@ use Rattle.std.specs.Option.{option_map}
 use Rattle.std.proofs.lemmas.Bool.{false≢true}
 use Rattle.device_defs.specs.Providers.{Held, without_block, with_symbol, HasPlace}
 use Rattle.record_defs.specs.Records.{Setup, is_setup}
+use Rattle.machine_defs.specs.Alone.{unalone}
 use Rattle.machine_defs.specs.Answers.{Audited}
 use Rattle.machine_defs.specs.Events.{Event, Init, Begin, BeginAt, BeginScrub, BeginPack, Step, Alter, Lose, Stop, Reopen, Names, Continue, Outcome, Ended}
 use Rattle.machine_defs.specs.Machine.{Lists, Happens}
@@ -15,10 +16,13 @@ use Rattle.machine_defs.specs.Setups.{setup_or_none}
 use Rattle.machine_defs.specs.States.{State, setup_in}
 use Rattle.machine_defs.specs.Steps.{Steps}
 use Rattle.vault.specs.declared.vault.Vault.{Vault}
+use Rattle.vault.specs.Packing.{plain}
 use Rattle.vault.specs.Seen.{table_of}
+use Rattle.vault_core.proofs.Alike.{table-like}
 use Rattle.vault_open.specs.Devices.{Devices}
 use Rattle.hail_client.specs.declared.client.Client.{Client}
-use Rattle.hail_client.specs.declared.scrub.ScrubJob.{ScrubJob}
+use Rattle.hail_client.specs.declared.alone.Alone.{Alone}
+use Rattle.hail_client.specs.declared.alone.Alone.TheVariants as alone
 use Rattle.hail_client.specs.Client.{names_of}
 use Rattle.hail_client.specs.Stands.{StandsBy, IsReached}
 use Rattle.hail_replay.specs.Counts.{flagged_by, table_tolerance}
@@ -71,15 +75,19 @@ module _ (old new : State) (number undecided : ℕ) (counts : List ℕ) where
   audited-open moment Continue h = absurd h
 
 -- an open vault has the setup in effect; where none is open, no audit ended
-flags-by : (o : Option Vault) (s : Option ScrubJob) (next : ℕ) (d : Devices) (old new : State) (moment : ℕ)
+flags-by : (o : Option Vault) (s : Option Alone) (next : ℕ) (d : Devices) (old new : State) (moment : ℕ)
     (e : Event) (outcome : Outcome) → StandsBy o s next d new → Happens 8 moment old e outcome new
     → flagged_by (setup_in new).tolerance outcome ≡ flagged_by (table_tolerance (option_map table_of o)) outcome
 unfolding setup_in
 flags-by (Some v) None next d old new moment e outcome S h =
-    ap (λ (x : Option Setup). flagged_by (setup_or_none x).tolerance outcome) (sym S.desk.core.table.setup)
-flags-by (Some v) (Some job) next d old new moment e outcome S h =
     ap (λ (x : Option Setup). flagged_by (setup_or_none x).tolerance outcome)
-    (sym S.beside.desk.core.table.setup)
+    (sym (table-like v.desk.core new S.desk.core).setup)
+flags-by (Some v) (Some (alone.Scrub job)) next d old new moment e outcome S h =
+    ap (λ (x : Option Setup). flagged_by (setup_or_none x).tolerance outcome)
+    (sym (table-like v.desk.core (unalone new) S.beside.desk.core).setup)
+flags-by (Some v) (Some (alone.Pack job)) next d old new moment e outcome S h =
+    ap (λ (x : Option Setup). flagged_by (setup_or_none x).tolerance outcome)
+    (sym (table-like v.desk.core (plain new) S.beside.desk.core).setup)
 flags-by None s next d old new moment e (Ended (Audited number undecided counts)) S h =
     absurd (false≢true (sym S.closed ∙ audited-open old new number undecided counts moment e h))
 flags-by None s next d old new moment e outcome S h = refl
@@ -89,5 +97,5 @@ pub judged : (start : State) (ms : List Moment) (m : Moment) (c : Client) (d : D
     IsReached start (m ∷ ms) c d → (tolerance : ℕ) → tolerance ≡ table_tolerance (names_of c)
     → FlagsBy tolerance m
 judged start ms m c d R tolerance is =
-    flags-by c.vault c.scrub c.next_job d (now start ms) m.state (length ms) m.event m.outcome R.stands R.run.1
+    flags-by c.vault c.alone c.next_job d (now start ms) m.state (length ms) m.event m.outcome R.stands R.run.1
     ∙ ap (λ (t : ℕ). flagged_by t m.outcome) (sym is)

@@ -16,7 +16,7 @@ use Rattle.hail_replay.specs.Counts.{TrialCounts, counts_of, trial_lines}
 use Rattle.vault_open.specs.Devices.{Devices, AreDevices}
 use Rattle.hail_client.specs.declared.client.Client.{Client}
 use Rattle.hail_client.specs.Client.{is_open, client_next_job}
-use Rattle.hail_client.proofs.Settled.{same-images}
+use Rattle.vault_open.proofs.Images.{shown-again}
 use Rattle.hail_replay.specs.Performed.{StandsWhereOpen, NoCountFell, KeepsStanding}
 use Rattle.hail_replay.specs.Replayed.{CarriesOn, Replays}
 use Rattle.hail_replay.specs.Starts.{AreLeft, IsNewClient, called_behind}
@@ -284,7 +284,7 @@ trial-told number start before commands expected text counts heard d status sink
 -- the state of a later call has the same devices
 pub continued-devices : (d : Devices) (w : State) → AreDevices d w → AreDevices d (continued w)
 continued-devices d w A = record {
-  images = same-images d.holds w (continued w) refl refl refl refl A.images;
+  images = shown-again d.holds w (continued w) refl refl refl refl A.images;
   faults = A.faults;
   providers = record { count = A.providers.count; each = A.providers.each };
 }

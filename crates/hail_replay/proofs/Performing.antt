@@ -4,7 +4,7 @@ use Rattle.std.specs.Prelude.{IfSome, is_some}
 use Rattle.std.proofs.lemmas.Bool.{cases_Bool}
 use Rattle.device_defs.specs.Cells.{Cells}
 use Rattle.device_defs.specs.Providers.{Provider}
-use Rattle.machine_defs.specs.Events.{Event, Begin, BeginAt, BeginScrub, Step, Names}
+use Rattle.machine_defs.specs.Events.{Event, Begin, BeginAt, BeginScrub, BeginPack, Step, Names}
 use Rattle.machine_defs.specs.Heard.{Entry, heard_by, heard_at, reported_after}
 use Rattle.machine_defs.specs.Jobs.{Kind, PutJob, job_of}
 use Rattle.machine_defs.specs.Machine.{Happens}
@@ -70,6 +70,16 @@ pub scrub-begun : (c next : Client) (d : Devices) (result : Option (Result ℕ B
     → IsPerformed (Once BeginScrub) (Some (came.Begun result)) c next d d
 scrub-begun c next d result S makes =
     begun-by BeginScrub c next d result
+    (λ w u h. begins_alone w _ _ (client_begin_outcome result) u h) (λ w es. refl) S makes
+
+-- the begin of a pack
+pub pack-begun : (c next : Client) (d : Devices) (result : Option (Result ℕ BeginFault)) →
+    StandsWhereOpen c d
+    → ((w : State) (there : Devices) (moment : ℕ) → ClientStands c there w →
+    MakesEvent w moment BeginPack (client_begin_outcome result) next there)
+    → IsPerformed (Once BeginPack) (Some (came.Begun result)) c next d d
+pack-begun c next d result S makes =
+    begun-by BeginPack c next d result
     (λ w u h. begins_alone w _ _ (client_begin_outcome result) u h) (λ w es. refl) S makes
 
 -- the begin of a put

@@ -16,7 +16,7 @@ use Rattle.hail_client.proofs.Standing.{lists-of}
 pub lists : (w : State) (moment : ℕ) (c : Client) (d : Devices) → ClientStands c d w →
     MakesEvent w moment Names (names_outcome (names_of c)) c d
 lists w moment c d S =
-    record { state = w; spelled = tt; happens = lists-of c.vault c.scrub c.next_job d w S; stands = S }
+    record { state = w; spelled = tt; happens = lists-of c.vault c.alone c.next_job d w S; stands = S }
 
 -- no vault is open
 pub standing-closed : (c : Client) (ps : List Provider) → is_open c ≡ false → IsStanding c (devices None 0 ps)

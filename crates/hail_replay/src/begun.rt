@@ -27,6 +27,7 @@ fn name_of(fault: BeginFault) -> &'static str
         BeginFault::NothingDue => "NothingDue",
         BeginFault::NewVersion => "NewVersion",
         BeginFault::JournalFull => "JournalFull",
+        BeginFault::PackTooLong => "PackTooLong",
         BeginFault::Memory => "Memory",
     }
 }

@@ -1,4 +1,4 @@
-// The line of a job or a scrub that ended.
+// The line of a job, a scrub or a pack that ended.
 ghost use Rattle.std.specs.Prelude.{◌≡◌, ◌++◌, [], codes, take, IfOk, OnOk};
 ghost use Rattle.std.specs.List.{flat_map};
 ghost use Rattle.std.specs.String.{string_bytes};
@@ -6,15 +6,16 @@ ghost use Rattle.machine_defs.specs.Answers.{Got, Audited, Lost, Scrubbed};
 ghost use Rattle.machine_defs.specs.Lines.{line, then_number, hex, hex_or_dash, answer_text};
 ghost use Rattle.record_codec.specs.Entries.{counted};
 ghost use Rattle.vault.specs.Outcomes.{machine_answer};
+ghost use Rattle.vault.specs.Packing.{pack_answer};
 ghost use Rattle.hail_scrub.specs.Stands.{scrub_answer};
 
 use crate::text::{of_text, push_list, push_sums};
-use command_lines::{counts_in_use, numbered_line, push_counted, push_line};
+use command_lines::{counts_in_use, numbered_line, packed_line, push_counted, push_line};
 use hail_scrub::ScrubAnswer;
 use record_codec::Counts;
 use std::alloc::{AllocError, Global};
 use stream_model::{Bytes, Memory};
-use vault::Answer;
+use vault::{Answer, PackAnswer};
 
 /// Bytes in hexadecimal, in lower case.
 fn digits_of(alloc: Global, bytes: &[u8]) -> Result<String, AllocError>
@@ -173,5 +174,16 @@ pub fn scrub_answer_line(
             numbered_line(alloc, b"provider fault", u64::from(*provider))
         }
         ScrubAnswer::Memory => Bytes::from_slice(alloc, b"memory\n"),
+    }
+}
+
+/// The line of a pack that ended so.
+pub fn pack_answer_line(alloc: Global, answer: &PackAnswer) -> Result<Bytes, Memory>
+    ensures { IfOk result (λ text. text ≡ line (answer_text (pack_answer answer.now))) }
+{
+    match answer {
+        PackAnswer::Packed { before, after } => packed_line(alloc, *before, *after),
+        PackAnswer::DiskFault => Bytes::from_slice(alloc, b"disk fault\n"),
+        PackAnswer::Memory => Bytes::from_slice(alloc, b"memory\n"),
     }
 }

@@ -14,7 +14,7 @@ use provider_model::Tamper;
 use schedule_text::Event;
 use std::alloc::Global;
 
-/// Runs a job or the scrub of its number; while no vault is open, nothing is called.
+/// Runs a job, or the scrub or the pack of its number; while no vault is open, nothing is called.
 fn run_job<D: Disk, P: Tamper>(
     client: &mut Client,
     job: u32,
@@ -65,6 +65,7 @@ pub fn perform<D: Disk, P: Tamper>(
         Event::BeginRepair => Some(Came::Begun(client.begin_repair())),
         Event::BeginUpgrade => Some(Came::Begun(client.begin_upgrade())),
         Event::BeginScrub => Some(Came::Begun(client.begin_scrub(alloc))),
+        Event::BeginPack => Some(Came::Begun(client.begin_pack())),
         Event::Step { job } => Some(Came::Stepped(client.step(job, disk, providers))),
         Event::Run { job } => Some(Came::Stepped(run_job(client, job, disk, providers))),
         Event::Alter {

@@ -24,7 +24,7 @@ mod text;
 pub use begun::begin_line;
 pub use came::{Came, came_lines};
 pub use counted::trial;
-pub use ended::{answer_line, scrub_answer_line};
+pub use ended::{answer_line, pack_answer_line, scrub_answer_line};
 pub use event::perform;
 pub use forms::{Form, read_form};
 pub use heard::HeardLists;

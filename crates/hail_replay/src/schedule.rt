@@ -44,7 +44,7 @@ pub(crate) fn named<'a>(came: Option<Came<'a>>, client: &'a Client) -> Came<'a>
     }
 }
 
-/// What the job heard that an event ended; nothing where it ended none, and of a scrub.
+/// What the job heard that an event ended; nothing where it ended none, and of a scrub or a pack.
 pub(crate) fn heard_of(came: Came<'_>) -> HeardList
     ensures { result ≡ heard_in_came (Some came.entry) }
 {

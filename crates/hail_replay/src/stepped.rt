@@ -3,12 +3,12 @@ ghost use Rattle.std.specs.Prelude.{◌≡◌, IfOk};
 ghost use Rattle.machine_defs.specs.Lines.{lines_of};
 ghost use Rattle.vault.specs.Outcomes.{outcome_of};
 ghost use Rattle.hail_scrub.specs.Stands.{scrub_outcome};
-ghost use Rattle.hail_client.specs.Outcomes.{step_outcome};
+ghost use Rattle.hail_client.specs.Outcomes.{pack_step_outcome, step_outcome};
 
-use crate::ended::{answer_line, scrub_answer_line};
+use crate::ended::{answer_line, pack_answer_line, scrub_answer_line};
 use crate::refused::refused_line;
 use command_lines::numbered_line;
-use hail_client::ClientTurn;
+use hail_client::{ClientTurn, PackStep};
 use hail_scrub::ScrubTurn;
 use std::alloc::Global;
 use stream_model::{Bytes, Memory};
@@ -37,6 +37,16 @@ fn scrub_line(alloc: Global, providers: u8, turn: &ScrubTurn) -> Result<Bytes, M
     }
 }
 
+/// The line of a step of a pack.
+fn pack_line(alloc: Global, step: &PackStep) -> Result<Bytes, Memory>
+    ensures { IfOk result (λ text. text ≡ lines_of (pack_step_outcome step.now)) }
+{
+    match step {
+        PackStep::More => Bytes::from_slice(alloc, b"more\n"),
+        PackStep::Done(answer) => pack_answer_line(alloc, answer),
+    }
+}
+
 /// The line of a step, or of the last of many: that the job goes on or waits, how it ended, why it was
 /// refused, or that no vault is open. Want of memory is its one refusal.
 pub fn step_line(alloc: Global, answer: &Option<ClientTurn>) -> Result<Bytes, Memory>
@@ -46,5 +56,6 @@ pub fn step_line(alloc: Global, answer: &Option<ClientTurn>) -> Result<Bytes, Me
         None => Bytes::from_slice(alloc, b"closed\n"),
         Some(ClientTurn::Job(turn)) => turn_line(alloc, turn),
         Some(ClientTurn::Scrub { providers, turn }) => scrub_line(alloc, *providers, turn),
+        Some(ClientTurn::Pack(step)) => pack_line(alloc, step),
     }
 }

@@ -128,6 +128,10 @@ scrub-again : line_at (codes "begin" ∷ codes "scrub" ∷ []) ≡ Some (Some (O
 unfolding line_at behind_at begin_at begun_at
 scrub-again = refl
 
+pack-again : line_at (codes "begin" ∷ codes "pack" ∷ []) ≡ Some (Some (Once BeginPack))
+unfolding line_at behind_at begin_at begun_at
+pack-again = refl
+
 get-again : (name : Word) → line_at (codes "begin" ∷ codes "get" ∷ name ∷ [])
     ≡ Some (Some (Once (Begin (GetJob name))))
 unfolding line_at behind_at begin_at begun_at get_at
@@ -177,7 +181,7 @@ line-spelled ws (Once (Stop picks)) is =
 line-spelled ws (Once Names) is = ap (λ (t : List Word). line_at t) is ∙ list-again
 line-spelled ws (Once Continue) is = absurd is
 line-spelled ws (Once BeginScrub) is = ap (λ (t : List Word). line_at t) is ∙ scrub-again
-line-spelled ws (Once BeginPack) is = absurd is
+line-spelled ws (Once BeginPack) is = ap (λ (t : List Word). line_at t) is ∙ pack-again
 
 -- a line that is skipped
 pub line-skipped : (ws : List Word) → IsSkipped ws → line_at ws ≡ Some None

@@ -7,7 +7,7 @@ use Rattle.algebra_laws.proofs.Options.{cond-cases}
 use Rattle.record_defs.specs.Records.{Setup}
 use Rattle.record_codec.proofs.Fields.{bind_some, some_is}
 use Rattle.machine_defs.specs.Jobs.{GetJob, DropJob, AuditJob, RepairJob, UpgradeJob}
-use Rattle.machine_defs.specs.Events.{Init, Begin, BeginScrub, Step, Alter, Lose, Stop, Reopen, Names}
+use Rattle.machine_defs.specs.Events.{Init, Begin, BeginScrub, BeginPack, Step, Alter, Lose, Stop, Reopen, Names}
 use Rattle.machine_defs.specs.Transcripts.{Instruction, Once, RunJob}
 use Rattle.schedule_text.specs.Grammar.{Word, IsNumber, IsHex, SpellsCommand}
 use Rattle.schedule_text.specs.Events.{put_command}
@@ -239,7 +239,13 @@ begun-takes kind ws command e = elim (cond-cases (bytes_eq kind (codes "put")) _
                   (is_word kind _ scrub.0)
                   (bare-takes (Once BeginScrub) command (codes "begin" ∷ codes "scrub" ∷ []) ws scrub.1
                   (λ rest none. ap (λ (t : List Word). codes "begin" ∷ codes "scrub" ∷ t) none))
-              | inr e ↦ absurd (nothing e.1)
+              | inr e ↦ elim (cond-cases (bytes_eq kind (codes "pack")) _ _ _ e.1) [
+                | inl pack ↦ subst (λ (k : Word). SpellsCommand (codes "begin" ∷ k ∷ ws) command)
+                    (is_word kind _ pack.0)
+                    (bare-takes (Once BeginPack) command (codes "begin" ∷ codes "pack" ∷ []) ws pack.1
+                    (λ rest none. ap (λ (t : List Word). codes "begin" ∷ codes "pack" ∷ t) none))
+                | inr e ↦ absurd (nothing e.1)
+              ]
             ]
           ]
         ]

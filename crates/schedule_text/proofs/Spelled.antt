@@ -329,7 +329,15 @@ word_spelling (Once BeginScrub) can =
       some = omega arith;
       spells = refl;
     }
-word_spelling (Once BeginPack) can = absurd can
+word_spelling (Once BeginPack) can =
+    record {
+      plain = (
+        plain_by_test (codes "begin") (omega arith) refl,
+        (plain_by_test (codes "pack") (omega arith) refl, tt),
+      );
+      some = omega arith;
+      spells = refl;
+    }
 
 -- ---- a whole schedule
 

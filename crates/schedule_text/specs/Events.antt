@@ -7,7 +7,7 @@
 use Rattle.std.specs.Prelude.{ℕ, List, map, Option, None, Some}
 use Rattle.record_codec.specs.Entries.{with_master}
 use Rattle.machine_defs.specs.Jobs.{PutJob, GetJob, DropJob, AuditJob, RepairJob, UpgradeJob}
-use Rattle.machine_defs.specs.Events.{Init, Begin, BeginAt, BeginScrub, Step, Alter, Lose, Stop, Reopen, Names}
+use Rattle.machine_defs.specs.Events.{Init, Begin, BeginAt, BeginScrub, BeginPack, Step, Alter, Lose, Stop, Reopen, Names}
 use Rattle.machine_defs.specs.Transcripts.{Instruction, Once, RunJob}
 use Rattle.schedule_text.specs.declared.event.Event.{Event}
 use Rattle.schedule_text.specs.declared.event.Event.TheVariants as kind
@@ -27,6 +27,7 @@ event_command kind.BeginAudit = Once (Begin AuditJob)
 event_command kind.BeginRepair = Once (Begin RepairJob)
 event_command kind.BeginUpgrade = Once (Begin UpgradeJob)
 event_command kind.BeginScrub = Once BeginScrub
+event_command kind.BeginPack = Once BeginPack
 event_command (kind.Step job) = Once (Step job)
 event_command (kind.Run job) = RunJob job
 event_command (kind.Alter provider object stripe place symbol) =

@@ -90,6 +90,7 @@ SpellsCommand ws (Once (Begin AuditJob)) = ws ≡ codes "begin" ∷ codes "audit
 SpellsCommand ws (Once (Begin RepairJob)) = ws ≡ codes "begin" ∷ codes "repair" ∷ []
 SpellsCommand ws (Once (Begin UpgradeJob)) = ws ≡ codes "begin" ∷ codes "upgrade" ∷ []
 SpellsCommand ws (Once BeginScrub) = ws ≡ codes "begin" ∷ codes "scrub" ∷ []
+SpellsCommand ws (Once BeginPack) = ws ≡ codes "begin" ∷ codes "pack" ∷ []
 SpellsCommand ws (Once (BeginAt profile name bytes)) =
     (digits number : Word) × (ws ≡ codes "begin" ∷ codes "put" ∷ name ∷ digits ∷ number ∷ [])
     × IsHex digits bytes × IsNumber 8 number profile
@@ -103,7 +104,6 @@ SpellsCommand ws (Once (Stop picks)) =
     (digits : Word) × (ws ≡ codes "stop" ∷ digits ∷ []) × IsHex digits picks
 SpellsCommand ws (Once Names) = ws ≡ codes "list" ∷ []
 SpellsCommand ws (Once Continue) = ⊥
-SpellsCommand ws (Once BeginPack) = ⊥
 
 -- a line that is passed over: there are no words, or the first begins with `#`
 abbrev pub IsSkipped : List Word → Type 0

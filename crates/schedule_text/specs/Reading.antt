@@ -7,7 +7,7 @@ use Rattle.hex.specs.Hex.{decode_of}
 use Rattle.record_defs.specs.Records.{Setup}
 use Rattle.record_codec.specs.Reading.{◌>>=◌}
 use Rattle.machine_defs.specs.Jobs.{GetJob, DropJob, AuditJob, RepairJob, UpgradeJob}
-use Rattle.machine_defs.specs.Events.{Init, Begin, BeginScrub, Step, Alter, Lose, Stop, Reopen, Names}
+use Rattle.machine_defs.specs.Events.{Init, Begin, BeginScrub, BeginPack, Step, Alter, Lose, Stop, Reopen, Names}
 use Rattle.machine_defs.specs.Transcripts.{Instruction, Once, RunJob}
 use Rattle.schedule_text.specs.declared.fault.LineFault.{LineFault}
 use Rattle.schedule_text.specs.declared.fault.LineFault.TheVariants as faults
@@ -157,6 +157,7 @@ begun_at kind ws =
     else if bytes_eq kind (codes "repair") then only_command (Once (Begin RepairJob)) ws
     else if bytes_eq kind (codes "upgrade") then only_command (Once (Begin UpgradeJob)) ws
     else if bytes_eq kind (codes "scrub") then only_command (Once BeginScrub) ws
+    else if bytes_eq kind (codes "pack") then only_command (Once BeginPack) ws
     else None
 
 -- the words behind `begin`: what is begun, and its words

@@ -37,7 +37,6 @@ CanBeSpelled (RunJob job) = job < 2 ^ 32
 CanBeSpelled (Once (Begin kind)) = IsSpelled (Begin kind) × IsNamed kind
 CanBeSpelled (Once Continue) = ⊥
 CanBeSpelled (Once (BeginAt profile name bytes)) = IsSpelled (BeginAt profile name bytes) × IsName name
-CanBeSpelled (Once BeginPack) = ⊥
 CanBeSpelled (Once event) = IsSpelled event
 
 -- the digits of bytes, or `-` for none
@@ -78,7 +77,7 @@ words_of (Once Continue) = []
 words_of (Once (BeginAt profile name bytes)) =
     codes "begin" ∷ codes "put" ∷ name ∷ hex_of bytes ∷ decimal profile ∷ []
 words_of (Once BeginScrub) = codes "begin" ∷ codes "scrub" ∷ []
-words_of (Once BeginPack) = []
+words_of (Once BeginPack) = codes "begin" ∷ codes "pack" ∷ []
 
 -- a word with a space behind it
 abbrev pub spaced : Word → List ℕ

@@ -49,7 +49,7 @@ fn read_drop(alloc: Global, line: &[u8]) -> Result<Event, LineFault>
     ended(Event::BeginDrop { name }, left)
 }
 
-/// The begin of a job of this kind, or of a scrub.
+/// The begin of a job of this kind, or of a scrub or a pack.
 #[tactic(auto, unfolding(crate::specs::Reading::begun_at))]
 fn read_begun(alloc: Global, kind: &[u8], line: &[u8]) -> Result<Event, LineFault>
     ensures read { Gives event_command result (begun_at kind.now (words line.now)) }
@@ -70,6 +70,8 @@ fn read_begun(alloc: Global, kind: &[u8], line: &[u8]) -> Result<Event, LineFaul
         ended(Event::BeginUpgrade, line)
     } else if kind == b"scrub".as_slice() {
         ended(Event::BeginScrub, line)
+    } else if kind == b"pack".as_slice() {
+        ended(Event::BeginPack, line)
     } else {
         Err(LineFault::Bad)
     }

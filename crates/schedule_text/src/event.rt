@@ -29,6 +29,7 @@ pub enum Event {
     BeginRepair,
     BeginUpgrade,
     BeginScrub,
+    BeginPack,
     /// One step of a job.
     Step {
         job: u32,

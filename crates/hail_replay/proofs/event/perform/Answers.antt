@@ -13,7 +13,7 @@ use Rattle.hail_replay.specs.declared.came.Came.TheVariants as came
 use Rattle.hail_replay.proofs.Same.{replaces_if}
 use Rattle.hail_replay.proofs.Arms.{enough, init-kept, reopen-kept, stop-kept}
 use Rattle.hail_replay.proofs.Behind.{once}
-use Rattle.hail_replay.proofs.Performing.{performed-as, begun, scrub-begun, put-begun, stepped, replaced, listed}
+use Rattle.hail_replay.proofs.Performing.{performed-as, begun, scrub-begun, pack-begun, put-begun, stepped, replaced, listed}
 use Rattle.hail_replay.proofs.event.perform.Goals as goal
 
 pub returns-in-Init : goal.returns-in-Init
@@ -94,6 +94,13 @@ returns-in-BeginScrub g c =
     record {
       performed = performed-as _ _ _ _ _ _ _ c.in-BeginScrub.is
           (scrub-begun _ _ _ c.begin_scrub.result c.requires.standing c.begin_scrub.ensures.machine);
+    }
+
+pub returns-in-BeginPack : goal.returns-in-BeginPack
+returns-in-BeginPack g c =
+    record {
+      performed = performed-as _ _ _ _ _ _ _ c.in-BeginPack.is
+          (pack-begun _ _ _ c.begin_pack.result c.requires.standing c.begin_pack.ensures.machine);
     }
 
 pub step-requires : goal.step-requires

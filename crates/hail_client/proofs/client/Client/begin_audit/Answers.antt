@@ -11,7 +11,7 @@ returns-in-Some-clause-machine c =
 
 pub invariant_of-self : goal.invariant_of-self
 invariant_of-self c = record {
-  at_work = begun-at _ c.begin_audit.new.self c.args.self.now.vault c.args.self.now.scrub c.begin_audit.result c.in-Some.is
+  at_work = begun-at _ c.begin_audit.new.self c.args.self.now.vault c.args.self.now.alone c.begin_audit.result c.in-Some.is
       c.begin_audit.ensures.busy c.begin_audit.ensures.unchanged c.args.self.now.at_work;
   streamless = streamless-on _ c.begin_audit.new.self c.args.self.now.vault c.in-Some.is c.begin_audit.ensures.streams
       c.args.self.now.streamless;

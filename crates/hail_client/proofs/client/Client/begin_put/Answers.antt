@@ -18,7 +18,7 @@ returns-in-None-clause-machine c = put-closed c.args.self.now _ c.args.profile c
 
 pub invariant_of-self : goal.invariant_of-self
 invariant_of-self c = record {
-  at_work = begun-at _ c.begin_put.new.self c.args.self.now.vault c.args.self.now.scrub c.begin_put.result
+  at_work = begun-at _ c.begin_put.new.self c.args.self.now.vault c.args.self.now.alone c.begin_put.result
       c.in-Some.is c.begin_put.ensures.busy c.begin_put.ensures.unchanged c.args.self.now.at_work;
   streamless = streamless-on _ c.begin_put.new.self c.args.self.now.vault c.in-Some.is c.begin_put.ensures.streams
       c.args.self.now.streamless;

@@ -14,7 +14,7 @@ invariant_of-self-in-Ok-hold c = record {
 
 pub invariant_of-self-in-Err-hold : goal.invariant_of-self-in-Err-hold
 invariant_of-self-in-Err-hold c = record {
-  at_work = begun-at c.in-Some.vault c.hold.new.self c.args.self.now.vault c.args.self.now.scrub
+  at_work = begun-at c.in-Some.vault c.hold.new.self c.args.self.now.vault c.args.self.now.alone
       c.hold.result c.in-Some.is c.hold.ensures.busy c.hold.ensures.unchanged c.args.self.now.at_work;
   streamless = streamless-on c.in-Some.vault c.hold.new.self c.args.self.now.vault c.in-Some.is c.hold.ensures.streams
       c.args.self.now.streamless;

@@ -1,144 +1,240 @@
-use Rattle.std.proofs.Common.{map, refl, ap, sym, ◌∙◌, true, arith}
+use Rattle.std.proofs.Common.{◌≡◌, map, None, Some, refl, ap, sym, ◌∙◌, true, arith}
 use Rattle.std.proofs.Math.Logic.{∥∥₁_map}
 use Rattle.provider_model.specs.Seen.{provider_seen}
 use Rattle.record_codec.specs.declared.setup.Setup.{Setup}
 use Rattle.vault_core.specs.Coming.{called_provider}
-use Rattle.hail_client.proofs.Beside.{streamless-on, none-wait, free-works}
+use Rattle.hail_client.specs.AtWork.{IsBesideVault}
+use Rattle.hail_client.specs.declared.alone.Alone.TheVariants as alone
+use Rattle.hail_client.proofs.Beside.{streamless-on, none-wait, free-works, beside-at, taken, number-taken}
 use Rattle.hail_client.proofs.Made.{step-of, heard-of}
-use Rattle.hail_client.proofs.Scrubbed.{IsNext, next-at, beside-at, beside-on, vault-coming, no-disk, calls-one, has-next, goes-on, ends}
+use Rattle.hail_client.proofs.Packed.{pack-of, packs-on, packs-end}
+use Rattle.hail_client.proofs.Scrubbed.{IsNext, going-at, there-at, next-at, beside-on, vault-coming, no-disk, calls-one, calls-nobody, has-next, goes-on, ends}
 use Rattle.hail_client.proofs.client.Client.step.Given as given
 use Rattle.hail_client.proofs.client.Client.step.Goals as goal
+
+-- ---- a job of the vault
+
+pub step-requires-clause-given : goal.step-requires-clause-given
+step-requires-clause-given g c =
+    none-wait c.in-Some.vault c.args.self.now.vault c.args.job c.in-Some.is
+    (c.only_streams_wait.ensures c.in-Some.vault c.args.job) c.args.self.now.streamless
+
+pub invariant_of-self-in_default-take : goal.invariant_of-self-in_default-take
+invariant_of-self-in_default-take g c = record {
+  at_work = free-works c.step.new.self c.take.new.self c.take.ensures.after;
+  streamless = streamless-on c.in-Some.vault c.step.new.self c.args.self.now.vault c.in-Some.is
+      c.step.ensures.streams c.args.self.now.streamless;
+}
+
+none-taken : (g : given.Over) (c : goal.After-providers-1 g) → c.args.self.now.alone ≡ None
+none-taken g c = sym c.take.ensures.value ∙ c.in_default-take.is
+
+pub returns-in_default-take-clause-machine : goal.returns-in_default-take-clause-machine
+returns-in_default-take-clause-machine g c =
+    step-of c.args.self.now _ c.in-Some.vault c.step.new.self c.args.job c.step.result _ _ c.in-Some.is
+    (none-taken g c) refl c.take.ensures.after c.step.ensures.machine
+    (let r = c.ranges.job.fits in omega (arith, r))
+
+pub returns-in_default-take-clause-heard : goal.returns-in_default-take-clause-heard
+returns-in_default-take-clause-heard g c =
+    heard-of c.args.self.now c.args.self.now c.in-Some.vault c.step.new.self c.args.job c.step.result _ _
+    c.in-Some.is (none-taken g c) c.step.ensures.machine
+
+pub returns-in_default-take-clause-others : goal.returns-in_default-take-clause-others
+returns-in_default-take-clause-others g c = λ j k e other. c.step.ensures.others j k
+    (sym (ap called_provider
+    (vault-coming c.args.self.now c.in-Some.vault c.args.job c.in-Some.is (none-taken g c))) ∙ e) other
+
+-- ---- a scrub
+
+-- it runs beside the vault
+scrub-beside : (g : given.Over) (c : goal.After-step-arg-in-Scrub-2-1 g) →
+    ∥ IsBesideVault c.in-Some.vault c.in-Scrub.running ∥₁
+scrub-beside g c = beside-at c.args.self.now.vault c.args.self.now.alone c.in-Some.vault
+    (alone.Scrub c.in-Scrub.running) c.in-Some.is
+    (taken c.args.self.now.alone c.take.result c.in-Some-take.alone (alone.Scrub c.in-Scrub.running)
+    c.take.ensures.value c.in-Some-take.is c.in-Scrub.is) c.args.self.now.at_work
+
+pub step-requires-in-Scrub-clause-going : goal.step-requires-in-Scrub-clause-going
+step-requires-in-Scrub-clause-going g c = going-at c.in-Some.vault c.in-Scrub.running (scrub-beside g c)
+
+pub step-requires-in-Scrub-clause-there : goal.step-requires-in-Scrub-clause-there
+step-requires-in-Scrub-clause-there g c = there-at c.args.self.now.vault c.in-Some.vault c.in-Scrub.running
+    _ c.in-Some.is c.requires (scrub-beside g c)
 
 pub invariant_of-self-in-More : goal.invariant_of-self-in-More
 invariant_of-self-in-More g c = record {
   at_work = ∥∥₁_map
-      (beside-at c.args.self.now.vault c.args.self.now.scrub c.in-Some.vault c.in-Some-scrub.running c.in-Some.is
-      c.in-Some-scrub.is c.args.self.now.at_work)
-      (beside-on c.in-Some.vault c.in-Some-scrub.running c.step.new.self
+      (beside-at c.args.self.now.vault c.args.self.now.alone c.in-Some.vault (alone.Scrub c.in-Scrub.running)
+      c.in-Some.is
+      (taken c.args.self.now.alone c.take.result c.in-Some-take.alone (alone.Scrub c.in-Scrub.running)
+      c.take.ensures.value c.in-Some-take.is c.in-Scrub.is) c.args.self.now.at_work)
+      (beside-on c.in-Some.vault c.in-Scrub.running c.step-in-Scrub.new.self
       (map (provider_seen g.P.Provider) c.args.providers.now)
-      (map (provider_seen g.P.Provider) c.step.new.providers) c.in-More.ensures.over c.step.ensures.providers
-      (λ w m S. c.in-More.ensures.machine w m true S));
+      (map (provider_seen g.P.Provider) c.step-in-Scrub.new.providers) c.in-More.ensures.over
+      c.step-in-Scrub.ensures.providers (λ w m S. c.in-More.ensures.machine w m true S));
   streamless = streamless-on c.in-Some.vault c.in-Some.vault c.args.self.now.vault c.in-Some.is (λ x. x)
       c.args.self.now.streamless;
 }
 
-next-more : (g : given.Over) (c : goal.After-self-in-More-1 g) → IsNext c.in-Some-scrub.running.scrub
-next-more g c = next-at c.in-Some.vault c.in-Some-scrub.running c.step.new.self
-    (map (provider_seen g.P.Provider) c.args.providers.now)
-    (map (provider_seen g.P.Provider) c.step.new.providers) _
-    (λ w m S. c.in-More.ensures.machine w m true S)
-    (beside-at c.args.self.now.vault c.args.self.now.scrub c.in-Some.vault c.in-Some-scrub.running c.in-Some.is
-    c.in-Some-scrub.is c.args.self.now.at_work)
+module _ (g : given.Over) (c : goal.Joined-self-4 g) where
+  more-is : c.args.self.now.alone ≡ Some (alone.Scrub c.in-Scrub.running)
+  more-is = taken c.args.self.now.alone c.take.result c.in-Some-take.alone (alone.Scrub c.in-Scrub.running)
+      c.take.ensures.value c.in-Some-take.is c.in-Scrub.is
+
+  more-number : c.in-Scrub.running.number ≡ c.args.job
+  more-number = number-taken c.in-Some-take.alone (alone.Scrub c.in-Scrub.running) c.number.result c.args.job
+      c.in-Scrub.is c.number.ensures c.if-number-job.false
+
+  more-next : IsNext c.in-Scrub.running.scrub
+  more-next = next-at c.in-Some.vault c.in-Scrub.running c.step-in-Scrub.new.self
+      (map (provider_seen g.P.Provider) c.args.providers.now)
+      (map (provider_seen g.P.Provider) c.step-in-Scrub.new.providers) _
+      (λ w m S. c.in-More.ensures.machine w m true S)
+      (beside-at c.args.self.now.vault c.args.self.now.alone c.in-Some.vault (alone.Scrub c.in-Scrub.running)
+      c.in-Some.is more-is c.args.self.now.at_work)
 
 pub returns-in-More-clause-machine : goal.returns-in-More-clause-machine
 returns-in-More-clause-machine g c =
-    goes-on c.args.self.now c.in-Some.vault c.in-Some-scrub.running c.in-Some.is c.in-Some-scrub.is
+    goes-on c.args.self.now c.in-Some.vault c.in-Scrub.running c.in-Some.is (more-is g c)
     (g.D.Disk.holds c.args.disk.now) (g.D.Disk.faults c.args.disk.now)
     (map (provider_seen g.P.Provider) c.args.providers.now) _
-    (map (provider_seen g.P.Provider) c.step.new.providers) c.args.job c.setup-n.result.n
-    (let r = c.ranges.job.fits in omega (arith, r)) c.if-running-job.false
-    (ap (λ (s : Setup). s.n) c.setup-n.ensures) c.step.new.self refl refl
+    (map (provider_seen g.P.Provider) c.step-in-Scrub.new.providers) c.args.job c.setup-n.result.n
+    (let r = c.ranges.job.fits in omega (arith, r)) (more-number g c)
+    (ap (λ (s : Setup). s.n) c.setup-n.ensures) c.step-in-Scrub.new.self refl refl
     (λ w m S. c.in-More.ensures.machine w m true S)
 
+pub returns-in-More-clause-away : goal.returns-in-More-clause-away
+returns-in-More-clause-away g c = λ e. c.step-in-Scrub.ensures.away
+    (calls-nobody c.args.self.now c.in-Some.vault c.in-Scrub.running c.args.job c.in-Some.is (more-is g c)
+    (more-number g c) (more-next g c) e)
+
 pub returns-in-More-clause-others : goal.returns-in-More-clause-others
-returns-in-More-clause-others g c = λ j k e other. c.step.ensures.others j k
-    (calls-one c.args.self.now c.in-Some.vault c.in-Some-scrub.running c.args.job c.in-Some.is
-    c.in-Some-scrub.is c.if-running-job.false (next-more g c) j e) other
+returns-in-More-clause-others g c = λ j k e other. c.step-in-Scrub.ensures.others j k
+    (calls-one c.args.self.now c.in-Some.vault c.in-Scrub.running c.args.job c.in-Some.is (more-is g c)
+    (more-number g c) (more-next g c) j e) other
 
 pub returns-in-More-clause-one_disk_call : goal.returns-in-More-clause-one_disk_call
-returns-in-More-clause-one_disk_call g c = λ e. no-disk c.args.self.now c.in-Some.vault c.in-Some-scrub.running c.args.job c.in-Some.is
-    c.in-Some-scrub.is c.if-running-job.false (next-more g c) e
+returns-in-More-clause-one_disk_call g c = λ e. no-disk c.args.self.now c.in-Some.vault c.in-Scrub.running
+    c.args.job c.in-Some.is (more-is g c) (more-number g c) (more-next g c) e
 
 pub returns-in-More-clause-one_provider_call : goal.returns-in-More-clause-one_provider_call
-returns-in-More-clause-one_provider_call g c = λ j e. c.step.ensures.one_call j
-    (calls-one c.args.self.now c.in-Some.vault c.in-Some-scrub.running c.args.job c.in-Some.is
-    c.in-Some-scrub.is c.if-running-job.false (next-more g c) j e)
+returns-in-More-clause-one_provider_call g c = λ j e. c.step-in-Scrub.ensures.one_call j
+    (calls-one c.args.self.now c.in-Some.vault c.in-Scrub.running c.args.job c.in-Some.is (more-is g c)
+    (more-number g c) (more-next g c) j e)
 
 pub returns-in-More-clause-no_job : goal.returns-in-More-clause-no_job
-returns-in-More-clause-no_job g c = λ e. has-next c.args.self.now c.in-Some.vault c.in-Some-scrub.running c.args.job c.in-Some.is
-    c.in-Some-scrub.is c.if-running-job.false (next-more g c) e
+returns-in-More-clause-no_job g c = λ e. has-next c.args.self.now c.in-Some.vault c.in-Scrub.running
+    c.args.job c.in-Some.is (more-is g c) (more-number g c) (more-next g c) e
 
 pub returns-in-More-clause-gone : goal.returns-in-More-clause-gone
 returns-in-More-clause-gone g c = (
   λ e. absurd (let f = e in cc),
-  λ e. has-next c.args.self.now c.in-Some.vault c.in-Some-scrub.running c.args.job c.in-Some.is
-      c.in-Some-scrub.is c.if-running-job.false (next-more g c) e,
+  λ e. has-next c.args.self.now c.in-Some.vault c.in-Scrub.running c.args.job c.in-Some.is (more-is g c)
+      (more-number g c) (more-next g c) e,
 )
 
 pub invariant_of-self-in-Done : goal.invariant_of-self-in-Done
 invariant_of-self-in-Done g c = record {
-  at_work = ∣ tt ∣₁;
+  at_work = free-works c.release.new.self c.take.new.self c.take.ensures.after;
   streamless = streamless-on c.in-Some.vault c.release.new.self c.args.self.now.vault c.in-Some.is
       c.release.ensures.streams c.args.self.now.streamless;
 }
 
-next-done : (g : given.Over) (c : goal.After-self-in-Done-1 g) → IsNext c.in-Some-scrub.running.scrub
-next-done g c = next-at c.in-Some.vault c.in-Some-scrub.running c.step.new.self
-    (map (provider_seen g.P.Provider) c.args.providers.now)
-    (map (provider_seen g.P.Provider) c.step.new.providers) _
-    (λ w m S. c.in-Done.ensures.machine w m true S)
-    (beside-at c.args.self.now.vault c.args.self.now.scrub c.in-Some.vault c.in-Some-scrub.running c.in-Some.is
-    c.in-Some-scrub.is c.args.self.now.at_work)
+module _ (g : given.Over) (c : goal.After-drop-running-in-Done-8 g) where
+  done-is : c.args.self.now.alone ≡ Some (alone.Scrub c.in-Scrub.running)
+  done-is = taken c.args.self.now.alone c.take.result c.in-Some-take.alone (alone.Scrub c.in-Scrub.running)
+      c.take.ensures.value c.in-Some-take.is c.in-Scrub.is
+
+  done-number : c.in-Scrub.running.number ≡ c.args.job
+  done-number = number-taken c.in-Some-take.alone (alone.Scrub c.in-Scrub.running) c.number.result c.args.job
+      c.in-Scrub.is c.number.ensures c.if-number-job.false
+
+  done-next : IsNext c.in-Scrub.running.scrub
+  done-next = next-at c.in-Some.vault c.in-Scrub.running c.step-in-Scrub.new.self
+      (map (provider_seen g.P.Provider) c.args.providers.now)
+      (map (provider_seen g.P.Provider) c.step-in-Scrub.new.providers) _
+      (λ w m S. c.in-Done.ensures.machine w m true S)
+      (beside-at c.args.self.now.vault c.args.self.now.alone c.in-Some.vault (alone.Scrub c.in-Scrub.running)
+      c.in-Some.is done-is c.args.self.now.at_work)
 
 pub returns-in-Done-clause-machine : goal.returns-in-Done-clause-machine
 returns-in-Done-clause-machine g c =
-    ends c.args.self.now c.in-Some.vault c.in-Some-scrub.running c.in-Some.is c.in-Some-scrub.is
+    ends c.args.self.now c.in-Some.vault c.in-Scrub.running c.in-Some.is (done-is g c)
     (g.D.Disk.holds c.args.disk.now) (g.D.Disk.faults c.args.disk.now)
     (map (provider_seen g.P.Provider) c.args.providers.now) _ c.release.new.self
-    (map (provider_seen g.P.Provider) c.step.new.providers) c.args.job c.setup-n.result.n
-    (let r = c.ranges.job.fits in omega (arith, r)) c.if-running-job.false
-    (ap (λ (s : Setup). s.n) c.setup-n.ensures) c.step.new.self c.in-Done.answer refl refl
+    (map (provider_seen g.P.Provider) c.step-in-Scrub.new.providers) c.args.job c.setup-n.result.n
+    (let r = c.ranges.job.fits in omega (arith, r)) (done-number g c)
+    (ap (λ (s : Setup). s.n) c.setup-n.ensures) c.step-in-Scrub.new.self c.in-Done.answer refl
+    c.take.ensures.after
     (λ u d k h. c.release.ensures.free u d k h) (λ w m S. c.in-Done.ensures.machine w m true S)
 
+pub returns-in-Done-clause-away : goal.returns-in-Done-clause-away
+returns-in-Done-clause-away g c = λ e. c.step-in-Scrub.ensures.away
+    (calls-nobody c.args.self.now c.in-Some.vault c.in-Scrub.running c.args.job c.in-Some.is (done-is g c)
+    (done-number g c) (done-next g c) e)
+
 pub returns-in-Done-clause-others : goal.returns-in-Done-clause-others
-returns-in-Done-clause-others g c = λ j k e other. c.step.ensures.others j k
-    (calls-one c.args.self.now c.in-Some.vault c.in-Some-scrub.running c.args.job c.in-Some.is
-    c.in-Some-scrub.is c.if-running-job.false (next-done g c) j e) other
+returns-in-Done-clause-others g c = λ j k e other. c.step-in-Scrub.ensures.others j k
+    (calls-one c.args.self.now c.in-Some.vault c.in-Scrub.running c.args.job c.in-Some.is (done-is g c)
+    (done-number g c) (done-next g c) j e) other
 
 pub returns-in-Done-clause-one_disk_call : goal.returns-in-Done-clause-one_disk_call
-returns-in-Done-clause-one_disk_call g c = λ e. no-disk c.args.self.now c.in-Some.vault c.in-Some-scrub.running c.args.job c.in-Some.is
-    c.in-Some-scrub.is c.if-running-job.false (next-done g c) e
+returns-in-Done-clause-one_disk_call g c = λ e. no-disk c.args.self.now c.in-Some.vault c.in-Scrub.running
+    c.args.job c.in-Some.is (done-is g c) (done-number g c) (done-next g c) e
 
 pub returns-in-Done-clause-one_provider_call : goal.returns-in-Done-clause-one_provider_call
-returns-in-Done-clause-one_provider_call g c = λ j e. c.step.ensures.one_call j
-    (calls-one c.args.self.now c.in-Some.vault c.in-Some-scrub.running c.args.job c.in-Some.is
-    c.in-Some-scrub.is c.if-running-job.false (next-done g c) j e)
+returns-in-Done-clause-one_provider_call g c = λ j e. c.step-in-Scrub.ensures.one_call j
+    (calls-one c.args.self.now c.in-Some.vault c.in-Scrub.running c.args.job c.in-Some.is (done-is g c)
+    (done-number g c) (done-next g c) j e)
 
 pub returns-in-Done-clause-no_job : goal.returns-in-Done-clause-no_job
-returns-in-Done-clause-no_job g c = λ e. has-next c.args.self.now c.in-Some.vault c.in-Some-scrub.running c.args.job c.in-Some.is
-    c.in-Some-scrub.is c.if-running-job.false (next-done g c) e
+returns-in-Done-clause-no_job g c = λ e. has-next c.args.self.now c.in-Some.vault c.in-Scrub.running
+    c.args.job c.in-Some.is (done-is g c) (done-number g c) (done-next g c) e
 
 pub returns-in-Done-clause-gone : goal.returns-in-Done-clause-gone
 returns-in-Done-clause-gone g c = (
   λ e. absurd (let f = e in cc),
-  λ e. has-next c.args.self.now c.in-Some.vault c.in-Some-scrub.running c.args.job c.in-Some.is
-      c.in-Some-scrub.is c.if-running-job.false (next-done g c) e,
+  λ e. has-next c.args.self.now c.in-Some.vault c.in-Scrub.running c.args.job c.in-Some.is (done-is g c)
+      (done-number g c) (done-next g c) e,
 )
 
-pub step-requires-in-None-scrub-clause-given : goal.step-requires-in-None-scrub-clause-given
-step-requires-in-None-scrub-clause-given g c =
-    none-wait c.in-Some.vault c.args.self.now.vault c.args.job c.in-Some.is
-    (c.only_streams_wait.ensures c.in-Some.vault c.args.job) c.args.self.now.streamless
+-- ---- a pack
 
-pub invariant_of-self-in-None-scrub : goal.invariant_of-self-in-None-scrub
-invariant_of-self-in-None-scrub g c = record {
-  at_work = free-works c.step-in-None-scrub.new.self c.args.self.now.scrub c.in-None-scrub.is;
-  streamless = streamless-on c.in-Some.vault c.step-in-None-scrub.new.self c.args.self.now.vault c.in-Some.is
-      c.step-in-None-scrub.ensures.streams c.args.self.now.streamless;
+pub step_pack-requires : goal.step_pack-requires
+step_pack-requires g c = pack-of c.in-Some.vault c.in-Pack.running
+    (beside-at c.args.self.now.vault c.args.self.now.alone c.in-Some.vault (alone.Pack c.in-Pack.running)
+    c.in-Some.is
+    (taken c.args.self.now.alone c.take.result c.in-Some-take.alone (alone.Pack c.in-Pack.running)
+    c.take.ensures.value c.in-Some-take.is c.in-Pack.is) c.args.self.now.at_work)
+
+pub invariant_of-self-in-Done-step_pack : goal.invariant_of-self-in-Done-step_pack
+invariant_of-self-in-Done-step_pack g c = record {
+  at_work = free-works c.step_pack.new.self c.take.new.self c.take.ensures.after;
+  streamless = streamless-on c.in-Some.vault c.step_pack.new.self c.args.self.now.vault c.in-Some.is
+      c.step_pack.ensures.streams c.args.self.now.streamless;
 }
 
-pub returns-in-None-scrub-clause-machine : goal.returns-in-None-scrub-clause-machine
-returns-in-None-scrub-clause-machine g c =
-    step-of c.args.self.now _ c.in-Some.vault c.step-in-None-scrub.new.self c.args.job c.step-in-None-scrub.result
-    _ _ c.in-Some.is c.in-None-scrub.is refl c.in-None-scrub.is c.step-in-None-scrub.ensures.machine
-    (let r = c.ranges.job.fits in omega (arith, r))
+pub returns-in-More-step_pack-clause-machine : goal.returns-in-More-step_pack-clause-machine
+returns-in-More-step_pack-clause-machine g c =
+    packs-on c.args.self.now c.in-Some.vault c.in-Pack.running c.args.job c.in-Some.is
+    (taken c.args.self.now.alone c.take.result c.in-Some-take.alone (alone.Pack c.in-Pack.running)
+    c.take.ensures.value c.in-Some-take.is c.in-Pack.is)
+    (number-taken c.in-Some-take.alone (alone.Pack c.in-Pack.running) c.number.result c.args.job c.in-Pack.is
+    c.number.ensures c.if-number-job.false)
+    (g.D.Disk.holds c.args.disk.now) (g.D.Disk.holds c.step_pack.new.disk) (g.D.Disk.faults c.args.disk.now)
+    (g.D.Disk.faults c.step_pack.new.disk) (map (provider_seen g.P.Provider) c.args.providers.now)
+    (let r = c.ranges.job.fits in omega (arith, r)) _ c.step_pack.new.self refl c.in-More-step_pack.next refl
+    (λ w S. c.in-More-step_pack.ensures.machine w _ true S)
 
-pub returns-in-None-scrub-clause-heard : goal.returns-in-None-scrub-clause-heard
-returns-in-None-scrub-clause-heard g c =
-    heard-of c.args.self.now c.args.self.now c.in-Some.vault c.step-in-None-scrub.new.self c.args.job
-    c.step-in-None-scrub.result _ _ c.in-Some.is c.in-None-scrub.is c.step-in-None-scrub.ensures.machine
-
-pub returns-in-None-scrub-clause-others : goal.returns-in-None-scrub-clause-others
-returns-in-None-scrub-clause-others g c = λ j k e other. c.step-in-None-scrub.ensures.others j k
-    (sym (ap called_provider
-    (vault-coming c.args.self.now c.in-Some.vault c.args.job c.in-Some.is c.in-None-scrub.is)) ∙ e) other
+pub returns-in-Done-step_pack-clause-machine : goal.returns-in-Done-step_pack-clause-machine
+returns-in-Done-step_pack-clause-machine g c =
+    packs-end c.args.self.now c.in-Some.vault c.in-Pack.running c.args.job c.in-Some.is
+    (taken c.args.self.now.alone c.take.result c.in-Some-take.alone (alone.Pack c.in-Pack.running)
+    c.take.ensures.value c.in-Some-take.is c.in-Pack.is)
+    (number-taken c.in-Some-take.alone (alone.Pack c.in-Pack.running) c.number.result c.args.job c.in-Pack.is
+    c.number.ensures c.if-number-job.false)
+    (g.D.Disk.holds c.args.disk.now) (g.D.Disk.holds c.step_pack.new.disk) (g.D.Disk.faults c.args.disk.now)
+    (g.D.Disk.faults c.step_pack.new.disk) (map (provider_seen g.P.Provider) c.args.providers.now)
+    (let r = c.ranges.job.fits in omega (arith, r)) _ c.step_pack.new.self refl c.in-Done-step_pack.answer
+    c.take.ensures.after (λ w S. c.in-Done-step_pack.ensures.machine w _ true S)
