@@ -1,9 +1,9 @@
--- What a step of the only job of a state does: it makes an action, and what is in effect or in flight grows.
-use Rattle.std.proofs.Common.{◌≡◌, ℕ, ◌+◌, ◌≤◌, ◌==◌, ◌⊎◌, List, [], ◌∷◌, Option, Some, None, refl, ap, sym, subst, ◌∙◌, inl, inr, arith}
+-- What a step of the only job of a state does: it makes an action, and what is in the journal or in flight grows.
+use Rattle.std.proofs.Common.{◌≡◌, ℕ, ◌+◌, ◌≤◌, ◌==◌, ◌⊎◌, List, [], ◌∷◌, Option, Some, None, refl, ap, subst, ◌∙◌, inl, inr, arith}
 use Rattle.std.proofs.lemmas.Bool.{cases_Bool}
 use Rattle.algebra_laws.proofs.Options.{some-not-none}
 use Rattle.record_defs.specs.Records.{Record}
-use Rattle.record_defs.specs.Journal.{text_size}
+use Rattle.record_defs.specs.Areas.{Area, end_in}
 use Rattle.machine_defs.specs.Jobs.{Kind, Job, job_of}
 use Rattle.machine_defs.specs.Actions.{Action, WriteBody, SyncBody, WriteGate, SyncGate, Store, Fetch, Ask, Work, Remove, End}
 use Rattle.machine_defs.specs.Answers as answer
@@ -80,59 +80,64 @@ acts-end w job End how new d m (ends, is) =
 acts-end w job action how new d m h =
     elim (moves-end w job action w.append how new h) [ inl e ↦ absurd (d e) | inr e ↦ absurd (m e) ]
 
--- what is in effect or in flight grows
-abbrev Grows : State → State → Type 0
-Grows w new = text_size (records_in_flight w.records w.append) ≤ text_size
-    (records_in_flight new.records new.append)
+-- the end of the text with the record in flight
+abbrev pub flight_end : Area → List Record → Option Append → ℕ
+flight_end area rs o = end_in area (records_in_flight rs o)
 
-same-size : (w new : State) → new.append ≡ w.append → new.records ≡ w.records → Grows w new
-same-size w new a r =
-    subst (λ (o : Option Append). text_size (records_in_flight w.records w.append) ≤ text_size
-    (records_in_flight new.records o)) (sym a)
-    (subst (λ rs. text_size (records_in_flight w.records w.append) ≤ text_size
-    (records_in_flight rs w.append)) (sym r) (omega arith))
+-- what is in the journal or in flight grows
+abbrev Grows : State → State → Type 0
+Grows w new = flight_end w.area w.journal w.append ≤ flight_end new.area new.journal new.append
 
 -- the same where the append in flight is known on both sides
 sizes-grow : (w new : State) (old now : Option Append) (rs : List Record) → w.append ≡ old →
-    new.append ≡ now → new.records ≡ rs →
-    text_size (records_in_flight w.records old) ≤ text_size (records_in_flight rs now) → Grows w new
-sizes-grow w new old now rs a b r h =
-    subst (λ (o : Option Append). text_size (records_in_flight w.records o) ≤ text_size
-    (records_in_flight new.records new.append)) (sym a)
-    (subst (λ (o : Option Append). text_size (records_in_flight w.records old) ≤ text_size
-    (records_in_flight new.records o)) (sym b)
-    (subst (λ rs. text_size (records_in_flight w.records old) ≤ text_size (records_in_flight rs now))
-    (sym r) h))
+    new.append ≡ now → new.area ≡ w.area → new.journal ≡ rs →
+    flight_end w.area w.journal old ≤ flight_end w.area rs now → Grows w new
+sizes-grow w new old now rs a b area journal h =
+    (let e = ap (flight_end w.area w.journal) a in
+    let f : flight_end new.area new.journal new.append ≡ flight_end w.area rs now =
+    λ i. flight_end (area i) (journal i) (b i) in
+    omega (arith, e, f, h))
+
+same-size : (w new : State) → new.append ≡ w.append → new.area ≡ w.area → new.journal ≡ w.journal → Grows w new
+same-size w new a area journal = sizes-grow w new w.append w.append w.journal refl a area journal (omega arith)
 
 moves-grow : (w : State) (job : Job) (action : Action) (flight : Option Append) (new : State) →
     w.append ≡ flight → holder_of flight action ≡ None → Moves w job action flight More new → Grows w new
 moves-grow w job WriteBody None new flight free (entry, writes, (faults, low, is)) =
-    sizes-grow w new None (Some (record { job = job.number; entry = entry; moves = 1 })) w.records flight
-    (ap (λ (v : State). v.append) is) (ap (λ (v : State). v.records) is) (omega arith)
+    sizes-grow w new None (Some (record { job = job.number; entry = entry; moves = 1 })) w.journal flight
+    (ap (λ (v : State). v.append) is) (ap (λ (v : State). v.area) is) (ap (λ (v : State). v.journal) is)
+    (omega arith)
 moves-grow w job WriteBody (Some a) new flight free h = absurd (some-not-none (Some a.job) a.job refl free)
 moves-grow w job SyncBody (Some a) new flight free (at, (faults, low, is)) =
-    sizes-grow w new (Some a) (Some (record a { moves = a.moves + 1 })) w.records flight
-    (ap (λ (v : State). v.append) is) (ap (λ (v : State). v.records) is) (omega arith)
+    sizes-grow w new (Some a) (Some (record a { moves = a.moves + 1 })) w.journal flight
+    (ap (λ (v : State). v.append) is) (ap (λ (v : State). v.area) is) (ap (λ (v : State). v.journal) is)
+    (omega arith)
 moves-grow w job WriteGate (Some a) new flight free (at, (faults, low, is)) =
-    sizes-grow w new (Some a) (Some (record a { moves = a.moves + 1 })) w.records flight
-    (ap (λ (v : State). v.append) is) (ap (λ (v : State). v.records) is) (omega arith)
+    sizes-grow w new (Some a) (Some (record a { moves = a.moves + 1 })) w.journal flight
+    (ap (λ (v : State). v.append) is) (ap (λ (v : State). v.area) is) (ap (λ (v : State). v.journal) is)
+    (omega arith)
 moves-grow w job SyncGate (Some a) new flight free (at, (faults, low, is)) =
-    sizes-grow w new (Some a) None (a.entry ∷ w.records) flight (ap (λ (v : State). v.append) is)
-    (ap (λ (v : State). v.records) is) (omega arith)
+    sizes-grow w new (Some a) None (a.entry ∷ w.journal) flight (ap (λ (v : State). v.append) is)
+    (ap (λ (v : State). v.area) is) (ap (λ (v : State). v.journal) is) (omega arith)
 moves-grow w job action flight new e free h = absurd h
 
 acts-grow : (w : State) (job : Job) (action : Action) (new : State) → holder_of w.append action ≡ None →
     Acts w job action More new → Grows w new
 acts-grow w job (Store j object stripe) new free (p, call, is) =
-    same-size w new (ap (λ (v : State). v.append) is) (ap (λ (v : State). v.records) is)
+    same-size w new (ap (λ (v : State). v.append) is) (ap (λ (v : State). v.area) is)
+    (ap (λ (v : State). v.journal) is)
 acts-grow w job (Fetch j object stripe) new free (block, (p, call, is)) =
-    same-size w new (ap (λ (v : State). v.append) is) (ap (λ (v : State). v.records) is)
+    same-size w new (ap (λ (v : State). v.append) is) (ap (λ (v : State). v.area) is)
+    (ap (λ (v : State). v.journal) is)
 acts-grow w job (Ask j object round) new free (symbol, (p, call, is)) =
-    same-size w new (ap (λ (v : State). v.append) is) (ap (λ (v : State). v.records) is)
+    same-size w new (ap (λ (v : State). v.append) is) (ap (λ (v : State). v.area) is)
+    (ap (λ (v : State). v.journal) is)
 acts-grow w job (Work object stripe) new free (symbols, gives, is) =
-    same-size w new (ap (λ (v : State). v.append) is) (ap (λ (v : State). v.records) is)
+    same-size w new (ap (λ (v : State). v.append) is) (ap (λ (v : State). v.area) is)
+    (ap (λ (v : State). v.journal) is)
 acts-grow w job (Remove j object) new free (p, call, is) =
-    same-size w new (ap (λ (v : State). v.append) is) (ap (λ (v : State). v.records) is)
+    same-size w new (ap (λ (v : State). v.append) is) (ap (λ (v : State). v.area) is)
+    (ap (λ (v : State). v.journal) is)
 acts-grow w job action new free h = moves-grow w job action w.append new refl free h
 
 -- ---- the only job
@@ -197,7 +202,7 @@ module _ (start : State) (O : IsOpenAtRest start 1) (kind : Kind) {profile : ℕ
       (r ≡ More) ⊎ ((how : Answer) × (r ≡ Ended how))
   step-turn moment r new h = (let a = step-makes r new h in acts-turn w job a.0 r new a.2)
 
-  -- where it goes on, what is in effect or in flight grows
+  -- where it goes on, what is in the journal or in flight grows
   pub step-grows : (moment : ℕ) (new : State) → Happens 8 moment w (Step 1) More new → Grows w new
   step-grows moment new h = (let a = step-makes More new h in acts-grow w job a.0 new (free a.0 a.1) a.2)
 

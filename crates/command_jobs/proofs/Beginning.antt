@@ -1,5 +1,5 @@
 -- A stream that begins over a vault just opened.
-use Rattle.std.proofs.Common.{◌≡◌, ℕ, zero, suc, ◌+◌, ◌*◌, ◌<◌, ◌≤◌, List, [], length, replicate, Option, Some, None, Ok, refl, ap, sym, subst, ◌∙◌, inl, inr, arith}
+use Rattle.std.proofs.Common.{◌≡◌, ℕ, zero, suc, ◌+◌, ◌*◌, ◌≤◌, List, [], length, replicate, Option, refl, ap, sym, subst, ◌∙◌, inl, inr, arith}
 use Rattle.std.proofs.lemmas.Bool.{cases_lt}
 use Rattle.std.proofs.lemmas.List.{length-replicate}
 use Rattle.std.proofs.Math.Nat.{mul-le-mul_right}
@@ -8,10 +8,11 @@ use Rattle.device_defs.specs.Cells.{Cells}
 use Rattle.device_defs.specs.Faults.{Rose, last_count}
 use Rattle.device_defs.specs.Providers.{Provider}
 use Rattle.record_defs.specs.Records.{Setup, Record, largest_file}
+use Rattle.record_defs.specs.Areas.{Area}
 use Rattle.machine_defs.specs.Begins.{chosen}
 use Rattle.machine_defs.specs.Events.{AreBytes}
 use Rattle.machine_defs.specs.Jobs.{PutJob}
-use Rattle.machine_defs.specs.States.{State, setup_in}
+use Rattle.machine_defs.specs.States.{setup_in}
 use Rattle.command_defs.specs.Opens.{setup_in_effect}
 use Rattle.command_defs.specs.Seen.{ReadsAtMost, nobody}
 use Rattle.command_defs.specs.GivenUp.{put_stripe}
@@ -27,8 +28,8 @@ use Rattle.vault.specs.Seen.{vault_setup, master_of}
 use Rattle.vault_open.specs.Devices.{devices}
 use Rattle.command_jobs.specs.Opened.{IsFreshOver}
 use Rattle.command_jobs.specs.Streams.{IsStripe, IsBegun}
-use Rattle.command_jobs.proofs.Alone.{BeginsAs, has-begun, opened-at, opened-one}
-use Rattle.command_jobs.proofs.Fresh.{OpensAll, ThereIsOne, fresh-setup}
+use Rattle.command_jobs.proofs.Alone.{BeginsAs, has-begun, opened-one}
+use Rattle.command_jobs.proofs.Fresh.{ThereIsOne, there-opened, setup-over, fresh-setup}
 use Rattle.command_jobs.proofs.ReadBytes.{reads-none}
 
 -- nothing was read
@@ -66,34 +67,23 @@ a-stripe l keep a b c d = record {
   most = (let m = mul-le-mul_right keep b in let e : 16 * keep ≤ 1536 = omega (arith, d) in omega (arith, m, e));
 }
 
-module _ (law : OpensAll) (there : ThereIsOne) (v : Vault) (records : List Record) (holds : Option Cells)
-    (faults : ℕ) (F : IsFreshOver v records holds faults) where
-  ps : List Provider
-  ps = replicate (setup_in_effect records).n nobody
-
-  its-setup : with_master (vault_setup v) (master_of v) ≡ setup_in_effect records
-  unfolding ps
-  its-setup =
-      (let few : (setup_in_effect records).n ≤ length ps =
-      (let e = length-replicate (setup_in_effect records).n nobody in omega (arith, e)) in
-      let x = opened-one law there v records holds faults F ps few in
-      (fresh-setup v records holds faults x.0 ps x.1.over.records x.1.stands).0)
-
+module _ (there : ThereIsOne) (v : Vault) (area : Area) (records : List Record) (holds : Option Cells)
+    (faults : ℕ) (F : IsFreshOver v area records holds faults) where
   -- its numbers make a shape
   its-shape : IsShape (setup_in_effect records).n (setup_in_effect records).l (setup_in_effect records).b
-  unfolding setup_in ps
   its-shape =
-      (let few : (setup_in_effect records).n ≤ length ps =
+      (let ps : List Provider = replicate (setup_in_effect records).n nobody in
+      let few : (setup_in_effect records).n ≤ length ps =
       (let e = length-replicate (setup_in_effect records).n nobody in omega (arith, e)) in
-      let x = opened-one law there v records holds faults F ps few in
-      subst (λ (rs : List Record). IsShape (setup_in_effect rs).n (setup_in_effect rs).l (setup_in_effect rs).b)
-      x.1.over.records (valid-shape (setup_in x.0) (setup-valid 8 x.0 (opened-sound x.0 x.1.opened)
-      x.1.opened.opened)))
+      let x = there-opened there area records faults ps F.read few in
+      subst (λ (s : Setup). IsShape s.n s.l s.b) (setup-over x.0 area records faults ps x.1)
+      (valid-shape (setup_in x.0) (setup-valid 8 x.0 (opened-sound x.0 x.1.at_rest) x.1.at_rest.opened)))
 
   -- how many bytes its stripes have
   pub stripe-over : (own : Option ℕ) → stripe_size (with_master (vault_setup v) (master_of v))
       (chosen (with_master (vault_setup v) (master_of v)) own) ≡ put_stripe records own
-  stripe-over own = ap (λ (s : Setup). stripe_size s (chosen s own)) its-setup
+  stripe-over own = ap (λ (s : Setup). stripe_size s (chosen s own))
+      (fresh-setup there v area records holds faults F)
 
   pub is-stripe : (own : Option ℕ) (size : ℕ) → size ≡ put_stripe records own → IsStripe size
   is-stripe own size is = subst IsStripe (sym is)
@@ -108,17 +98,16 @@ module _ (law : OpensAll) (there : ThereIsOne) (v : Vault) (records : List Recor
       BeginsAs v (PutJob name bytes) own number next) where
     pub first-number : number ≡ 1
     first-number =
-        (let x = opened-one law there v records holds faults F providers enough in
+        (let x = opened-one there v area records holds faults F providers enough in
         (has-begun x.0 1 (PutJob name []) own number v next (devices holds faults providers)
-        (MayName.put name [] refl) x.1.opened x.1.stands (begins [] refl (omega arith))).first)
+        (MayName.put name [] refl) x.1.over.at_rest x.1.stands (begins [] refl (omega arith))).first)
 
     pub all-begun : (bytes : List ℕ) → AreBytes bytes → length bytes ≤ largest_file →
         IsBegun next (devices holds faults providers) size bytes
-    unfolding setup_in
     all-begun bytes are few =
-        (let x = opened-one law there v records holds faults F providers enough in
+        (let x = opened-one there v area records holds faults F providers enough in
         let h = has-begun x.0 1 (PutJob name bytes) own number v next (devices holds faults providers)
-        (MayName.put name bytes refl) x.1.opened x.1.stands (begins bytes are few) in
+        (MayName.put name bytes refl) x.1.over.at_rest x.1.stands (begins bytes are few) in
         record {
           start = x.0;
           name = name;
@@ -127,5 +116,6 @@ module _ (law : OpensAll) (there : ThereIsOne) (v : Vault) (records : List Recor
           only = h.only;
           stands = h.made.stands;
           place = h.place;
-          size_is = size_is ∙ ap (λ (rs : List Record). put_stripe rs own) (sym x.1.over.records);
+          size_is = size_is ∙ ap (λ (s : Setup). stripe_size s (chosen s own))
+              (sym (setup-over x.0 area records faults providers x.1.over));
         })

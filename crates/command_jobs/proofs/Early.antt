@@ -1,5 +1,5 @@
 -- A put that ends before its stores are done has not begun its last append.
-use Rattle.std.proofs.Common.{◌≡◌, ◌≢◌, ℕ, zero, suc, ◌+◌, ◌*◌, ◌<◌, ◌≤◌, ◌⊎◌, List, [], ◌∷◌, ◌++◌, length, map, reverse, Option, Some, None, refl, ap, sym, subst, ◌∙◌, inl, inr, arith}
+use Rattle.std.proofs.Common.{◌≡◌, ℕ, zero, suc, ◌+◌, ◌*◌, ◌<◌, ◌≤◌, ◌⊎◌, List, [], ◌∷◌, ◌++◌, length, map, reverse, Option, Some, None, refl, ap, sym, subst, ◌∙◌, inl, inr, arith}
 use Rattle.std.specs.Prelude.{◌==◌, slice_get}
 use Rattle.std.specs.List.{flat_map, range_with_len}
 use Rattle.std.proofs.lemmas.Bool.{cases_Bool, cases_lt}
@@ -10,12 +10,12 @@ use Rattle.record_defs.specs.Table.{next_id}
 use Rattle.machine_defs.specs.Actions.{Action, WriteBody, SyncBody, WriteGate, SyncGate, Store, End, append_actions, remove_actions, store_actions, actions_of, on_each_provider}
 use Rattle.machine_defs.specs.Answers as answer
 use Rattle.machine_defs.specs.Answers.{Answer}
-use Rattle.machine_defs.specs.Appends.{done_record, Moves}
+use Rattle.machine_defs.specs.Appends.{done_record}
 use Rattle.machine_defs.specs.Events.{Step, Ended}
-use Rattle.machine_defs.specs.Jobs.{Kind, PutJob, Job}
+use Rattle.machine_defs.specs.Jobs.{PutJob, Job}
 use Rattle.machine_defs.specs.Machine.{Happens}
 use Rattle.machine_defs.specs.Setups.{profiled, stripes_of}
-use Rattle.machine_defs.specs.States.{State, Append, setup_in}
+use Rattle.machine_defs.specs.States.{State, setup_in}
 use Rattle.machine_defs.specs.Begins.{chosen}
 use Rattle.machine_defs.specs.Steps.{next_action, is_idle_drop, Acts}
 use Rattle.machine_defs.proofs.JobLists.{cond_true, cond_false}
@@ -24,7 +24,7 @@ use Rattle.opening_defs.specs.Opened.{IsOpenAtRest}
 use Rattle.lone_laws.specs.Walked.{WalkedAt, RecordsAre}
 use Rattle.job_laws.proofs.Parts.{length-stores}
 use Rattle.command_defs.specs.Puts.{put_done, put_records, MayHaveEnd, PutLeaves, PutIsCut}
-use Rattle.command_defs.specs.Ran.{Ran, IsWhole, IsCut}
+use Rattle.command_defs.specs.Ran.{Ran, IsCut}
 use Rattle.command_jobs.proofs.Acting.{moves-end, step-makes}
 use Rattle.command_jobs.proofs.Cuts.{fault-records}
 

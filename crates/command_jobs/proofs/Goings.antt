@@ -6,7 +6,7 @@ use Rattle.std.proofs.lemmas.List.{drop-drop}
 use Rattle.device_defs.specs.Cells.{Cells, reads}
 use Rattle.device_defs.specs.Told.{Goes}
 use Rattle.record_defs.specs.Records.{Record}
-use Rattle.record_defs.specs.Journal.{text_size}
+use Rattle.record_defs.specs.Areas.{Area, end_in}
 use Rattle.machine_defs.specs.Jobs.{Kind, Job, job_of}
 use Rattle.machine_defs.specs.Answers as answer
 use Rattle.machine_defs.specs.Answers.{Answer}
@@ -20,6 +20,7 @@ use Rattle.machine_defs.specs.Heard.{heard_by}
 use Rattle.command_defs.specs.Jobs.{past, with_next, IsNext, SameBehind, SamePast}
 use Rattle.journal_core.specs.Moves.{SameFrom}
 use Rattle.lone_laws.proofs.Walk.{found}
+use Rattle.job_laws.proofs.Keeping.{Keeps}
 use Rattle.job_laws.proofs.Runs.{WalkedOn, walk-on}
 use Rattle.vault_core.specs.Carried.{IsWriting}
 use Rattle.vault.specs.declared.turn.Ended.{Ended as EndedJob}
@@ -27,12 +28,13 @@ use Rattle.vault.specs.declared.turn.Turn.{Turn}
 use Rattle.vault.specs.declared.turn.Turn.TheVariants as turn
 use Rattle.vault.specs.declared.vault.Vault.{Vault}
 use Rattle.vault_open.specs.Devices.{Devices}
-use Rattle.vault.specs.Devices.{records_in_flight, IsSameBeyond}
+use Rattle.vault.specs.Devices.{records_in_flight}
 use Rattle.vault.specs.Outcomes.{machine_answer, outcome_of}
 use Rattle.vault.specs.Stands.{Stands, MakesStep}
 use Rattle.command_jobs.specs.Going.{IsOnly, OnWay, GoesToEnd}
-use Rattle.command_jobs.proofs.Acting.{step-turn, step-grows, step-ends}
+use Rattle.command_jobs.proofs.Acting.{flight_end, step-turn, step-grows, step-ends}
 use Rattle.command_jobs.proofs.Cuts.{fault-records, memory-clears, next-written, next-flight}
+use Rattle.command_jobs.proofs.Kept.{step-keeps, same-journal, only-further, next-alike}
 
 -- ---- what the disk reads past a place
 
@@ -61,31 +63,32 @@ goes-further m n (Some a) (Some b) l h = drop-further m n (reads b) (reads a) l 
 goes-further m n None (Some b) l h = absurd h
 goes-further m n (Some a) None l h = absurd h
 
-pub past-same : (rs : List Record) (a b : Option Cells) → Goes (SameFrom (text_size rs)) a b →
-    option_map (past rs) b ≡ option_map (past rs) a
-past-same rs None None h = refl
-past-same rs (Some a) (Some b) h = ap (λ (bytes : List ℕ). Some bytes) h
-past-same rs None (Some b) h = absurd h
-past-same rs (Some a) None h = absurd h
+pub past-same : (area : Area) (rs : List Record) (a b : Option Cells) → Goes (SameFrom (end_in area rs)) a b →
+    option_map (past area rs) b ≡ option_map (past area rs) a
+past-same area rs None None h = refl
+past-same area rs (Some a) (Some b) h = ap (λ (bytes : List ℕ). Some bytes) h
+past-same area rs None (Some b) h = absurd h
+past-same area rs (Some a) None h = absurd h
 
 -- past the text it reads as before, by how the job ended
-same-past : (kind : Kind) (own : Option ℕ) (how : Answer) (before after : List Record) (a b : Option Cells) →
+same-past : (area : Area) (kind : Kind) (own : Option ℕ) (how : Answer) (before after : List Record) (a b : Option Cells) →
     ((how ≡ answer.DiskFault → ⊥) → (how ≡ answer.Memory → ⊥) →
-    option_map (past after) b ≡ option_map (past after) a)
-    → (how ≡ answer.DiskFault → SameBehind kind own before after a b) →
-    (how ≡ answer.Memory → SameBehind kind own before after a b) → SamePast kind own how before after a b
-same-past kind own answer.Put before after a b h d m = h (λ e. cc) (λ e. cc)
-same-past kind own (answer.Got bytes) before after a b h d m = h (λ e. cc) (λ e. cc)
-same-past kind own answer.Dropped before after a b h d m = h (λ e. cc) (λ e. cc)
-same-past kind own (answer.Audited number undecided counts) before after a b h d m = h (λ e. cc) (λ e. cc)
-same-past kind own (answer.Repaired number) before after a b h d m = h (λ e. cc) (λ e. cc)
-same-past kind own (answer.Lost stripe row) before after a b h d m = h (λ e. cc) (λ e. cc)
-same-past kind own (answer.ProviderFault j) before after a b h d m = h (λ e. cc) (λ e. cc)
-same-past kind own answer.DiskFault before after a b h d m = d refl
-same-past kind own answer.Memory before after a b h d m = m refl
-same-past kind own answer.Upgraded before after a b h d m = h (λ e. cc) (λ e. cc)
-same-past kind own (answer.Scrubbed stripes symbols blocks) before after a b h d m = h (λ e. cc) (λ e. cc)
-same-past kind own (answer.Packed length_before length_after) before after a b h d m = h (λ e. cc) (λ e. cc)
+    option_map (past area after) b ≡ option_map (past area after) a)
+    → (how ≡ answer.DiskFault → SameBehind area kind own before after a b) →
+    (how ≡ answer.Memory → SameBehind area kind own before after a b) →
+    SamePast area kind own how before after a b
+same-past area kind own answer.Put before after a b h d m = h (λ e. cc) (λ e. cc)
+same-past area kind own (answer.Got bytes) before after a b h d m = h (λ e. cc) (λ e. cc)
+same-past area kind own answer.Dropped before after a b h d m = h (λ e. cc) (λ e. cc)
+same-past area kind own (answer.Audited number undecided counts) before after a b h d m = h (λ e. cc) (λ e. cc)
+same-past area kind own (answer.Repaired number) before after a b h d m = h (λ e. cc) (λ e. cc)
+same-past area kind own (answer.Lost stripe row) before after a b h d m = h (λ e. cc) (λ e. cc)
+same-past area kind own (answer.ProviderFault j) before after a b h d m = h (λ e. cc) (λ e. cc)
+same-past area kind own answer.DiskFault before after a b h d m = d refl
+same-past area kind own answer.Memory before after a b h d m = m refl
+same-past area kind own answer.Upgraded before after a b h d m = h (λ e. cc) (λ e. cc)
+same-past area kind own (answer.Scrubbed stripes symbols blocks) before after a b h d m = h (λ e. cc) (λ e. cc)
+same-past area kind own (answer.Packed length_before length_after) before after a b h d m = h (λ e. cc) (λ e. cc)
 
 -- the record in flight, if one is
 abbrev flying : Option Append → Option Record
@@ -96,13 +99,11 @@ flying-same rs None = refl
 flying-same rs (Some a) = refl
 
 -- the text with the record in flight is no longer than that with the one that was being appended
-flying-le : (rs : List Record) (entry : Record) (o : Option Append) →
-    ((a : Append) → o ≡ Some a → a.entry ≡ entry) →
-    text_size (records_in_flight rs o) ≤ text_size (entry ∷ rs)
-flying-le rs entry None same = omega arith
-flying-le rs entry (Some a) same =
-    (let e : text_size (a.entry ∷ rs) ≡ text_size (entry ∷ rs) =
-    ap (λ (r : Record). text_size (r ∷ rs)) (same a refl) in omega (arith, e))
+flying-le : (area : Area) (rs : List Record) (entry : Record) (o : Option Append) →
+    ((a : Append) → o ≡ Some a → a.entry ≡ entry) → flight_end area rs o ≤ end_in area (entry ∷ rs)
+flying-le area rs entry None same = omega arith
+flying-le area rs entry (Some a) same =
+    (let e = ap (λ (r : Record). end_in area (r ∷ rs)) (same a refl) in omega (arith, e))
 
 -- ---- the job on its way
 
@@ -118,7 +119,7 @@ no-steps start kind own w moment v d only stands =
           (found start only.opened kind w only.job only.walked) is in
           let p = ap (λ (j : Job). j.place) e in omega (arith, p));
       stands = stands;
-      beyond = goes-same (text_size (records_in_flight w.records w.append)) d.holds;
+      beyond = goes-same (flight_end w.area w.journal w.append) d.holds;
     }
 
 -- a step goes on, or ends the job
@@ -152,16 +153,21 @@ module _ (start : State) (kind : Kind) (own : Option ℕ) (w : State) (moment nu
           tt,
         )
 
+    abbrev further-only : IsOnly start kind own M.state
+    further-only = only-further start kind own here M.state further.next way.only further.walked
+        (step-keeps start way.only.opened kind here way.only.job way.only.walked
+        (moment + length way.steps) More M.state made)
+
     abbrev pub one-more : OnWay start kind own w moment next old new
     one-more =
         record {
           steps = step ∷ way.steps;
           are_steps = (refl, refl, made, way.are_steps);
-          only = record { opened = way.only.opened; job = further.next; walked = further.walked };
+          only = further-only;
           place = λ begun is. (let a = way.place begun is in let b = further.place in omega (arith, a, b));
           stands = M.stands;
-          beyond = goes-on-same (text_size (records_in_flight here.records here.append))
-              (text_size (records_in_flight M.state.records M.state.append)) old.holds mid.holds new.holds
+          beyond = goes-on-same (flight_end here.area here.journal here.append)
+              (flight_end M.state.area M.state.journal M.state.append) old.holds mid.holds new.holds
               (step-grows start way.only.opened kind here way.only.job way.only.walked
               (moment + length way.steps) M.state made) way.beyond (M.beyond (λ e. cc));
         }
@@ -178,23 +184,34 @@ module _ (start : State) (kind : Kind) (own : Option ℕ) (w : State) (moment nu
     happens = subst (λ n. Happens 8 (moment + length way.steps) here (Step n)
         (Ended (machine_answer ended.answer)) M.state) first M.happens
 
+    kept : Keeps here M.state
+    kept = step-keeps start way.only.opened kind here way.only.job way.only.walked
+        (moment + length way.steps) (Ended (machine_answer ended.answer)) M.state happens
+
+    -- where the history is as before, so is the end of the text
+    same_end : M.state.records ≡ here.records → end_in here.area here.journal ≡ end_in M.state.area M.state.journal
+    same_end e = λ i. end_in (sym kept.area i) (sym (same-journal here M.state kept e) i)
+
     past_end : (machine_answer ended.answer ≡ answer.DiskFault → ⊥) →
         (machine_answer ended.answer ≡ answer.Memory → ⊥) →
-        option_map (past M.state.records) new.holds ≡ option_map (past M.state.records) old.holds
+        option_map (past start.area M.state.journal) new.holds
+        ≡ option_map (past start.area M.state.journal) old.holds
     past_end d m =
         (let s = step-ends start way.only.opened kind here way.only.job way.only.walked
         (moment + length way.steps) (machine_answer ended.answer) M.state d m happens in
-        let before : Goes (SameFrom (text_size M.state.records)) old.holds mid.holds =
-        subst (λ rs. Goes (SameFrom (text_size rs)) old.holds mid.holds) (sym s.2)
-        (subst (λ (o : Option Append). Goes (SameFrom (text_size (records_in_flight here.records o)))
+        let before : Goes (SameFrom (end_in M.state.area M.state.journal)) old.holds mid.holds =
+        subst (λ n. Goes (SameFrom n) old.holds mid.holds) (same_end s.2)
+        (subst (λ (o : Option Append). Goes (SameFrom (flight_end here.area here.journal o))
         old.holds mid.holds) s.0 way.beyond) in
-        let after : Goes (SameFrom (text_size M.state.records)) mid.holds new.holds =
-        subst (λ (o : Option Append). Goes (SameFrom (text_size (records_in_flight M.state.records o)))
+        let after : Goes (SameFrom (end_in M.state.area M.state.journal)) mid.holds new.holds =
+        subst (λ (o : Option Append). Goes (SameFrom (flight_end M.state.area M.state.journal o))
         mid.holds new.holds) s.1
         (M.beyond (λ e. d (same-answer (machine_answer ended.answer) answer.DiskFault e))) in
-        past-same M.state.records old.holds new.holds
-        (goes-on-same (text_size M.state.records) (text_size M.state.records) old.holds mid.holds new.holds
-        (omega arith) before after))
+        subst (λ a. option_map (past a M.state.journal) new.holds ≡ option_map (past a M.state.journal) old.holds)
+        (kept.area ∙ way.only.area)
+        (past-same M.state.area M.state.journal old.holds new.holds
+        (goes-on-same (end_in M.state.area M.state.journal) (end_in M.state.area M.state.journal) old.holds
+        mid.holds new.holds (omega arith) before after)))
       where
         same-answer : (a b : Answer) → Ended a ≡ Ended b → a ≡ b
         same-answer a b e = cc
@@ -204,69 +221,78 @@ module _ (start : State) (kind : Kind) (own : Option ℕ) (w : State) (moment nu
     one_end how e = subst
         (λ (x : Answer). Happens 8 (moment + length way.steps) here (Step 1) (Ended x) M.state) e happens
 
+    -- what comes next over the history comes next over the journal
+    next_here : (entry : Record) → IsNext kind own start.records here.records entry →
+        IsNext kind own start.journal here.journal entry
+    next_here entry h = next-alike kind own start.records start.journal here.records here.journal way.only.added
+        entry way.only.opened.rest.journal.alike way.only.records way.only.journal h
+
+    -- where the history is as before, the disk reads as before behind the journal
+    behind_here : M.state.records ≡ here.records →
+        SameBehind here.area kind own start.journal here.journal old.holds new.holds →
+        SameBehind start.area kind own start.journal M.state.journal old.holds new.holds
+    behind_here e h = subst (λ rs. SameBehind start.area kind own start.journal rs old.holds new.holds)
+        (sym (same-journal here M.state kept e))
+        (subst (λ a. SameBehind a kind own start.journal here.journal old.holds new.holds) way.only.area h)
+
     past_fault : machine_answer ended.answer ≡ answer.DiskFault →
-        SameBehind kind own start.records M.state.records old.holds new.holds
+        SameBehind start.area kind own start.journal M.state.journal old.holds new.holds
     past_fault e =
         (let T = M.torn (ap Ended e) in
         let same = fault-records start way.only.opened kind own here way.only.job way.only.walked
         (moment + length way.steps) M.state (one_end answer.DiskFault e) in
-        let next = next-written start way.only.opened kind own here way.only.job way.only.walked T.entry
-        (subst (λ n. IsWriting here n T.entry) first T.writing) in
-        let both = goes-on-same (text_size (records_in_flight here.records here.append))
-        (text_size (T.entry ∷ here.records)) old.holds mid.holds new.holds
-        (flying-le here.records T.entry here.append T.in_flight) way.beyond T.same in
-        subst (λ rs. SameBehind kind own start.records rs old.holds new.holds) (sym same)
-        (record {
+        let next = next_here T.entry (next-written start way.only.opened kind own here way.only.job
+        way.only.walked T.entry (subst (λ n. IsWriting here n T.entry) first T.writing)) in
+        let both = goes-on-same (flight_end here.area here.journal here.append)
+        (end_in here.area (T.entry ∷ here.journal)) old.holds mid.holds new.holds
+        (flying-le here.area here.journal T.entry here.append T.in_flight) way.beyond T.same in
+        behind_here same (record {
           next = Some T.entry;
           is_next = next;
-          same = past-same (T.entry ∷ here.records) old.holds new.holds both;
+          same = past-same here.area (T.entry ∷ here.journal) old.holds new.holds both;
         }))
 
     past_memory : machine_answer ended.answer ≡ answer.Memory →
-        SameBehind kind own start.records M.state.records old.holds new.holds
+        SameBehind start.area kind own start.journal M.state.journal old.holds new.holds
     past_memory e =
         (let c = memory-clears start way.only.opened kind own here way.only.job way.only.walked
         (moment + length way.steps) M.state (one_end answer.Memory e) in
-        let last : Goes (SameFrom (text_size here.records)) mid.holds new.holds =
-        subst (λ rs. Goes (SameFrom (text_size rs)) mid.holds new.holds) c.0
-        (subst (λ (o : Option Append). Goes (SameFrom (text_size (records_in_flight M.state.records o)))
+        let last : Goes (SameFrom (end_in here.area here.journal)) mid.holds new.holds =
+        subst (λ n. Goes (SameFrom n) mid.holds new.holds) (sym (same_end c.0))
+        (subst (λ (o : Option Append). Goes (SameFrom (flight_end M.state.area M.state.journal o))
         mid.holds new.holds) c.1 (M.beyond (λ f. no_fault (machine_answer ended.answer) e f))) in
-        subst (λ rs. SameBehind kind own start.records rs old.holds new.holds) (sym c.0)
-        (by_flight here.append refl last))
+        behind_here c.0 (by_flight here.append refl last))
       where
         no_fault : (a : Answer) → a ≡ answer.Memory → Ended a ≡ Ended answer.DiskFault → ⊥
         no_fault a m f = (let g : Ended answer.Memory ≡ Ended answer.DiskFault = ap Ended (sym m) ∙ f in cc)
 
-        flight-le : (o : Option Append) →
-            text_size here.records ≤ text_size (records_in_flight here.records o)
+        flight-le : (o : Option Append) → end_in here.area here.journal ≤ flight_end here.area here.journal o
         flight-le None = omega arith
         flight-le (Some a) = omega arith
 
         flight-next : (o : Option Append) → here.append ≡ o →
-            IfSome (flying o) (IsNext kind own start.records here.records)
+            IfSome (flying o) (IsNext kind own start.journal here.journal)
         flight-next None is = tt
-        flight-next (Some a) is =
-            next-flight start way.only.opened kind own here way.only.job way.only.walked a is
+        flight-next (Some a) is = next_here a.entry
+            (next-flight start way.only.opened kind own here way.only.job way.only.walked a is)
 
         by_flight : (o : Option Append) → here.append ≡ o →
-            Goes (SameFrom (text_size here.records)) mid.holds new.holds →
-            SameBehind kind own start.records here.records old.holds new.holds
+            Goes (SameFrom (end_in here.area here.journal)) mid.holds new.holds →
+            SameBehind here.area kind own start.journal here.journal old.holds new.holds
         by_flight o is last =
-            (let beyond : Goes (SameFrom (text_size (records_in_flight here.records o))) old.holds
+            (let beyond : Goes (SameFrom (flight_end here.area here.journal o)) old.holds
             mid.holds = subst (λ (x : Option Append). Goes
-            (SameFrom (text_size (records_in_flight here.records x))) old.holds mid.holds) is
-            way.beyond in
-            let on = goes-further (text_size here.records)
-            (text_size (records_in_flight here.records o)) mid.holds new.holds (flight-le o) last in
+            (SameFrom (flight_end here.area here.journal x)) old.holds mid.holds) is way.beyond in
+            let on = goes-further (end_in here.area here.journal)
+            (flight_end here.area here.journal o) mid.holds new.holds (flight-le o) last in
             record {
               next = flying o;
               is_next = flight-next o is;
-              same = past-same (with_next (flying o) here.records) old.holds new.holds
-                  (subst (λ rs. Goes (SameFrom (text_size rs)) old.holds new.holds)
-                  (flying-same here.records o)
-                  (goes-on-same (text_size (records_in_flight here.records o))
-                  (text_size (records_in_flight here.records o)) old.holds mid.holds new.holds
-                  (omega arith) beyond on));
+              same = past-same here.area (with_next (flying o) here.journal) old.holds new.holds
+                  (subst (λ rs. Goes (SameFrom (end_in here.area rs)) old.holds new.holds)
+                  (flying-same here.journal o)
+                  (goes-on-same (flight_end here.area here.journal o) (flight_end here.area here.journal o)
+                  old.holds mid.holds new.holds (omega arith) beyond on));
             })
 
     -- the step that ends it brings it to its end
@@ -280,9 +306,8 @@ module _ (start : State) (kind : Kind) (own : Option ℕ) (w : State) (moment nu
         heard_is = subst (λ n. ended.heard ≡ heard_by (job_of here.jobs n)) first M.heard;
       };
       stands = M.stands;
-      past_text = same-past kind own (machine_answer ended.answer) start.records M.state.records old.holds
-          new.holds
-          past_end past_fault past_memory;
+      past_text = same-past start.area kind own (machine_answer ended.answer) start.journal M.state.journal
+          old.holds new.holds past_end past_fault past_memory;
     }
 
     -- its steps before the last one are those on its way

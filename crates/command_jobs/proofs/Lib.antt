@@ -3,6 +3,7 @@ pub mod Begins
 pub mod Readings
 pub mod Fresh
 pub mod Cuts
+pub mod Kept
 pub mod Goings
 pub mod ReadBytes
 pub mod Early
@@ -15,3 +16,4 @@ pub mod Streaming
 pub mod Beginning
 pub mod Sweeps
 pub mod Scrubbing
+pub mod Packing

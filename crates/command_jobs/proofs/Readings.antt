@@ -7,6 +7,7 @@ use Rattle.device_defs.specs.Cells.{Cells, reads}
 use Rattle.device_defs.specs.Told.{Goes}
 use Rattle.device_defs.proofs.Lasting.{reads-firm}
 use Rattle.record_defs.specs.Records.{Record}
+use Rattle.record_defs.specs.Areas.{Area}
 use Rattle.opening_defs.specs.Journals.{journal_read, IsRead, IsResynced}
 use Rattle.vault_open.specs.declared.fault.StartFault.{StartFault}
 use Rattle.vault_open.specs.declared.fault.StartFault.TheVariants as start_fault
@@ -14,8 +15,9 @@ use Rattle.vault_open.specs.Causes.{IsStartFault, LiesInJournal}
 use Rattle.command_jobs.specs.Opened.{AreRecords, unopened_of, IsUnopened, LiesInStore}
 
 -- records that a disk reads are records of a journal
-pub read-records : (told : Option Cells) (rs : List Record) → IsRead told rs → AreRecords rs
-read-records told rs r =
+pub read-records : (told : Option Cells) (area : Area) (rs : List Record) → IsRead told area rs →
+    AreRecords area rs
+read-records told area rs r =
     record { some = r.some; in_grammar = r.in_grammar; accepted = r.accepted; room = r.room }
 
 -- why a disk is not opened can be read off it

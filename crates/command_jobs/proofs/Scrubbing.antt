@@ -1,8 +1,9 @@
 -- From the hold and the steps of a scrub to what its command tells of it.
-use Rattle.std.proofs.Common.{◌≡◌, ℕ, ◌+◌, ◌≤◌, true, false, List, [], length, Option, Some, None, Ok, Err, ap, sym, subst, ◌∙◌, arith}
+use Rattle.std.proofs.Common.{◌≡◌, ℕ, ◌+◌, ◌≤◌, true, false, List, [], length, Option, Some, None, Ok, Err, refl, ap, sym, subst, ◌∙◌, arith}
 use Rattle.device_defs.specs.Cells.{Cells}
 use Rattle.device_defs.specs.Providers.{Provider}
-use Rattle.record_defs.specs.Records.{Record}
+use Rattle.record_defs.specs.Records.{Setup, Record}
+use Rattle.record_defs.specs.Areas.{Area}
 use Rattle.machine_defs.specs.Alone.{alone_refusal, new_scrub}
 use Rattle.machine_defs.specs.Answers.{Answer}
 use Rattle.machine_defs.specs.Events.{BeginScrub, Begun}
@@ -14,7 +15,7 @@ use Rattle.command_defs.specs.Opens as opens
 use Rattle.command_defs.specs.Opens.{setup_in_effect}
 use Rattle.command_defs.specs.JobRuns.{GoesOnTo}
 use Rattle.command_defs.specs.Scrubs.{RanScrub, ScrubsAlone, ScrubbedAlone}
-use Rattle.opening_defs.specs.Opened.{AreHanded, IsOpenedOver, IsOpenAtRest}
+use Rattle.opening_defs.specs.Opened.{AreHanded, IsOpenAtRest, IsJustOpened}
 use Rattle.hail_scrub.specs.declared.turn.ScrubAnswer.{ScrubAnswer}
 use Rattle.hail_scrub.specs.Begins.{held}
 use Rattle.hail_scrub.specs.Stands.{ScrubIs, ScrubStands, scrub_answer}
@@ -27,8 +28,8 @@ use Rattle.vault.specs.Stands.{Stands, StandsBeside, HoldsOver}
 use Rattle.command_jobs.specs.Opened.{IsFreshOver}
 use Rattle.command_jobs.specs.Ends.{IsSeenBefore, IsSeenAfter}
 use Rattle.command_jobs.specs.Scrubs.{SweepsToEnd, ScrubEndsOver}
-use Rattle.command_jobs.proofs.Fresh.{OpensAll, ThereIsOne}
-use Rattle.command_jobs.proofs.Alone.{opened-at, opened-one}
+use Rattle.command_jobs.proofs.Fresh.{ThereIsOne, setup-over}
+use Rattle.command_jobs.proofs.Alone.{opened-one}
 
 -- what the laws say: of opened states, of the begin of a scrub, of what is left, and of a held vault
 abbrev pub RefusesNone : Type 0
@@ -43,8 +44,9 @@ BegunStands = (w : State) (moment : ℕ) (v : ScrubView) (ps : List Provider) �
     ScrubIs v (setup_in w) (new_scrub w moment) → ScrubStands v ps (held w moment) (new_scrub w moment)
 
 abbrev pub ScrubsLeave : Type 0
-ScrubsLeave = (records : List Record) (answer : Answer) (old new : Seen) → opens.IsOpened old records →
-    length new.providers ≡ length old.providers → ScrubsAlone records answer old new →
+ScrubsLeave = (records : List Record) (answer : Answer) (old new : Seen) →
+    (opened : opens.IsOpened old records) → length new.providers ≡ length old.providers →
+    ScrubsAlone opened.area records answer old new →
     ScrubbedAlone records answer old new
 
 abbrev pub StandsOver : Type 0
@@ -52,95 +54,96 @@ StandsOver = (v : Vault) (d : Devices) (w : State) (ps : List Provider) (provide
     (number : ℕ) → StandsBeside v d w number → AreHanded ps (record w { providers = providers }) →
     StandsBeside v (devices d.holds d.faults ps) (record w { providers = providers }) number
 
--- the setup of a scrub that began over these records
-begun-setup : (w : State) (moment : ℕ) (records : List Record) → w.records ≡ records →
-    (setup_in (held w moment)).n ≡ (setup_in_effect records).n
+-- the setup of a scrub is that of the state in which it began
+setup-held : (w : State) (moment : ℕ) → setup_in (held w moment) ≡ setup_in w
 unfolding setup_in
-begun-setup w moment records same = ap (λ (rs : List Record). (setup_in_effect rs).n) same
+setup-held w moment = refl
 
-module _ (law : OpensAll) (there : ThereIsOne) (v : Vault) (records : List Record) (holds : Option Cells)
-    (faults : ℕ) (F : IsFreshOver v records holds faults) where
-  -- no hold is refused over a vault that was just opened
-  pub never-refused : RefusesNone → (next : Vault) (why : BeginFault) (providers : List Provider) →
-      (setup_in_effect records).n ≤ length providers →
-      ((w : State) (d : Devices) → Stands v d w → HoldsOver w d (Err why) next) → ⊥
-  never-refused none next why providers enough holds_over =
-      (let x = opened-one law there v records holds faults F providers enough in
-      let h = holds_over x.0 (devices holds faults providers) x.1.stands in
-      let e : Some (refusal_of why) ≡ None = sym h.0 ∙ none x.0 x.1.opened in
-      cc)
+-- no hold is refused over a vault that was just opened
+pub never-refused : ThereIsOne → (v : Vault) (area : Area) (records : List Record) (holds : Option Cells)
+    (faults : ℕ) → IsFreshOver v area records holds faults → RefusesNone → (next : Vault) (why : BeginFault)
+    (providers : List Provider) → (setup_in_effect records).n ≤ length providers →
+    ((w : State) (d : Devices) → Stands v d w → HoldsOver w d (Err why) next) → ⊥
+never-refused there v area records holds faults F none next why providers enough holds_over =
+    (let x = opened-one there v area records holds faults F providers enough in
+    let h = holds_over x.0 (devices holds faults providers) x.1.stands in
+    let e : Some (refusal_of why) ≡ None = sym h.0 ∙ none x.0 x.1.over.at_rest in
+    cc)
 
-  module _ (begin : ScrubsBegin) (stand : BegunStands) (leave : ScrubsLeave) (over_others : StandsOver)
-      (beside : Vault) (number : ℕ) (scrub : ScrubView) (answer : ScrubAnswer)
-      (providers after : List Provider)
-      (holds_over : (w : State) (d : Devices) → Stands v d w → HoldsOver w d (Ok number) beside)
-      (makes : (w : State) (d : Devices) (moment : ℕ) → Stands v d w →
-      ScrubIs scrub (setup_in w) (new_scrub w moment))
-      (goes : (w : State) (m : Scrub) (moment : ℕ) → w.is_open ≡ true → w.is_barred ≡ false → w.jobs ≡ [] →
-      ScrubStands scrub providers w m → SweepsToEnd w m.number moment answer after)
-      (same : length after ≡ length providers)
-      (old new : Seen) (R : opens.IsOpened old records)
-      (B : IsSeenBefore old (devices holds faults providers))
-      (A : IsSeenAfter new (devices holds faults after)) where
-    abbrev told : Answer
-    told = scrub_answer (setup_in_effect records).n answer
+module _ (v : Vault) (records : List Record) (holds : Option Cells) (faults : ℕ) (old new : Seen)
+    (R : opens.IsOpened old records) (F : IsFreshOver v R.area records holds faults)
+    (begin : ScrubsBegin) (stand : BegunStands) (leave : ScrubsLeave) (over_others : StandsOver)
+    (beside : Vault) (number : ℕ) (scrub : ScrubView) (answer : ScrubAnswer)
+    (providers after : List Provider)
+    (holds_over : (w : State) (d : Devices) → Stands v d w → HoldsOver w d (Ok number) beside)
+    (makes : (w : State) (d : Devices) (moment : ℕ) → Stands v d w →
+    ScrubIs scrub (setup_in w) (new_scrub w moment))
+    (goes : (w : State) (m : Scrub) (moment : ℕ) → w.is_open ≡ true → w.is_barred ≡ false → w.jobs ≡ [] →
+    ScrubStands scrub providers w m → SweepsToEnd w m.number moment answer after)
+    (same : length after ≡ length providers)
+    (B : IsSeenBefore old (devices holds faults providers))
+    (A : IsSeenAfter new (devices holds faults after)) where
+  abbrev told : Answer
+  told = scrub_answer (setup_in_effect records).n answer
 
-    enough : (setup_in_effect records).n ≤ length providers
-    enough = subst (λ (ps : List Provider). (setup_in_effect records).n ≤ length ps) B.providers R.enough
+  enough : (setup_in_effect records).n ≤ length providers
+  enough = subst (λ (ps : List Provider). (setup_in_effect records).n ≤ length ps) B.providers R.enough
 
-    ran-alone : (w : State) (moment : ℕ) → IsOpenedOver w records faults providers →
-        RanScrub records told old new faults w moment
-    ran-alone w moment over =
-        (let x = opened-at law there v records holds faults F providers w enough over in
-        let d = devices holds faults providers in
-        let h = holds_over w d x.stands in
-        let G = goes (held w moment) (new_scrub w moment) (moment + 1) over.is_open over.unbarred over.jobs
-        (stand w moment scrub providers over.handed (makes w d moment x.stands)) in
-        let last_is : G.last ≡ record w { next_job = w.next_job + 1; providers = G.last.providers } =
-        G.beside ∙ ap (λ (a : Option Alone).
-        record w { next_job = w.next_job + 1; alone = a; providers = G.last.providers })
-        (G.ended ∙ sym over.none_alone) in
-        let S = over_others beside d (record w { next_job = w.next_job + 1 }) after G.last.providers number h.2
-        (subst (λ (y : State). AreHanded after y) last_is G.handed) in
-        record {
-          last = G.last;
-          runs = record {
-            begun = held w moment;
-            job = w.next_job;
-            begins = begin w moment 8 over.is_open h.0;
-            goes_on = subst
-                (λ n. GoesOnTo (held w moment) (moment + 1) w.next_job (scrub_answer n answer) [] G.last)
-                (begun-setup w moment records over.records) G.goes;
-          };
-          images = subst (λ cells. StandsForState cells G.last) (sym A.disk)
-              (subst (λ (y : State). StandsForState holds y) (sym last_is) S.desk.devices.images);
-          faults_are = ap (λ (y : State). y.disk_faults) last_is ∙ over.faults_are ∙ sym A.faults;
-          handed = subst (λ (ps : List Provider). AreHanded ps G.last) (sym A.providers) G.handed;
-        })
+  ran-alone : (w : State) (moment : ℕ) → IsJustOpened w R.area records 1 faults providers →
+      RanScrub records told old new faults w moment
+  ran-alone w moment over =
+      (let d = devices holds faults providers in
+      let stands = F.stands w providers over in
+      let h = holds_over w d stands in
+      let rest = over.at_rest.rest.idle in
+      let G = goes (held w moment) (new_scrub w moment) (moment + 1) over.at_rest.opened rest.2 rest.0
+      (stand w moment scrub providers over.handed (makes w d moment stands)) in
+      let last_is : G.last ≡ record w { next_job = w.next_job + 1; providers = G.last.providers } =
+      G.beside ∙ ap (λ (a : Option Alone).
+      record w { next_job = w.next_job + 1; alone = a; providers = G.last.providers })
+      (G.ended ∙ sym rest.3) in
+      let S = over_others beside d (record w { next_job = w.next_job + 1 }) after G.last.providers number h.2
+      (subst (λ (y : State). AreHanded after y) last_is G.handed) in
+      record {
+        last = G.last;
+        runs = record {
+          begun = held w moment;
+          job = w.next_job;
+          begins = begin w moment 8 over.at_rest.opened h.0;
+          goes_on = subst
+              (λ n. GoesOnTo (held w moment) (moment + 1) w.next_job (scrub_answer n answer) [] G.last)
+              (ap (λ (s : Setup). s.n) (setup-held w moment ∙ setup-over w R.area records faults providers over))
+              G.goes;
+        };
+        images = subst (λ cells. StandsForState cells G.last) (sym A.disk)
+            (subst (λ (y : State). StandsForState holds y) (sym last_is) S.desk.devices.images);
+        faults_are = ap (λ (y : State). y.disk_faults) last_is ∙ over.faults_are ∙ sym A.faults;
+        handed = subst (λ (ps : List Provider). AreHanded ps G.last) (sym A.providers) G.handed;
+      })
 
-    runs-alone : ScrubsAlone records told old new
-    runs-alone = record {
-      faults = faults;
-      before = B.faults;
-      ran = λ w moment over. ran-alone w moment
-          (subst (λ (ps : List Provider). IsOpenedOver w records faults ps) B.providers over);
-    }
+  runs-alone : ScrubsAlone R.area records told old new
+  runs-alone = record {
+    faults = faults;
+    before = B.faults;
+    ran = λ w moment over. ran-alone w moment
+        (subst (λ (ps : List Provider). IsJustOpened w R.area records 1 faults ps) B.providers over);
+  }
 
-    handed-same : length new.providers ≡ length old.providers
-    handed-same = ap length A.providers ∙ (same ∙ sym (ap length B.providers))
+  handed-same : length new.providers ≡ length old.providers
+  handed-same = ap length A.providers ∙ (same ∙ sym (ap length B.providers))
 
-    left-alone : ScrubbedAlone records told old new
-    left-alone = leave records told old new R handed-same runs-alone
+  left-alone : ScrubbedAlone records told old new
+  left-alone = leave records told old new R handed-same runs-alone
 
-    -- how the scrub ended, over what the journal held
-    pub scrub-ends : ScrubEndsOver records answer old new
-    scrub-ends = record {
-      runs = runs-alone;
-      left = left-alone;
-      counts = record {
-        disk = (let b = B.faults in let a = A.faults in omega (arith, a, b));
-        handed = handed-same;
-        stores = left-alone.leaves.counts.stores;
-        others = left-alone.leaves.counts.others;
-      };
-    }
+  -- how the scrub ended, over what the journal held
+  pub scrub-ends : ScrubEndsOver R.area records answer old new
+  scrub-ends = record {
+    runs = runs-alone;
+    left = left-alone;
+    counts = record {
+      disk = (let b = B.faults in let a = A.faults in omega (arith, a, b));
+      handed = handed-same;
+      stores = left-alone.leaves.counts.stores;
+      others = left-alone.leaves.counts.others;
+    };
+  }

@@ -1,17 +1,17 @@
 -- From the begin of a stream and its pieces to what its command tells of it.
-use Rattle.std.proofs.Common.{◌≡◌, ℕ, ◌+◌, ◌-◌, ◌*◌, ◌/◌, ◌<◌, ◌≤◌, List, [], ◌∷◌, ◌++◌, length, take, Option, Some, None, Ok, refl, ap, sym, subst, ◌∙◌, arith}
+use Rattle.std.proofs.Common.{◌≡◌, ℕ, ◌+◌, ◌-◌, ◌*◌, ◌<◌, ◌≤◌, List, ◌++◌, length, take, Option, Some, None, refl, ap, sym, subst, ◌∙◌, arith}
 use Rattle.std.specs.Prelude.{IfSome}
 use Rattle.std.specs.Option.{option_map}
 use Rattle.std.proofs.lemmas.List.{length-take-le}
 use Rattle.std.proofs.lemmas.Nat.{div-mul-add}
 use Rattle.std.proofs.Math.Nat.{le-div_iff_mul-le}
-use Rattle.device_defs.specs.Cells.{Cells}
+use Rattle.device_defs.specs.Cells.{Cells, reads as bytes_read}
 use Rattle.device_defs.specs.Providers.{Provider}
 use Rattle.device_defs.specs.Faults.{Rose}
 use Rattle.device_defs.specs.Told.{Goes}
 use Rattle.column_defs.specs.Objects.{stripe_symbols}
 use Rattle.record_defs.specs.Records.{Setup, Record, largest_file}
-use Rattle.record_defs.specs.Journal.{text_size}
+use Rattle.record_defs.specs.Areas.{Area, end_in}
 use Rattle.machine_defs.specs.Begins.{chosen}
 use Rattle.machine_defs.specs.Events.{AreBytes, IsSpelledKind}
 use Rattle.machine_defs.specs.Jobs.{PutJob}
@@ -19,12 +19,11 @@ use Rattle.machine_defs.specs.Runs.{now}
 use Rattle.machine_defs.specs.Setups.{profiled, object_of, stripes_of}
 use Rattle.machine_defs.specs.Stands.{StandsForState}
 use Rattle.machine_defs.specs.States.{State, Append, setup_in}
-use Rattle.opening_defs.specs.Opened.{AreHanded, IsOpenedOver}
+use Rattle.opening_defs.specs.Opened.{AreHanded, IsJustOpened}
 use Rattle.journal_core.specs.Moves.{SameFrom}
 use Rattle.command_defs.specs.Seen.{Seen, ReadsFront}
 use Rattle.command_defs.specs.Opens as opens
 use Rattle.command_defs.specs.Opens.{setup_in_effect}
-use Rattle.command_defs.specs.Refusals as commands
 use Rattle.command_defs.specs.JobRuns.{AreSteps}
 use Rattle.command_defs.specs.Jobs.{past}
 use Rattle.command_defs.specs.GivenUp.{put_stripe, PartRan, PartRuns, PartLeft}
@@ -33,7 +32,6 @@ use Rattle.lone_laws.proofs.Walk.{found}
 use Rattle.job_laws.proofs.Parts.{unwritten}
 use Rattle.vault.specs.declared.turn.Ended.{Ended}
 use Rattle.vault.specs.declared.vault.Vault.{Vault}
-use Rattle.vault.specs.Devices.{records_in_flight}
 use Rattle.vault.specs.Stands.{Stands}
 use Rattle.vault_open.specs.Devices.{devices}
 use Rattle.command_jobs.specs.Opened.{IsFreshOver}
@@ -42,8 +40,9 @@ use Rattle.command_jobs.specs.Going.{IsOnly, EndsEarly}
 use Rattle.command_jobs.specs.Streams.{StreamEnds, StreamStops, StreamsTo, PutEnds, PutStops, StreamsOver}
 use Rattle.command_jobs.specs.declared.stream.Streamed.{Streamed}
 use Rattle.command_jobs.specs.declared.stream.Streamed.TheVariants as streamed
-use Rattle.command_jobs.proofs.Alone.{LeavesAll, BeginsAs, HasBegun, has-begun, past-of, opened-at, opened-one, ends-with, ends-over, left-open, not-ended}
-use Rattle.command_jobs.proofs.Fresh.{OpensAll, ThereIsOne}
+use Rattle.command_jobs.proofs.Alone.{LeavesAll, BeginsAs, HasBegun, has-begun, past-of, opened-one, over-journal, ends-with, ends-over, left-open, not-ended}
+use Rattle.command_jobs.proofs.Fresh.{ThereIsOne, setup-over}
+use Rattle.command_jobs.proofs.Acting.{flight_end}
 use Rattle.command_jobs.proofs.Goings.{past-same}
 use Rattle.command_jobs.proofs.ReadBytes.{bytes-front, reads-on}
 
@@ -67,18 +66,30 @@ stripes-whole s stripes some =
 -- what the laws on commands say of what is left of a put that stops
 abbrev pub PartsLeave : Type 0
 PartsLeave = (records : List Record) (name bytes : List ℕ) (own : Option ℕ) (old new : Seen) →
-    opens.IsOpened old records → IsSpelledKind (PutJob name bytes) → MayName (PutJob name bytes) own →
-    length new.providers ≡ length old.providers → PartRuns records name bytes own old new →
-    PartLeft records name bytes own old new
+    (opened : opens.IsOpened old records) → IsSpelledKind (PutJob name bytes) →
+    MayName (PutJob name bytes) own → length new.providers ≡ length old.providers →
+    PartRuns opened.area records name bytes own old new → PartLeft opened.area records name bytes own old new
 
-module _ (law : OpensAll) (there : ThereIsOne) (v : Vault) (records : List Record) (holds : Option Cells)
-    (faults : ℕ) (F : IsFreshOver v records holds faults) (next last : Vault) (name : List ℕ) (own : Option ℕ)
+-- with no append in flight the disk reads as before past the text of the journal
+past-still : (area : Area) (here : State) (a b c d : Option Cells) → c ≡ d → here.area ≡ area →
+    here.append ≡ None → Goes (SameFrom (flight_end here.area here.journal here.append)) b d →
+    option_map bytes_read b ≡ option_map bytes_read a →
+    option_map (past area here.journal) c ≡ option_map (past area here.journal) a
+past-still area here a b c d is area_is still same reads_are =
+    ap (option_map (past area here.journal)) is
+    ∙ (past-same area here.journal b d
+    (subst (λ x. Goes (SameFrom (end_in x here.journal)) b d) area_is
+    (subst (λ (o : Option Append). Goes (SameFrom (flight_end here.area here.journal o)) b d) still same))
+    ∙ past-of area here.journal a b reads_are)
+
+module _ (there : ThereIsOne) (v : Vault) (records : List Record) (holds : Option Cells) (faults : ℕ)
+    (old new : Seen) (R : opens.IsOpened old records) (F : IsFreshOver v R.area records holds faults)
+    (next last : Vault) (name : List ℕ) (own : Option ℕ)
     (number size : ℕ) (providers after : List Provider) (new_holds : Option Cells) (new_faults : ℕ)
     (size_is : size ≡ put_stripe records own) (some : 0 < size)
     (begins : (bytes : List ℕ) → AreBytes bytes → length bytes ≤ largest_file →
     BeginsAs v (PutJob name bytes) own number next)
     (same : length after ≡ length providers)
-    (old new : Seen) (R : opens.IsOpened old records)
     (B : IsSeenBefore old (devices holds faults providers))
     (A : IsSeenAfter new (devices new_holds new_faults after))
     (mid : Option (List ℕ)) (first : List ℕ) (front : ReadsFront old.source mid first) where
@@ -113,15 +124,15 @@ module _ (law : OpensAll) (there : ThereIsOne) (v : Vault) (records : List Recor
         (length bytes) (subst (λ n. 0 < n) size_is some)
         (subst (λ n. stripes * n ≤ length bytes) size_is (let r = E.read_is in omega (arith, o, r))))
 
-    by-told : (told : Option ℕ) → E.told ≡ told → PutEnds records name own ended read old new
+    by-told : (told : Option ℕ) → E.told ≡ told → PutEnds R.area records name own ended read old new
     by-told None is = record {
       bytes = bytes;
       reads = reads;
       read_is = sym E.read_is;
       few = few;
-      over = ends-over law there v records holds faults F next last (PutJob name bytes) own number ended
+      over = ends-over there v records holds faults old new R F next last (PutJob name bytes) own number ended
           (named bytes) providers after new_holds new_faults E.told (begins bytes reads.are_bytes few) go
-          same old new R B A leaves;
+          same B A leaves;
       whole = λ m. E.closed is;
     }
     by-told (Some stripes) is = record {
@@ -129,20 +140,20 @@ module _ (law : OpensAll) (there : ThereIsOne) (v : Vault) (records : List Recor
       reads = reads;
       read_is = sym E.read_is;
       few = few;
-      over = ends-with law there v records holds faults F next last (PutJob name bytes) own number ended
+      over = ends-with there v records holds faults old new R F next last (PutJob name bytes) own number ended
           (named bytes) providers after new_holds new_faults E.told (begins bytes reads.are_bytes few) go
-          same old new R B A
-          (left-open law there v records holds faults F next last (PutJob name bytes) own number ended
+          same B A
+          (left-open there v records holds faults old new R F next last (PutJob name bytes) own number ended
           (named bytes) providers after new_holds new_faults E.told (begins bytes reads.are_bytes few) go
-          same old new R B A name bytes refl stripes is (within stripes is));
-      whole = λ m. absurd (not-ended law there v records holds faults F next last (PutJob name bytes) own
+          same B A name bytes refl stripes is (within stripes is));
+      whole = λ m. absurd (not-ended there v records holds faults old new R F next last (PutJob name bytes) own
           number ended (named bytes) providers after new_holds new_faults E.told
-          (begins bytes reads.are_bytes few) go same old new R B A name bytes refl stripes is
+          (begins bytes reads.are_bytes few) go same B A name bytes refl stripes is
           (within stripes is) m);
     }
 
     -- the job of the bytes that were read ended so
-    pub put-ends : PutEnds records name own ended read old new
+    pub put-ends : PutEnds R.area records name own ended read old new
     put-ends = by-told E.told refl
 
   -- ---- it was given up
@@ -178,26 +189,24 @@ module _ (law : OpensAll) (there : ThereIsOne) (v : Vault) (records : List Recor
         ∙ stripes-whole (profiled (setup_in_effect records) (chosen (setup_in_effect records) own)) E.stripes
         (subst (λ n. 0 < n) size_is some)
 
-    part-ran : (w : State) (moment : ℕ) → IsOpenedOver w records faults providers →
-        PartRan records name given own old new faults w moment
-    unfolding setup_in
+    part-ran : (w : State) (moment : ℕ) → IsJustOpened w R.area records 1 faults providers →
+        PartRan R.area records name given own old new faults w moment
     part-ran w moment over =
-        (let x = opened-at law there v records holds faults F providers w enough over in
-        let h = has-begun w moment (PutJob name given) own number v next (devices holds faults providers)
-        (named given) x.opened x.stands begins-given in
+        (let h = has-begun w moment (PutJob name given) own number v next (devices holds faults providers)
+        (named given) over.at_rest (F.stands w providers over) begins-given in
         let G = E.goes w h.made.state name own (moment + 1) h.only h.place h.made.stands in
         let way = G.0 in
-        let begun-there = found w x.opened (PutJob name given) h.made.state h.only.job h.only.walked in
-        let n-is : (setup_in w).n ≡ (setup_in_effect records).n =
-        ap (λ (rs : List Record). (setup_in_effect rs).n) over.records in
+        let begun-there = found w over.at_rest (PutJob name given) h.made.state h.only.job h.only.walked in
+        let setup-is = setup-over w R.area records faults providers over in
+        let n-is : (setup_in w).n ≡ (setup_in_effect records).n = ap (λ (s : Setup). s.n) setup-is in
         let steps-are : length way.steps ≡ 4 + E.stripes * (setup_in_effect records).n =
         (let a = way.place h.only.job begun-there in let b = G.1 in let c = h.place in
         let d = ap (λ n. E.stripes * n) n-is in omega (arith, a, b, c, d)) in
         let count-there : stripes_of (profiled (setup_in w) (chosen (setup_in w) own)) (length given)
-        ≡ E.stripes = subst (λ (rs : List Record). stripes_of (profiled (setup_in_effect rs)
-        (chosen (setup_in_effect rs) own)) (length given) ≡ E.stripes) (sym over.records) count-is in
+        ≡ E.stripes = subst (λ (s : Setup). stripes_of (profiled s (chosen s own)) (length given) ≡ E.stripes)
+        (sym setup-is) count-is in
         let still = unwritten w (now h.made.state way.steps) name given (chosen (setup_in w) own) way.only.job
-        x.opened way.only.walked
+        over.at_rest way.only.walked
         (G.1 ∙ ap (λ n. 4 + n * (setup_in w).n) (sym count-there)) in
         record {
           last = now h.made.state way.steps;
@@ -215,44 +224,41 @@ module _ (law : OpensAll) (there : ThereIsOne) (v : Vault) (records : List Recor
           faults_are = way.stands.desk.devices.faults ∙ sym A.faults;
           handed = subst (λ (ps : List Provider). AreHanded ps (now h.made.state way.steps)) (sym A.providers)
               way.stands.desk.devices.providers;
-          past_text = ap (option_map (past (now h.made.state way.steps).records)) A.disk
-              ∙ (past-same (now h.made.state way.steps).records holds new_holds
-              (subst (λ (o : Option Append). Goes (SameFrom (text_size
-              (records_in_flight (now h.made.state way.steps).records o))) holds new_holds) still way.beyond)
-              ∙ past-of (now h.made.state way.steps).records old.disk holds B.reads);
+          past_text = past-still R.area (now h.made.state way.steps) old.disk holds new.disk new_holds A.disk
+              (way.only.area ∙ over.area_is) still way.beyond B.reads;
         })
 
-    runs : PartRuns records name given own old new
+    runs : PartRuns R.area records name given own old new
     runs = record {
       faults = faults;
       before = B.faults;
       ran = λ w moment over. part-ran w moment
-          (subst (λ (ps : List Provider). IsOpenedOver w records faults ps) B.providers over);
+          (subst (λ (ps : List Provider). IsJustOpened w R.area records 1 faults ps) B.providers over);
     }
 
     begun-one : (w : State) × (HasBegun w 1 (PutJob name given) own number next
-        (devices holds faults providers) × (w.records ≡ records))
-    begun-one = (let x = opened-one law there v records holds faults F providers enough in (
+        (devices holds faults providers) × IsJustOpened w R.area records 1 faults providers)
+    begun-one = (let x = opened-one there v R.area records holds faults F providers enough in (
       x.0,
       (
         has-begun x.0 1 (PutJob name given) own number v next (devices holds faults providers) (named given)
-            x.1.opened x.1.stands begins-given,
-        x.1.over.records,
+            x.1.over.at_rest x.1.stands begins-given,
+        x.1.over,
       ),
     ))
 
     many : length new.providers ≡ length old.providers
     many = ap length A.providers ∙ (same ∙ sym (ap length B.providers))
 
-    left : PartLeft records name given own old new
+    left : PartLeft R.area records name given own old new
     left = parts records name given own old new R begun-one.1.0.spelled (named given) many runs
 
     -- the put was given up with the whole stripes that were read
-    pub put-stops : PutStops records name own old new stops_here
+    pub put-stops : PutStops R.area records name own old new stops_here
     put-stops = record {
       bytes = given;
-      unrefused = subst (λ rs. commands.refusal_over rs (PutJob name given) own ≡ None) begun-one.1.1
-          begun-one.1.0.unrefused;
+      unrefused = sym (over-journal there v R.area records holds faults F begun-one.0 providers
+          (PutJob name given) own begun-one.1.1) ∙ begun-one.1.0.unrefused;
       read = read_all;
       reads = reads_all;
       stripes = E.stripes;
@@ -274,7 +280,7 @@ module _ (law : OpensAll) (there : ThereIsOne) (v : Vault) (records : List Recor
   pub streams-over : LeavesAll → PartsLeave → (how : Streamed) →
       StreamsTo first size next (devices holds faults providers) how last (devices new_holds new_faults after)
       mid new.source → (how ≡ streamed.SourceFault → Rose old.source_faults new.source_faults) →
-      StreamsOver records name own how old new
+      StreamsOver R.area records name own how old new
   streams-over leaves parts (streamed.Ended ended length) E rose = put-ends leaves ended length E
   streams-over leaves parts streamed.SourceFault E rose =
       put-stops parts (λ count. count ≤ largest_file)

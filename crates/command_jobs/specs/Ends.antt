@@ -4,10 +4,11 @@
 --   IsSeenBefore seen d                     == what was seen of disk and providers before a vault was opened,
 --                                              where they are these once it is
 --   IsSeenAfter seen d                      == what is seen of disk and providers once the job ended
---   IsRefusedOver records kind own why      == the begin is refused with its cause, or found no memory
+--   IsRefusedOver area records kind own why == the begin is refused with its cause, or found no memory
 --   NoFaultUndone old new                   == no count of faults of the disk or of a provider fell, and no
 --                                              provider came or went
---   EndsOver records kind own ended old new == the job was not refused, and ran to this end, as a run of the
+--   EndsOver area records kind own ended old new
+--                                           == the job was not refused, and ran to this end, as a run of the
 --                                              machine and by what it left
 --
 -- own is the profile that a put names; None where it has the setup's, and of every other job.
@@ -15,6 +16,7 @@ use Rattle.std.specs.Prelude.{◌≡◌, ◌⊎◌, ℕ, ◌≤◌, List, length
 use Rattle.std.specs.Option.{option_map}
 use Rattle.device_defs.specs.Cells.{reads}
 use Rattle.record_defs.specs.Records.{Record}
+use Rattle.record_defs.specs.Areas.{Area}
 use Rattle.machine_defs.specs.Jobs.{Kind}
 use Rattle.command_defs.specs.Seen.{Seen, provider_at}
 use Rattle.command_defs.specs.Refusals as commands
@@ -39,9 +41,9 @@ pub record IsSeenAfter (seen : Seen) (d : Devices) : Type 0 where
   pub providers : seen.providers ≡ d.providers
 
 -- the begin is refused with its cause, or found no memory
-abbrev pub IsRefusedOver : List Record → Kind → Option ℕ → BeginFault → Type 0
-IsRefusedOver records kind own why =
-    (why ≡ begin_fault.Memory) ⊎ (commands.refusal_over records kind own ≡ Some (refusal_of why))
+abbrev pub IsRefusedOver : Area → List Record → Kind → Option ℕ → BeginFault → Type 0
+IsRefusedOver area records kind own why =
+    (why ≡ begin_fault.Memory) ⊎ (commands.refusal_over area records kind own ≡ Some (refusal_of why))
 
 -- no count of faults of the disk or of a provider fell
 pub record NoFaultUndone (old new : Seen) : Type 0 where
@@ -53,9 +55,9 @@ pub record NoFaultUndone (old new : Seen) : Type 0 where
       ≤ (provider_at new.providers j).other_faults
 
 -- the job was not refused, and ran to this end
-pub record EndsOver (records : List Record) (kind : Kind) (own : Option ℕ) (ended : Ended)
+pub record EndsOver (area : Area) (records : List Record) (kind : Kind) (own : Option ℕ) (ended : Ended)
     (old new : Seen) : Type 0 where
-  pub unrefused : commands.refusal_over records kind own ≡ None
-  pub runs : RunsAlone records kind own (machine_answer ended.answer) old new ended.heard
-  pub left : LeftAlone records kind own (machine_answer ended.answer) old new ended.heard
+  pub unrefused : commands.refusal_over area records kind own ≡ None
+  pub runs : RunsAlone area records kind own (machine_answer ended.answer) old new ended.heard
+  pub left : LeftAlone area records kind own (machine_answer ended.answer) old new ended.heard
   pub counts : NoFaultUndone old new

@@ -1,7 +1,8 @@
 -- The only job of a vault on its way to the end.
 --
 --   IsOnly start kind own w == the only job of a state is of this kind, and has gone on since it began in
---                              `start`
+--                              `start`; its records came on top of the journal and of the history alike, in
+--                              the same area
 --   IsUnderWay v d          == vault and devices stand for such a state
 --   OnWay start kind own w moment v old new
 --                           == the job has made steps since a state, after so many events, and vault and
@@ -19,7 +20,8 @@
 --                              are told; or it is further on its way
 --
 -- own is the profile that a put names; None where it has the setup's, and of every other job.
-use Rattle.std.specs.Prelude.{◌≡◌, ℕ, ◌+◌, ◌*◌, ◌<◌, ◌≤◌, List, length, Option, None, Some, IfSome}
+use Rattle.std.specs.Prelude.{◌≡◌, ℕ, ◌+◌, ◌*◌, ◌<◌, ◌≤◌, List, ◌++◌, length, Option, None, Some, IfSome}
+use Rattle.record_defs.specs.Records.{Record}
 use Rattle.machine_defs.specs.Jobs.{Kind, Job, job_of}
 use Rattle.machine_defs.specs.Runs.{Moment, now}
 use Rattle.machine_defs.specs.States.{State, setup_in}
@@ -40,6 +42,10 @@ pub record IsOnly (start : State) (kind : Kind) (own : Option ℕ) (w : State) :
   pub opened : IsOpenAtRest start 1
   pub job : Job
   pub walked : WalkedAt start kind (chosen (setup_in start) own) w job
+  pub area : w.area ≡ start.area
+  pub added : List Record
+  pub journal : w.journal ≡ added ++ start.journal
+  pub records : w.records ≡ added ++ start.records
 
 -- vault and devices stand for a state with one job
 pub record IsUnderWay (v : Vault) (d : Devices) : Type 0 where
@@ -56,8 +62,8 @@ pub record GoesToEnd (start : State) (kind : Kind) (own : Option ℕ) (w : State
   pub last : State
   pub goes : GoesOnTo w moment 1 (machine_answer ended.answer) ended.heard last
   pub stands : Stands v new last
-  pub past_text : SamePast kind own (machine_answer ended.answer) start.records last.records old.holds
-      new.holds
+  pub past_text : SamePast start.area kind own (machine_answer ended.answer) start.journal last.journal
+      old.holds new.holds
 
 -- how far a job is since a state, of which this many were its steps
 abbrev pub IsPlaced : State → ℕ → Job → Type 0

@@ -5,3 +5,4 @@ pub mod Ends
 pub mod Pieces
 pub mod Streams
 pub mod Scrubs
+pub mod Packs

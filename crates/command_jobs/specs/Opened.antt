@@ -1,10 +1,11 @@
 -- What it means that a vault was just opened, and why none is. Records have the newest first.
 --
---   AreRecords records                 == records that a start reads: there is one, the journal may hold
---                                         them, and each may follow those before it
---   IsReadFor told records handed      == the disk, where it tells, reads these records, and enough providers
---                                         are handed in
---   IsFreshOver v records holds faults == a vault that was just opened over these records and this disk: it
+--   AreRecords area records            == records that a start reads in an area: there is one, they are in the
+--                                         grammar, each may follow those before it, and the text has room
+--   IsReadFor told area records handed == the disk, where it tells, reads these records in this area, and
+--                                         enough providers are handed in
+--   IsFreshOver v area records holds faults
+--                                      == a vault that was just opened over these records and this disk: it
 --                                         stands for each state that was, whatever providers are handed in
 --   IsFreshFor v holds faults handed   == the same over some records, with enough providers
 --   unopened_of fault                  == why no vault is opened, where a start gave this fault
@@ -16,7 +17,7 @@ use Rattle.std.specs.List.{list_all}
 use Rattle.device_defs.specs.Cells.{Cells}
 use Rattle.device_defs.specs.Providers.{Provider}
 use Rattle.record_defs.specs.Records.{Record, is_in_grammar, largest_journal}
-use Rattle.record_defs.specs.Journal.{text_size}
+use Rattle.record_defs.specs.Areas.{Area, end_in}
 use Rattle.record_defs.specs.Acceptance.{AreAccepted}
 use Rattle.record_defs.specs.Reading.{HasNoSetup}
 use Rattle.machine_defs.specs.States.{State}
@@ -35,21 +36,22 @@ use Rattle.command_jobs.specs.declared.open.Unopened.{Unopened}
 use Rattle.command_jobs.specs.declared.open.Unopened.TheVariants as unopened
 
 -- records that a start reads
-pub record AreRecords (records : List Record) : Type 0 where
+pub record AreRecords (area : Area) (records : List Record) : Type 0 where
   pub some : records ≢ []
   pub in_grammar : IsTrue (list_all is_in_grammar records)
   pub accepted : AreAccepted records
-  pub room : text_size records ≤ largest_journal
+  pub room : end_in area records ≤ largest_journal
 
 -- the disk reads these records, and enough providers are handed in
-pub record IsReadFor (told : Option Cells) (records : List Record) (handed : ℕ) : Type 0 where
-  pub read : IsRead told records
+pub record IsReadFor (told : Option Cells) (area : Area) (records : List Record) (handed : ℕ) : Type 0 where
+  pub read : IsRead told area records
   pub enough : (setup_in_effect records).n ≤ handed
 
 -- a vault that was just opened over these records and this disk
-pub record IsFreshOver (v : Vault) (records : List Record) (holds : Option Cells) (faults : ℕ) : Type 0 where
-  pub read : AreRecords records
-  pub stands : (w : State) (providers : List Provider) → IsJustOpened w records 1 faults providers
+pub record IsFreshOver (v : Vault) (area : Area) (records : List Record) (holds : Option Cells)
+    (faults : ℕ) : Type 0 where
+  pub read : AreRecords area records
+  pub stands : (w : State) (providers : List Provider) → IsJustOpened w area records 1 faults providers
       → Stands v (devices holds faults providers) w
   pub providers : provider_count v ≡ (setup_in_effect records).n
   pub tolerance : (vault_setup v).tolerance ≡ (setup_in_effect records).tolerance
@@ -59,8 +61,9 @@ pub record IsFreshOver (v : Vault) (records : List Record) (holds : Option Cells
 
 -- a vault that was just opened over this disk, with enough providers
 pub record IsFreshFor (v : Vault) (holds : Option Cells) (faults handed : ℕ) : Type 0 where
+  pub area : Area
   pub records : List Record
-  pub fresh : IsFreshOver v records holds faults
+  pub fresh : IsFreshOver v area records holds faults
   pub enough : (setup_in_effect records).n ≤ handed
 
 -- why no vault is opened, where a start gave this fault
@@ -76,7 +79,7 @@ IsUnopened told handed unopened.NotSetUp = IfSome told (λ cells. HasNoSetup (jo
 IsUnopened told handed (unopened.BadJournal at) =
     IfSome told (λ cells. (9 < length (journal_read cells)) × IsBadStart (journal_read cells) at)
 IsUnopened told handed unopened.TooFewProviders =
-    (records : List Record) × IsRead told records × (handed < (setup_in_effect records).n)
+    (area : Area) × (records : List Record) × IsRead told area records × (handed < (setup_in_effect records).n)
 IsUnopened told handed unopened.DiskFault = Unit {0}
 IsUnopened told handed unopened.Memory = Unit {0}
 

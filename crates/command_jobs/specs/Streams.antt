@@ -9,16 +9,17 @@
 --                          == how a stream goes that was just begun, of whose source these first bytes were
 --                             read: it goes so for each put whose bytes are those that were read in all, or
 --                             where it is given up the whole stripes of them
---   IsUnbegunOver records name own why was left
+--   IsUnbegunOver area records name own why was left
 --                          == why a put over these records did not begin, by what it had read of its source
---   StreamsOver records name own streamed old new
+--   StreamsOver area records name own streamed old new
 --                          == how a put goes over these records, as a run of the machine and by what it left
 --
 -- own is the profile that a put names; None where it has the setup's.
-use Rattle.std.specs.Prelude.{◌≡◌, ℕ, ◌+◌, ◌*◌, ◌<◌, ◌≤◌, List, [], ◌++◌, length, take, Option, None, Some, IfSome}
+use Rattle.std.specs.Prelude.{◌≡◌, ℕ, ◌+◌, ◌*◌, ◌<◌, ◌≤◌, List, [], ◌++◌, length, take, Option, None, IfSome}
 use Rattle.device_defs.specs.Faults.{Rose}
 use Rattle.record_defs.specs.Records.{Record, largest_file}
-use Rattle.machine_defs.specs.Jobs.{Kind, PutJob}
+use Rattle.record_defs.specs.Areas.{Area}
+use Rattle.machine_defs.specs.Jobs.{PutJob}
 use Rattle.machine_defs.specs.Begins.{chosen}
 use Rattle.machine_defs.specs.States.{State, setup_in}
 use Rattle.command_defs.specs.Seen.{Seen, ReadsFront, ReadsAtMost}
@@ -104,21 +105,21 @@ StreamsTo first size old d streamed.TooLong new e was left =
     StreamStops first size old d e was left (λ count. count ≡ largest_file + 1)
 
 -- the put ran to its end, its file the bytes that were read
-pub record PutEnds (records : List Record) (name : List ℕ) (own : Option ℕ) (ended : Ended) (read : ℕ)
-    (old new : Seen) : Type 0 where
+pub record PutEnds (area : Area) (records : List Record) (name : List ℕ) (own : Option ℕ) (ended : Ended)
+    (read : ℕ) (old new : Seen) : Type 0 where
   pub bytes : List ℕ
   pub reads : ReadsFront old.source new.source bytes
   pub read_is : length bytes ≡ read
   pub few : length bytes ≤ largest_file
-  pub over : EndsOver records (PutJob name bytes) own ended old new
+  pub over : EndsOver area records (PutJob name bytes) own ended old new
   pub whole : MayHaveEnd records over.left.after over.left.doubt name (length bytes) own
       → IfSome new.source (λ left. left ≡ [])
 
 -- the put was given up, its file the whole stripes of the bytes that were read
-pub record PutStops (records : List Record) (name : List ℕ) (own : Option ℕ) (old new : Seen)
+pub record PutStops (area : Area) (records : List Record) (name : List ℕ) (own : Option ℕ) (old new : Seen)
     (stops : ℕ → Type 0) : Type 0 where
   pub bytes : List ℕ
-  pub unrefused : commands.refusal_over records (PutJob name bytes) own ≡ None
+  pub unrefused : commands.refusal_over area records (PutJob name bytes) own ≡ None
   pub read : List ℕ
   pub reads : ReadsFront old.source new.source read
   pub stripes : ℕ
@@ -126,31 +127,32 @@ pub record PutStops (records : List Record) (name : List ℕ) (own : Option ℕ)
   pub whole : length bytes ≡ stripes * put_stripe records own
   pub rest : length read < length bytes + put_stripe records own
   pub cause : stops (length read)
-  pub runs : PartRuns records name bytes own old new
-  pub left : PartLeft records name bytes own old new
+  pub runs : PartRuns area records name bytes own old new
+  pub left : PartLeft area records name bytes own old new
   pub counts : NoFaultUndone old new
 
 -- how the put goes
-abbrev pub StreamsOver : List Record → List ℕ → Option ℕ → Streamed → Seen → Seen → Type 0
-StreamsOver records name own (streamed.Ended ended length) old new =
-    PutEnds records name own ended length old new
-StreamsOver records name own streamed.SourceFault old new =
-    PutStops records name own old new
+abbrev pub StreamsOver : Area → List Record → List ℕ → Option ℕ → Streamed → Seen → Seen → Type 0
+StreamsOver area records name own (streamed.Ended ended length) old new =
+    PutEnds area records name own ended length old new
+StreamsOver area records name own streamed.SourceFault old new =
+    PutStops area records name own old new
     (λ count. (count ≤ largest_file) × Rose old.source_faults new.source_faults)
-StreamsOver records name own streamed.TooLong old new =
-    PutStops records name own old new (λ count. count ≡ largest_file + 1)
+StreamsOver area records name own streamed.TooLong old new =
+    PutStops area records name own old new (λ count. count ≡ largest_file + 1)
 
 -- the begin was refused, once these bytes were read
-pub record IsRefusedRead (records : List Record) (name : List ℕ) (own : Option ℕ) (why : BeginFault)
-    (was left : Option (List ℕ)) : Type 0 where
+pub record IsRefusedRead (area : Area) (records : List Record) (name : List ℕ) (own : Option ℕ)
+    (why : BeginFault) (was left : Option (List ℕ)) : Type 0 where
   pub bytes : List ℕ
   pub reads : ReadsFront was left bytes
   pub few : length bytes ≤ largest_file
-  pub refused : IsRefusedOver records (PutJob name bytes) own why
+  pub refused : IsRefusedOver area records (PutJob name bytes) own why
 
 -- why a put over these records did not begin
-abbrev pub IsUnbegunOver : List Record → List ℕ → Option ℕ → Unbegun → Option (List ℕ) → Option (List ℕ)
-    → Type 0
-IsUnbegunOver records name own unbegun.SourceFault was left = ReadsAtMost (largest_file + 1) was left
-IsUnbegunOver records name own unbegun.Memory was left = ReadsAtMost (largest_file + 1) was left
-IsUnbegunOver records name own (unbegun.Refused why) was left = IsRefusedRead records name own why was left
+abbrev pub IsUnbegunOver : Area → List Record → List ℕ → Option ℕ → Unbegun → Option (List ℕ)
+    → Option (List ℕ) → Type 0
+IsUnbegunOver area records name own unbegun.SourceFault was left = ReadsAtMost (largest_file + 1) was left
+IsUnbegunOver area records name own unbegun.Memory was left = ReadsAtMost (largest_file + 1) was left
+IsUnbegunOver area records name own (unbegun.Refused why) was left =
+    IsRefusedRead area records name own why was left

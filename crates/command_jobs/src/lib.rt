@@ -1,9 +1,10 @@
-//! The one job of a command, or its scrub: the vault is opened over the disk, and the job or the scrub runs to
-//! its end.
+//! The one job of a command, its scrub or its pack: the vault is opened over the disk, and what the command
+//! asks for runs to its end.
 #![tactic(auto)]
 
 mod job;
 mod open;
+mod pack;
 mod piece;
 mod run;
 mod scrub;
@@ -11,6 +12,7 @@ mod stream;
 
 pub use job::Job;
 pub use open::{Unopened, open_vault};
+pub use pack::run_pack;
 pub use run::run_job;
 pub use scrub::run_scrub;
 pub use stream::{Streamed, Unbegun, run_stream};

@@ -5,6 +5,7 @@ ghost use Rattle.device_defs.specs.Disks.{synced};
 ghost use Rattle.device_defs.specs.Faults.{HasCause};
 ghost use Rattle.device_defs.specs.Told.{Goes};
 ghost use Rattle.record_defs.specs.Records.{Record};
+ghost use Rattle.record_defs.specs.Areas.{Area};
 ghost use Rattle.opening_defs.specs.Journals.{IsResynced};
 ghost use Rattle.command_jobs.specs.declared.open.Unopened.TheVariants as unopened;
 ghost use Rattle.command_jobs.specs.Opened.{IsFreshOver, IsReadFor, IsFreshFor, IsUnopened, LiesInStore, unopened_of};
@@ -48,9 +49,9 @@ impl From<StartFault> for Unopened {
 
 /// Opens the vault over what a disk reads, where so many providers are handed in.
 pub fn open_vault<D: Disk>(alloc: Global, disk: &mut D, handed: usize) -> Result<Vault, Unopened>
-    ensures opened { IfOk result (λ vault. (records : List Record) × IsReadFor (D.holds disk.old) records
-        handed
-        × IsFreshOver vault records (D.holds disk.new) (D.faults disk.new)) }
+    ensures opened { IfOk result (λ vault. (area : Area) × (records : List Record)
+        × IsReadFor (D.holds disk.old) area records handed
+        × IsFreshOver vault area records (D.holds disk.new) (D.faults disk.new)) }
     ensures ready { IfOk result (λ vault. IsFreshFor vault (D.holds disk.new) (D.faults disk.new) handed) }
     ensures refused { IfErr result (IsUnopened (D.holds disk.old) handed) }
     ensures reads { option_map reads (D.holds disk.new) ≡ option_map reads (D.holds disk.old) }

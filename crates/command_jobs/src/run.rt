@@ -2,6 +2,7 @@ ghost use Rattle.std.specs.Prelude.{◌≡◌, ◌<◌, ◌≤◌, ◌-◌, ◌^
 ghost use Rattle.machine_defs.specs.Jobs.{Kind};
 ghost use Rattle.machine_defs.specs.States.{State};
 ghost use Rattle.record_defs.specs.Records.{Record};
+ghost use Rattle.record_defs.specs.Areas.{Area};
 ghost use Rattle.command_defs.specs.Seen.{Seen};
 ghost use Rattle.command_defs.specs.Opens as opens;
 ghost use Rattle.vault_open.specs.Devices.{Devices};
@@ -32,14 +33,15 @@ pub fn run_job<D: Disk, P: Provider>(
 ) -> Result<Ended, BeginFault>
     requires ready { IsFreshFor vault (D.holds disk.old) (D.faults disk.old) (length providers.old) }
     ensures ended { IfOk result (λ ended. (records : List Record) (old new : Seen)
-        → IsFreshOver vault records (D.holds disk.old) (D.faults disk.old) → opens.IsOpened old records
+        → (opened : opens.IsOpened old records)
+        → IsFreshOver vault opened.area records (D.holds disk.old) (D.faults disk.old)
         → IsSeenBefore old (devices_seen D.Disk P.Provider disk.old providers.old)
         → IsSeenAfter new (devices_seen D.Disk P.Provider disk.new providers.new)
-        → EndsOver records (kind_of job.entry) None ended old new) }
+        → EndsOver opened.area records (kind_of job.entry) None ended old new) }
     ensures padded { IfOk result (λ ended. HasPaddedCounts ended.answer) }
-    ensures refused { IfErr result (λ why. (records : List Record)
-        → IsFreshOver vault records (D.holds disk.old) (D.faults disk.old)
-        → IsRefusedOver records (kind_of job.entry) None why) }
+    ensures refused { IfErr result (λ why. (area : Area) (records : List Record)
+        → IsFreshOver vault area records (D.holds disk.old) (D.faults disk.old)
+        → IsRefusedOver area records (kind_of job.entry) None why) }
     ensures tells { is_some (D.holds disk.new) ≡ is_some (D.holds disk.old) }
     ensures untouched { OnErr result ((disk.new ≡ disk.old) × (providers.new ≡ providers.old)) }
 {

@@ -33,10 +33,11 @@ pub fn run_scrub<P: Provider>(
     requires ready { (holds : Option Cells) × (faults : ℕ) × IsFreshFor vault holds faults
         (length providers.old) }
     ensures ended { IfOk result (λ answer. (records : List Record) (holds : Option Cells) (faults : ℕ)
-        (old new : Seen) → IsFreshOver vault records holds faults → opens.IsOpened old records
+        (old new : Seen) → (opened : opens.IsOpened old records)
+        → IsFreshOver vault opened.area records holds faults
         → IsSeenBefore old (devices holds faults (map (provider_seen P.Provider) providers.old))
         → IsSeenAfter new (devices holds faults (map (provider_seen P.Provider) providers.new))
-        → ScrubEndsOver records answer old new) }
+        → ScrubEndsOver opened.area records answer old new) }
     ensures untouched { OnErr result (providers.new ≡ providers.old) }
 {
     opened_states();

@@ -1,6 +1,7 @@
 // A put that reads its source stripe by stripe.
 ghost use Rattle.std.specs.Prelude.{◌≡◌, ◌<◌, ◌≤◌, ℕ, List, [], Option, None, Some, false, true, take, length, is_some, IfOk, IfErr, OnErr, IfSome, IsErrOf};
 ghost use Rattle.device_defs.specs.Faults.{HasCause, Rose};
+ghost use Rattle.record_defs.specs.Areas.{Area};
 ghost use Rattle.record_defs.specs.Records.{Record, largest_file};
 ghost use Rattle.machine_defs.specs.Events.{AreBytes};
 ghost use Rattle.machine_defs.specs.Jobs.{Kind};
@@ -92,15 +93,16 @@ pub fn run_stream<D: Disk, P: Provider, S: Source>(
     requires ready { IsFreshFor vault (D.holds disk.old) (D.faults disk.old) (length providers.old) }
     requires known { names_unknown profile ≡ false }
     ensures ended { IfOk result (λ streamed. (records : List Record) (old new : Seen)
-        → IsFreshOver vault records (D.holds disk.old) (D.faults disk.old) → opens.IsOpened old records
+        → (opened : opens.IsOpened old records)
+        → IsFreshOver vault opened.area records (D.holds disk.old) (D.faults disk.old)
         → IsSeenBefore old (devices_seen D.Disk P.Provider disk.old providers.old)
         → IsSeenAfter new (devices_seen D.Disk P.Provider disk.new providers.new)
         → IsSourceSeen old (S.left source.old) (S.faults source.old)
         → IsSourceSeen new (S.left source.new) (S.faults source.new)
-        → StreamsOver records name.now profile streamed old new) }
-    ensures refused { IfErr result (λ why. (records : List Record)
-        → IsFreshOver vault records (D.holds disk.old) (D.faults disk.old)
-        → IsUnbegunOver records name.now profile why (S.left source.old) (S.left source.new)) }
+        → StreamsOver opened.area records name.now profile streamed old new) }
+    ensures refused { IfErr result (λ why. (area : Area) (records : List Record)
+        → IsFreshOver vault area records (D.holds disk.old) (D.faults disk.old)
+        → IsUnbegunOver area records name.now profile why (S.left source.old) (S.left source.new)) }
     ensures cause { HasCause (S.faults source.old) (S.faults source.new)
         (IsErrOf result unbegun.SourceFault) }
     ensures tells { is_some (D.holds disk.new) ≡ is_some (D.holds disk.old) }

@@ -1,8 +1,8 @@
 // One line of its own for each command that changes something.
 ghost use Rattle.std.specs.Prelude.{◌≡◌, IfOk};
-ghost use Rattle.command_defs.specs.Lines.{ready_line, stored_line, dropped_line, repaired_line, upgraded_line};
+ghost use Rattle.command_defs.specs.Lines.{ready_line, stored_line, dropped_line, repaired_line, upgraded_line, packed_line};
 
-use crate::pieces::{numbered_line, push_line};
+use crate::pieces::{numbered_line, push_counted, push_line};
 use std::alloc::Global;
 use stream_model::{Bytes, Memory};
 
@@ -44,4 +44,15 @@ pub fn upgraded_line() -> &'static [u8]
     ensures { result.now ≡ upgraded_line }
 {
     b"upgraded\n"
+}
+
+/// The line after a pack: the lengths of the journal's text before and after, in bytes. Want of memory is its
+/// one refusal.
+pub fn packed_line(alloc: Global, before: u64, after: u64) -> Result<Bytes, Memory>
+    ensures { IfOk result (λ line. line ≡ packed_line before after) }
+{
+    let mut text = Vec::new(alloc);
+    push_counted(alloc, &mut text, b"packed", before)?;
+    push_line(alloc, &mut text, b"", after)?;
+    Ok(Bytes::from_vec(text))
 }

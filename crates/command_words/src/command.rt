@@ -34,6 +34,8 @@ pub enum Command<'a> {
     Upgrade,
     /// `scrub`.
     Scrub,
+    /// `pack`.
+    Pack,
 }
 
 /// The command that one word spells, or `None` where it spells none.
@@ -48,6 +50,7 @@ fn read_bare<'a>(word: &'a String) -> Option<Command<'a>>
         "repair" => Some(Command::Repair),
         "upgrade" => Some(Command::Upgrade),
         "scrub" => Some(Command::Scrub),
+        "pack" => Some(Command::Pack),
         _ => None,
     }
 }

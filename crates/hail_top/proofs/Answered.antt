@@ -4,7 +4,7 @@ use Rattle.device_defs.specs.Told.{TakesFront}
 use Rattle.code_defs.specs.Points.{upto, values_at}
 use Rattle.opening_defs.proofs.Resyncs.{resynced-same}
 use Rattle.command_defs.specs.Forms.{Command as Spelled}
-use Rattle.command_defs.specs.Forms.{RowOf, InitWith, PutUnder, PutAt, GetOf, DropOf, ListAll, AuditAll, RepairDue, UpgradeJournal, ScrubAll}
+use Rattle.command_defs.specs.Forms.{RowOf, InitWith, PutUnder, PutAt, GetOf, DropOf, ListAll, AuditAll, RepairDue, UpgradeJournal, ScrubAll, PackJournal}
 use Rattle.command_defs.specs.Keys.{longest_key}
 use Rattle.command_defs.specs.Seen.{Seen, Ending, IsRefused, sinking}
 use Rattle.command_defs.specs.Line.{values_line, no_row_line}
@@ -12,6 +12,7 @@ use Rattle.command_defs.specs.Row.{AnswersRow}
 use Rattle.command_defs.specs.Opens as opens
 use Rattle.command_defs.specs.Inits as inits
 use Rattle.command_defs.specs.Scrubs as scrubs
+use Rattle.command_defs.specs.Packs as packs
 use Rattle.command_defs.specs.Commands as commands
 use Rattle.command_defs.specs.Commands.{Answers, AnswersPut}
 use Rattle.command_words.specs.declared.command.Command.{Command}
@@ -87,3 +88,4 @@ no_memory-told command same end is =
     by_command RepairDue = (commands.unstarted (opens.no_memory refused), (refl, refl))
     by_command UpgradeJournal = (commands.unstarted (opens.no_memory refused), (refl, refl))
     by_command ScrubAll = (scrubs.unstarted (opens.no_memory refused), (refl, refl))
+    by_command PackJournal = (packs.unstarted (opens.no_memory refused), (refl, refl))

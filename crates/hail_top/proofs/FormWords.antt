@@ -8,7 +8,7 @@ use Rattle.std.specs.declared.alloc.Global.{Global}
 use Rattle.std.proofs.lemmas.Bool.{false≢true}
 use Rattle.command_defs.specs.Seen.{Seen, Ending}
 use Rattle.command_defs.specs.Row.{IsRowForm}
-use Rattle.command_defs.specs.Forms.{Numbers, Command as Spelled, RowOf, InitWith, PutUnder, PutAt, GetOf, DropOf, ListAll, AuditAll, RepairDue, UpgradeJournal, ScrubAll, IsForm, IsInitForm, IsNamedForm, IsPutAtForm, IsBareForm}
+use Rattle.command_defs.specs.Forms.{Numbers, Command as Spelled, RowOf, InitWith, PutUnder, PutAt, GetOf, DropOf, ListAll, AuditAll, RepairDue, UpgradeJournal, ScrubAll, PackJournal, IsForm, IsInitForm, IsNamedForm, IsPutAtForm, IsBareForm}
 use Rattle.hail_replay.specs.Forms.{IsReplayForm, IsTrialForm, IsFormOf}
 use Rattle.hail_replay.specs.declared.forms.Form.{Form}
 use Rattle.hail_replay.specs.declared.forms.Form.TheVariants as forms
@@ -62,6 +62,7 @@ command-word AuditAll = codes "audit"
 command-word RepairDue = codes "repair"
 command-word UpgradeJournal = codes "upgrade"
 command-word ScrubAll = codes "scrub"
+command-word PackJournal = codes "pack"
 
 abbrev pub form-word : Form → List ℕ
 form-word forms.Replay = codes "replay"
@@ -122,6 +123,7 @@ command-first words AuditAll form = bare-first (codes "audit") words form
 command-first words RepairDue form = bare-first (codes "repair") words form
 command-first words UpgradeJournal form = bare-first (codes "upgrade") words form
 command-first words ScrubAll form = bare-first (codes "scrub") words form
+command-first words PackJournal form = bare-first (codes "pack") words form
 
 -- the first word tells the form
 pub form-first : (words : List (String Global)) (form : Form) → IsFormOf words form →
@@ -141,6 +143,7 @@ replay-apart AuditAll = refl
 replay-apart RepairDue = refl
 replay-apart UpgradeJournal = refl
 replay-apart ScrubAll = refl
+replay-apart PackJournal = refl
 
 trial-apart : (command : Spelled) → bytes_eq (command-word command) (codes "trial") ≡ false
 trial-apart (RowOf n l b seen) = refl
@@ -154,6 +157,7 @@ trial-apart AuditAll = refl
 trial-apart RepairDue = refl
 trial-apart UpgradeJournal = refl
 trial-apart ScrubAll = refl
+trial-apart PackJournal = refl
 
 words-apart : (command : Spelled) (form : Form) → bytes_eq (command-word command) (form-word form) ≡ false
 words-apart command forms.Replay = replay-apart command

@@ -5,7 +5,7 @@ use Rattle.machine_defs.specs.Events.{Init, IsSpelled}
 use Rattle.machine_defs.specs.Runs.{now, IsRun}
 use Rattle.machine_defs.specs.States.{State, continued}
 use Rattle.state_laws.proofs.Events.{run-sound}
-use Rattle.command_defs.specs.Forms.{Command, Numbers, RowOf, InitWith, PutUnder, PutAt, GetOf, DropOf, ListAll, AuditAll, RepairDue, UpgradeJournal, ScrubAll}
+use Rattle.command_defs.specs.Forms.{Command, Numbers, RowOf, InitWith, PutUnder, PutAt, GetOf, DropOf, ListAll, AuditAll, RepairDue, UpgradeJournal, ScrubAll, PackJournal}
 use Rattle.command_defs.specs.Seen.{Seen, Ending}
 use Rattle.command_defs.specs.Sinking.{Sinking, WritesLine}
 use Rattle.command_words.specs.declared.command.Command.{Command as Read}
@@ -87,3 +87,4 @@ inits-same AuditAll same end = tt
 inits-same RepairDue same end = tt
 inits-same UpgradeJournal same end = tt
 inits-same ScrubAll same end = tt
+inits-same PackJournal same end = tt

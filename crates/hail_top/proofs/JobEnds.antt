@@ -1,9 +1,10 @@
 -- How a command ends that runs a job over a vault just opened.
-use Rattle.std.proofs.Common.{◌≡◌, ℕ, List, length, Option, None, ap, sym, ◌∙◌, inl, inr, subst, arith}
+use Rattle.std.proofs.Common.{◌≡◌, ℕ, List, length, Option, ap, sym, ◌∙◌, inl, inr, subst, arith}
 use Rattle.std.specs.Option.{option_map}
 use Rattle.device_defs.specs.Disks.{synced}
 use Rattle.device_defs.specs.Providers.{Provider}
 use Rattle.record_defs.specs.Records.{Record}
+use Rattle.record_defs.specs.Areas.{Area}
 use Rattle.machine_defs.specs.Jobs.{Kind}
 use Rattle.machine_defs.specs.Heard.{Entry}
 use Rattle.command_defs.specs.Seen.{Seen, Ending, KeepsDisk, IsSynced, provider_at, sinking}
@@ -27,20 +28,20 @@ use Rattle.hail_top.proofs.Told.{resynced}
 use Rattle.hail_top.proofs.AnswerTexts.{answer-ends}
 
 -- the job ran to its end, and that was told
-pub ended-told : (subject : Subject) (tolerance : ℕ) (kind : Kind) (own : Option ℕ) (records : List Record)
-    (old new : Seen) (end : Ending) (ended : Ended) (written : Option (List ℕ)) (count : ℕ)
+pub ended-told : (subject : Subject) (tolerance : ℕ) (kind : Kind) (own : Option ℕ) (area : Area)
+    (records : List Record) (old new : Seen) (end : Ending) (ended : Ended) (written : Option (List ℕ)) (count : ℕ)
     → old.sink ≡ written → old.sink_faults ≡ count → TellsOf subject tolerance kind →
-    tolerance ≡ (setup_in_effect records).tolerance → EndsOver records kind own ended old new
+    tolerance ≡ (setup_in_effect records).tolerance → EndsOver area records kind own ended old new
     → TellsAnswer subject (machine_answer ended.answer) end.status end.at
     (record { old = written; new = new.sink; before = count; now = new.sink_faults })
-    → end.heard ≡ ended.heard → AnswersOver kind own records old new end
-ended-told subject tolerance kind own records old new end ended written count is_written is_count is_subject is over told heard =
+    → end.heard ≡ ended.heard → AnswersOver kind own area records old new end
+ended-told subject tolerance kind own area records old new end ended written count is_written is_count is_subject is over told heard =
     record {
       answers = jobs.ended (machine_answer ended.answer) over.unrefused
-          (subst (λ (entries : List Entry). RunsAlone records kind own (machine_answer ended.answer) old new entries)
-          (sym heard) over.runs)
-          (subst (λ (entries : List Entry). LeftAlone records kind own (machine_answer ended.answer) old new entries)
-          (sym heard) over.left)
+          (subst (λ (entries : List Entry). RunsAlone area records kind own (machine_answer ended.answer) old new
+          entries) (sym heard) over.runs)
+          (subst (λ (entries : List Entry). LeftAlone area records kind own (machine_answer ended.answer) old new
+          entries) (sym heard) over.left)
           (answer-ends (ran_alone records old new ended.heard over.left.faults over.left.after over.left.doubt)
           subject (setup_in_effect records).tolerance (machine_answer ended.answer) kind own old new end
           over.left.leaves.by_kind (subst (λ (t : ℕ). TellsOf subject t kind) is is_subject) told_here);
@@ -68,13 +69,13 @@ untouched old new d before faults providers =
     }
 
 -- the job was refused, and that was told
-pub refused-over : (kind : Kind) (own : Option ℕ) (records : List Record) (old new : Seen) (d : Devices) (end : Ending)
-    (why : BeginFault)
-    → IsSeenBefore old d → d.holds ≡ option_map synced old.disk → IsRefusedOver records kind own why →
+pub refused-over : (kind : Kind) (own : Option ℕ) (area : Area) (records : List Record) (old new : Seen)
+    (d : Devices) (end : Ending) (why : BeginFault)
+    → IsSeenBefore old d → d.holds ≡ option_map synced old.disk → IsRefusedOver area records kind own why →
     end ≡ ending_with (status_of (refusal_of why)) 0
     → new.disk ≡ d.holds → new.disk_faults ≡ d.faults → new.providers ≡ d.providers → new.sink ≡ old.sink →
-    AnswersOver kind own records old new end
-refused-over kind own records old new d end why before was_synced over is disk faults providers silent = record {
+    AnswersOver kind own area records old new end
+refused-over kind own area records old new d end why before was_synced over is disk faults providers silent = record {
   answers = by_cause over;
   counts = untouched old new d before faults providers;
 }
@@ -88,7 +89,7 @@ refused-over kind own records old new d end why before was_synced over is disk f
     same_providers : new.providers ≡ old.providers
     same_providers = providers ∙ sym before.providers
 
-    by_cause : IsRefusedOver records kind own why → AnswersJob kind own records old new end
+    by_cause : IsRefusedOver area records kind own why → AnswersJob kind own area records old new end
     by_cause (inl memory) = jobs.no_memory synced_here
         (refused-told 70 0 old new end
         (is ∙ ap (λ (w : BeginFault). ending_with (status_of (refusal_of w)) 0) memory) kept

@@ -9,6 +9,7 @@ mod InitRuns
 mod AnswerTexts
 mod JobEnds
 mod ScrubEnds
+mod PackEnds
 mod Unopened
 mod Opened
 mod PutEnds

@@ -1,15 +1,17 @@
 -- A vault was opened for a command.
 use Rattle.std.proofs.Common.{◌≡◌, ℕ, ◌≤◌, List, length, subst, arith}
 use Rattle.record_defs.specs.Records.{Record}
+use Rattle.record_defs.specs.Areas.{Area}
 use Rattle.command_defs.specs.Seen.{Seen, NoCountFalls}
 use Rattle.command_defs.specs.Opens.{setup_in_effect, IsOpened}
 use Rattle.command_jobs.specs.Opened.{IsReadFor}
 use Rattle.command_jobs.specs.Ends.{NoFaultUndone}
 
 -- the records are read, and enough providers are handed in
-pub opened-read : (old : Seen) (records : List Record) (handed : ℕ) → handed ≡ length old.providers →
-    IsReadFor old.disk records handed → IsOpened old records
-opened-read old records handed as_many for = record {
+abbrev pub opened-read : (old : Seen) (area : Area) (records : List Record) (handed : ℕ) →
+    handed ≡ length old.providers → IsReadFor old.disk area records handed → IsOpened old records
+opened-read old area records handed as_many for = record {
+  area = area;
   read = for.read;
   enough = subst (λ (n : ℕ). (setup_in_effect records).n ≤ n) as_many for.enough;
 }

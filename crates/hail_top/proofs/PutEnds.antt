@@ -5,6 +5,7 @@ use Rattle.std.specs.Option.{option_map}
 use Rattle.device_defs.specs.Disks.{synced}
 use Rattle.device_defs.specs.Faults.{Rose}
 use Rattle.record_defs.specs.Records.{Record}
+use Rattle.record_defs.specs.Areas.{Area}
 use Rattle.machine_defs.specs.Answers.{Answer}
 use Rattle.machine_defs.specs.Heard.{Entry}
 use Rattle.machine_defs.specs.Jobs.{PutJob}
@@ -56,15 +57,15 @@ unknown-put name own records old new d end count left was_count was_left is_coun
 -- the put did not begin
 pub unbegun-put : (name : List ℕ) (own : Option ℕ) (records : List Record) (old new : Seen) (d : Devices)
     (end : Ending) (why : Unbegun) (count : ℕ) (left : Option (List ℕ)) → old.source_faults ≡ count →
-    old.source ≡ left → IsUnbegunOver records name own why left new.source → IsOpened old records →
-    is_unknown own ≡ false → IsSeenBefore old d → d.holds ≡ option_map synced old.disk →
+    old.source ≡ left → (opened : IsOpened old records) →
+    IsUnbegunOver opened.area records name own why left new.source → is_unknown own ≡ false → IsSeenBefore old d → d.holds ≡ option_map synced old.disk →
     end ≡ unbegun_ending why → (why ≡ unbegun.SourceFault → Rose count new.source_faults) →
     new.disk ≡ d.holds → new.disk_faults ≡ d.faults → new.providers ≡ d.providers → new.sink ≡ old.sink →
     PutsOver name own old new end
-unbegun-put name own records old new d end why count left is_count is_left over opened known before was_synced is rose disk faults providers silent =
+unbegun-put name own records old new d end why count left is_count is_left opened over known before was_synced is rose disk faults providers silent =
     record {
       answers = by_cause why is rose
-          (subst (λ (told : Option (List ℕ)). IsUnbegunOver records name own why told new.source) (sym is_left)
+          (subst (λ (told : Option (List ℕ)). IsUnbegunOver opened.area records name own why told new.source) (sym is_left)
           over);
       counts = untouched old new d before faults providers;
     }
@@ -79,10 +80,10 @@ unbegun-put name own records old new d end why count left is_count is_left over 
     same_providers = providers ∙ sym before.providers
 
     by_refusal : (why : BeginFault) → end ≡ ending_with (status_of (refusal_of why)) 0 →
-        IsRefusedRead records name own why old.source new.source → AnswersPut name own old new end
+        IsRefusedRead opened.area records name own why old.source new.source → AnswersPut name own old new end
     by_refusal why is r = on r.refused
       where
-        on : IsRefusedOver records (PutJob name r.bytes) own why → AnswersPut name own old new end
+        on : IsRefusedOver opened.area records (PutJob name r.bytes) own why → AnswersPut name own old new end
         on (inl memory) = begun records r.bytes opened known r.reads r.few
             (jobs.no_memory synced_here (refused-told 70 0 old new end
             (is ∙ ap (λ (w : BeginFault). ending_with (status_of (refusal_of w)) 0) memory) kept
@@ -94,7 +95,7 @@ unbegun-put name own records old new d end why count left is_count is_left over 
 
     by_cause : (why : Unbegun) → end ≡ unbegun_ending why →
         (why ≡ unbegun.SourceFault → Rose count new.source_faults) →
-        IsUnbegunOver records name own why old.source new.source → AnswersPut name own old new end
+        IsUnbegunOver opened.area records name own why old.source new.source → AnswersPut name own old new end
     by_cause unbegun.SourceFault is rose taken =
         source_fault records opened known (subst (λ (n : ℕ). Rose n new.source_faults) (sym is_count) (rose refl))
         synced_here taken (refused-told 14 0 old new end is kept same_providers silent)
@@ -103,17 +104,17 @@ unbegun-put name own records old new d end why count left is_count is_left over 
     by_cause (unbegun.Refused why) is rose r = by_refusal why is r
 
 -- how the job of a put ended, and what of its source was read
-record EndedPut (name bytes : List ℕ) (own : Option ℕ) (records : List Record) (answer : Answer)
+record EndedPut (name bytes : List ℕ) (own : Option ℕ) (area : Area) (records : List Record) (answer : Answer)
     (old new : Seen) (heard : List Entry) : Type 0 where
-  runs : RunsAlone records (PutJob name bytes) own answer old new heard
-  left : LeftAlone records (PutJob name bytes) own answer old new heard
+  runs : RunsAlone area records (PutJob name bytes) own answer old new heard
+  left : LeftAlone area records (PutJob name bytes) own answer old new heard
   whole : MayHaveEnd records left.after left.doubt name (length bytes) own
       → IfSome new.source (λ left. left ≡ [])
 
 -- the put ran to its end, and that was told
 ended-put : (name : List ℕ) (own : Option ℕ) (records : List Record) (old new : Seen) (end : Ending)
-    (ended : Ended) (read : ℕ) → IsOpened old records → is_unknown own ≡ false →
-    PutEnds records name own ended read old new → TellsPut name ended read end (sinking old new) →
+    (ended : Ended) (read : ℕ) → (opened : IsOpened old records) → is_unknown own ≡ false →
+    PutEnds opened.area records name own ended read old new → TellsPut name ended read end (sinking old new) →
     PutsOver name own old new end
 ended-put name own records old new end ended read opened known P T = record {
   answers = begun records P.bytes opened known P.reads P.few
@@ -125,16 +126,16 @@ ended-put name own records old new end ended read opened known P T = record {
   counts = P.over.counts;
 }
   where
-    here : EndedPut name P.bytes own records (machine_answer ended.answer) old new end.heard
-    here = subst (λ (entries : List Entry). EndedPut name P.bytes own records (machine_answer ended.answer) old
-        new entries) (sym T.heard)
+    here : EndedPut name P.bytes own opened.area records (machine_answer ended.answer) old new end.heard
+    here = subst (λ (entries : List Entry). EndedPut name P.bytes own opened.area records
+        (machine_answer ended.answer) old new entries) (sym T.heard)
         (record { runs = P.over.runs; left = P.over.left; whole = P.whole })
 
 -- the put was given up, and that was told
 stopped-put : (name : List ℕ) (own : Option ℕ) (records : List Record) (old new : Seen) (end : Ending)
-    (status : ℕ) (stops : ℕ → Type 0) → IsOpened old records → is_unknown own ≡ false →
+    (status : ℕ) (stops : ℕ → Type 0) → (opened : IsOpened old records) → is_unknown own ≡ false →
     ((count : ℕ) → stops count → StopsFor count old new (ending_with status 0)) →
-    PutStops records name own old new stops → end ≡ ending_with status 0 → new.sink ≡ old.sink →
+    PutStops opened.area records name own old new stops → end ≡ ending_with status 0 → new.sink ≡ old.sink →
     PutsOver name own old new end
 stopped-put name own records old new end status stops opened known shows S is silent = record {
   answers = given_up records S.bytes opened known S.unrefused
@@ -158,7 +159,8 @@ stopped-put name own records old new end status stops opened known shows S is si
 -- how a put ended was told
 pub streamed-put : (name : List ℕ) (own : Option ℕ) (records : List Record) (old new : Seen) (end : Ending)
     (how : Streamed) (written : Option (List ℕ)) (count : ℕ) → old.sink ≡ written → old.sink_faults ≡ count →
-    IsOpened old records → is_unknown own ≡ false → StreamsOver records name own how old new →
+    (opened : IsOpened old records) → is_unknown own ≡ false →
+    StreamsOver opened.area records name own how old new →
     TellsStreamed name how end
     (record { old = written; new = new.sink; before = count; now = new.sink_faults }) →
     PutsOver name own old new end
@@ -169,7 +171,7 @@ streamed-put name own records old new end how written count is_written is_count 
     (subst (λ (w : Option (List ℕ)). TellsStreamed name how end
     (record { old = w; new = new.sink; before = count; now = new.sink_faults })) (sym is_written) told))
   where
-    by_end : (how : Streamed) → StreamsOver records name own how old new →
+    by_end : (how : Streamed) → StreamsOver opened.area records name own how old new →
         TellsStreamed name how end (sinking old new) → PutsOver name own old new end
     by_end (streamed.Ended ended read) over told =
         ended-put name own records old new end ended read opened known over told

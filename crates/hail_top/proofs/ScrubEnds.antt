@@ -46,9 +46,9 @@ scrub-ends Memory old new end told = fault-ends Memory (scrub_text Memory) old n
 
 -- the scrub ran to its end, and that was told
 pub scrub-told : (records : List Record) (old new : Seen) (end : Ending) (answer : ScrubAnswer) (n : ℕ)
-    (written : Option (List ℕ)) (count : ℕ) → IsOpened old records → IsSynced old new →
+    (written : Option (List ℕ)) (count : ℕ) → (opened : IsOpened old records) → IsSynced old new →
     old.sink ≡ written → old.sink_faults ≡ count → n ≡ (setup_in_effect records).n →
-    ScrubEndsOver records answer old new →
+    ScrubEndsOver opened.area records answer old new →
     TellsScrub (scrub_answer n answer) end.status end.at
     (record { old = written; new = new.sink; before = count; now = new.sink_faults }) →
     end.heard ≡ [] → ScrubsOver old new end

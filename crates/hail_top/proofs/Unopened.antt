@@ -23,7 +23,7 @@ unopened-told old new end unopened.NotSetUp handed is as_many cause kept synced 
 unopened-told old new end (unopened.BadJournal at) handed is as_many cause kept synced rose same silent =
     bad_journal at cause (refused-told 8 at old new end is kept same silent)
 unopened-told old new end unopened.TooFewProviders handed is as_many cause kept synced rose same silent =
-    too_few_providers cause.0 cause.1 (subst (λ (n : ℕ). n < (setup_in_effect cause.0).n) as_many cause.2)
-    (synced tt) (refused-told 22 0 old new end is kept same silent)
+    too_few_providers cause.0 cause.1 cause.2
+    (subst (λ (n : ℕ). n < (setup_in_effect cause.1).n) as_many cause.3) (synced tt) (refused-told 22 0 old new end is kept same silent)
 unopened-told old new end unopened.Memory handed is as_many cause kept synced rose same silent =
     no_memory (refused-told 70 0 old new end is kept same silent)

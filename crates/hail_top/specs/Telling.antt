@@ -12,10 +12,11 @@
 --   TellsStreamed name how end sink     == how a put under a name ended is told: by its answer and how many
 --                                          bytes were read, or by why it was given up
 --   TellsScrub answer status at sink    == the same of a scrub
+--   TellsPack answer status at sink     == the same of a pack
 use Rattle.std.specs.Prelude.{◌≡◌, ◌⊎◌, ℕ, List, length}
 use Rattle.machine_defs.specs.Jobs.{Kind, PutJob, GetJob, DropJob, AuditJob, RepairJob, UpgradeJob}
-use Rattle.machine_defs.specs.Answers.{Answer, Put, Got, Dropped, Audited, Repaired, Upgraded, Scrubbed, Lost, ProviderFault, DiskFault}
-use Rattle.command_defs.specs.Lines.{stored_line, dropped_line, audit_lines, repaired_line, upgraded_line, scrub_lines}
+use Rattle.machine_defs.specs.Answers.{Answer, Put, Got, Dropped, Audited, Repaired, Upgraded, Scrubbed, Packed, Lost, ProviderFault, DiskFault}
+use Rattle.command_defs.specs.Lines.{stored_line, dropped_line, audit_lines, repaired_line, upgraded_line, scrub_lines, packed_line}
 use Rattle.command_defs.specs.Seen.{Ending}
 use Rattle.command_defs.specs.Sinking.{Sinking, WritesLine}
 use Rattle.command_jobs.specs.declared.open.Unopened.{Unopened}
@@ -118,3 +119,8 @@ abbrev pub TellsScrub : Answer → ℕ → ℕ → Sinking → Type 0
 TellsScrub (Scrubbed stripes symbols blocks) status at sink =
     WritesLine (scrub_lines stripes symbols blocks) status sink × (at ≡ 0)
 TellsScrub answer status at sink = IsFaultEnd answer status at × (sink.new ≡ sink.old)
+
+-- a pack's answer was told: the two lengths are written or cut off, or its fault is the status
+abbrev pub TellsPack : Answer → ℕ → ℕ → Sinking → Type 0
+TellsPack (Packed before after) status at sink = WritesLine (packed_line before after) status sink × (at ≡ 0)
+TellsPack answer status at sink = IsFaultEnd answer status at × (sink.new ≡ sink.old)

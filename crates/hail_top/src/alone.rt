@@ -34,11 +34,12 @@ pub fn answer_job<D: Disk, P: Provider, K: Sink>(
 ) -> Report
     requires { IsFreshFor vault (D.holds disk.old) (D.faults disk.old) (length providers.old) }
     ensures over { (records : List Record) (old : Seen) (left : Option (List ℕ)) (read_faults : ℕ)
-        → IsFreshOver vault records (D.holds disk.old) (D.faults disk.old) → IsOpened old records
+        → (opened : IsOpened old records)
+        → IsFreshOver vault opened.area records (D.holds disk.old) (D.faults disk.old)
         → IsSeenBefore old (devices_seen D.Disk P.Provider disk.old providers.old)
         → D.holds disk.old ≡ option_map synced old.disk → old.sink ≡ K.written sink.old
         → old.sink_faults ≡ K.faults sink.old
-        → AnswersOver (kind_of job.entry) None records old
+        → AnswersOver (kind_of job.entry) None opened.area records old
         (seen_over D.Disk P.Provider K.Sink disk.new providers.new left read_faults sink.new)
         (ending_of result) }
     ensures count { K.faults sink.old ≤ K.faults sink.new }

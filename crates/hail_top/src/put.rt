@@ -74,8 +74,8 @@ fn put_stream<D: Disk, P: Provider, S: Source, K: Sink>(
     sink: &mut K,
 ) -> Report
     requires { IsFreshFor vault (D.holds disk.old) (D.faults disk.old) (length providers.old) }
-    ensures over { (records : List Record) (old : Seen)
-        → IsFreshOver vault records (D.holds disk.old) (D.faults disk.old) → IsOpened old records
+    ensures over { (records : List Record) (old : Seen) → (opened : IsOpened old records)
+        → IsFreshOver vault opened.area records (D.holds disk.old) (D.faults disk.old)
         → IsSeenBefore old (devices_seen D.Disk P.Provider disk.old providers.old)
         → D.holds disk.old ≡ option_map synced old.disk → old.source ≡ S.left source.old
         → old.source_faults ≡ S.faults source.old

@@ -8,8 +8,8 @@ ghost use Rattle.hail_top.specs.Telling.{unread_ending, unopened_ending, unbegun
 use crate::reading::ReadFault;
 use crate::report::{
     BAD_JOURNAL, BAD_NAME, BAD_SETUP, DISK_FAULT, JOURNAL_FULL, NEW_VERSION, NO_MEMORY,
-    NO_SUCH_NAME, NOT_SET_UP, NOTHING_DUE, OLD_VERSION, REPAIR_DUE, Report, SOURCE_FAULT,
-    TOO_FEW_PROVIDERS, TOO_LONG, TOO_MANY_FILES,
+    NO_SUCH_NAME, NOT_SET_UP, NOTHING_DUE, OLD_VERSION, PACK_TOO_LONG, REPAIR_DUE, Report,
+    SOURCE_FAULT, TOO_FEW_PROVIDERS, TOO_LONG, TOO_MANY_FILES,
 };
 use command_jobs::{Unbegun, Unopened};
 use vault::BeginFault;
@@ -52,6 +52,7 @@ pub fn refused(why: BeginFault) -> Report
         BeginFault::TooManyFiles => Report::of(TOO_MANY_FILES),
         BeginFault::OldVersion => Report::of(OLD_VERSION),
         BeginFault::NewVersion => Report::of(NEW_VERSION),
+        BeginFault::PackTooLong => Report::of(PACK_TOO_LONG),
         BeginFault::MustReopen | BeginFault::Busy | BeginFault::Memory => Report::of(NO_MEMORY),
     }
 }

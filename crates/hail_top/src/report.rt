@@ -73,6 +73,9 @@ pub const NEW_VERSION: u8 = 24;
 /// The bytes from an offset on begin no request.
 pub const BAD_FRAME: u8 = 25;
 
+/// The journal's text reaches from the first area of the disk into the second, which a pack would write.
+pub const PACK_TOO_LONG: u8 = 26;
+
 /// There was no memory.
 pub const NO_MEMORY: u8 = 70;
 

@@ -91,8 +91,8 @@ fn answer_scrub<P: Provider, K: Sink>(
 ) -> Report
     requires { (holds : Option Cells) × (faults : ℕ) × IsFreshFor vault holds faults (length providers.old) }
     ensures over { (records : List Record) (holds : Option Cells) (faults : ℕ) (old : Seen)
-        (left : Option (List ℕ)) (read_faults : ℕ) → IsFreshOver vault records holds faults
-        → IsOpened old records
+        (left : Option (List ℕ)) (read_faults : ℕ) → (opened : IsOpened old records)
+        → IsFreshOver vault opened.area records holds faults
         → IsSeenBefore old (devices holds faults (map (provider_seen P.Provider) providers.old))
         → holds ≡ option_map synced old.disk → old.sink ≡ K.written sink.old
         → old.sink_faults ≡ K.faults sink.old

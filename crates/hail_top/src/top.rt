@@ -12,6 +12,7 @@ ghost use Rattle.hail_top.specs.Rows.{HasItsSymbols};
 use crate::alone::alone;
 use crate::carry::{do_trial, replay_source};
 use crate::list::list;
+use crate::pack::pack;
 use crate::put::put;
 use crate::report::{NO_MEMORY, Report};
 use crate::row::answer_row;
@@ -64,6 +65,7 @@ fn answer<D: Disk, P: Tamper, S: Source, K: Sink>(
         Command::Repair => alone(alloc, Job::Repair, disk, providers, sink),
         Command::Upgrade => alone(alloc, Job::Upgrade, disk, providers, sink),
         Command::Scrub => scrub(alloc, disk, providers, sink),
+        Command::Pack => pack(alloc, providers.len(), disk, sink),
     }
 }
 

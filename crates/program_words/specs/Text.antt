@@ -30,7 +30,9 @@ status_text status =
     (if status == 22 then codes "hail: too few providers" else
     (if status == 23 then codes "hail: old journal version" else
     (if status == 24 then codes "hail: new journal version" else
-    (if status == 25 then codes "hail: bad frame at" else codes "hail: no memory"))))))))))))))))))))))
+    (if status == 25 then codes "hail: bad frame at" else
+    (if status == 26 then codes "hail: journal too long to pack" else
+    codes "hail: no memory")))))))))))))))))))))))
 
 -- a place follows the text
 abbrev pub speaks_of_place : ℕ → Bool

@@ -5,8 +5,8 @@ ghost use Rattle.program_words.specs.Text.{status_text, speaks_of_place};
 use hail_top::{
     ALREADY_SET_UP, BAD_FRAME, BAD_JOURNAL, BAD_KEY, BAD_NAME, BAD_SCHEDULE, BAD_SETUP, DISK_FAULT,
     JOURNAL_FULL, LOST_ROW, NEW_VERSION, NO_SUCH_NAME, NOT_SET_UP, NOTHING_DUE, OLD_VERSION,
-    PROVIDER_FAULT, REPAIR_DUE, SINK_FAULT, SOURCE_FAULT, TOO_FEW_PROVIDERS, TOO_LONG,
-    TOO_MANY_FILES, USAGE,
+    PACK_TOO_LONG, PROVIDER_FAULT, REPAIR_DUE, SINK_FAULT, SOURCE_FAULT, TOO_FEW_PROVIDERS,
+    TOO_LONG, TOO_MANY_FILES, USAGE,
 };
 
 /// The text of a status other than 0.
@@ -37,6 +37,7 @@ pub fn text_of(status: u8) -> &'static str
         OLD_VERSION => "hail: old journal version",
         NEW_VERSION => "hail: new journal version",
         BAD_FRAME => "hail: bad frame at",
+        PACK_TOO_LONG => "hail: journal too long to pack",
         _ => "hail: no memory",
     }
 }

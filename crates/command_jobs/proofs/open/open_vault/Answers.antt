@@ -31,14 +31,14 @@ returns-in_err-vault-clause-reads g c =
 pub returns-then-handed-from-clause-refused : goal.returns-then-handed-from-clause-refused
 returns-then-handed-from-clause-refused g c =
     let o = c.in_ok-vault.ensures.opened in
-    let f = fresh-vault c.opened_states.ensures.opened c.opened_states.ensures.there_is_one
-    c.in_ok-vault.vault o.0 (g.D.Disk.holds c.args.disk.now) (g.D.Disk.holds c.start.new.disk)
+    let f = fresh-vault c.opened_states.ensures c.in_ok-vault.vault o.0 o.1 (g.D.Disk.holds c.args.disk.now)
+    (g.D.Disk.holds c.start.new.disk)
     (g.D.Disk.faults c.start.new.disk)
-    o.1 o.2 c.in_ok-vault.ensures.number c.in_ok-vault.ensures.streams in
-    let few : c.args.handed < (setup_in_effect o.0).n =
+    o.2 o.3 c.in_ok-vault.ensures.number c.in_ok-vault.ensures.streams in
+    let few : c.args.handed < (setup_in_effect o.1).n =
     (let e = f.providers in let l = c.if-handed-from.true in let m = c.from.ensures in
     let n = ap (λ (s : Setup). s.n) c.setup.ensures in omega (arith, e, l, m, n)) in
-    (o.0, o.1, few)
+    (o.0, o.1, o.2, few)
 
 pub returns-then-handed-from-clause-reads : goal.returns-then-handed-from-clause-reads
 returns-then-handed-from-clause-reads g c =
@@ -47,18 +47,18 @@ returns-then-handed-from-clause-reads g c =
 pub returns-clause-opened : goal.returns-clause-opened
 returns-clause-opened g c =
     let o = c.in_ok-vault.ensures.opened in
-    let f = fresh-vault c.opened_states.ensures.opened c.opened_states.ensures.there_is_one
-    c.in_ok-vault.vault o.0 (g.D.Disk.holds c.args.disk.now) (g.D.Disk.holds c.start.new.disk)
+    let f = fresh-vault c.opened_states.ensures c.in_ok-vault.vault o.0 o.1 (g.D.Disk.holds c.args.disk.now)
+    (g.D.Disk.holds c.start.new.disk)
     (g.D.Disk.faults c.start.new.disk)
-    o.1 o.2 c.in_ok-vault.ensures.number c.in_ok-vault.ensures.streams in
-    let enough : (setup_in_effect o.0).n ≤ c.args.handed =
+    o.2 o.3 c.in_ok-vault.ensures.number c.in_ok-vault.ensures.streams in
+    let enough : (setup_in_effect o.1).n ≤ c.args.handed =
     (let e = f.providers in let l = c.if-handed-from.false in let m = c.from.ensures in
     let n = ap (λ (s : Setup). s.n) c.setup.ensures in omega (arith, e, l, m, n)) in
-    (o.0, record { read = o.1; enough = enough }, f)
+    (o.0, o.1, record { read = o.2; enough = enough }, f)
 
 pub returns-clause-ready : goal.returns-clause-ready
 returns-clause-ready g c =
-    let o = returns-clause-opened g c in record { records = o.0; fresh = o.2; enough = o.1.enough }
+    let o = returns-clause-opened g c in record { area = o.0; records = o.1; fresh = o.3; enough = o.2.enough }
 
 pub returns-clause-reads : goal.returns-clause-reads
 returns-clause-reads g c =

@@ -1,9 +1,7 @@
-use Rattle.std.proofs.Common.{◌≡◌, ◌+◌, ◌-◌, ◌<◌, ◌≤◌, min, length, take, refl, ap, sym, ◌∙◌, arith, rules}
+use Rattle.std.proofs.Common.{◌≡◌, ◌-◌, ◌≤◌, min, length, take, ap, sym, ◌∙◌, arith, rules}
 use Rattle.std.proofs.lemmas.List.{length-take-le}
 use borrow.Rule.Slice.PartMut.{put_mid}
-use Rattle.record_defs.specs.Records.{largest_file}
 use Rattle.device_defs.specs.Told.{then_told}
-use Rattle.command_jobs.specs.Pieces.{ReadsShort}
 use Rattle.command_jobs.proofs.ReadBytes.{bytes-front, told-on, put-more, on-error}
 use Rattle.command_jobs.proofs.piece.read_piece.Goals as goal
 

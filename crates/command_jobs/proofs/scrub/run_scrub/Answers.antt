@@ -11,18 +11,18 @@ unreachable-requires g c =
     let seen = provider_seen g.P.Provider in
     let few : (setup_in_effect r.2.records).n ≤ length (map seen c.args.providers.now) =
     (let a = r.2.enough in let b = length-map c.args.providers.now seen in omega (arith, a, b)) in
-    never-refused c.opened_states.ensures.opened c.opened_states.ensures.there_is_one c.args.vault
-    r.2.records r.0 r.1 r.2.fresh c.open_vaults_refuse_no_scrub.ensures c.hold.new.self c.in-Err.field-0
+    never-refused c.opened_states.ensures c.args.vault r.2.area r.2.records r.0 r.1 r.2.fresh
+    c.open_vaults_refuse_no_scrub.ensures c.hold.new.self c.in-Err.field-0
     (map seen c.args.providers.now) few c.in-Err.ensures.holds
 
 pub returns-clause-ended : goal.returns-clause-ended
-returns-clause-ended g c = λ records holds faults old new fresh opened before after.
+returns-clause-ended g c = λ records holds faults old new opened fresh before after.
     let seen = provider_seen g.P.Provider in
     let same : length (map seen c.sweep-answer.new.providers) ≡ length (map seen c.args.providers.now) =
     length-map c.sweep-answer.new.providers seen
     ∙ (c.sweep-answer.auto.providers ∙ sym (length-map c.args.providers.now seen)) in
-    scrub-ends c.opened_states.ensures.opened c.opened_states.ensures.there_is_one c.args.vault records holds
-    faults fresh c.scrubs_begin.ensures.happens c.scrubs_begin.ensures.stands c.told_scrubs_leave.ensures
+    scrub-ends c.args.vault records holds faults old new opened fresh c.scrubs_begin.ensures.happens
+    c.scrubs_begin.ensures.stands c.told_scrubs_leave.ensures
     c.vaults_stand_over_other_providers.ensures.beside c.hold.new.self c.in-Ok.field-0 c.in_ok-scrub.scrub
     c.sweep-answer.result (map seen c.args.providers.now) (map seen c.sweep-answer.new.providers)
-    c.in-Ok.ensures.holds c.in_ok-scrub.ensures.begun c.sweep-answer.ensures same old new opened before after
+    c.in-Ok.ensures.holds c.in_ok-scrub.ensures.begun c.sweep-answer.ensures same before after

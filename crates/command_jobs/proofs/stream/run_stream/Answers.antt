@@ -1,8 +1,8 @@
-use Rattle.std.proofs.Common.{◌≡◌, ℕ, ◌+◌, ◌≤◌, ◌++◌, List, Option, length, map, take, drop, refl, ap, sym, subst, ◌∙◌, arith, rules}
+use Rattle.std.proofs.Common.{◌≡◌, ℕ, ◌≤◌, ◌++◌, List, Option, length, map, take, drop, ap, sym, subst, ◌∙◌, arith, rules}
 use Rattle.std.proofs.lemmas.List.{length-map, length-take-le}
 use Rattle.std.proofs.Math.Seq.{take-append_seam}
 use Rattle.record_defs.specs.Records.{Record, largest_file}
-use Rattle.machine_defs.specs.Events.{AreBytes}
+use Rattle.record_defs.specs.Areas.{Area}
 use Rattle.machine_defs.specs.Jobs.{PutJob}
 use Rattle.command_defs.specs.Opens.{setup_in_effect}
 use Rattle.command_defs.specs.GivenUp.{put_stripe}
@@ -22,26 +22,26 @@ use Rattle.command_jobs.proofs.stream.run_stream.Goals as goal
 
 pub returns-in_err-stripe-clause-refused : goal.returns-in_err-stripe-clause-refused
 returns-in_err-stripe-clause-refused g c = told-by c.from_residual.result unbegun.Memory
-    (λ (why : Unbegun). (records : List Record)
-    → IsFreshOver c.args.vault records (g.D.Disk.holds c.args.disk.now) (g.D.Disk.faults c.args.disk.now)
-    → IsUnbegunOver records c.args.name.now c.args.profile why (g.S.Source.left c.args.source.now)
+    (λ (why : Unbegun). (area : Area) (records : List Record)
+    → IsFreshOver c.args.vault area records (g.D.Disk.holds c.args.disk.now) (g.D.Disk.faults c.args.disk.now)
+    → IsUnbegunOver area records c.args.name.now c.args.profile why (g.S.Source.left c.args.source.now)
     (g.S.Source.left c.args.source.now))
-    c.from_residual.ensures.1 (λ records fresh. read-nothing (g.S.Source.left c.args.source.now))
+    c.from_residual.ensures.1 (λ area records fresh. read-nothing (g.S.Source.left c.args.source.now))
 
 pub returns-in_err-number-clause-refused : goal.returns-in_err-number-clause-refused
 returns-in_err-number-clause-refused g c = told-by c.from_residual-in_err-number.result
     (unbegun.Refused c.in_err-number.field-0.0)
-    (λ (why : Unbegun). (records : List Record)
-    → IsFreshOver c.args.vault records (g.D.Disk.holds c.args.disk.now) (g.D.Disk.faults c.args.disk.now)
-    → IsUnbegunOver records c.args.name.now c.args.profile why (g.S.Source.left c.args.source.now)
+    (λ (why : Unbegun). (area : Area) (records : List Record)
+    → IsFreshOver c.args.vault area records (g.D.Disk.holds c.args.disk.now) (g.D.Disk.faults c.args.disk.now)
+    → IsUnbegunOver area records c.args.name.now c.args.profile why (g.S.Source.left c.args.source.now)
     (g.S.Source.left c.read_piece.new.source))
-    c.from_residual-in_err-number.ensures.1 (λ records fresh.
+    c.from_residual-in_err-number.ensures.1 (λ area records fresh.
     let P = c.in_ok-first.ensures.piece in
     let room : length c.read_piece.new.stripe ≡ c.stripe_size.result = search rules in
-    let S = is-stripe c.opened_states.ensures.opened c.opened_states.ensures.there_is_one c.args.vault records
+    let S = is-stripe c.opened_states.ensures c.args.vault area records
     (g.D.Disk.holds c.args.disk.now) (g.D.Disk.faults c.args.disk.now) fresh c.args.profile
-    c.stripe_size.result (c.stripe_size.ensures ∙ stripe-over c.opened_states.ensures.opened
-    c.opened_states.ensures.there_is_one c.args.vault records (g.D.Disk.holds c.args.disk.now)
+    c.stripe_size.result (c.stripe_size.ensures ∙ stripe-over c.opened_states.ensures c.args.vault area records
+    (g.D.Disk.holds c.args.disk.now)
     (g.D.Disk.faults c.args.disk.now) fresh c.args.profile) in
     let few : length (take c.in_ok-first.first c.read_piece.new.stripe) ≤ largest_file =
     (let a = length-take-le c.in_ok-first.first c.read_piece.new.stripe P.few in let b = P.few in
@@ -50,8 +50,8 @@ returns-in_err-number-clause-refused g c = told-by c.from_residual-in_err-number
       bytes = take c.in_ok-first.first c.read_piece.new.stripe;
       reads = P.read;
       few = few;
-      refused = refused-over c.opened_states.ensures.opened c.opened_states.ensures.there_is_one c.args.vault
-          records (g.D.Disk.holds c.args.disk.now) (g.D.Disk.faults c.args.disk.now) fresh
+      refused = refused-over c.opened_states.ensures c.args.vault area records
+          (g.D.Disk.holds c.args.disk.now) (g.D.Disk.faults c.args.disk.now) fresh
           c.begin_stream.new.self
           (PutJob c.args.name.now (take c.in_ok-first.first c.read_piece.new.stripe)) c.args.profile
           c.in_err-number.field-0.0
@@ -65,12 +65,12 @@ give_all-streamed-requires-clause-first g c =
     let seen = provider_seen g.P.Provider in
     let few : (setup_in_effect r.records).n ≤ length (map seen c.args.providers.now) =
     (let a = r.enough in let b = length-map c.args.providers.now seen in omega (arith, a, b)) in
-    first-number c.opened_states.ensures.opened c.opened_states.ensures.there_is_one c.args.vault r.records
+    first-number c.opened_states.ensures c.args.vault r.area r.records
     (g.D.Disk.holds c.args.disk.now) (g.D.Disk.faults c.args.disk.now) r.fresh
     c.begin_stream.new.self c.args.name.now c.args.profile c.in_ok-number.number c.stripe_size.result
     (map seen c.args.providers.now) few
-    (c.stripe_size.ensures ∙ stripe-over c.opened_states.ensures.opened c.opened_states.ensures.there_is_one
-    c.args.vault r.records (g.D.Disk.holds c.args.disk.now) (g.D.Disk.faults c.args.disk.now) r.fresh
+    (c.stripe_size.ensures ∙ stripe-over c.opened_states.ensures c.args.vault r.area r.records
+    (g.D.Disk.holds c.args.disk.now) (g.D.Disk.faults c.args.disk.now) r.fresh
     c.args.profile)
     (λ bytes are few w d moment stands. c.in_ok-number.ensures.machine w d moment bytes stands are few)
 
@@ -78,11 +78,10 @@ pub give_all-streamed-requires-clause-stripe : goal.give_all-streamed-requires-c
 give_all-streamed-requires-clause-stripe g c =
     let r = c.requires.ready in
     let room : length c.deref_mut-2.result.now ≡ c.stripe_size.result = search rules in
-    is-stripe c.opened_states.ensures.opened c.opened_states.ensures.there_is_one c.args.vault r.records
+    is-stripe c.opened_states.ensures c.args.vault r.area r.records
     (g.D.Disk.holds c.args.disk.now) (g.D.Disk.faults c.args.disk.now) r.fresh c.args.profile _
-    (room ∙ (c.stripe_size.ensures ∙ stripe-over c.opened_states.ensures.opened
-    c.opened_states.ensures.there_is_one
-    c.args.vault r.records (g.D.Disk.holds c.args.disk.now) (g.D.Disk.faults c.args.disk.now) r.fresh
+    (room ∙ (c.stripe_size.ensures ∙ stripe-over c.opened_states.ensures c.args.vault r.area r.records
+    (g.D.Disk.holds c.args.disk.now) (g.D.Disk.faults c.args.disk.now) r.fresh
     c.args.profile))
 
 pub give_all-streamed-requires-clause-begun : goal.give_all-streamed-requires-clause-begun
@@ -92,19 +91,18 @@ give_all-streamed-requires-clause-begun g c = λ bytes are short.
     let few : (setup_in_effect r.records).n ≤ length (map seen c.args.providers.now) =
     (let a = r.enough in let b = length-map c.args.providers.now seen in omega (arith, a, b)) in
     let room : length c.deref_mut-2.result.now ≡ c.stripe_size.result = search rules in
-    all-begun c.opened_states.ensures.opened c.opened_states.ensures.there_is_one c.args.vault r.records
+    all-begun c.opened_states.ensures c.args.vault r.area r.records
     (g.D.Disk.holds c.args.disk.now) (g.D.Disk.faults c.args.disk.now) r.fresh
     c.begin_stream.new.self c.args.name.now c.args.profile c.in_ok-number.number _
     (map seen c.args.providers.now) few
-    (room ∙ (c.stripe_size.ensures ∙ stripe-over c.opened_states.ensures.opened
-    c.opened_states.ensures.there_is_one
-    c.args.vault r.records (g.D.Disk.holds c.args.disk.now) (g.D.Disk.faults c.args.disk.now) r.fresh
+    (room ∙ (c.stripe_size.ensures ∙ stripe-over c.opened_states.ensures c.args.vault r.area r.records
+    (g.D.Disk.holds c.args.disk.now) (g.D.Disk.faults c.args.disk.now) r.fresh
     c.args.profile))
     (λ bytes are few w d moment stands. c.in_ok-number.ensures.machine w d moment bytes stands are few)
     bytes are short
 
 pub returns-clause-ended : goal.returns-clause-ended
-returns-clause-ended g c = λ records old new fresh opened before after was is.
+returns-clause-ended g c = λ records old new opened fresh before after was is.
     let seen = provider_seen g.P.Provider in
     let P = c.in_ok-first.ensures.piece in
     let len : c.in_ok-stripe.stripe.len ≡ length c.read_piece.new.stripe = search rules in
@@ -113,14 +111,14 @@ returns-clause-ended g c = λ records old new fresh opened before after was is.
     c.in_ok-stripe.stripe.items)) len ∙ take-append_seam c.read_piece.new.stripe _) in
     let room : length c.deref_mut-2.result.now ≡ c.stripe_size.result = search rules in
     let size_is : length c.deref_mut-2.result.now ≡ put_stripe records c.args.profile =
-    room ∙ (c.stripe_size.ensures ∙ stripe-over c.opened_states.ensures.opened
-    c.opened_states.ensures.there_is_one c.args.vault records (g.D.Disk.holds c.args.disk.now)
+    room ∙ (c.stripe_size.ensures ∙ stripe-over c.opened_states.ensures c.args.vault opened.area records
+    (g.D.Disk.holds c.args.disk.now)
     (g.D.Disk.faults c.args.disk.now) fresh c.args.profile) in
-    let S = is-stripe c.opened_states.ensures.opened c.opened_states.ensures.there_is_one c.args.vault records
+    let S = is-stripe c.opened_states.ensures c.args.vault opened.area records
     (g.D.Disk.holds c.args.disk.now) (g.D.Disk.faults c.args.disk.now) fresh c.args.profile
     (length c.deref_mut-2.result.now) size_is in
-    streams-over c.opened_states.ensures.opened c.opened_states.ensures.there_is_one c.args.vault records
-    (g.D.Disk.holds c.args.disk.now) (g.D.Disk.faults c.args.disk.now) fresh c.begin_stream.new.self
+    streams-over c.opened_states.ensures c.args.vault records (g.D.Disk.holds c.args.disk.now)
+    (g.D.Disk.faults c.args.disk.now) old new opened fresh c.begin_stream.new.self
     c.give_all-streamed.new.vault c.args.name.now c.args.profile c.in_ok-number.number
     (length c.deref_mut-2.result.now) (map seen c.args.providers.now)
     (map seen c.give_all-streamed.new.providers) (g.D.Disk.holds c.give_all-streamed.new.disk)
@@ -128,7 +126,7 @@ returns-clause-ended g c = λ records old new fresh opened before after was is.
     (λ bytes are few w d moment stands. c.in_ok-number.ensures.machine w d moment bytes stands are few)
     (length-map c.give_all-streamed.new.providers seen
     ∙ (c.give_all-streamed.ensures.count ∙ sym (length-map c.args.providers.now seen)))
-    old new opened before after (g.S.Source.left c.read_piece.new.source)
+    before after (g.S.Source.left c.read_piece.new.source)
     (take c.in_ok-first.first c.deref_mut-2.result.now)
     (subst (λ (o : Option (List ℕ)). ReadsFront o (g.S.Source.left c.read_piece.new.source)
     (take c.in_ok-first.first c.deref_mut-2.result.now)) (sym was.left_is)

@@ -1,4 +1,4 @@
-use Rattle.command_lines.proofs.Pushed.{then_last, told_as, both}
+use Rattle.command_lines.proofs.Pushed.{then_last, told_as}
 use Rattle.command_lines.proofs.OffSteps.{off_line_is}
 use Rattle.command_lines.proofs.scrub.push_off.Goals as goal
 

@@ -13,8 +13,9 @@ returns-in-Ok-clause-answers g c providers left count handed =
     (g.D.Disk.faults c.args.disk.now) providers left count (g.K.Sink.written c.args.sink.now)
     (g.K.Sink.faults c.args.sink.now) in
     let found = c.in-Ok.ensures.opened in
-    listed-told found.0 old _ _ _ c.of.ensures (opened-read old found.0 c.args.handed (sym handed) found.1)
-    (c.write_files-status.ensures.written found.0 found.2.table) c.in-Ok.ensures.synced refl
+    listed-told found.1 old _ _ _ c.of.ensures
+    (opened-read old found.0 found.1 c.args.handed (sym handed) found.2)
+    (c.write_files-status.ensures.written found.1 found.3.table) c.in-Ok.ensures.synced refl
 
 pub returns-in-Err-clause-answers : goal.returns-in-Err-clause-answers
 returns-in-Err-clause-answers g c providers left count handed =

@@ -16,9 +16,9 @@ returns-in-Ok-clause-answers g c =
     (g.S.Source.faults c.args.source.now) (g.K.Sink.written c.args.sink.now)
     (g.K.Sink.faults c.args.sink.now) in
     let found = c.in-Ok.ensures.opened in
-    let opened = opened-read old found.0 (length c.args.providers.now)
-    (sym (length-map c.args.providers.now see)) found.1 in
-    (c.put_stream.ensures.over found.0 old found.2 opened
+    let opened = opened-read old found.0 found.1 (length c.args.providers.now)
+    (sym (length-map c.args.providers.now see)) found.2 in
+    (c.put_stream.ensures.over found.1 old opened found.3
     (record { reads = c.in-Ok.ensures.reads; faults = c.in-Ok.ensures.cause.never_falls; providers = refl })
     c.in-Ok.ensures.synced refl refl refl refl).answers
 
@@ -30,9 +30,9 @@ returns-in-Ok-clause-counts g c =
     (g.S.Source.faults c.args.source.now) (g.K.Sink.written c.args.sink.now)
     (g.K.Sink.faults c.args.sink.now) in
     let found = c.in-Ok.ensures.opened in
-    let opened = opened-read old found.0 (length c.args.providers.now)
-    (sym (length-map c.args.providers.now see)) found.1 in
-    no_count_falls old _ (c.put_stream.ensures.over found.0 old found.2 opened
+    let opened = opened-read old found.0 found.1 (length c.args.providers.now)
+    (sym (length-map c.args.providers.now see)) found.2 in
+    no_count_falls old _ (c.put_stream.ensures.over found.1 old opened found.3
     (record { reads = c.in-Ok.ensures.reads; faults = c.in-Ok.ensures.cause.never_falls; providers = refl })
     c.in-Ok.ensures.synced refl refl refl refl).counts
     c.put_stream.ensures.source_count c.put_stream.ensures.sink_count

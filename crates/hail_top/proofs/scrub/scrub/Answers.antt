@@ -15,9 +15,9 @@ returns-in-Ok-clause-answers g c left count =
     (map see c.args.providers.now) left count (g.K.Sink.written c.args.sink.now)
     (g.K.Sink.faults c.args.sink.now) in
     let found = c.in-Ok.ensures.opened in
-    let opened = opened-read old found.0 (length c.args.providers.now)
-    (sym (length-map c.args.providers.now see)) found.1 in
-    (c.answer_scrub.ensures.over found.0 _ _ old left count found.2 opened
+    let opened = opened-read old found.0 found.1 (length c.args.providers.now)
+    (sym (length-map c.args.providers.now see)) found.2 in
+    (c.answer_scrub.ensures.over found.1 _ _ old left count opened found.3
     (record { reads = c.in-Ok.ensures.reads; faults = c.in-Ok.ensures.cause.never_falls; providers = refl })
     c.in-Ok.ensures.synced refl refl).answers
 
@@ -28,9 +28,9 @@ returns-in-Ok-clause-counts g c left count =
     (map see c.args.providers.now) left count (g.K.Sink.written c.args.sink.now)
     (g.K.Sink.faults c.args.sink.now) in
     let found = c.in-Ok.ensures.opened in
-    let opened = opened-read old found.0 (length c.args.providers.now)
-    (sym (length-map c.args.providers.now see)) found.1 in
-    no_count_falls old _ (c.answer_scrub.ensures.over found.0 _ _ old left count found.2 opened
+    let opened = opened-read old found.0 found.1 (length c.args.providers.now)
+    (sym (length-map c.args.providers.now see)) found.2 in
+    no_count_falls old _ (c.answer_scrub.ensures.over found.1 _ _ old left count opened found.3
     (record { reads = c.in-Ok.ensures.reads; faults = c.in-Ok.ensures.cause.never_falls; providers = refl })
     c.in-Ok.ensures.synced refl refl).counts (still count) c.answer_scrub.ensures.count
 

@@ -131,3 +131,15 @@ returns-in-Scrub-clause-counts g c =
 
 pub returns-in-Scrub-clause-inits : goal.returns-in-Scrub-clause-inits
 returns-in-Scrub-clause-inits g c = inits-as _ _ _ _ _ c.in-Scrub.is tt
+
+pub returns-in-Pack-clause-answers : goal.returns-in-Pack-clause-answers
+returns-in-Pack-clause-answers g c =
+    let see = provider_seen g.P.Provider in
+    answered _ _ _ _ _ c.in-Pack.is (
+      c.pack.ensures.answers (map see c.args.providers.now) (g.S.Source.left c.args.source.now)
+          (g.S.Source.faults c.args.source.now) (length-map c.args.providers.now see),
+      (refl, refl),
+    )
+
+pub returns-in-Pack-clause-inits : goal.returns-in-Pack-clause-inits
+returns-in-Pack-clause-inits g c = inits-as _ _ _ _ _ c.in-Pack.is tt

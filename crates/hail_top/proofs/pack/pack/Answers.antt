@@ -1,0 +1,24 @@
+use Rattle.std.proofs.Common.{Err, refl, ap, sym}
+use Rattle.command_defs.specs.Seen.{Seen, seen}
+use Rattle.command_defs.specs.Packs.{unstarted}
+use Rattle.command_jobs.specs.declared.open.Unopened.{Unopened}
+use Rattle.hail_top.proofs.Unopened.{unopened-told}
+use Rattle.hail_top.proofs.Opened.{opened-read}
+use Rattle.hail_top.proofs.pack.pack.Goals as goal
+
+pub returns-in-Ok-clause-answers : goal.returns-in-Ok-clause-answers
+returns-in-Ok-clause-answers g c providers left count handed =
+    let old : Seen = seen (g.D.Disk.holds c.args.disk.now) (g.D.Disk.faults c.args.disk.now) providers left count
+    (g.K.Sink.written c.args.sink.now) (g.K.Sink.faults c.args.sink.now) in
+    let found = c.in-Ok.ensures.opened in
+    let opened = opened-read old found.0 found.1 c.args.handed (sym handed) found.2 in
+    (c.answer_pack.ensures.over found.1 old providers left count opened found.3
+    (record { reads = c.in-Ok.ensures.reads; faults = c.in-Ok.ensures.cause.never_falls; providers = refl })
+    c.in-Ok.ensures.synced refl refl).answers
+
+pub returns-in-Err-clause-answers : goal.returns-in-Err-clause-answers
+returns-in-Err-clause-answers g c providers left count handed =
+    unstarted (unopened-told _ _ _ c.in-Err.why c.args.handed c.unopened.ensures
+    (sym handed) c.in-Err.ensures.refused c.in-Err.ensures.disk
+    c.in-Err.ensures.resynced
+    (λ same. c.in-Err.ensures.cause.rose (ap (λ (w : Unopened). Err w) same)) refl refl)
