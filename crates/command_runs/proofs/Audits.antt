@@ -1,5 +1,6 @@
 -- Audits, from every state that was just opened over the store of which one block is lost.
 use Rattle.std.proofs.Common.{ℕ, List, [], ◌∷◌, Some, None, refl, sym, inl, inr, arith}
+use Rattle.record_defs.specs.Areas.{A}
 use Rattle.record_defs.specs.Records.{AuditStart, AuditDone}
 use Rattle.record_defs.specs.Spellings.{spelling}
 use Rattle.machine_defs.specs.Jobs.{AuditJob}
@@ -24,7 +25,7 @@ abbrev asks : List Turn
 asks = Notes (AuditDone 1 0 counts) ∷ Heard (right 3) ∷ Heard None ∷ Heard (right 1) ∷ Heard (right 0)
     ∷ Goes 4 ∷ []
 
-asks-fit : (w : State) (n : ℕ) → AreFitTurns (begun_with (formed byte_records (one_byte w.bytes)
+asks-fit : (w : State) (n : ℕ) → AreFitTurns (begun_with (formed A byte_records (one_byte w.bytes)
     (holds 0) (holds 1) empty_provider (holds 3) w) n AuditJob None) [] 1 asks
 unfolding setup_in actions_of
 asks-fit w n = (
@@ -46,15 +47,15 @@ asks-fit w n = (
 )
 
 -- an audit is done
-pub done-runs : RunsAlone byte_records AuditJob None (Audited 1 0 counts) damaged byte_audited answers_heard
+pub done-runs : RunsAlone A byte_records AuditJob None (Audited 1 0 counts) damaged byte_audited answers_heard
 unfolding setup_in actions_of spelling
-done-runs = byte-run byte_records (holds 0) (holds 1) empty_provider (holds 3) AuditJob (Goes 3 ∷ asks)
+done-runs = byte-run A byte_records (holds 0) (holds 1) empty_provider (holds 3) AuditJob (Goes 3 ∷ asks)
     (Gives (Audited 1 0 counts)) (Audited 1 0 counts) damaged byte_audited answers_heard refl (omega arith)
-    refl refl audit_begins (λ w n. record {
+    refl refl audit_begins tt (λ w n. record {
       fit = (refl, refl, asks-fit w n);
       ends = (refl, (refl, (refl, (sums, (sums, judged, refl), refl))));
       heard_is = refl;
-      images = λ image is. inl (inl (refl, audited-new.images image is));
+      images = λ image is. inl (inl (audited-new.images image is));
       faults_are = refl;
       count = λ e. e;
       each = four-each byte_audited.providers _ refl refl refl refl;
@@ -71,15 +72,15 @@ done = (
 )
 
 -- a fault of the disk cuts it off at its last move
-cut-runs : RunsAlone byte_records AuditJob None DiskFault damaged audit_cut answers_heard
+cut-runs : RunsAlone A byte_records AuditJob None DiskFault damaged audit_cut answers_heard
 unfolding setup_in actions_of spelling
-cut-runs = byte-run byte_records (holds 0) (holds 1) empty_provider (holds 3) AuditJob (Goes 2 ∷ asks) Cut
-    DiskFault damaged audit_cut answers_heard refl (omega arith) refl refl audit_begins (λ w n. record {
+cut-runs = byte-run A byte_records (holds 0) (holds 1) empty_provider (holds 3) AuditJob (Goes 2 ∷ asks) Cut
+    DiskFault damaged audit_cut answers_heard refl (omega arith) refl refl audit_begins tt (λ w n. record {
       fit = (refl, refl, asks-fit w n);
       ends = (refl, (refl, refl));
       heard_is = refl;
       images = λ image is. inr
-          (inl (record { doubt = _; in_doubt = refl; stands = (refl, audit_cut-new.images image is) }));
+          (inl (record { doubt = _; in_doubt = refl; stands = audit_cut-new.images image is }));
       faults_are = refl;
       count = λ e. e;
       each = four-each audit_cut.providers _ refl refl refl refl;

@@ -1,5 +1,6 @@
 -- A scrub that mends two providers, and one whose store fails, from every state that was just opened.
 use Rattle.std.proofs.Common.{◌≡◌, ℕ, ◌+◌, List, [], ◌∷◌, refl, ap, sym, inl, arith}
+use Rattle.record_defs.specs.Areas.{A}
 use Rattle.machine_defs.specs.Actions.{Action, Store, End}
 use Rattle.machine_defs.specs.Alone.{scrubbing, unalone}
 use Rattle.machine_defs.specs.Answers.{Scrubbed, ProviderFault}
@@ -132,7 +133,7 @@ module _ (w : State) (n : ℕ) (count : w.handed ≡ 4) where
       begins = (refl, refl, refl, refl);
       goes_on = record { steps = steps; are_steps = steps-are; ends = last 0; heard_is = refl };
     };
-    images = λ image is. inl (inl (refl, scrubbed-new.images image is));
+    images = λ image is. inl (inl (scrubbed-new.images image is));
     faults_are = refl;
     handed = record {
       count = count;
@@ -172,7 +173,7 @@ module _ (w : State) (n : ℕ) (count : w.handed ≡ 4) where
       begins = (refl, refl, refl, refl);
       goes_on = record { steps = until; are_steps = until-are; ends = fails 0; heard_is = refl };
     };
-    images = λ image is. inl (inl (refl, scrub_failed-new.images image is));
+    images = λ image is. inl (inl (scrub_failed-new.images image is));
     faults_are = refl;
     handed = record {
       count = count;
@@ -181,12 +182,12 @@ module _ (w : State) (n : ℕ) (count : w.handed ≡ 4) where
   }
 
 -- the scrub runs to its end from every state just opened over the store
-pub alone : ScrubsAlone byte_records (Scrubbed 1 symbols_off blocks_off) two_damaged scrubbed
+pub alone : ScrubsAlone A byte_records (Scrubbed 1 symbols_off blocks_off) two_damaged scrubbed
 alone = scrub-byte byte_records holds_altered (holds 1) empty_provider (holds 3)
     (Scrubbed 1 symbols_off blocks_off) two_damaged scrubbed (omega arith) refl refl ran-formed
 
 -- or to its failed store
-pub fails-alone : ScrubsAlone byte_records (ProviderFault 0) two_damaged scrub_failed
+pub fails-alone : ScrubsAlone A byte_records (ProviderFault 0) two_damaged scrub_failed
 fails-alone = scrub-byte byte_records holds_altered (holds 1) empty_provider (holds 3) (ProviderFault 0)
     two_damaged scrub_failed (omega arith) refl refl fails-formed
 

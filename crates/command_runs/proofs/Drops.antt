@@ -1,5 +1,6 @@
 -- Drops, from every state that was just opened over the store with the file.
 use Rattle.std.proofs.Common.{[], ◌∷◌, Some, None, refl, inl, inr, arith}
+use Rattle.record_defs.specs.Areas.{A}
 use Rattle.record_defs.specs.Records.{Drop}
 use Rattle.record_defs.specs.Spellings.{spelling}
 use Rattle.machine_defs.specs.Jobs.{DropJob}
@@ -17,14 +18,14 @@ use Rattle.command_runs.proofs.Begins.{drop_begins}
 use Rattle.command_runs.proofs.Made.{byte-run, alone-ends, four-each}
 
 -- a drop is done
-pub done-runs : RunsAlone byte_records (DropJob named) None Dropped byte_kept dropped []
+pub done-runs : RunsAlone A byte_records (DropJob named) None Dropped byte_kept dropped []
 unfolding setup_in actions_of spelling
-done-runs = byte-run byte_records (holds 0) (holds 1) (holds 2) (holds 3) (DropJob named) (Goes 8 ∷ [])
-    (Gives Dropped) Dropped byte_kept dropped [] refl (omega arith) refl refl drop_begins (λ w n. record {
+done-runs = byte-run A byte_records (holds 0) (holds 1) (holds 2) (holds 3) (DropJob named) (Goes 8 ∷ [])
+    (Gives Dropped) Dropped byte_kept dropped [] refl (omega arith) refl refl drop_begins refl (λ w n. record {
       fit = (refl, refl, tt);
       ends = (refl, (refl, tt));
       heard_is = refl;
-      images = λ image is. inl (inl (refl, dropped-new.images image is));
+      images = λ image is. inl (inl (dropped-new.images image is));
       faults_are = refl;
       count = λ e. e;
       each = four-each dropped.providers _ refl refl refl refl;
@@ -40,15 +41,15 @@ done = (
 )
 
 -- a fault of the disk cuts it off at its last move
-cut-runs : RunsAlone byte_records (DropJob named) None DiskFault byte_kept drop_cut []
+cut-runs : RunsAlone A byte_records (DropJob named) None DiskFault byte_kept drop_cut []
 unfolding setup_in actions_of spelling
-cut-runs = byte-run byte_records (holds 0) (holds 1) (holds 2) (holds 3) (DropJob named) (Goes 3 ∷ []) Cut
-    DiskFault byte_kept drop_cut [] refl (omega arith) refl refl drop_begins (λ w n. record {
+cut-runs = byte-run A byte_records (holds 0) (holds 1) (holds 2) (holds 3) (DropJob named) (Goes 3 ∷ []) Cut
+    DiskFault byte_kept drop_cut [] refl (omega arith) refl refl drop_begins refl (λ w n. record {
       fit = (refl, refl, tt);
       ends = (refl, (refl, refl));
       heard_is = refl;
       images = λ image is. inr
-          (inl (record { doubt = _; in_doubt = refl; stands = (refl, drop_cut-new.images image is) }));
+          (inl (record { doubt = _; in_doubt = refl; stands = drop_cut-new.images image is }));
       faults_are = refl;
       count = λ e. e;
       each = four-each drop_cut.providers _ refl refl refl refl;

@@ -1,6 +1,7 @@
 -- Gets of the file, from every state that was just opened.
 use Rattle.std.proofs.Common.{◌≡◌, [], ◌∷◌, Some, None, refl, inl, arith}
 use Rattle.column_laws.proofs.Worked.{none-lose}
+use Rattle.record_defs.specs.Areas.{A}
 use Rattle.record_defs.specs.Spellings.{spelling}
 use Rattle.record_defs.specs.Examples.{four}
 use Rattle.machine_defs.specs.Jobs.{GetJob}
@@ -21,17 +22,17 @@ use Rattle.command_runs.proofs.Stores.{mended-sure, got-new, robbed_later-sure, 
 use Rattle.command_runs.proofs.Begins.{get_begins}
 use Rattle.command_runs.proofs.Made.{byte-run, alone-ends, four-each}
 
-mended-begins : refusal_over byte_repaired_records (GetJob named) None ≡ None
+mended-begins : refusal_over A byte_repaired_records (GetJob named) None ≡ None
 mended-begins = refl
 
 -- over the mended store it gives the byte
-pub done-runs : RunsAlone byte_repaired_records (GetJob named) None (Got byte) mended got own_blocks_heard
+pub done-runs : RunsAlone A byte_repaired_records (GetJob named) None (Got byte) mended got own_blocks_heard
 unfolding setup_in actions_of spelling
-done-runs = byte-run byte_repaired_records (fetched (holds 0)) (fetched (holds 1))
+done-runs = byte-run A byte_repaired_records (fetched (holds 0)) (fetched (holds 1))
     (given_block 2 (fetched empty_provider)) (fetched (holds 3)) (GetJob named)
     (Works symbols ∷ Came (Some (own_block 3)) ∷ Came (Some (own_block 2)) ∷ Came (Some (own_block 1))
     ∷ Came (Some (own_block 0)) ∷ []) (Gives (Got byte)) (Got byte) mended got own_blocks_heard refl
-    (omega arith) refl refl mended-begins (λ w n. record {
+    (omega arith) refl refl mended-begins refl (λ w n. record {
       fit = (
         refl,
         (refl, (refl, own_work)),
@@ -47,7 +48,7 @@ done-runs = byte-run byte_repaired_records (fetched (holds 0)) (fetched (holds 1
       );
       ends = (refl, (refl, byte_back));
       heard_is = refl;
-      images = λ image is. inl (inl (refl, got-new.images image is));
+      images = λ image is. inl (inl (got-new.images image is));
       faults_are = refl;
       count = λ e. e;
       each = four-each got.providers _ refl refl refl refl;
@@ -64,13 +65,13 @@ done = (
 )
 
 -- so it does where another provider has lost its block
-later-runs : RunsAlone byte_records (GetJob named) None (Got byte) robbed_later got_later later_heard
+later-runs : RunsAlone A byte_records (GetJob named) None (Got byte) robbed_later got_later later_heard
 unfolding setup_in actions_of spelling
-later-runs = byte-run byte_records (fetched empty_provider) (fetched (holds 1))
+later-runs = byte-run A byte_records (fetched empty_provider) (fetched (holds 1))
     (given_block 2 (fetched empty_provider)) (fetched (holds 3)) (GetJob named)
     (Works symbols ∷ Came (Some (own_block 3)) ∷ Came (Some (own_block 2)) ∷ Came (Some (own_block 1))
     ∷ Came None ∷ []) (Gives (Got byte)) (Got byte) robbed_later got_later later_heard refl (omega arith) refl
-    refl get_begins (λ w n. record {
+    refl get_begins refl (λ w n. record {
       fit = (
         refl,
         (refl, (refl, without_zero_give)),
@@ -86,7 +87,7 @@ later-runs = byte-run byte_records (fetched empty_provider) (fetched (holds 1))
       );
       ends = (refl, (refl, byte_back));
       heard_is = refl;
-      images = λ image is. inl (inl (refl, got_later-new.images image is));
+      images = λ image is. inl (inl (got_later-new.images image is));
       faults_are = refl;
       count = λ e. e;
       each = four-each got_later.providers _ refl refl refl refl;
@@ -103,11 +104,11 @@ later = (
 )
 
 -- where all blocks are lost it finds a row lost
-pub lost-runs : RunsAlone byte_records (GetJob named) None (Lost 0 0) all_lost found_lost no_blocks
+pub lost-runs : RunsAlone A byte_records (GetJob named) None (Lost 0 0) all_lost found_lost no_blocks
 unfolding setup_in actions_of spelling
-lost-runs = byte-run byte_records empty_provider empty_provider empty_provider empty_provider (GetJob named)
+lost-runs = byte-run A byte_records empty_provider empty_provider empty_provider empty_provider (GetJob named)
     (Came None ∷ Came None ∷ Came None ∷ Came None ∷ []) (LosesOne 0 0) (Lost 0 0) all_lost found_lost
-    no_blocks refl (omega arith) refl refl get_begins (λ w n. record {
+    no_blocks refl (omega arith) refl refl get_begins refl (λ w n. record {
       fit = (
         refl,
         (refl, (refl, refl)),
@@ -119,7 +120,7 @@ lost-runs = byte-run byte_records empty_provider empty_provider empty_provider e
       );
       ends = (refl, (refl, (refl, none-lose four.master)));
       heard_is = refl;
-      images = λ image is. inl (inl (refl, lost-new.images image is));
+      images = λ image is. inl (inl (lost-new.images image is));
       faults_are = refl;
       count = λ e. e;
       each = four-each found_lost.providers _ refl refl refl refl;
@@ -136,11 +137,11 @@ lost = (
 )
 
 -- so it may over devices that tell nothing
-hidden-runs : RunsAlone byte_records (GetJob named) None (Lost 0 0) all_hidden hidden_fetched no_blocks
+hidden-runs : RunsAlone A byte_records (GetJob named) None (Lost 0 0) all_hidden hidden_fetched no_blocks
 unfolding setup_in actions_of spelling
-hidden-runs = byte-run byte_records silent silent silent silent (GetJob named)
+hidden-runs = byte-run A byte_records silent silent silent silent (GetJob named)
     (Came None ∷ Came None ∷ Came None ∷ Came None ∷ []) (LosesOne 0 0) (Lost 0 0) all_hidden hidden_fetched
-    no_blocks refl (omega arith) refl refl get_begins (λ w n. record {
+    no_blocks refl (omega arith) refl refl get_begins refl (λ w n. record {
       fit = (
         refl,
         (refl, (refl, tt)),

@@ -1,5 +1,6 @@
 -- A put whose source fails behind its first stripe, from every state that was just opened.
 use Rattle.std.proofs.Common.{◌≡◌, ℕ, [], ◌∷◌, None, refl, ◌∙◌, inl, arith}
+use Rattle.record_defs.specs.Areas.{A}
 use Rattle.record_defs.specs.Examples.{four}
 use Rattle.record_defs.specs.Spellings.{spelling}
 use Rattle.machine_defs.specs.Jobs.{PutJob}
@@ -11,7 +12,7 @@ use Rattle.command_defs.specs.Refusals.{refusal_over}
 use Rattle.command_defs.specs.GivenUp.{PartRan, PartRuns}
 use Rattle.command_defs.specs.Commands.{AnswersPut, Answers}
 use Rattle.lone_laws.specs.Walked.{MayName}
-use Rattle.job_laws.proofs.BeginRefusals.{refusal-of}
+use Rattle.job_laws.proofs.BeginRefusals.{refusal-alone}
 use Rattle.job_laws.proofs.Parts.{part-left}
 use Rattle.command_laws.proofs.Chains.{first-begins}
 use Rattle.command_laws.specs.After.{IsSure}
@@ -25,32 +26,31 @@ use Rattle.command_runs.proofs.Stores.{four-fit, started-fit}
 use Rattle.made_runs.specs.Turns.{Goes}
 
 -- the store before it is sure
-pub old-sure : IsSure (to_put_source long) four_records
+abbrev pub old-sure : IsSure (to_put_source long) four_records
 old-sure = sure (to_put_source long) four_records four-fit refl (omega arith)
 
 -- so is the store after it, with its start
-pub new-sure : IsSure put_given_up started_records
+abbrev pub new-sure : IsSure put_given_up started_records
 new-sure = sure put_given_up started_records started-fit refl (omega arith)
 
 -- no cause refuses it
-begins : refusal_over four_records (PutJob named first_stripe) None ≡ None
-begins = first-begins four named first_stripe refl (omega arith)
+begins : refusal_over A four_records (PutJob named first_stripe) None ≡ None
+begins = first-begins A four named first_stripe refl (omega arith)
 
 module _ (w : State) (n : ℕ) (count : w.handed ≡ 4) where
   abbrev v : State
-  v = formed four_records w.bytes empty_provider empty_provider empty_provider empty_provider w
+  v = formed A four_records w.bytes empty_provider empty_provider empty_provider empty_provider w
 
   abbrev last : State
   last = after_turns v n (PutJob named first_stripe) None (Goes 8 ∷ [])
 
-  ran-formed : PartRan four_records named first_stripe None (to_put_source long) put_given_up 0 v n
+  ran-formed : PartRan A four_records named first_stripe None (to_put_source long) put_given_up 0 v n
   unfolding setup_in actions_of spelling
   ran-formed = record {
     last = last;
     runs = part-so v n (PutJob named first_stripe) None (Goes 8 ∷ []) refl
-        (refusal-of v (PutJob named first_stripe) None refl refl refl
-        (record { journal = refl; area = refl; unswitched = refl }) ∙ begins) (refl, refl, tt);
-    images = λ image is. inl (inl (refl, new-sure.images image is));
+        (refusal-alone v (PutJob named first_stripe) None ∙ begins) (refl, refl, tt);
+    images = λ image is. inl (inl (new-sure.images image is));
     faults_are = refl;
     handed = record {
       count = count;
@@ -60,9 +60,10 @@ module _ (w : State) (n : ℕ) (count : w.handed ≡ 4) where
   }
 
 -- the put's job runs so far from every state just opened over the store
-pub runs : PartRuns four_records named first_stripe None (to_put_source long) put_given_up
+pub runs : PartRuns A four_records named first_stripe None (to_put_source long) put_given_up
 runs = part-over four_records empty_provider empty_provider empty_provider empty_provider named
-    first_stripe None (to_put_source long) put_given_up (omega arith) refl ran-formed
+    first_stripe None (to_put_source long) put_given_up (omega arith) refl (refl, refl)
+    (MayName.none refl) ran-formed
 
 -- the put ends with status 14
 pub answers : Answers (PutUnder named) (to_put_source long) put_given_up (ends 14)

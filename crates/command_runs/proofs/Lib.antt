@@ -22,3 +22,4 @@ pub mod Meets
 pub mod Somewhere
 pub mod Torn
 pub mod DoneRow
+pub mod Packing

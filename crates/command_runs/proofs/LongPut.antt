@@ -9,6 +9,7 @@ use Rattle.code_defs.specs.Points.{upto}
 use Rattle.column_defs.specs.Columns.{columns}
 use Rattle.device_defs.specs.Faults.{Rose}
 use Rattle.device_defs.specs.Providers.{Provider}
+use Rattle.record_defs.specs.Areas.{A}
 use Rattle.record_defs.specs.Records.{largest_file}
 use Rattle.record_defs.specs.Examples.{four}
 use Rattle.record_defs.specs.Spellings.{spelling}
@@ -29,7 +30,7 @@ use Rattle.command_defs.specs.JobRuns.{AreSteps}
 use Rattle.command_defs.specs.GivenUp.{PartRan, PartRuns}
 use Rattle.command_defs.specs.Commands.{AnswersPut, Answers}
 use Rattle.lone_laws.specs.Walked.{MayName}
-use Rattle.job_laws.proofs.BeginRefusals.{refusal-of}
+use Rattle.job_laws.proofs.BeginRefusals.{refusal-alone}
 use Rattle.job_laws.proofs.Parts.{part-left}
 use Rattle.command_laws.proofs.Chains.{first-begins}
 use Rattle.command_laws.proofs.Samples.{never-rises}
@@ -89,7 +90,7 @@ listed i m t p l k e = ap (slice_get (put_actions m)) (e ∙ behind-is i t)
 
 module _ (bytes : List ℕ) (short : length bytes ≤ largest_file) where
   -- the store stays sure, with the start
-  stored-sure : (t : ℕ) (left : List ℕ) →
+  abbrev stored-sure : (t : ℕ) (left : List ℕ) →
       IsSure (record (storing bytes t) { source = Some left }) started_records
   stored-sure t left = sure (record (storing bytes t) { source = Some left }) started_records started-fit refl
       (omega arith)
@@ -98,8 +99,8 @@ module _ (bytes : List ℕ) (short : length bytes ≤ largest_file) where
   abbrev many : ℕ
   many = stripes_of four (length bytes)
 
-  begins : refusal_over four_records (PutJob named bytes) None ≡ None
-  begins = first-begins four named bytes refl short
+  begins : refusal_over A four_records (PutJob named bytes) None ≡ None
+  begins = first-begins A four named bytes refl short
 
   -- a provider is given its block of a stripe
   abbrev given : ℕ → ℕ → (ℕ → Provider) → ℕ → Provider
@@ -123,7 +124,7 @@ module _ (bytes : List ℕ) (short : length bytes ≤ largest_file) where
 
   module _ (w : State) (n : ℕ) (count : w.handed ≡ 4) where
     abbrev v : State
-    v = formed four_records w.bytes empty_provider empty_provider empty_provider empty_provider w
+    v = formed A four_records w.bytes empty_provider empty_provider empty_provider empty_provider w
 
     abbrev begun : State
     begun = begun_with v n (PutJob named bytes) None
@@ -212,7 +213,7 @@ module _ (bytes : List ℕ) (short : length bytes ≤ largest_file) where
 
     -- so runs the put up to its last append
     ran-formed : (source left : List ℕ) →
-        PartRan four_records named bytes None (to_put_source source)
+        PartRan A four_records named bytes None (to_put_source source)
         (record (storing bytes many) { source = Some left }) 0 v n
     unfolding setup_in actions_of spelling
     ran-formed source left = record {
@@ -222,9 +223,7 @@ module _ (bytes : List ℕ) (short : length bytes ≤ largest_file) where
         job = 1;
         begins = (
           refl,
-          refusal-of v (PutJob named bytes) None refl refl refl
-              (record { journal = refl; area = refl; unswitched = refl })
-              ∙ begins,
+          refusal-alone v (PutJob named bytes) None ∙ begins,
           refl,
           refl,
         );
@@ -233,7 +232,7 @@ module _ (bytes : List ℕ) (short : length bytes ≤ largest_file) where
         made = long-as many;
         last = sym (now-is many);
       };
-      images = λ image is. inl (inl (refl, (stored-sure many left).images image is));
+      images = λ image is. inl (inl ((stored-sure many left).images image is));
       faults_are = refl;
       handed = record {
         count = count;
@@ -245,11 +244,13 @@ module _ (bytes : List ℕ) (short : length bytes ≤ largest_file) where
     }
 
   -- from every state just opened over the store
-  pub runs : (source left : List ℕ) → PartRuns four_records named bytes None (to_put_source source)
+  pub runs : AreBytes bytes → (source left : List ℕ) →
+      PartRuns A four_records named bytes None (to_put_source source)
       (record (storing bytes many) { source = Some left })
-  runs source left = part-over four_records empty_provider empty_provider empty_provider empty_provider named
+  runs are source left = part-over four_records empty_provider empty_provider empty_provider empty_provider
+      named
       bytes None (to_put_source source) (record (storing bytes many) { source = Some left })
-      (omega arith) refl (λ w n count. ran-formed w n count source left)
+      (omega arith) refl (refl, are) (MayName.none refl) (λ w n count. ran-formed w n count source left)
 
 -- ---- a source with more bytes than a file may have
 
@@ -259,7 +260,7 @@ one-less a b e = omega (arith, e)
 
 module _ (source : List ℕ) (are_bytes : AreBytes source) (more : largest_file < length source) where
   -- the store before it is sure
-  pub source-sure : IsSure (to_put_source source) four_records
+  abbrev pub source-sure : IsSure (to_put_source source) four_records
   source-sure = sure (to_put_source source) four_records four-fit refl (omega arith)
 
   read-long : length (take (largest_file + 1) source) ≡ largest_file + 1
@@ -281,14 +282,15 @@ module _ (source : List ℕ) (are_bytes : AreBytes source) (more : largest_file 
   part-short : length (longest_part source) ≤ largest_file
   part-short = omega (arith, part-long)
 
-  source-runs : PartRuns four_records named (longest_part source) None (to_put_source source)
+  source-runs : PartRuns A four_records named (longest_part source) None (to_put_source source)
       (put_too_long source)
-  source-runs = runs (longest_part source) part-short source (drop (largest_file + 1) source)
+  source-runs = runs (longest_part source) part-short (bytes-up largest_file) source (drop (largest_file + 1)
+      source)
 
   -- the put ends with status 16
   pub answers : Answers (PutUnder named) (to_put_source source) (put_too_long source) (ends 16)
   answers = AnswersPut.given_up four_records (longest_part source) source-sure.known.opened refl
-      (first-begins four named (longest_part source) refl part-short)
+      (first-begins A four named (longest_part source) refl part-short)
       (record {
         read = take (largest_file + 1) source;
         are_bytes = bytes-up (largest_file + 1);

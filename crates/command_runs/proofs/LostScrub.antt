@@ -2,6 +2,7 @@
 use Rattle.std.proofs.Common.{◌≡◌, ℕ, ◌+◌, List, [], ◌∷◌, Some, None, refl, inl, arith}
 use Rattle.record_defs.specs.Examples.{four}
 use Rattle.column_laws.proofs.Worked.{none-lose}
+use Rattle.record_defs.specs.Areas.{A}
 use Rattle.machine_defs.specs.Actions.{Action, Fetch, Work, End}
 use Rattle.machine_defs.specs.Alone.{scrubbing, unalone, new_scrub}
 use Rattle.machine_defs.specs.Answers.{Lost}
@@ -27,7 +28,7 @@ use Rattle.command_runs.proofs.Scrubbing.{scrub-byte}
 
 module _ (w : State) (n : ℕ) (count : w.handed ≡ 4) where
   abbrev v : State
-  v = formed byte_records (one_byte w.bytes) empty_provider empty_provider empty_provider empty_provider w
+  v = formed A byte_records (one_byte w.bytes) empty_provider empty_provider empty_provider empty_provider w
 
   abbrev its : Scrub
   its = new_scrub v n
@@ -144,7 +145,7 @@ module _ (w : State) (n : ℕ) (count : w.handed ≡ 4) where
       begins = (refl, refl, refl, refl);
       goes_on = record { steps = steps; are_steps = steps-are; ends = loses 0; heard_is = refl };
     };
-    images = λ image is. inl (inl (refl, new-sure.images image is));
+    images = λ image is. inl (inl (new-sure.images image is));
     faults_are = refl;
     handed = record {
       count = count;
@@ -153,7 +154,7 @@ module _ (w : State) (n : ℕ) (count : w.handed ≡ 4) where
   }
 
 -- the scrub runs to a lost row from every state just opened over the store
-pub alone : ScrubsAlone byte_records (Lost 0 0) all_lost found_lost
+pub alone : ScrubsAlone A byte_records (Lost 0 0) all_lost found_lost
 alone = scrub-byte byte_records empty_provider empty_provider empty_provider empty_provider (Lost 0 0)
     all_lost found_lost (omega arith) refl refl ran-formed
 

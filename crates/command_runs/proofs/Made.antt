@@ -1,9 +1,10 @@
 -- Jobs whose steps are computed, from states just opened over four providers.
-use Rattle.std.proofs.Common.{◌≡◌, ℕ, zero, suc, ◌+◌, ◌<◌, ◌≤◌, true, false, List, [], ◌∷◌, length, ◌++◌, Option, Some, None, refl, subst, ◌∙◌, arith}
+use Rattle.std.proofs.Common.{◌≡◌, ℕ, zero, suc, ◌+◌, ◌<◌, ◌≤◌, true, false, List, [], ◌∷◌, length, ◌++◌, Option, Some, None, refl, ap, sym, subst, ◌∙◌, arith}
 use Rattle.std.specs.Prelude.{slice_get, IfSome}
 use Rattle.std.proofs.lemmas.Bool.{false≢true}
 use Rattle.device_defs.specs.Providers.{Provider}
 use Rattle.record_defs.specs.Records.{Record}
+use Rattle.record_defs.specs.Areas.{Area}
 use Rattle.record_defs.specs.Table.{file_of}
 use Rattle.machine_defs.specs.Jobs.{Kind, PutJob, job_of}
 use Rattle.machine_defs.specs.Answers.{Answer}
@@ -14,7 +15,8 @@ use Rattle.machine_defs.specs.Machine.{Happens}
 use Rattle.machine_defs.specs.States.{State}
 use Rattle.machine_defs.specs.Stands.{StandsForState}
 use Rattle.machine_defs.specs.Runs.{Moment, now}
-use Rattle.opening_defs.specs.Opened.{IsOpenedOver}
+use Rattle.opening_defs.specs.Opened.{IsJustOpened}
+use Rattle.state_laws.proofs.Packs.{file-alike}
 use Rattle.command_defs.specs.Seen.{Seen, Ending, ReadsFront}
 use Rattle.command_defs.specs.JobRuns.{AreSteps, RunsJob}
 use Rattle.command_defs.specs.Lines.{text_of}
@@ -23,7 +25,8 @@ use Rattle.command_defs.specs.Refusals.{is_unknown, refusal_over}
 use Rattle.command_defs.specs.Jobs.{SamePast, RanAlone, RunsAlone, LeftAlone, EndsByAnswer, AnswersJob}
 use Rattle.command_defs.specs.Commands.{AnswersPut, AnswersAlone}
 use Rattle.lone_laws.specs.Walked.{MayName}
-use Rattle.job_laws.proofs.BeginRefusals.{refusal-of}
+use Rattle.job_laws.proofs.BeginRefusals.{refusal-alone}
+use Rattle.job_laws.proofs.Alike.{ran-alike}
 use Rattle.job_laws.proofs.Telling.{left-alone, jobs-leave}
 use Rattle.made_runs.specs.Steps.{can_step}
 use Rattle.made_runs.specs.Turns.{Turn, Goes, Gives, LosesOne, StoreFails, Cut, gone_by, can_go_by, turned, FitsTurn, FitsStep, told, after_step, job_run, AreFitTurns, is_more}
@@ -101,51 +104,73 @@ four-each xs ps a b c d (suc (suc (suc zero))) l = d
 four-each xs ps a b c d (suc (suc (suc (suc j)))) l = absurd (omega (arith, l))
 
 -- a job that runs alone from each state spelled out runs so from each just opened
-pub alone-over : (rs : List Record) (p q r s : Provider) (kind : Kind) (own : Option ℕ) (answer : Answer)
+pub alone-over : (area : Area) (rs : List Record) (p q r s : Provider) (kind : Kind) (own : Option ℕ) (answer
+    : Answer)
     (old new : Seen) (heard : List Entry) → old.disk_faults ≤ 0 → old.providers ≡ (p ∷ q ∷ r ∷ s ∷ []) →
+    IsSpelledKind kind → MayName kind own →
     ((w : State) (n : ℕ) → w.handed ≡ 4 →
-    RanAlone rs kind own answer old new heard 0 (formed rs w.bytes p q r s w) n) →
-    RunsAlone rs kind own answer old new heard
-alone-over rs p q r s kind own answer old new heard before same ran = record {
+    RanAlone area rs kind own answer old new heard 0 (formed area rs w.bytes p q r s w) n) →
+    RunsAlone area rs kind own answer old new heard
+alone-over area rs p q r s kind own answer old new heard before same spelled named ran = record {
   faults = 0;
   before = before;
-  ran = λ w n V. let U : IsOpenedOver w rs 0 (p ∷ q ∷ r ∷ s ∷ [])
-      = subst (λ ps. IsOpenedOver w rs 0 ps) same V in
-      subst (λ u. RanAlone rs kind own answer old new heard 0 u n) (form-is rs w.bytes p q r s w refl U)
-      (ran w n U.handed.count);
+  ran = λ w n V. let U : IsJustOpened w area rs 1 0 (p ∷ q ∷ r ∷ s ∷ [])
+      = subst (λ ps. IsJustOpened w area rs 1 0 ps) same V in
+      ran-alike w U.at_rest area rs kind own answer old new heard 0 n spelled named
+      (subst (λ u. RanAlone area rs kind own answer old new heard 0 u n) (form-is area rs w.bytes p q r s w
+      refl U)
+      (ran w n U.handed.count));
 }
 
+-- the file of one byte has its byte in a state just opened
+pub byte-held : (area : Area) (rs : List Record) (w : State) {ps : List Provider} →
+    IsJustOpened w area rs 1 0 ps →
+    file_of rs named ≡ Some (record { name = named; id = 1; size = 1; profile = 0 }) → length (w.bytes 1) ≡ 1
+byte-held area rs w V file = (V.at_rest.rest.files named (record {
+  name = named;
+  id = 1;
+  size = 1;
+  profile =
+      0;
+})
+    (sym (file-alike w.journal w.records named V.at_rest.rest.journal.alike)
+    ∙ (ap (λ l. file_of l named) V.journal ∙ file))).1
+
 -- so too where the file of one byte is in effect
-pub alone-byte : (rs : List Record) (p q r s : Provider) (kind : Kind) (own : Option ℕ) (answer : Answer)
+pub alone-byte : (area : Area) (rs : List Record) (p q r s : Provider) (kind : Kind) (own : Option ℕ) (answer
+    : Answer)
     (old new : Seen) (heard : List Entry) → old.disk_faults ≤ 0 → old.providers ≡ (p ∷ q ∷ r ∷ s ∷ []) →
     file_of rs named ≡ Some (record { name = named; id = 1; size = 1; profile = 0 }) →
+    IsSpelledKind kind → MayName kind own →
     ((w : State) (n : ℕ) → w.handed ≡ 4 →
-    RanAlone rs kind own answer old new heard 0 (formed rs (one_byte w.bytes) p q r s w) n) →
-    RunsAlone rs kind own answer old new heard
-alone-byte rs p q r s kind own answer old new heard before same file ran = record {
+    RanAlone area rs kind own answer old new heard 0 (formed area rs (one_byte w.bytes) p q r s w) n) →
+    RunsAlone area rs kind own answer old new heard
+alone-byte area rs p q r s kind own answer old new heard before same file spelled may ran = record {
   faults = 0;
   before = before;
-  ran = λ w n V. let U : IsOpenedOver w rs 0 (p ∷ q ∷ r ∷ s ∷ [])
-      = subst (λ ps. IsOpenedOver w rs 0 ps) same V in
-      subst (λ u. RanAlone rs kind own answer old new heard 0 u n)
-      (form-is rs (one_byte w.bytes) p q r s w (one_byte-is w.bytes
-      (U.bytes named (record { name = named; id = 1; size = 1; profile = 0 }) file).1) U)
-      (ran w n U.handed.count);
+  ran = λ w n V. let U : IsJustOpened w area rs 1 0 (p ∷ q ∷ r ∷ s ∷ [])
+      = subst (λ ps. IsJustOpened w area rs 1 0 ps) same V in
+      ran-alike w U.at_rest area rs kind own answer old new heard 0 n spelled may
+      (subst (λ u. RanAlone area rs kind own answer old new heard 0 u n)
+      (form-is area rs (one_byte w.bytes) p q r s w (one_byte-is w.bytes (byte-held area rs w U file)) U)
+      (ran w n U.handed.count));
 }
 
 -- what a job leaves that runs alone
 pub left-so : (records : List Record) (kind : Kind) (own : Option ℕ) (answer : Answer) (old new : Seen)
-    (heard : List Entry) → IsSpelledKind kind → MayName kind own → IsOpened old records →
-    length new.providers ≡ length old.providers → RunsAlone records kind own answer old new heard →
-    LeftAlone records kind own answer old new heard
-left-so records kind own answer old new heard spelled named R same A =
+    (heard : List Entry) → IsSpelledKind kind → MayName kind own → (opened : IsOpened old records) →
+    length new.providers ≡ length old.providers →
+    RunsAlone opened.area records kind own answer old new heard →
+    LeftAlone opened.area records kind own answer old new heard
+left-so records kind own answer old new heard spelled named opened same runs =
     left-alone records kind own answer old new heard spelled named
-    (λ w last n O r. jobs-leave kind own w last n answer heard spelled named O r) R same A
+    (λ w last n O r. jobs-leave kind own w last n answer heard spelled named O r) opened same runs
 
 -- ---- a job from a state spelled out
 
 -- its turns go, it ends so, and what is seen is that of its last state
-pub record EndsSo (kind : Kind) (own : Option ℕ) (turns : List Turn) (answer : Answer) (old new : Seen)
+pub record EndsSo (area : Area) (kind : Kind) (own : Option ℕ) (turns : List Turn) (answer : Answer) (old new
+    : Seen)
     (heard : List Entry) (v : State) (n : ℕ) (last : State) (EndsBy : Type 0) : Type 0 where
   pub fit : AreFitTurns (begun_with v n kind own) [] v.next_job turns
   pub ends : EndsBy
@@ -154,21 +179,22 @@ pub record EndsSo (kind : Kind) (own : Option ℕ) (turns : List Turn) (answer :
   pub faults_are : last.disk_faults ≡ new.disk_faults
   pub count : v.handed ≡ 4 → last.handed ≡ length new.providers
   pub each : (j : ℕ) → j < length new.providers → slice_get new.providers j ≡ Some (last.providers j)
-  pub past_text : SamePast kind own answer v.records last.records old.disk new.disk
+  pub past_text : SamePast area kind own answer v.journal last.journal old.disk new.disk
 
 -- a job that goes so runs alone
-pub ran-so : (rs : List Record) (bytes : ℕ → List ℕ) (p q r s : Provider) (w : State) (n : ℕ) (kind : Kind)
+pub ran-so : (area : Area) (rs : List Record) (bytes : ℕ →
+    List ℕ) (p q r s : Provider) (w : State) (n : ℕ) (kind : Kind)
     (own : Option ℕ) (turns : List Turn) (answer : Answer) (old new : Seen) (heard : List Entry)
-    (last : State) → w.handed ≡ 4 → refusal_over rs kind own ≡ None →
-    EndsSo kind own turns answer old new heard (formed rs bytes p q r s w) n last
-    (Happens 8 n (after_turns (formed rs bytes p q r s w) n kind own turns) (Step 1) (Ended answer) last) →
-    RanAlone rs kind own answer old new heard 0 (formed rs bytes p q r s w) n
-ran-so rs bytes p q r s w n kind own turns answer old new heard last count begins E = record {
+    (last : State) → w.handed ≡ 4 → refusal_over area rs kind own ≡ None →
+    EndsSo area kind own turns answer old new heard (formed area rs bytes p q r s w) n last
+    (Happens 8 n (after_turns (formed area rs bytes p q r s w) n kind own turns) (Step 1) (Ended answer)
+    last) →
+    RanAlone area rs kind own answer old new heard 0 (formed area rs bytes p q r s w) n
+ran-so area rs bytes p q r s w n kind own turns answer old new heard last count begins E = record {
   last = last;
-  runs = subst (λ h. RunsJob (formed rs bytes p q r s w) n kind own answer h last) E.heard_is
-      (runs-so (formed rs bytes p q r s w) n kind own turns answer last refl
-      (refusal-of (formed rs bytes p q r s w) kind own refl refl refl
-      (record { journal = refl; area = refl; unswitched = refl }) ∙ begins) E.fit E.ends);
+  runs = subst (λ h. RunsJob (formed area rs bytes p q r s w) n kind own answer h last) E.heard_is
+      (runs-so (formed area rs bytes p q r s w) n kind own turns answer last refl
+      (refusal-alone (formed area rs bytes p q r s w) kind own ∙ begins) E.fit E.ends);
   images = E.images;
   faults_are = E.faults_are;
   handed = record { count = E.count count; each = E.each };
@@ -176,16 +202,18 @@ ran-so rs bytes p q r s w n kind own turns answer old new heard last count begin
 }
 
 -- so does one that ends by a turn
-pub turned-so : (rs : List Record) (bytes : ℕ → List ℕ) (p q r s : Provider) (w : State) (n : ℕ) (kind : Kind)
+pub turned-so : (area : Area) (rs : List Record) (bytes : ℕ →
+    List ℕ) (p q r s : Provider) (w : State) (n : ℕ) (kind : Kind)
     (own : Option ℕ) (turns : List Turn) (final : Turn) (answer : Answer) (old new : Seen)
-    (heard : List Entry) → told final ≡ Ended answer → w.handed ≡ 4 → refusal_over rs kind own ≡ None →
-    EndsSo kind own turns answer old new heard (formed rs bytes p q r s w) n
-    (after_step (after_turns (formed rs bytes p q r s w) n kind own turns) 1 final)
-    (FitsStep (after_turns (formed rs bytes p q r s w) n kind own turns) 1 final) →
-    RanAlone rs kind own answer old new heard 0 (formed rs bytes p q r s w) n
-turned-so rs bytes p q r s w n kind own turns final answer old new heard is count begins E =
-    (let at_end : State = after_turns (formed rs bytes p q r s w) n kind own turns in
-    ran-so rs bytes p q r s w n kind own turns answer old new heard (after_step at_end 1 final) count begins
+    (heard : List Entry) → told final ≡ Ended answer → w.handed ≡ 4 → refusal_over area rs kind own ≡ None →
+    EndsSo area kind own turns answer old new heard (formed area rs bytes p q r s w) n
+    (after_step (after_turns (formed area rs bytes p q r s w) n kind own turns) 1 final)
+    (FitsStep (after_turns (formed area rs bytes p q r s w) n kind own turns) 1 final) →
+    RanAlone area rs kind own answer old new heard 0 (formed area rs bytes p q r s w) n
+turned-so area rs bytes p q r s w n kind own turns final answer old new heard is count begins E =
+    (let at_end : State = after_turns (formed area rs bytes p q r s w) n kind own turns in
+    ran-so area rs bytes p q r s w n kind own turns answer old new heard (after_step at_end 1 final) count
+    begins
     (record {
       fit = E.fit;
       ends = subst (λ o. Happens 8 n at_end (Step 1) o (after_step at_end 1 final)) is
@@ -199,38 +227,44 @@ turned-so rs bytes p q r s w n kind own turns final answer old new heard is coun
     }))
 
 -- and so it does from each state just opened
-pub turns-run : (rs : List Record) (p q r s : Provider) (kind : Kind) (own : Option ℕ) (turns : List Turn)
+pub turns-run : (area : Area) (rs : List Record) (p q r s : Provider) (kind : Kind) (own : Option ℕ) (turns :
+    List Turn)
     (final : Turn) (answer : Answer) (old new : Seen) (heard : List Entry) → told final ≡ Ended answer →
-    old.disk_faults ≤ 0 → old.providers ≡ (p ∷ q ∷ r ∷ s ∷ []) → refusal_over rs kind own ≡ None →
-    ((w : State) (n : ℕ) → EndsSo kind own turns answer old new heard (formed rs w.bytes p q r s w) n
-    (after_step (after_turns (formed rs w.bytes p q r s w) n kind own turns) 1 final)
-    (FitsStep (after_turns (formed rs w.bytes p q r s w) n kind own turns) 1 final)) →
-    RunsAlone rs kind own answer old new heard
-turns-run rs p q r s kind own turns final answer old new heard is before same begins E =
-    alone-over rs p q r s kind own answer old new heard before same
-    (λ w n count. turned-so rs w.bytes p q r s w n kind own turns final answer old new heard is count begins
+    old.disk_faults ≤ 0 → old.providers ≡ (p ∷ q ∷ r ∷ s ∷ []) → refusal_over area rs kind own ≡ None →
+    IsSpelledKind kind → MayName kind own → ((w : State) (n : ℕ) →
+    EndsSo area kind own turns answer old new heard (formed area rs w.bytes p q r s w) n
+    (after_step (after_turns (formed area rs w.bytes p q r s w) n kind own turns) 1 final)
+    (FitsStep (after_turns (formed area rs w.bytes p q r s w) n kind own turns) 1 final)) →
+    RunsAlone area rs kind own answer old new heard
+turns-run area rs p q r s kind own turns final answer old new heard is before same begins spelled may E =
+    alone-over area rs p q r s kind own answer old new heard before same spelled may
+    (λ w n count. turned-so area rs w.bytes p q r s w n kind own turns final answer old new heard is count
+    begins
     (E w n))
 
 -- so it does where the file of one byte is in effect, of no put with a profile of its own
-pub byte-run : (rs : List Record) (p q r s : Provider) (kind : Kind) (turns : List Turn) (final : Turn)
+pub byte-run : (area : Area) (rs : List Record) (p q r s : Provider) (kind : Kind) (turns : List Turn) (final
+    : Turn)
     (answer : Answer) (old new : Seen) (heard : List Entry) → told final ≡ Ended answer →
     old.disk_faults ≤ 0 → old.providers ≡ (p ∷ q ∷ r ∷ s ∷ []) →
     file_of rs named ≡ Some (record { name = named; id = 1; size = 1; profile = 0 }) →
-    refusal_over rs kind None ≡ None →
-    ((w : State) (n : ℕ) → EndsSo kind None turns answer old new heard
-    (formed rs (one_byte w.bytes) p q r s w) n
-    (after_step (after_turns (formed rs (one_byte w.bytes) p q r s w) n kind None turns) 1 final)
-    (FitsStep (after_turns (formed rs (one_byte w.bytes) p q r s w) n kind None turns) 1 final)) →
-    RunsAlone rs kind None answer old new heard
-byte-run rs p q r s kind turns final answer old new heard is before same file begins E =
-    alone-byte rs p q r s kind None answer old new heard before same file
-    (λ w n count. turned-so rs (one_byte w.bytes) p q r s w n kind None turns final answer old new heard is
+    refusal_over area rs kind None ≡ None → IsSpelledKind kind →
+    ((w : State) (n : ℕ) → EndsSo area kind None turns answer old new heard
+    (formed area rs (one_byte w.bytes) p q r s w) n
+    (after_step (after_turns (formed area rs (one_byte w.bytes) p q r s w) n kind None turns) 1 final)
+    (FitsStep (after_turns (formed area rs (one_byte w.bytes) p q r s w) n kind None turns) 1 final)) →
+    RunsAlone area rs kind None answer old new heard
+byte-run area rs p q r s kind turns final answer old new heard is before same file begins spelled E =
+    alone-byte area rs p q r s kind None answer old new heard before same file spelled (MayName.none refl)
+    (λ w n count. turned-so area rs (one_byte w.bytes) p q r s w n kind None turns final answer old new heard
+    is
     count begins (E w n))
 
 -- a command ends so whose job ran alone
 pub alone-ends : (rs : List Record) (kind : Kind) (answer : Answer) (old new : Seen) (end : Ending) →
-    IsOpened old rs → length new.providers ≡ length old.providers → IsSpelledKind kind →
-    refusal_over rs kind None ≡ None → RunsAlone rs kind None answer old new end.heard →
+    (opened : IsOpened old rs) → length new.providers ≡ length old.providers → IsSpelledKind kind →
+    refusal_over opened.area rs kind None ≡ None →
+    RunsAlone opened.area rs kind None answer old new end.heard →
     EndsByAnswer (text_of (setup_in_effect rs).tolerance kind answer) answer old new end →
     AnswersAlone kind old new end
 alone-ends rs kind answer old new end opened same spelled begins alone ends =
@@ -239,10 +273,11 @@ alone-ends rs kind answer old new end opened same spelled begins alone ends =
 
 -- a put of the byte ends so whose job ran alone, where its source is at its end
 pub put-ends : (rs : List Record) (name : List ℕ) (own : Option ℕ) (answer : Answer) (old new : Seen)
-    (end : Ending) → IsOpened old rs → length new.providers ≡ length old.providers → AreBytes name →
+    (end : Ending) → (opened : IsOpened old rs) → length new.providers ≡ length old.providers →
+    AreBytes name →
     is_unknown own ≡ false → MayName (PutJob name byte) own → ReadsFront old.source new.source byte →
-    IfSome new.source (λ left. left ≡ []) → refusal_over rs (PutJob name byte) own ≡ None →
-    RunsAlone rs (PutJob name byte) own answer old new end.heard →
+    IfSome new.source (λ left. left ≡ []) → refusal_over opened.area rs (PutJob name byte) own ≡ None →
+    RunsAlone opened.area rs (PutJob name byte) own answer old new end.heard →
     EndsByAnswer (text_of (setup_in_effect rs).tolerance (PutJob name byte) answer) answer old new end →
     AnswersPut name own old new end
 put-ends rs name own answer old new end opened same spelled known may read whole begins alone ends =

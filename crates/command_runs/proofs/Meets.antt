@@ -16,7 +16,7 @@ use Rattle.command_laws.proofs.FilesStay.{bad-few}
 use Rattle.command_laws.proofs.Samples.{never-rises}
 use Rattle.command_runs.proofs.Shape.{first_of}
 use Rattle.command_runs.proofs.ScrubValues.{altered-right}
-use Rattle.command_runs.specs.Devices.{named, byte_records, byte_audited_records, byte_repaired_records, to_put_other, byte_stored, damaged, due, repaired, mended, got, all_hidden, none_hold, three_hold, all_hold, repair_cut, byte_kept, byte_upgraded_records, to_put_own, stored_own, altered_block, two_damaged, scrubbed, scrub_failed, swept, robbed_later, got_later, all_lost, found_lost}
+use Rattle.command_runs.specs.Devices.{named, byte_records, byte_audited_records, byte_repaired_records, to_put_other, byte_stored, damaged, due, repaired, mended, got, all_hidden, none_hold, three_hold, all_hold, repair_cut, byte_kept, byte_upgraded_records, upgraded_kept, to_put_own, stored_own, altered_block, two_damaged, scrubbed, scrub_failed, swept, robbed_later, got_later, all_lost, found_lost}
 use Rattle.damage_run.specs.Points.{counts}
 use Rattle.damage_run.specs.Schedule.{byte}
 use Rattle.command_laws.specs.Instances.{other_name}
@@ -316,6 +316,16 @@ own-steady (suc (suc (suc (suc j)))) rose = never-rises 0 (omega arith) rose
 -- before the upgrade the file is right on every provider
 pub byte-file : HasRightFile byte_kept byte_records named byte (λ j. false)
 byte-file = record {
+  file = kept;
+  in_effect = refl;
+  are_bytes = refl;
+  size = refl;
+  right = λ j l s. right-kept j l;
+}
+
+-- so it is of the store whose journal has its second version
+pub upgraded-file : HasRightFile upgraded_kept byte_upgraded_records named byte (λ j. false)
+upgraded-file = record {
   file = kept;
   in_effect = refl;
   are_bytes = refl;

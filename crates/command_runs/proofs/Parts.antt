@@ -2,11 +2,15 @@
 -- providers.
 use Rattle.std.proofs.Common.{◌≡◌, ℕ, ◌+◌, ◌≤◌, true, List, [], ◌∷◌, length, Option, None, Some, refl, subst}
 use Rattle.device_defs.specs.Providers.{Provider}
+use Rattle.record_defs.specs.Areas.{A}
 use Rattle.record_defs.specs.Records.{Record}
-use Rattle.machine_defs.specs.Jobs.{Kind}
+use Rattle.machine_defs.specs.Jobs.{Kind, PutJob}
 use Rattle.machine_defs.specs.Begins.{refusal_of_begin}
+use Rattle.machine_defs.specs.Events.{IsSpelledKind}
 use Rattle.machine_defs.specs.States.{State}
-use Rattle.opening_defs.specs.Opened.{IsOpenedOver}
+use Rattle.opening_defs.specs.Opened.{IsJustOpened}
+use Rattle.job_laws.proofs.Alike.{part-alike}
+use Rattle.lone_laws.specs.Walked.{MayName}
 use Rattle.command_defs.specs.Forms.{PutUnder}
 use Rattle.command_defs.specs.Seen.{Seen}
 use Rattle.command_defs.specs.JobRuns.{RunsPart}
@@ -34,16 +38,18 @@ part-so w n kind own turns is_open begins fit = record {
 -- a put that runs so from each state spelled out runs so from each just opened
 pub part-over : (rs : List Record) (p q r s : Provider) (name bytes : List ℕ) (own : Option ℕ)
     (old new : Seen) → old.disk_faults ≤ 0 → old.providers ≡ (p ∷ q ∷ r ∷ s ∷ []) →
-    ((w : State) (n : ℕ) → w.handed ≡ 4 →
-    PartRan rs name bytes own old new 0 (formed rs w.bytes p q r s w) n) →
-    PartRuns rs name bytes own old new
-part-over rs p q r s name bytes own old new before same ran = record {
+    IsSpelledKind (PutJob name bytes) → MayName (PutJob name bytes) own → ((w : State) (n : ℕ) →
+    w.handed ≡ 4 →
+    PartRan A rs name bytes own old new 0 (formed A rs w.bytes p q r s w) n) →
+    PartRuns A rs name bytes own old new
+part-over rs p q r s name bytes own old new before same spelled may ran = record {
   faults = 0;
   before = before;
-  ran = λ w n V. let U : IsOpenedOver w rs 0 (p ∷ q ∷ r ∷ s ∷ [])
-      = subst (λ ps. IsOpenedOver w rs 0 ps) same V in
-      subst (λ u. PartRan rs name bytes own old new 0 u n) (form-is rs w.bytes p q r s w refl U)
-      (ran w n U.handed.count);
+  ran = λ w n V. let U : IsJustOpened w A rs 1 0 (p ∷ q ∷ r ∷ s ∷ [])
+      = subst (λ ps. IsJustOpened w A rs 1 0 ps) same V in
+      part-alike w U.at_rest A rs name bytes own old new 0 n spelled may
+      (subst (λ u. PartRan A rs name bytes own old new 0 u n) (form-is A rs w.bytes p q r s w refl U)
+      (ran w n U.handed.count));
 }
 
 -- a put that names no profile is told by its words

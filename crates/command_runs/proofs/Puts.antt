@@ -1,5 +1,6 @@
 -- Puts of one byte, from every state that was just opened.
 use Rattle.std.proofs.Common.{◌≡◌, [], ◌∷◌, Some, None, refl, inl, inr, arith}
+use Rattle.record_defs.specs.Areas.{A}
 use Rattle.record_defs.specs.Records.{PutStart, PutDone}
 use Rattle.record_defs.specs.Spellings.{spelling}
 use Rattle.machine_defs.specs.Jobs.{PutJob}
@@ -23,15 +24,15 @@ use Rattle.command_runs.proofs.Made.{turns-run, ran-so, alone-over, put-ends, fo
 
 -- ---- a put that is done
 
-pub stored-runs : RunsAlone four_records (PutJob named byte) None Put to_put byte_stored []
+pub stored-runs : RunsAlone A four_records (PutJob named byte) None Put to_put byte_stored []
 unfolding setup_in actions_of spelling
-stored-runs = turns-run four_records empty_provider empty_provider empty_provider empty_provider
+stored-runs = turns-run A four_records empty_provider empty_provider empty_provider empty_provider
     (PutJob named byte) None (Goes 12 ∷ []) (Gives Put) Put to_put byte_stored []
-    refl (omega arith) refl put_begins (λ w n. record {
+    refl (omega arith) refl put_begins (refl, refl) (MayName.none refl) (λ w n. record {
       fit = (refl, refl, tt);
       ends = (refl, (refl, tt));
       heard_is = refl;
-      images = λ image is. inl (inl (refl, put-new.images image is));
+      images = λ image is. inl (inl (put-new.images image is));
       faults_are = refl;
       count = λ e. e;
       each = four-each byte_stored.providers _ refl refl refl refl;
@@ -46,15 +47,15 @@ stored = put-ends four_records named None Put to_put byte_stored (ends 0) put-ol
 
 -- ---- a put whose first store fails
 
-pub failed-runs : RunsAlone four_records (PutJob named byte) None (ProviderFault 0) to_put put_failed []
+pub failed-runs : RunsAlone A four_records (PutJob named byte) None (ProviderFault 0) to_put put_failed []
 unfolding setup_in actions_of spelling
-failed-runs = turns-run four_records empty_provider empty_provider empty_provider empty_provider
+failed-runs = turns-run A four_records empty_provider empty_provider empty_provider empty_provider
     (PutJob named byte) None (Goes 4 ∷ []) (StoreFails 0) (ProviderFault 0) to_put
-    put_failed [] refl (omega arith) refl put_begins (λ w n. record {
+    put_failed [] refl (omega arith) refl put_begins (refl, refl) (MayName.none refl) (λ w n. record {
       fit = (refl, refl, tt);
       ends = (refl, (refl, refl));
       heard_is = refl;
-      images = λ image is. inl (inl (refl, failed-new.images image is));
+      images = λ image is. inl (inl (failed-new.images image is));
       faults_are = refl;
       count = λ e. e;
       each = four-each put_failed.providers _ refl refl refl refl;
@@ -69,16 +70,16 @@ failed = put-ends four_records named None (ProviderFault 0) to_put put_failed (e
 
 -- ---- a put that a fault of the disk cuts off at its last move
 
-pub cut-runs : RunsAlone four_records (PutJob named byte) None DiskFault to_put put_cut []
+pub cut-runs : RunsAlone A four_records (PutJob named byte) None DiskFault to_put put_cut []
 unfolding setup_in actions_of spelling
-cut-runs = turns-run four_records empty_provider empty_provider empty_provider empty_provider
+cut-runs = turns-run A four_records empty_provider empty_provider empty_provider empty_provider
     (PutJob named byte) None (Goes 11 ∷ []) Cut DiskFault to_put put_cut []
-    refl (omega arith) refl put_begins (λ w n. record {
+    refl (omega arith) refl put_begins (refl, refl) (MayName.none refl) (λ w n. record {
       fit = (refl, refl, tt);
       ends = (refl, (refl, refl));
       heard_is = refl;
       images = λ image is. inr
-          (inl (record { doubt = _; in_doubt = refl; stands = (refl, cut-new.images image is) }));
+          (inl (record { doubt = _; in_doubt = refl; stands = cut-new.images image is }));
       faults_are = refl;
       count = λ e. e;
       each = four-each put_cut.providers _ refl refl refl refl;
@@ -97,17 +98,17 @@ cut = put-ends four_records named None DiskFault to_put put_cut (ends 12) put-ol
 
 -- ---- the same, and its gate is left loose
 
-pub torn-runs : RunsAlone four_records (PutJob named byte) None DiskFault to_put put_torn []
+pub torn-runs : RunsAlone A four_records (PutJob named byte) None DiskFault to_put put_torn []
 unfolding setup_in actions_of spelling
-torn-runs = turns-run four_records empty_provider empty_provider empty_provider empty_provider
+torn-runs = turns-run A four_records empty_provider empty_provider empty_provider empty_provider
     (PutJob named byte) None (Goes 11 ∷ []) Cut DiskFault to_put put_torn []
-    refl (omega arith) refl put_begins (λ w n. record {
+    refl (omega arith) refl put_begins (refl, refl) (MayName.none refl) (λ w n. record {
       fit = (refl, refl, tt);
       ends = (refl, (refl, refl));
       heard_is = refl;
       images = λ image is. elim (torn-image image is) [
-        | inl h ↦ inl (inl (refl, h))
-        | inr h ↦ inr (inl (record { doubt = _; in_doubt = refl; stands = (refl, h) }))
+        | inl h ↦ inl (inl h)
+        | inr h ↦ inr (inl (record { doubt = _; in_doubt = refl; stands = h }))
       ];
       faults_are = refl;
       count = λ e. e;
@@ -121,22 +122,24 @@ torn-runs = turns-run four_records empty_provider empty_provider empty_provider 
 
 -- it ends with status 12
 pub torn : Answers (PutUnder named) to_put put_torn (ends 12)
-torn = put-ends four_records named None DiskFault to_put put_torn (ends 12) put-old.known.opened refl refl refl
+torn = put-ends four_records named None DiskFault to_put put_torn (ends 12) put-old.known.opened refl refl
+    refl
     (MayName.none refl) (record { are_bytes = refl; front = refl }) refl put_begins torn-runs
     (record { status_is = refl; place = refl; sink = refl })
 
 -- ---- a put that finds no memory at its first move
 
-pub unmade-runs : RunsAlone four_records (PutJob named byte) None Memory to_put put_unmade []
+pub unmade-runs : RunsAlone A four_records (PutJob named byte) None Memory to_put put_unmade []
 unfolding setup_in actions_of spelling
-unmade-runs = alone-over four_records empty_provider empty_provider empty_provider empty_provider
-    (PutJob named byte) None Memory to_put put_unmade [] (omega arith) refl
-    (λ w n count. ran-so four_records w.bytes empty_provider empty_provider empty_provider empty_provider w n
+unmade-runs = alone-over A four_records empty_provider empty_provider empty_provider empty_provider
+    (PutJob named byte) None Memory to_put put_unmade [] (omega arith) refl (refl, refl) (MayName.none refl)
+    (λ w n count. ran-so A four_records w.bytes empty_provider empty_provider empty_provider empty_provider w
+    n
     (PutJob named byte) None [] Memory to_put put_unmade [] _ count put_begins (record {
       fit = tt;
       ends = (0, omega arith, refl);
       heard_is = refl;
-      images = λ image is. inl (inl (refl, no_room-new.images image is));
+      images = λ image is. inl (inl (no_room-new.images image is));
       faults_are = refl;
       count = λ e. e;
       each = four-each put_unmade.providers _ refl refl refl refl;
@@ -145,16 +148,18 @@ unmade-runs = alone-over four_records empty_provider empty_provider empty_provid
 
 -- it ends with status 70
 pub unmade : Answers (PutUnder named) to_put put_unmade (ends 70)
-unmade = put-ends four_records named None Memory to_put put_unmade (ends 70) put-old.known.opened refl refl refl
+unmade = put-ends four_records named None Memory to_put put_unmade (ends 70) put-old.known.opened refl refl
+    refl
     (MayName.none refl) (record { are_bytes = refl; front = refl }) refl put_begins unmade-runs
     (record { status_is = refl; place = refl; sink = refl })
 
 -- ---- a put over devices that tell nothing
 
-hidden-runs : RunsAlone four_records (PutJob named byte) None Put all_hidden all_hidden []
+hidden-runs : RunsAlone A four_records (PutJob named byte) None Put all_hidden all_hidden []
 unfolding setup_in actions_of spelling
-hidden-runs = turns-run four_records silent silent silent silent (PutJob named byte) None (Goes 12 ∷ [])
-    (Gives Put) Put all_hidden all_hidden [] refl (omega arith) refl put_begins
+hidden-runs = turns-run A four_records silent silent silent silent (PutJob named byte) None (Goes 12 ∷ [])
+    (Gives Put) Put all_hidden all_hidden [] refl (omega arith) refl put_begins (refl, refl) (MayName.none
+    refl)
     (λ w n. record {
       fit = (refl, refl, tt);
       ends = (refl, (refl, tt));
@@ -174,18 +179,18 @@ hidden = put-ends four_records named None Put all_hidden all_hidden (ends 0) hid
 
 -- ---- a put of another file
 
-other-begins : refusal_over byte_records (PutJob other_name byte) None ≡ None
+other-begins : refusal_over A byte_records (PutJob other_name byte) None ≡ None
 other-begins = refl
 
-other-runs : RunsAlone byte_records (PutJob other_name byte) None Put to_put_other stored_other []
+other-runs : RunsAlone A byte_records (PutJob other_name byte) None Put to_put_other stored_other []
 unfolding setup_in actions_of spelling
-other-runs = turns-run byte_records (holds 0) (holds 1) (holds 2) (holds 3) (PutJob other_name byte) None
+other-runs = turns-run A byte_records (holds 0) (holds 1) (holds 2) (holds 3) (PutJob other_name byte) None
     (Goes 12 ∷ []) (Gives Put) Put to_put_other stored_other [] refl (omega arith) refl
-    other-begins (λ w n. record {
+    other-begins (refl, refl) (MayName.none refl) (λ w n. record {
       fit = (refl, refl, tt);
       ends = (refl, (refl, tt));
       heard_is = refl;
-      images = λ image is. inl (inl (refl, stored_other-sure.images image is));
+      images = λ image is. inl (inl (stored_other-sure.images image is));
       faults_are = refl;
       count = λ e. e;
       each = four-each stored_other.providers _ refl refl refl refl;
@@ -201,15 +206,16 @@ other = put-ends byte_records other_name None Put to_put_other stored_other (end
 
 -- ---- a put of another file with a profile of its own, over the upgraded store
 
-pub own-runs : RunsAlone byte_upgraded_records (PutJob other_name byte) (Some 1) Put to_put_own stored_own []
+pub own-runs : RunsAlone A byte_upgraded_records (PutJob other_name byte) (Some 1) Put to_put_own stored_own
+    []
 unfolding setup_in actions_of spelling
-own-runs = turns-run byte_upgraded_records (holds 0) (holds 1) (holds 2) (holds 3) (PutJob other_name byte)
+own-runs = turns-run A byte_upgraded_records (holds 0) (holds 1) (holds 2) (holds 3) (PutJob other_name byte)
     (Some 1) (Goes 12 ∷ []) (Gives Put) Put to_put_own stored_own [] refl (omega arith) refl
-    own_begins (λ w n. record {
+    own_begins (refl, refl) (MayName.put other_name byte refl) (λ w n. record {
       fit = (refl, refl, tt);
       ends = (refl, (refl, tt));
       heard_is = refl;
-      images = λ image is. inl (inl (refl, stored_own-sure.images image is));
+      images = λ image is. inl (inl (stored_own-sure.images image is));
       faults_are = refl;
       count = λ e. e;
       each = four-each stored_own.providers _ refl refl refl refl;

@@ -1,6 +1,5 @@
 -- Commands that end before a job of theirs begins: refused, or by a fault, or for want of memory.
-use Rattle.std.proofs.Common.{◌≡◌, ◌≢◌, ◌<◌, ℕ, true, List, [], ◌∷◌, ◌++◌, length, Some, None, refl, ap, sym, subst, inl, inr, arith}
-use Rattle.std.specs.Prelude.{take}
+use Rattle.std.proofs.Common.{◌≡◌, ◌<◌, ℕ, true, List, [], ◌∷◌, ◌++◌, length, Some, None, refl, ap, sym, subst, inl, inr, arith}
 use Rattle.std.specs.Fmt.{digits}
 use Rattle.std.proofs.lemmas.List.{get_or-replicate}
 use Rattle.std.proofs.lemmas.Bool.{cases_lt}
@@ -9,7 +8,8 @@ use Rattle.hail_field.specs.Shape.{IsShape}
 use Rattle.code_defs.specs.Points.{upto}
 use Rattle.code_defs.specs.DispersalCode.{AcceptsNone}
 use Rattle.device_defs.specs.Cells.{firm}
-use Rattle.record_defs.specs.Journal.{text, magic}
+use Rattle.record_defs.specs.Journal.{text}
+use Rattle.record_defs.specs.Areas.{A, HasNoFront}
 use Rattle.record_defs.specs.Examples.{four}
 use Rattle.machine_defs.specs.Refusals as refusal
 use Rattle.damage_run.proofs.LostGet.{at_most_two}
@@ -100,9 +100,9 @@ read_zeros = refl
 long : 9 < length (journal_read (firm zeros))
 long = subst (λ (bytes : List ℕ). 9 < length bytes) (sym read_zeros) (omega arith)
 
-no_magic : take 8 (journal_read (firm zeros)) ≢ magic
+no_magic : HasNoFront (journal_read (firm zeros))
 unfolding first_of
-no_magic e = (let f : 0 ≡ 72 = ap first_of e in omega (arith, f))
+no_magic switch e = (let f : 0 ≡ 72 = ap first_of e in omega (arith, f))
 
 -- a list over a journal of zeros ends with 8
 pub bad-journal : Answers ListAll scrambled scrambled (ends 8)
@@ -124,7 +124,7 @@ bad-journal = (
 pub too-few : Answers ListAll deserted deserted (ends 22)
 too-few = (
   AnswersList.unstarted
-      (Unstarted.too_few_providers byte_records stored-sure.known.opened.read (omega arith)
+      (Unstarted.too_few_providers A byte_records stored-sure.known.opened.read (omega arith)
       (same-disk byte_records)
       (record {
         status_is = refl;
@@ -224,7 +224,7 @@ new-version = (
 )
 
 -- after its drop the file is gone
-gone-sure : IsSure seen_after_drop dropped_records
+abbrev gone-sure : IsSure seen_after_drop dropped_records
 gone-sure = sure seen_after_drop dropped_records dropped-fit refl (omega arith)
 
 -- a get of the file after its drop ends with 3
@@ -267,7 +267,8 @@ key-form = record {
 long_journal : 9 < length (journal_read (firm (text byte_records)))
 long_journal = elim (cases_lt 9 (length (journal_read (firm (text byte_records))))) [
   | inl l ↦ l
-  | inr l ↦ absurd (read-set_up (firm (text byte_records)) byte_records stored-sure.known.opened.read (inl l))
+  | inr l ↦ absurd (read-set_up (firm (text byte_records)) A byte_records stored-sure.known.opened.read (inl
+      l))
 ]
 
 -- an init with numbers that are no setup ends with 20
@@ -298,7 +299,7 @@ init-bad-key = AnswersInit.bad_key [] shape_good (omega arith)
 pub init-already : Answers (InitWith good_numbers) (with_source byte_kept key_text) byte_kept (ends 10)
 init-already = AnswersInit.keyed key_text four.master shape_good (omega arith)
     (record { are_bytes = refl; front = refl; few = omega arith; end = λ l. refl }) key-form
-    (InitsDisk.already (long_journal, (byte_records, stored-sure.known.opened.read.reads_are.1, tt))
+    (InitsDisk.already (long_journal, (byte_records, (A, stored-sure.known.opened.read.reads_are.1), tt))
     (record {
       status_is = refl;
       place = refl;

@@ -1,6 +1,7 @@
 -- Repairs, from every state that was just opened over a store of which one is due.
 use Rattle.std.proofs.Common.{ℕ, List, [], ◌∷◌, Some, None, refl, inl, inr, arith}
 use Rattle.column_laws.proofs.Worked.{none-lose}
+use Rattle.record_defs.specs.Areas.{A}
 use Rattle.record_defs.specs.Records.{RepairDone}
 use Rattle.record_defs.specs.Spellings.{spelling}
 use Rattle.record_defs.specs.Examples.{four}
@@ -27,7 +28,7 @@ abbrev works : List Turn
 works = Works symbols ∷ Came (Some (own_block 3)) ∷ Came None ∷ Came (Some (own_block 1))
     ∷ Came (Some (own_block 0)) ∷ []
 
-works-fit : (w : State) (n : ℕ) → AreFitTurns (begun_with (formed byte_audited_records (one_byte w.bytes)
+works-fit : (w : State) (n : ℕ) → AreFitTurns (begun_with (formed A byte_audited_records (one_byte w.bytes)
     (holds 0) (holds 1) empty_provider (holds 3) w) n RepairJob None) [] 1 works
 unfolding setup_in actions_of
 works-fit w n = (
@@ -45,15 +46,15 @@ works-fit w n = (
 )
 
 -- a repair is done
-pub done-runs : RunsAlone byte_audited_records RepairJob None (Repaired 1) due repaired []
+pub done-runs : RunsAlone A byte_audited_records RepairJob None (Repaired 1) due repaired []
 unfolding setup_in actions_of spelling
-done-runs = byte-run byte_audited_records (holds 0) (holds 1) empty_provider (holds 3) RepairJob
+done-runs = byte-run A byte_audited_records (holds 0) (holds 1) empty_provider (holds 3) RepairJob
     (Goes 5 ∷ works) (Gives (Repaired 1)) (Repaired 1) due repaired [] refl (omega arith) refl refl
-    repair_begins (λ w n. record {
+    repair_begins tt (λ w n. record {
       fit = (refl, refl, works-fit w n);
       ends = (refl, (refl, refl));
       heard_is = refl;
-      images = λ image is. inl (inl (refl, repaired-new.images image is));
+      images = λ image is. inl (inl (repaired-new.images image is));
       faults_are = refl;
       count = λ e. e;
       each = four-each repaired.providers _ refl refl refl refl;
@@ -69,16 +70,16 @@ done = (
 )
 
 -- a fault of the disk cuts it off at its last move
-cut-runs : RunsAlone byte_audited_records RepairJob None DiskFault due repair_cut []
+cut-runs : RunsAlone A byte_audited_records RepairJob None DiskFault due repair_cut []
 unfolding setup_in actions_of spelling
-cut-runs = byte-run byte_audited_records (holds 0) (holds 1) empty_provider (holds 3) RepairJob
-    (Goes 4 ∷ works) Cut DiskFault due repair_cut [] refl (omega arith) refl refl repair_begins
+cut-runs = byte-run A byte_audited_records (holds 0) (holds 1) empty_provider (holds 3) RepairJob
+    (Goes 4 ∷ works) Cut DiskFault due repair_cut [] refl (omega arith) refl refl repair_begins tt
     (λ w n. record {
       fit = (refl, refl, works-fit w n);
       ends = (refl, (refl, refl));
       heard_is = refl;
       images = λ image is. inr
-          (inl (record { doubt = _; in_doubt = refl; stands = (refl, repair_cut-new.images image is) }));
+          (inl (record { doubt = _; in_doubt = refl; stands = repair_cut-new.images image is }));
       faults_are = refl;
       count = λ e. e;
       each = four-each repair_cut.providers _ refl refl refl refl;
@@ -98,15 +99,15 @@ cut = (
 )
 
 -- its store on provider 2 fails
-pub failed-runs : RunsAlone byte_audited_records RepairJob None (ProviderFault 2) due repair_failed []
+pub failed-runs : RunsAlone A byte_audited_records RepairJob None (ProviderFault 2) due repair_failed []
 unfolding setup_in actions_of spelling
-failed-runs = byte-run byte_audited_records (holds 0) (holds 1) empty_provider (holds 3) RepairJob works
-    (StoreFails 2) (ProviderFault 2) due repair_failed [] refl (omega arith) refl refl repair_begins
+failed-runs = byte-run A byte_audited_records (holds 0) (holds 1) empty_provider (holds 3) RepairJob works
+    (StoreFails 2) (ProviderFault 2) due repair_failed [] refl (omega arith) refl refl repair_begins tt
     (λ w n. record {
       fit = works-fit w n;
       ends = (refl, (refl, refl));
       heard_is = refl;
-      images = λ image is. inl (inl (refl, failed_due-new.images image is));
+      images = λ image is. inl (inl (failed_due-new.images image is));
       faults_are = refl;
       count = λ e. e;
       each = four-each repair_failed.providers _ refl refl refl refl;
@@ -123,11 +124,11 @@ failed = (
 )
 
 -- all blocks are lost, and it finds a row lost
-pub lost-runs : RunsAlone byte_audited_records RepairJob None (Lost 0 0) due_lost repair_lost []
+pub lost-runs : RunsAlone A byte_audited_records RepairJob None (Lost 0 0) due_lost repair_lost []
 unfolding setup_in actions_of spelling
-lost-runs = byte-run byte_audited_records empty_provider empty_provider empty_provider empty_provider
+lost-runs = byte-run A byte_audited_records empty_provider empty_provider empty_provider empty_provider
     RepairJob (Came None ∷ Came None ∷ Came None ∷ Came None ∷ []) (LosesOne 0 0) (Lost 0 0) due_lost
-    repair_lost [] refl (omega arith) refl refl repair_begins (λ w n. record {
+    repair_lost [] refl (omega arith) refl refl repair_begins tt (λ w n. record {
       fit = (
         refl,
         (refl, (refl, refl)),
@@ -139,7 +140,7 @@ lost-runs = byte-run byte_audited_records empty_provider empty_provider empty_pr
       );
       ends = (refl, (refl, (refl, none-lose four.master)));
       heard_is = refl;
-      images = λ image is. inl (inl (refl, lost_due-new.images image is));
+      images = λ image is. inl (inl (lost_due-new.images image is));
       faults_are = refl;
       count = λ e. e;
       each = four-each repair_lost.providers _ refl refl refl refl;

@@ -3,6 +3,7 @@
 use Rattle.std.proofs.Common.{◌≡◌, ℕ, ◌+◌, List, [], ◌∷◌, length, Some, None, refl, inl, arith}
 use Rattle.std.specs.Option.{option_map}
 use Rattle.device_defs.specs.Providers.{with_block}
+use Rattle.record_defs.specs.Areas.{A}
 use Rattle.machine_defs.specs.Actions.{Action, Fetch, Work, End}
 use Rattle.machine_defs.specs.Alone.{off_by, found_more, scrubbing, new_scrub}
 use Rattle.machine_defs.specs.Events.{Step, More}
@@ -25,7 +26,7 @@ step s = moment (Step 1) More s
 -- provider 0 holds this block, of the size
 module _ (first : List ℕ) (size : length first ≡ 6) (w : State) (n : ℕ) where
   abbrev pub v : State
-  v = formed byte_records (one_byte w.bytes)
+  v = formed A byte_records (one_byte w.bytes)
       (record empty_provider { held = option_map (with_block 1 0 first) empty_provider.held }) (holds 1)
       empty_provider (holds 3) w
 

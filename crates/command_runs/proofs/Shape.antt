@@ -6,19 +6,20 @@ use Rattle.std.proofs.lemmas.Bool.{cases_Bool, eqb-true}
 use Rattle.device_defs.specs.Cells.{reads, firm}
 use Rattle.device_defs.specs.Providers.{Provider}
 use Rattle.record_defs.specs.Records.{Record, is_in_grammar, largest_journal}
-use Rattle.record_defs.specs.Journal.{text, text_size, StandsFor}
+use Rattle.record_defs.specs.Journal.{text}
 use Rattle.record_defs.specs.Acceptance.{AreAccepted}
-use Rattle.record_defs.specs.Areas.{A}
+use Rattle.record_defs.specs.Areas.{Area, A, end_in, StandsActive}
 use Rattle.machine_defs.specs.States.{State, with_provider}
 use Rattle.machine_defs.proofs.JobLists.{cond_true, cond_false}
 use Rattle.device_defs.specs.Images.{EachImage}
 use Rattle.device_defs.proofs.Lasting.{reads-firm, image-firm}
-use Rattle.record_defs.proofs.Standing.{stands-text}
+use Rattle.record_defs.proofs.AreaLaws.{text-active}
 use Rattle.command_defs.specs.Seen.{Seen}
 use Rattle.command_defs.specs.Opens.{setup_in_effect}
-use Rattle.opening_defs.specs.Opened.{IsOpenedOver}
+use Rattle.opening_defs.specs.Opened.{IsJustOpened}
+use Rattle.job_laws.proofs.Alike.{plain}
 use Rattle.command_laws.specs.After.{IsSure}
-use Rattle.command_laws.proofs.Knowing.{known-good}
+use Rattle.command_laws.proofs.Knowing.{IsGood, known-good}
 
 -- ---- the providers
 
@@ -32,10 +33,12 @@ same_at ps j p e k = elim (cases_Bool (k == j)) [
   | inr f ↦ cond_false (k == j) p (ps k) f
 ]
 
-from_some : {X : Type 0} (x y : X) → Some x ≡ Some y → x ≡ y
+-- what is there twice is one thing
+pub from_some : {X : Type 0} (x y : X) → Some x ≡ Some y → x ≡ y
 from_some x y e = cc
 
-over-is : (ps : ℕ → Provider) (p q r s : Provider) → p ≡ ps 0 → q ≡ ps 1 → r ≡ ps 2 → s ≡ ps 3 →
+-- providers of which these four are the first ones
+pub over-is : (ps : ℕ → Provider) (p q r s : Provider) → p ≡ ps 0 → q ≡ ps 1 → r ≡ ps 2 → s ≡ ps 3 →
     over ps p q r s ≡ ps
 over-is ps p q r s a b c d =
     λ i k. (same_at (with_provider (with_provider (with_provider ps 3 s) 2 r) 1 q) 0 p a k
@@ -70,11 +73,12 @@ one_byte-is bytes h = λ i id. (at id) i
 
 -- ---- the state
 
-abbrev pub formed : List Record → (ℕ → List ℕ) → Provider → Provider → Provider → Provider → State → State
-formed rs bytes p q r s w = record w {
+abbrev pub formed : Area → List Record → (ℕ → List ℕ) → Provider → Provider → Provider → Provider → State →
+    State
+formed area rs bytes p q r s w = record w {
   records = rs;
   journal = rs;
-  area = A;
+  area = area;
   is_switching = false;
   bytes = bytes;
   jobs = [];
@@ -88,53 +92,83 @@ formed rs bytes p q r s w = record w {
   disk_faults = 0;
 }
 
+-- the same with a history of its own
+abbrev pub placed : Area → List Record → (ℕ → List ℕ) → Provider → Provider → Provider → Provider → State →
+    State
+placed area rs bytes p q r s w = record (formed area rs bytes p q r s w) { records = w.records }
+
 -- a state just opened over these records and providers is the one spelled out
-pub form-is : (rs : List Record) (bytes : ℕ → List ℕ) (p q r s : Provider) (w : State) → bytes ≡ w.bytes →
-    IsOpenedOver w rs 0 (p ∷ q ∷ r ∷ s ∷ []) → formed rs bytes p q r s w ≡ w
-form-is rs bytes p q r s w same V =
+pub placed-is : (area : Area) (rs : List Record) (bytes : ℕ → List ℕ) (p q r s : Provider) (w : State) →
+    bytes ≡ w.bytes → IsJustOpened w area rs 1 0 (p ∷ q ∷ r ∷ s ∷ []) → placed area rs bytes p q r s w ≡ w
+placed-is area rs bytes p q r s w same V =
     (let P : over w.providers p q r s ≡ w.providers = over-is w.providers p q r s
     (from_some p (w.providers 0) (V.handed.each 0 (omega arith)))
     (from_some q (w.providers 1) (V.handed.each 1 (omega arith)))
     (from_some r (w.providers 2) (V.handed.each 2 (omega arith)))
     (from_some s (w.providers 3) (V.handed.each 3 (omega arith))) in
     (λ i. record w {
-      records = sym V.records i;
-      journal = sym (V.whole.journal ∙ V.records) i;
-      area = sym V.whole.area i;
-      is_switching = sym V.whole.unswitched i;
+      journal = sym V.journal i;
+      area = sym V.area_is i;
+      is_switching = sym V.at_rest.rest.unswitched i;
       bytes = same i;
-      jobs = sym V.jobs i;
-      next_job = sym V.next_job i;
-      alone = sym V.none_alone i;
-      append = sym V.append i;
-      doubt = sym V.doubt i;
+      jobs = sym V.at_rest.rest.idle.0 i;
+      next_job = sym V.at_rest.next i;
+      alone = sym V.at_rest.rest.idle.3 i;
+      append = sym V.at_rest.rest.idle.1 i;
+      doubt = sym V.at_rest.rest.undoubted i;
       providers = P i;
-      is_open = sym V.is_open i;
-      is_barred = sym V.unbarred i;
+      is_open = sym V.at_rest.opened i;
+      is_barred = sym V.at_rest.rest.idle.2 i;
       disk_faults = sym V.faults_are i;
     }))
 
+-- and so is what it sees, with its journal for its history
+pub form-is : (area : Area) (rs : List Record) (bytes : ℕ → List ℕ) (p q r s : Provider) (w : State) →
+    bytes ≡ w.bytes → IsJustOpened w area rs 1 0 (p ∷ q ∷ r ∷ s ∷ []) →
+    formed area rs bytes p q r s w ≡ plain w
+form-is area rs bytes p q r s w same V = ap plain (placed-is area rs bytes p q r s w same V)
+
 -- ---- stores that are known
 
--- records that a journal may hold and the fold accepts
-pub record AreFit (rs : List Record) : Type 0 where
+-- records that the journal in an area may hold and the fold accepts
+pub record AreFitIn (area : Area) (rs : List Record) : Type 0 where
   pub some : rs ≢ []
   pub all : IsTrue (list_all is_in_grammar rs)
   pub accepted : AreAccepted rs
-  pub room : text_size rs ≤ largest_journal
+  pub room : end_in area rs ≤ largest_journal
 
--- devices whose disk reads them are known
-pub sure : (s : Seen) (rs : List Record) → AreFit rs → s.disk ≡ Some (firm (text rs)) →
-    (setup_in_effect rs).n ≤ length s.providers → IsSure s rs
-sure s rs fit is few = record {
-  known = known-good (setup_in_effect rs) s (firm (text rs)) rs is
-      (record {
-        some = fit.some;
-        accepted = fit.accepted;
-        room = fit.room;
-        setup = refl;
-        stands = stands-text rs fit.all (reads (firm (text rs))) (reads-firm (text rs));
-      }) few;
-  images = subst (λ told. EachImage told (λ image. StandsFor image rs)) (sym is)
-      (λ image has. stands-text rs fit.all image (image-firm (text rs) image has));
+-- in the first area
+abbrev pub AreFit : List Record → Type 0
+AreFit rs = AreFitIn A rs
+
+-- a disk of bytes that stand for them reads such
+pub here-good : (area : Area) (rs : List Record) (bytes : List ℕ) → AreFitIn area rs →
+    StandsActive bytes area rs → IsGood (setup_in_effect rs) (reads (firm bytes)) area rs
+here-good area rs bytes fit stands = record {
+  some = fit.some;
+  accepted = fit.accepted;
+  room = fit.room;
+  setup = refl;
+  stands = subst (λ l. StandsActive l area rs) (sym (reads-firm bytes)) stands;
 }
+
+-- and each image of the disk stands for them
+pub images-fit : (s : Seen) (area : Area) (rs : List Record) (bytes : List ℕ) → s.disk ≡ Some (firm bytes) →
+    StandsActive bytes area rs → EachImage s.disk (λ image. StandsActive image area rs)
+images-fit s area rs bytes is stands =
+    subst (λ told. EachImage told (λ image. StandsActive image area rs)) (sym is)
+    (λ image has. subst (λ l. StandsActive l area rs) (sym (image-firm bytes image has)) stands)
+
+-- devices with such a disk are known
+abbrev pub sure_in : (s : Seen) (area : Area) (rs : List Record) (bytes : List ℕ) → AreFitIn area rs →
+    s.disk ≡ Some (firm bytes) → StandsActive bytes area rs →
+    (setup_in_effect rs).n ≤ length s.providers → IsSure s rs
+sure_in s area rs bytes fit is stands few = record {
+  known = known-good (setup_in_effect rs) s (firm bytes) area rs is (here-good area rs bytes fit stands) few;
+  images = images-fit s area rs bytes is stands;
+}
+
+-- so are those whose disk has their text in the first area
+abbrev pub sure : (s : Seen) (rs : List Record) → AreFit rs → s.disk ≡ Some (firm (text rs)) →
+    (setup_in_effect rs).n ≤ length s.providers → IsSure s rs
+sure s rs fit is few = sure_in s A rs (text rs) fit is (text-active rs fit.all) few

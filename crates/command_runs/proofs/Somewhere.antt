@@ -1,54 +1,38 @@
--- Over accepted records there is a state just opened, and the job or the scrub runs from there.
-use Rattle.std.proofs.Common.{ℕ, List, Option}
-use Rattle.device_defs.specs.Providers.{Provider}
+-- Over records that were read there is a state just opened, and the job or the scrub runs from there.
+use Rattle.std.proofs.Common.{◌≡◌, ℕ, List, Option}
 use Rattle.record_defs.specs.Records.{Record}
-use Rattle.record_defs.specs.Acceptance.{AreAccepted}
 use Rattle.machine_defs.specs.Jobs.{Kind}
 use Rattle.machine_defs.specs.Answers.{Answer}
 use Rattle.machine_defs.specs.Heard.{Entry}
 use Rattle.machine_defs.specs.States.{State}
 use Rattle.command_defs.specs.Seen.{Seen}
 use Rattle.command_defs.specs.Opens as opens
-use Rattle.opening_defs.specs.Opened.{IsOpenedOver, IsOpenAtRest}
+use Rattle.opening_defs.specs.Opened.{IsJustOpened}
 use Rattle.command_defs.specs.Jobs.{RunsAlone}
 use Rattle.command_defs.specs.Scrubs.{ScrubsAlone}
 use Rattle.command_laws.specs.After.{IsSure}
 use Rattle.command_runs.specs.Lone.{RunsSomewhere, ScrubsSomewhere}
 
-abbrev pub Opened : Type 0
-Opened = (w : State) (old : Seen) (records : List Record) (faults : ℕ) → opens.IsOpened old records →
-    IsOpenedOver w records faults old.providers → IsOpenAtRest w 1
-
 abbrev pub ThereIsOne : Type 0
-ThereIsOne = (records : List Record) (faults : ℕ) (providers : List Provider) → AreAccepted records →
-    (w : State) × IsOpenedOver w records faults providers
+ThereIsOne = (old : Seen) (records : List Record) (faults : ℕ) → (opened : opens.IsOpened old records) →
+    (w : State) × IsJustOpened w opened.area records 1 faults old.providers × (w.records ≡ records)
 
 -- a job that runs alone over a store that is known runs from some state
-pub somewhere : Opened → ThereIsOne →
+pub somewhere : ThereIsOne →
     (records : List Record) (kind : Kind) (own : Option ℕ) (answer : Answer) (old new : Seen)
-    (heard : List Entry) → IsSure old records → RunsAlone records kind own answer old new heard →
+    (heard : List Entry) → (sure : IsSure old records) →
+    RunsAlone sure.known.opened.area records kind own answer old new heard →
     RunsSomewhere kind own answer heard
-somewhere opened one records kind own answer old new heard sure alone =
-    (let R = sure.known.opened in
-    let w = one records alone.faults old.providers R.read.accepted in
+somewhere one records kind own answer old new heard sure alone =
+    (let w = one old records alone.faults sure.known.opened in
     let ran = alone.ran w.0 0 w.1 in
-    record {
-      start = w.0;
-      last = ran.last;
-      opened = opened w.0 old records alone.faults R w.1;
-      runs = ran.runs;
-    })
+    record { start = w.0; last = ran.last; opened = w.1.at_rest; runs = ran.runs })
 
 -- so does a scrub
-pub scrubs-somewhere : Opened → ThereIsOne → (records : List Record) (answer : Answer) (old new : Seen) →
-    IsSure old records → ScrubsAlone records answer old new → ScrubsSomewhere answer
-scrubs-somewhere opened one records answer old new sure alone =
-    (let R = sure.known.opened in
-    let w = one records alone.faults old.providers R.read.accepted in
+pub scrubs-somewhere : ThereIsOne → (records : List Record) (answer : Answer) (old new : Seen) →
+    (sure : IsSure old records) → ScrubsAlone sure.known.opened.area records answer old new →
+    ScrubsSomewhere answer
+scrubs-somewhere one records answer old new sure alone =
+    (let w = one old records alone.faults sure.known.opened in
     let ran = alone.ran w.0 0 w.1 in
-    record {
-      start = w.0;
-      last = ran.last;
-      opened = opened w.0 old records alone.faults R w.1;
-      runs = ran.runs;
-    })
+    record { start = w.0; last = ran.last; opened = w.1.at_rest; runs = ran.runs })

@@ -1,5 +1,6 @@
 -- A scrub of the store in which provider 2 has lost its block, from every state that was just opened.
 use Rattle.std.proofs.Common.{◌≡◌, ℕ, ◌+◌, List, [], ◌∷◌, refl, ap, sym, inl, arith}
+use Rattle.record_defs.specs.Areas.{A}
 use Rattle.machine_defs.specs.Actions.{Action, Store, End}
 use Rattle.machine_defs.specs.Alone.{scrubbing, unalone}
 use Rattle.machine_defs.specs.Answers.{Answer, Scrubbed}
@@ -116,7 +117,7 @@ module _ (w : State) (n : ℕ) (count : w.handed ≡ 4) where
       begins = (refl, refl, refl, refl);
       goes_on = record { steps = steps; are_steps = steps-are; ends = last 0; heard_is = refl };
     };
-    images = λ image is. inl (inl (refl, swept-new.images image is));
+    images = λ image is. inl (inl (swept-new.images image is));
     faults_are = refl;
     handed = record {
       count = count;
@@ -125,7 +126,7 @@ module _ (w : State) (n : ℕ) (count : w.handed ≡ 4) where
   }
 
 -- the scrub runs to its end from every state just opened over the store
-pub alone : ScrubsAlone byte_records six_off damaged swept
+pub alone : ScrubsAlone A byte_records six_off damaged swept
 alone = scrub-byte byte_records (holds 0) (holds 1) empty_provider (holds 3)
     six_off damaged swept (omega arith) refl refl ran-formed
 

@@ -1,5 +1,5 @@
 -- A disk whose last gate is loose: each image has any byte there, and with it the last record or not.
-use Rattle.std.proofs.Common.{◌≡◌, ◌⊎◌, ℕ, ◌==◌, true, List, [], ◌∷◌, ◌++◌, refl, ap, sym, subst, ◌∙◌, inl, inr, arith}
+use Rattle.std.proofs.Common.{◌≡◌, ◌⊎◌, ℕ, ◌==◌, true, List, [], ◌∷◌, ◌++◌, take, drop, refl, ap, sym, subst, ◌∙◌, inl, inr}
 use Rattle.std.proofs.lemmas.Bool.{cases_Bool, eqb-true, eq-eqb, false≢true}
 use Rattle.device_defs.specs.Cells.{firm}
 use Rattle.device_defs.specs.Disks.{Stopped}
@@ -7,7 +7,9 @@ use Rattle.device_defs.specs.Images.{IsImage}
 use Rattle.device_defs.proofs.Lasting.{image-firm}
 use Rattle.record_defs.specs.Records.{PutDone}
 use Rattle.record_defs.specs.Spellings.{spelling}
-use Rattle.record_defs.specs.Journal.{text, before_gate, StandsFor}
+use Rattle.record_defs.specs.Journal.{text, before_gate}
+use Rattle.record_defs.specs.Areas.{A, StandsActive}
+use Rattle.record_defs.proofs.AreaLaws.{text-active}
 use Rattle.command_runs.specs.Devices.{started_records, byte_records}
 use Rattle.command_runs.proofs.Stores.{started-fit, byte-fit}
 
@@ -37,29 +39,34 @@ whole : before_gate started_records ++ 1 ∷ behind ≡ text byte_records
 unfolding spelling
 whole = refl
 
-by_gate : (x : ℕ) (image : List ℕ) → image ≡ before_gate started_records ++ x ∷ behind →
-    StandsFor image started_records ⊎ StandsFor image byte_records
-by_gate x image is = elim (cases_Bool (x == 1)) [
-  | inl t ↦ inr (record {
-    in_grammar = byte-fit.all;
-    gate = 0;
-    rest = [];
-    closed = λ e. omega (arith, e);
-    bytes_are = is ∙ (ap (λ g. before_gate started_records ++ g ∷ behind) (eqb-true x 1 t) ∙ whole);
-  })
-  | inr f ↦ inl (record {
+-- the front names the first area, and its text is these records with any closed gate behind them
+closed-stands : (x : ℕ) (image : List ℕ) → image ≡ before_gate started_records ++ x ∷ behind → (x ≡ 1 → ⊥) →
+    StandsActive image A started_records
+unfolding spelling
+closed-stands x image is shut = record {
+  active = record { switch = 49; front = ap (take 8) is; names = refl };
+  holds = record {
     in_grammar = started-fit.all;
     gate = x;
     rest = behind;
-    closed = λ e. false≢true (sym f ∙ eq-eqb x 1 e);
-    bytes_are = is;
-  })
+    closed = shut;
+    bytes_are = ap (drop 8) is;
+  };
+}
+
+by_gate : (x : ℕ) (image : List ℕ) → image ≡ before_gate started_records ++ x ∷ behind →
+    StandsActive image A started_records ⊎ StandsActive image A byte_records
+by_gate x image is = elim (cases_Bool (x == 1)) [
+  | inl t ↦ inr (subst (λ l. StandsActive l A byte_records)
+      (sym (is ∙ (ap (λ g. before_gate started_records ++ g ∷ behind) (eqb-true x 1 t) ∙ whole)))
+      (text-active byte_records byte-fit.all))
+  | inr f ↦ inl (closed-stands x image is (λ e. false≢true (sym f ∙ eq-eqb x 1 e)))
 ]
 
 -- each image of the torn disk stands for the records with the put's last one or without it
 pub torn-image : (image : List ℕ) →
     IsImage (firm (before_gate started_records) ++ (1, true) ∷ firm behind) image →
-    StandsFor image started_records ⊎ StandsFor image byte_records
+    StandsActive image A started_records ⊎ StandsActive image A byte_records
 torn-image image is =
     (let r = any-gate (before_gate started_records) behind 1 image is in by_gate r.0 image r.1)
 

@@ -1,6 +1,7 @@
 //! Puts that are given up behind their begins, given outright: how they end, and laws that have them as
 //! instances.
 ghost use Rattle.std.specs.Prelude.{◌≡◌, ◌⊎◌, ℕ, ◌+◌, ◌<◌, List, length, None};
+ghost use Rattle.record_defs.specs.Areas.{A};
 ghost use Rattle.record_defs.specs.Records.{largest_file};
 ghost use Rattle.machine_defs.specs.Events.{AreBytes};
 ghost use Rattle.command_defs.specs.Forms.{PutUnder};
@@ -21,8 +22,8 @@ use job_laws::alone::told_parts_leave;
 /// provider has its block of that stripe.
 pub fn a_put_is_given_up()
     ensures answers { Answers (PutUnder named) (to_put_source long) put_given_up (ends 14) }
-    ensures runs { PartRuns four_records named first_stripe None (to_put_source long) put_given_up }
-    ensures left { PartLeft four_records named first_stripe None (to_put_source long) put_given_up }
+    ensures runs { PartRuns A four_records named first_stripe None (to_put_source long) put_given_up }
+    ensures left { PartLeft A four_records named first_stripe None (to_put_source long) put_given_up }
 {
     told_parts_leave();
 }
@@ -52,7 +53,7 @@ pub fn long_puts_are_given_up()
     ensures well { (source : List ℕ) → AreBytes source → largest_file < length source
         → ((ends 16).status ≡ 16) ⊎ ((ends 16).status ≡ 70) }
     ensures only { (source : List ℕ) → AreBytes source → largest_file < length source
-        → (put_refusal four_records named None ≡ None) × (largest_file < length source) }
+        → (put_refusal A four_records named None ≡ None) × (largest_file < length source) }
     ensures there_is_one { AreBytes (sevens (largest_file + 1))
         × (largest_file < length (sevens (largest_file + 1))) }
 {

@@ -5,6 +5,7 @@ ghost use Rattle.code_defs.specs.Points.{upto};
 ghost use Rattle.code_defs.specs.DispersalCode.{AcceptsNone};
 ghost use Rattle.column_defs.specs.Verdicts.{is_flagged};
 ghost use Rattle.device_defs.specs.Cells.{firm};
+ghost use Rattle.record_defs.specs.Areas.{A};
 ghost use Rattle.record_defs.specs.Records.{Record, is_setup};
 ghost use Rattle.machine_defs.specs.Jobs.{PutJob, GetJob, DropJob, AuditJob, RepairJob, UpgradeJob};
 ghost use Rattle.machine_defs.specs.Answers.{Put, Got, Dropped, Audited, Repaired, Upgraded, Scrubbed, Lost, ProviderFault, DiskFault, Memory};
@@ -70,12 +71,12 @@ pub fn jobs_leave_what_is_said()
 /// known, with the same file, right on all providers. Then a put of another file with a profile of its own is
 /// not refused, and tells its text; both files are right.
 pub fn upgrades_bring_profiles()
-    ensures begins { refusal_over byte_records UpgradeJob None ≡ None }
+    ensures begins { refusal_over A byte_records UpgradeJob None ≡ None }
     ensures upgraded { GivesUnlessMemory upgraded_line byte_kept byte_upgraded (ends 0) }
     ensures in_order { EndsInOrder UpgradeJournal byte_kept byte_upgraded (ends 0) }
     ensures known { IsSure byte_upgraded (after_upgrade byte_records) }
     ensures kept { HasRightFile byte_upgraded byte_upgraded_records named byte (λ j. false) }
-    ensures own_begins { refusal_over byte_upgraded_records (PutJob other_name byte) (Some 1) ≡ None }
+    ensures own_begins { refusal_over A byte_upgraded_records (PutJob other_name byte) (Some 1) ≡ None }
     ensures own_put { GivesUnlessMemory (stored_line other_name 1) to_put_own stored_own (ends 0) }
     ensures own_known { IsSure stored_own (after_put byte_upgraded_records other_name 1 (Some 1)) }
     ensures first { HasRightFile stored_own byte_own_records named byte (λ j. false) }
@@ -98,11 +99,11 @@ pub fn statuses_have_their_causes()
     ensures sink { FaultsHaveCauses byte_kept (record byte_kept { sink_faults = 1 }) (ends 15) }
     ensures bad_journal { (9 < length (journal_read (firm (replicate 12 0))))
         × IsBadStart (journal_read (firm (replicate 12 0))) 0 }
-    ensures repair_due { refusal_over byte_audited_records AuditJob None ≡ Some DueRefusal }
-    ensures nothing_due { refusal_over byte_records RepairJob None ≡ Some NothingDue }
-    ensures bad_profile { put_refusal four_records named (Some 5) ≡ Some BadProfile }
-    ensures old_version { put_refusal four_records named (Some 1) ≡ Some OldVersion }
-    ensures new_version { refusal_over byte_upgraded_records UpgradeJob None ≡ Some NewVersion }
+    ensures repair_due { refusal_over A byte_audited_records AuditJob None ≡ Some DueRefusal }
+    ensures nothing_due { refusal_over A byte_records RepairJob None ≡ Some NothingDue }
+    ensures bad_profile { put_refusal A four_records named (Some 5) ≡ Some BadProfile }
+    ensures old_version { put_refusal A four_records named (Some 1) ≡ Some OldVersion }
+    ensures new_version { refusal_over A byte_upgraded_records UpgradeJob None ≡ Some NewVersion }
     ensures row { IsShape 4 1 1 × AcceptsNone (upto 4) (None ∷ None ∷ Some 7 ∷ Some 9 ∷ []) 1 1 }
     ensures hidden_get { EndsInOrder (GetOf other_name) all_hidden all_hidden (ends 3)
         ⊎ LosesFile other_name all_hidden all_hidden (ends 3) }

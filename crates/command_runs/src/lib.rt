@@ -3,5 +3,6 @@
 
 pub mod given_up;
 pub mod laws;
+pub mod packs;
 pub mod refused;
 pub mod runs;

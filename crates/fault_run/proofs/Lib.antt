@@ -1,4 +1,3 @@
-pub mod Steps
 pub mod Run
 pub mod Points
 pub mod Parts

@@ -3,6 +3,7 @@
 use Rattle.std.proofs.Common.{◌≡◌, Bool, true, false, ◌&&◌, List, [], ◌∷◌, Option, Some, None, refl, subst, arith}
 use Rattle.std.specs.Prelude.{nat_le}
 use Rattle.std.proofs.lemmas.Bool.{and_parts, leb-true}
+use Rattle.machine_defs.specs.Actions.{actions_of}
 use Rattle.machine_defs.specs.States.{State, Alone, Scrubbing, Packing, setup_in}
 use Rattle.column_defs.specs.Columns.{columns}
 use Rattle.machine_defs.specs.Runs.{Moment, now, first_moments, is_replaced_since}
@@ -39,7 +40,7 @@ scrubs_calm_by_test mark (m ∷ ms) h =
 
 -- the run of the second version is calm, counted from finished scrubs
 pub scrub_calm : IsScrubCalm set_up moments
-unfolding setup_in
+unfolding setup_in actions_of
 scrub_calm = record {
   jobs = calm_by_test (scrubbed set_up) moments refl;
   scrubs = scrubs_calm_by_test (scrubbed set_up) moments refl;
@@ -47,7 +48,7 @@ scrub_calm = record {
 
 -- the mark after that run is event 22, the begin of its scrub
 pub mark_is : scrubbed set_up moments ≡ 22
-unfolding setup_in
+unfolding setup_in actions_of
 mark_is = refl
 
 -- provider 0 was altered just before, and not since
@@ -55,12 +56,12 @@ pub was_altered : is_replaced_since 21 0 moments ≡ true
 was_altered = refl
 
 pub unaltered : is_replaced_since (scrubbed set_up moments) 0 moments ≡ false
-unfolding setup_in
+unfolding setup_in actions_of
 unaltered = refl
 
 -- so it holds its own column, where the law says so of the run
 pub own_again : IsExact set_up moments (scrubbed set_up moments) →
     told_block (now set_up moments) 0 1 0 ≡ Some (Some (columns thing byte 0 0))
-unfolding setup_in
+unfolding setup_in actions_of
 own_again exact = exact name (record { name = name; id = 1; size = 1; profile = 1 }) 0 0 refl (omega arith)
     (omega arith) unaltered

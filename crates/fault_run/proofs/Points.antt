@@ -1,6 +1,6 @@
 -- The places in the run, computed.
 use Rattle.std.proofs.Common.{◌≡◌, ℕ, suc, Bool, true, false, ◌&&◌, List, [], ◌∷◌, Option, Some, None, refl, ap, sym, subst, ◌∙◌, inl, arith}
-use Rattle.std.specs.Prelude.{not, take}
+use Rattle.std.specs.Prelude.{not, is_some, take}
 use Rattle.std.specs.Option.{option_map}
 use Rattle.std.proofs.lemmas.Bool.{and_parts, false≢true, not-true}
 use Rattle.code_defs.specs.Polynomials.{value, is_seen}
@@ -8,26 +8,28 @@ use Rattle.code_defs.proofs.Values.{is_seen-none}
 use Rattle.column_defs.specs.Objects.{point}
 use Rattle.column_defs.specs.Challenges.{bare_answer}
 use Rattle.device_defs.specs.Providers.{Held}
-use Rattle.record_defs.specs.Records.{Record}
-use Rattle.machine_defs.specs.Jobs.{Given, Fetched, Answered, Job}
-use Rattle.machine_defs.specs.Actions.{Fetch, Ask, Remove, actions_of}
+use Rattle.record_defs.specs.Records.{Record, PutDone}
+use Rattle.machine_defs.specs.Jobs.{GetJob, Given, Fetched, Answered, Job, job_of}
+use Rattle.machine_defs.specs.Actions.{Action, Store, Fetch, Ask, Remove, actions_of}
 use Rattle.machine_defs.specs.Answers.{Got}
-use Rattle.machine_defs.specs.Events.{Event, BeginScrub, Continue}
+use Rattle.machine_defs.specs.Events.{Event, BeginScrub, Step, Continue}
 use Rattle.machine_defs.specs.Scrubs.{scrubbed}
 use Rattle.machine_defs.specs.Examples.{set_up}
 use Rattle.second_half_laws.specs.MarkedRuns.{BeginsNoScrub}
-use Rattle.machine_defs.specs.States.{Doubt, setup_in}
+use Rattle.machine_defs.specs.States.{State, Append, Doubt, setup_in}
+use Rattle.machine_defs.specs.Begins.{new_job}
+use Rattle.machine_defs.specs.Deeds.{Makes}
+use Rattle.machine_defs.specs.Steps.{next_action, holder_of}
 use Rattle.machine_defs.specs.Runs.{Moment, first_moments}
 use Rattle.machine_defs.specs.Failures.{OfOthers}
 use Rattle.machine_defs.specs.Heard.{NoneContinues}
 use Rattle.machine_defs.specs.Survival.{takes_out, NeverTakenOut}
-use Rattle.machine_defs.proofs.RunParts.{job_at, append_at}
 use Rattle.second_half_laws.proofs.ByteSteps.{block_sized, block}
 use Rattle.damage_run.specs.Schedule.{name, byte}
 use Rattle.damage_run.specs.Points.{at}
 use Rattle.damage_run.proofs.Values.{thing, right, same_first, asked, decider, agrees_at}
 use Rattle.damage_run.proofs.CalmRun.{calm_by_test, scrubs_by_test, outright}
-use Rattle.damage_run.proofs.Points.{doubt_at, maker_of, the_file, last_of}
+use Rattle.damage_run.proofs.Points.{the_file, last_of}
 use Rattle.fault_run.specs.Faults.{IsFaulty}
 use Rattle.fault_run.specs.Met.{Fails, HasFaults}
 use Rattle.fault_run.proofs.Run.{moments, is_run}
@@ -50,7 +52,7 @@ unscrubbed_by_test (m ∷ ms) h = (let p = and_parts (not (begins_scrub m.event)
 
 -- the moments are the run: calm, with no scrub, and with the events of the schedule
 pub faulty : IsFaulty moments
-unfolding setup_in
+unfolding setup_in actions_of
 faulty = record {
   clean = outright.clean;
   tell = λ j. refl;
@@ -68,6 +70,57 @@ faulty = record {
 -- event k
 abbrev pub event_at : ℕ → Moment
 event_at k = last_of (first_moments (suc k) moments)
+
+-- ---- what is found in a state: compared with itself, a computed job costs more than can be paid
+
+-- what is found, or this
+abbrev or_else : {A : Type 0} → A → Option A → A
+or_else none None = none
+or_else none (Some x) = x
+
+-- it is found where the test says so
+is-some : {A : Type 0} (none : A) (found : Option A) → is_some found ≡ true →
+    found ≡ Some (or_else none found)
+is-some none None h = absurd (false≢true h)
+is-some none (Some x) h = refl
+
+-- a job that does nothing
+abbrev no_job : Job
+no_job = new_job set_up 0 (GetJob [])
+
+-- a record that nobody made
+abbrev no_doubt : Doubt
+no_doubt = record { entry = PutDone 0 0; maker = None }
+
+-- an append that nothing writes
+abbrev no_append : Append
+no_append = record { job = 0; entry = PutDone 0 0; moves = 0 }
+
+-- the job that is found
+abbrev the_job : Option Job → Job
+the_job found = or_else no_job found
+
+-- it is that of its own number
+its-job : (w : State) (n : ℕ) (found : Option Job) → job_of w.jobs n ≡ found → is_some found ≡ true →
+    (the_job found).number ≡ n → job_of w.jobs (the_job found).number ≡ Some (the_job found)
+its-job w n None e h same = absurd (false≢true h)
+its-job w n (Some job) e h same = subst (λ k. job_of w.jobs k ≡ Some job) (sym same) e
+
+-- a step in which it made an action, or failed at it
+makes-so : (w : State) (m : Moment) (n : ℕ) (action : Action) → m.event ≡ Step n → w.is_open ≡ true →
+    w.is_barred ≡ false → w.alone ≡ None → is_some (job_of w.jobs n) ≡ true →
+    (the_job (job_of w.jobs n)).number ≡ n →
+    next_action w (the_job (job_of w.jobs n)) ≡ Some action → holder_of w.append action ≡ None →
+    Makes w m (the_job (job_of w.jobs n)) action
+makes-so w m n action event is_open unbarred none_alone some same next unheld = record {
+  event = event ∙ ap Step (sym same);
+  is_open = is_open;
+  unbarred = unbarred;
+  none_alone = none_alone;
+  runs = its-job w n (job_of w.jobs n) refl some same;
+  next = next;
+  unheld = unheld;
+}
 
 -- ---- what failed calls gave
 
@@ -96,17 +149,9 @@ fetch_fails = record {
   moment = event_at 16;
   happened = record { is = refl };
   failure = record {
-    job = job_at (at 16 moments) 2;
+    job = the_job (job_of (at 16 moments).jobs 2);
     action = Fetch 0 1 0;
-    makes = record {
-      event = refl;
-      is_open = refl;
-      unbarred = refl;
-      none_alone = refl;
-      runs = refl;
-      next = refl;
-      unheld = refl;
-    };
+    makes = makes-so (at 16 moments) (event_at 16) 2 (Fetch 0 1 0) refl refl refl refl refl refl refl refl;
     amiss = (
       refl,
       λ seen goes gives. no_block seen (ap (λ job. block_of (newest_given job)) goes)
@@ -126,17 +171,9 @@ ask_fails = record {
   moment = event_at 55;
   happened = record { is = refl };
   failure = record {
-    job = job_at (at 55 moments) 6;
+    job = the_job (job_of (at 55 moments).jobs 6);
     action = Ask 2 1 0;
-    makes = record {
-      event = refl;
-      is_open = refl;
-      unbarred = refl;
-      none_alone = refl;
-      runs = refl;
-      next = refl;
-      unheld = refl;
-    };
+    makes = makes-so (at 55 moments) (event_at 55) 6 (Ask 2 1 0) refl refl refl refl refl refl refl refl;
     amiss = (
       refl,
       λ symbol goes gives. some_right (same_first _ _ refl
@@ -157,17 +194,9 @@ removal_fails = record {
   moment = event_at 71;
   happened = record { is = refl };
   failure = record {
-    job = job_at (at 71 moments) 7;
+    job = the_job (job_of (at 71 moments).jobs 7);
     action = Remove 3 1;
-    makes = record {
-      event = refl;
-      is_open = refl;
-      unbarred = refl;
-      none_alone = refl;
-      runs = refl;
-      next = refl;
-      unheld = refl;
-    };
+    makes = makes-so (at 71 moments) (event_at 71) 7 (Remove 3 1) refl refl refl refl refl refl refl refl;
     amiss = (refl, λ gone. still_there (ap first_block gone));
   };
 }
@@ -232,8 +261,8 @@ faults = record {
   ask_fails = ask_fails;
   removal_fails = removal_fails;
   get_missed = record {
-    job = job_at (at 20 moments) 2;
-    runs = refl;
+    job = the_job (job_of (at 20 moments).jobs 2);
+    runs = is-some no_job (job_of (at 20 moments).jobs 2) refl;
     number_is = refl;
     kind_is = refl;
     pinned = (0, omega arith, refl);
@@ -260,11 +289,11 @@ faults = record {
     in_effect = refl;
   };
   cut_in_doubt = record {
-    doubt = doubt_at (at 37 moments);
-    in_doubt = refl;
+    doubt = or_else no_doubt (at 37 moments).doubt;
+    in_doubt = is-some no_doubt (at 37 moments).doubt refl;
     entry_is = refl;
-    job = maker_of (doubt_at (at 37 moments));
-    maker = refl;
+    job = the_job (or_else no_doubt (at 37 moments).doubt).maker;
+    maker = is-some no_job (or_else no_doubt (at 37 moments).doubt).maker refl;
   };
   cut_ended = refl;
   cut_profile = refl;
@@ -279,53 +308,42 @@ faults = record {
   never_out = never_by_test name after_first refl;
   first_got = record { moment = event_at 47; is = refl; event = refl; outcome = refl };
   has_stored = inl (record {
-    job = job_at (at 6 moments) 1;
+    job = the_job (job_of (at 6 moments).jobs 1);
     name = name;
     bytes = byte;
     provider = 0;
     stripe = 0;
-    makes = record {
-      event = refl;
-      is_open = refl;
-      unbarred = refl;
-      none_alone = refl;
-      runs = refl;
-      next = refl;
-      unheld = refl;
-    };
+    makes = makes-so (at 6 moments) (event_at 6) 1 (Store 0 1 0) refl refl refl refl refl refl refl refl;
     puts = refl;
     begun_is = refl;
   });
   has_asked = inl (record {
-    job = job_at (at 53 moments) 6;
+    job = the_job (job_of (at 53 moments).jobs 6);
     provider = 0;
-    makes = record {
-      event = refl;
-      is_open = refl;
-      unbarred = refl;
-      none_alone = refl;
-      runs = refl;
-      next = refl;
-      unheld = refl;
-    };
+    makes = makes-so (at 53 moments) (event_at 53) 6 (Ask 0 1 0) refl refl refl refl refl refl refl refl;
     audits = refl;
     begun_is = refl;
     number_is = refl;
   });
   end_in_flight = record {
-    append = append_at (at 58 moments);
-    in_flight = refl;
+    append = or_else no_append (at 58 moments).append;
+    in_flight = is-some no_append (at 58 moments).append refl;
     entry_is = refl;
-    job = job_at (at 58 moments) 6;
-    runs = refl;
+    job = the_job (job_of (at 58 moments).jobs 6);
+    runs = is-some no_job (job_of (at 58 moments).jobs 6) refl;
   };
   after_get = after_second;
   reported = record {
     moment = event_at 47;
-    job = job_at (at 47 moments) 5;
+    job = the_job (job_of (at 47 moments).jobs 5);
     before = first_moments 47 moments;
     split = refl;
-    ends = record { answer = Got byte; event = refl; outcome = refl; runs = refl };
+    ends = record {
+      answer = Got byte;
+      event = refl;
+      outcome = refl;
+      runs = its-job (at 47 moments) 5 (job_of (at 47 moments).jobs 5) refl refl refl;
+    };
     none_continues = none_by_test after_second refl;
   };
   begun_anew = refl;

@@ -1,2 +1,6 @@
 pub mod Steps
 pub mod Turns
+pub mod Sweeps
+pub mod Failures
+pub mod Instructions
+pub mod Written

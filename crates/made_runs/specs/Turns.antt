@@ -5,7 +5,7 @@
 --   FitsTurn start ms n turn == after them the job can go so
 --   job_run start ms n turns == the moments ms with those of turns of job n before them
 --   AreFitTurns              == after them the job can go so in each, and each answers more
-use Rattle.std.specs.Prelude.{◌≡◌, ℕ, zero, suc, ◌+◌, ◌<◌, ◌^◌, ◌&&◌, Bool, true, false, not, List, [], ◌∷◌, ◌++◌, length, Option, None, Some, is_some, nat_lt, nat_le}
+use Rattle.std.specs.Prelude.{◌≡◌, ℕ, zero, suc, ◌+◌, ◌&&◌, Bool, true, false, not, List, [], ◌∷◌, ◌++◌, Option, None, Some, is_some}
 use Rattle.column_defs.specs.Challenges.{honest_answer}
 use Rattle.column_defs.specs.Opened.{GivesSymbols, LosesRow}
 use Rattle.record_defs.specs.Records.{Record}

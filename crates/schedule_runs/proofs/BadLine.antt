@@ -30,7 +30,7 @@ spells-none (Once Continue) s = s
 spells-none (Once (Begin UpgradeJob)) s = (let e = ap length s in omega (arith, e))
 spells-none (Once (BeginAt profile name bytes)) s = (let e = ap length s.2 in omega (arith, e))
 spells-none (Once BeginScrub) s = (let e = ap length s in omega (arith, e))
-spells-none (Once BeginPack) s = s
+spells-none (Once BeginPack) s = (let e = ap length s in omega (arith, e))
 
 not-a-line : IsLine (codes "lose 2 1 0 2 1 0") → ⊥
 not-a-line (inl skipped) = omega (arith, skipped)

@@ -7,3 +7,5 @@ pub mod Upgraded
 pub mod UpgradedText
 pub mod Scrubbed
 pub mod ScrubbedText
+pub mod Packed
+pub mod PackedText

@@ -1,17 +1,22 @@
 -- The devices that a run has left, and what a replay or a trial over them goes on to.
 --
---   devices_left w                              == devices of a state: the disk reads the text of the records
---                                                  in effect, and no byte of it is loose
+--   zeros_to area                               == zeros from behind the byte that names an area up to where
+--                                                  its text begins
+--   disk_text area rs                           == a disk with the text of records in an area, which it names,
+--                                                  and nothing in the other
+--   devices_left w                              == devices of a state: the disk reads the text of its journal
+--                                                  in its area, and no byte of it is loose
 --   DidNothing old new end                      == no event was done
 --   GoesOnWith start ms old new end             == no event was done, or moments go on with this very run
 --   KeepsItsFile start ms name file old new end == the same, and the file is kept for as long as no record
 --                                                  takes it out
 --   KeepsSecondHalf start ms old new end        == the same, and where the whole is calm, counted from
 --                                                  finished scrubs, the second half holds of it
-use Rattle.std.specs.Prelude.{ℕ, List, ◌++◌, map, Some, ◌⊎◌}
+use Rattle.std.specs.Prelude.{ℕ, ◌-◌, List, [], ◌∷◌, ◌++◌, map, replicate, Some, ◌⊎◌}
 use Rattle.code_defs.specs.Points.{upto}
 use Rattle.device_defs.specs.Cells.{firm}
-use Rattle.record_defs.specs.Journal.{text}
+use Rattle.record_defs.specs.Records.{Record}
+use Rattle.record_defs.specs.Areas.{Area, base_of, magic_front, switch_of, entries}
 use Rattle.record_defs.specs.Table.{File}
 use Rattle.machine_defs.specs.Runs.{Moment, now}
 use Rattle.machine_defs.specs.States.{State}
@@ -24,9 +29,18 @@ use Rattle.hail_replay.specs.Answers.{IsUndone, devices_of_seen}
 use Rattle.hail_replay.specs.Starts.{called_behind}
 use Rattle.hail_top.specs.Carried.{RunGoesOn}
 
+-- zeros up to where the text of an area begins, behind the byte that names it
+unfoldable pub zeros_to : Area → List ℕ
+zeros_to area = replicate (base_of area - 8) 0
+
+-- a disk with the text of records in an area
+abbrev pub disk_text : Area → List Record → List ℕ
+disk_text area rs = magic_front ++ switch_of area ∷ (zeros_to area ++ (entries rs ++ 0 ∷ []))
+
 -- devices of a state
 abbrev pub devices_left : State → Devices
-devices_left w = devices (Some (firm (text w.records))) w.disk_faults (map w.providers (upto w.handed))
+devices_left w = devices (Some (firm (disk_text w.area w.journal))) w.disk_faults
+    (map w.providers (upto w.handed))
 
 -- no event was done
 abbrev pub DidNothing : Seen → Seen → Ending → Type 0

@@ -1,5 +1,6 @@
 -- Schedules as texts, and what carries them out: one with damage, an audit, a repair, a stop and gets; one
--- with an upgrade, a put with a profile of its own, and a get; and one in which a scrub comes before the get.
+-- with an upgrade, a put with a profile of its own, and a get; one in which a scrub comes before the get; and
+-- one in which a pack does.
 --
 --   stopped_schedule  == the commands of the run with damage, and then a stop, a reopening and a get, the
 --                        newest first
@@ -17,11 +18,16 @@
 --                     == the same, with a symbol that is altered behind the put, and a scrub, of which one
 --                        step is told apart
 --   IsScrubbedRun ms  == these moments carry it out; they are calm, counted from the scrub's begin
+--   packed_schedule, packed_written, packed_text
+--                     == the upgrade and the put, and a pack, of which one step is told apart, and the get
+--   IsPackedRun ms    == these moments carry it out; at their end the packed journal stands in the second area
 use Rattle.std.specs.Prelude.{◌≡◌, ℕ, true, false, List, [], ◌∷◌, ◌++◌, codes, Some}
 use Rattle.std.specs.List.{flat_map}
+use Rattle.record_defs.specs.Areas.{B}
+use Rattle.record_defs.specs.Packed.{packed}
 use Rattle.record_defs.specs.Table.{File, version_of}
 use Rattle.machine_defs.specs.Answers.{Got}
-use Rattle.machine_defs.specs.Events.{Begin, BeginAt, BeginScrub, Step, Alter, Stop, Reopen}
+use Rattle.machine_defs.specs.Events.{Begin, BeginAt, BeginScrub, BeginPack, Step, Alter, Stop, Reopen}
 use Rattle.machine_defs.specs.Examples.{set_up}
 use Rattle.machine_defs.specs.Jobs.{GetJob, UpgradeJob}
 use Rattle.machine_defs.specs.Lines.{line}
@@ -117,3 +123,30 @@ pub record IsScrubbedRun (ms : List Moment) : Type 0 where
   pub altered : is_replaced_since 21 0 ms ≡ true
   pub unaltered : is_replaced_since 22 0 ms ≡ false
   pub last : EndsBy ms 36 4 (Got byte)
+
+-- the commands of the upgrade, the put, the pack and the get, the newest first
+abbrev pub packed_schedule : List Instruction
+packed_schedule = RunJob 4 ∷ Once (Begin (GetJob name)) ∷ RunJob 3 ∷ Once (Step 3) ∷ Once BeginPack
+    ∷ RunJob 2 ∷ Once (BeginAt 1 name byte) ∷ RunJob 1 ∷ Once (Step 1) ∷ Once (Begin UpgradeJob)
+    ∷ Once Reopen ∷ []
+
+-- all that they write
+abbrev pub packed_written : List ℕ
+packed_written = flat_map line (codes "opened" ∷ codes "job 1" ∷ codes "more" ∷ codes "upgraded"
+    ∷ codes "job 2" ∷ codes "put" ∷ codes "job 3" ∷ codes "more" ∷ codes "packed 81 81" ∷ codes "job 4"
+    ∷ codes "got 6f" ∷ [])
+
+-- the text that spells them, in their order
+abbrev pub packed_text : List ℕ
+packed_text = flat_map line (codes "reopen" ∷ codes "begin upgrade" ∷ codes "step 1" ∷ codes "run 1"
+    ∷ codes "begin put a 6f 1" ∷ codes "run 2" ∷ codes "begin pack" ∷ codes "step 3" ∷ codes "run 3"
+    ∷ codes "begin get a" ∷ codes "run 4" ∷ [])
+
+-- these moments carry it out; the packed records stand in the second area, and the history is as before
+pub record IsPackedRun (ms : List Moment) : Type 0 where
+  pub clean : IsStart set_up
+  pub run : IsRun 8 set_up ms
+  pub carried_out : CarriesOut packed_schedule ms packed_written
+  pub area : (now set_up ms).area ≡ B
+  pub journal : (now set_up ms).journal ≡ packed (now set_up ms).records
+  pub last : EndsBy ms 33 4 (Got byte)

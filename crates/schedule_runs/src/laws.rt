@@ -1,7 +1,6 @@
 //! What a replay and a trial suppose of their devices is met, and what they promise is used.
-ghost use Rattle.std.specs.Prelude.{◌≡◌, ◌⊎◌, ℕ, List, [], IsSome, IsTrue, reverse};
-ghost use Rattle.std.specs.List.{AllByRecursion, list_all};
-ghost use Rattle.record_defs.specs.Records.{is_appended};
+ghost use Rattle.std.specs.Prelude.{◌≡◌, ◌⊎◌, ℕ, List, [], IsSome, reverse};
+ghost use Rattle.std.specs.List.{AllByRecursion};
 ghost use Rattle.command_defs.specs.Seen.{Seen, Ending, sinking};
 ghost use Rattle.machine_defs.specs.Examples.{set_up};
 ghost use Rattle.machine_defs.specs.Halves.{SecondHalf};
@@ -23,7 +22,7 @@ ghost use Rattle.second_half_laws.specs.Own.{IsExact};
 ghost use Rattle.damage_run.specs.Schedule.{name, IsOutright};
 ghost use Rattle.fault_run.specs.Faults.{other, IsFaulty};
 ghost use Rattle.schedule_runs.specs.Left.{devices_left, GoesOnWith, KeepsItsFile, KeepsSecondHalf};
-ghost use Rattle.schedule_runs.specs.Schedule.{stopped_schedule, stopped_text, bad_text, IsStoppedRun, upgraded_schedule, upgraded_text, upgraded_file, IsUpgradedRun, scrubbed_schedule, scrubbed_text, IsScrubbedRun};
+ghost use Rattle.schedule_runs.specs.Schedule.{stopped_schedule, stopped_text, bad_text, IsStoppedRun, upgraded_schedule, upgraded_text, upgraded_file, IsUpgradedRun, scrubbed_schedule, scrubbed_text, IsScrubbedRun, packed_schedule, packed_text, IsPackedRun};
 ghost use Rattle.vault.specs.Devices.{devices_seen};
 
 use hail_client::laws::a_fresh_disk_has_a_start;
@@ -31,12 +30,11 @@ use headline::laws::every_run_keeps_the_headline;
 use machine_defs::laws::acknowledged_files_survive;
 use state_laws::laws::runs_are_sound;
 
-/// Each run whose journal has no packed record has left devices that tell: those of its last state. So have
-/// the run of no event, over a disk before its first use, and the runs given outright: one with damage, an
+/// Each run has left devices that tell, whatever area its journal is in: those of its last state. So have the
+/// run of no event, over a disk before its first use, and the runs given outright: one with damage, an
 /// audit that finds it and a repair; one with calls of every device that fail, and a stop.
 pub fn runs_leave_devices()
     ensures each { (start : State) (ms : List Moment) → IsStart start → IsRun 8 start ms
-        → IsTrue (list_all is_appended (now start ms).journal)
         → AreLeft start ms (devices_left (now start ms)) }
     ensures tell { (start : State) (ms : List Moment) → IsSome (devices_left (now start ms)).holds }
     ensures fresh { AreLeft (start_of fresh []) [] fresh }
@@ -95,12 +93,25 @@ pub fn a_scrub_has_its_run()
     every_run_keeps_the_headline();
 }
 
+/// So it is of a text with the same upgrade and put, a pack, and a get, which gives the file out of the second
+/// area.
+pub fn a_pack_has_its_run()
+    ensures spells { IsSchedule packed_text (reverse packed_schedule) }
+    ensures fits { AllByRecursion CanBeSpelled (reverse packed_schedule) }
+    ensures run { (ms : List Moment) × IsPackedRun ms × AreLeft set_up ms (devices_left (now set_up ms)) }
+    ensures used { (ms : List Moment) × IsPackedRun ms
+        × ((old new : Seen) (end : Ending) → devices_of_seen old ≡ devices_left (now set_up ms) →
+        KeepsTheHeadline old new end → KeepsItsFile set_up ms name upgraded_file old new end) }
+{
+    runs_leave_devices();
+    acknowledged_files_survive();
+}
+
 /// So a replay or a trial over the devices that a run has left does nothing, or goes on with that very run,
 /// and the headline holds of the whole.
 pub fn commands_go_on_with_them()
     ensures each { (start : State) (ms : List Moment) (old new : Seen) (end : Ending) → IsStart start
-        → IsRun 8 start ms → IsTrue (list_all is_appended (now start ms).journal) →
-        devices_of_seen old ≡ devices_left (now start ms) → KeepsTheHeadline old new end
+        → IsRun 8 start ms → devices_of_seen old ≡ devices_left (now start ms) → KeepsTheHeadline old new end
         → GoesOnWith start ms old new end }
     ensures fresh { (old new : Seen) (end : Ending) → devices_of_seen old ≡ fresh
         → KeepsTheHeadline old new end →
@@ -115,12 +126,12 @@ pub fn commands_go_on_with_them()
         → KeepsItsFile set_up ms other (record { name = other; id = 3; size = 0; profile = 0 }) old new
         end) }
     ensures replay { (start : State) (ms : List Moment) (text : List ℕ) (old new : Seen) (end : Ending)
-        → IsStart start → IsRun 8 start ms → IsTrue (list_all is_appended (now start ms).journal) →
+        → IsStart start → IsRun 8 start ms →
         devices_of_seen old ≡ devices_left (now start ms) → DoesSchedule text old new end →
         (commands : List Instruction) × IsSchedule text commands
         × Replays start ms commands end.status (sinking old new) end.heard (devices_of_seen new) }
     ensures trial { (start : State) (ms : List Moment) (number : ℕ) (old new : Seen) (end : Ending)
-        → IsStart start → IsRun 8 start ms → IsTrue (list_all is_appended (now start ms).journal) →
+        → IsStart start → IsRun 8 start ms →
         devices_of_seen old ≡ devices_left (now start ms) → DoesTrial number old new end →
         RunsTrial number start ms end.status (sinking old new) end.heard (devices_of_seen new)
         ⊎ ((end.status ≡ 70) × (new.sink ≡ old.sink)

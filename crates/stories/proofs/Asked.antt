@@ -7,6 +7,7 @@ use Rattle.command_defs.specs.Seen.{Seen, NoCountFalls, provider_at}
 use Rattle.command_laws.specs.After.{IsSteady}
 use Rattle.command_laws.proofs.Samples.{never-rises}
 use Rattle.command_runs.specs.Devices.{none_hold, damaged}
+use Rattle.command_runs.specs.Packed.{packed_kept, got_packed}
 use Rattle.hail_client.specs.Start.{TellAll}
 use Rattle.stories.specs.Instances.{damaged_got}
 
@@ -65,3 +66,12 @@ damaged-steady spoilt (suc zero) l s rose = never-rises 0 (omega arith) rose
 damaged-steady spoilt (suc (suc zero)) l s rose = never-rises 0 (omega arith) rose
 damaged-steady spoilt (suc (suc (suc zero))) l s rose = never-rises 0 (omega arith) rose
 damaged-steady spoilt (suc (suc (suc (suc j)))) l s rose = absurd (omega (arith, l))
+
+-- so does the get from the packed store
+pub packed-steady : (filling : List ℕ) (spoilt : ℕ → Bool) →
+    IsSteady 4 spoilt (packed_kept filling) (got_packed filling)
+packed-steady filling spoilt zero l s rose = never-rises 0 (omega arith) rose
+packed-steady filling spoilt (suc zero) l s rose = never-rises 0 (omega arith) rose
+packed-steady filling spoilt (suc (suc zero)) l s rose = never-rises 0 (omega arith) rose
+packed-steady filling spoilt (suc (suc (suc zero))) l s rose = never-rises 0 (omega arith) rose
+packed-steady filling spoilt (suc (suc (suc (suc j)))) l s rose = absurd (omega (arith, l))

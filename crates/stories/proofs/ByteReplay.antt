@@ -1,30 +1,34 @@
 -- A replay that puts a file of one byte and gets it, over a store that was set up.
-use Rattle.std.proofs.Common.{◌≡◌, ℕ, true, List, [], ◌∷◌, ◌++◌, ◌≤◌, length, Some, None, refl, ap, sym, subst, inl, inr, arith}
-use Rattle.std.specs.Prelude.{reverse}
+use Rattle.std.proofs.Common.{◌≡◌, ℕ, true, List, [], ◌∷◌, ◌++◌, ◌≤◌, length, Some, None, refl, ap, sym, subst, ◌∙◌, inl, inr, arith}
+use Rattle.std.specs.Prelude.{reverse, is_some}
 use Rattle.std.specs.Fmt.{digits}
 use Rattle.device_defs.specs.Cells.{Cells, reads, firm}
 use Rattle.device_defs.proofs.PickLaws.{IsImage-reads}
-use Rattle.record_defs.specs.Journal.{text, StandsFor}
+use Rattle.record_defs.specs.Records.{Record}
+use Rattle.record_defs.specs.Journal.{text}
+use Rattle.record_defs.specs.Areas.{A, StandsActive}
+use Rattle.record_defs.specs.Table.{setup_of}
 use Rattle.journal_core.proofs.Meanings.{one_meaning}
 use Rattle.machine_defs.specs.Answers.{Answer, Put, Got}
-use Rattle.machine_defs.specs.Events.{Begin, Reopen, Opened, More, Begun, Ended}
+use Rattle.machine_defs.specs.Events.{Begin, Reopen, Continue, Opened, Continued, More, Begun, Ended}
 use Rattle.machine_defs.specs.Jobs.{GetJob}
 use Rattle.machine_defs.specs.Examples.{empty_provider}
 use Rattle.machine_defs.specs.Lines.{lines_of}
 use Rattle.machine_defs.specs.Machine.{Happens}
 use Rattle.machine_defs.specs.Runs.{Moment, now, IsRun}
+use Rattle.machine_defs.specs.Setups.{setup_or_none}
 use Rattle.machine_defs.specs.States.{State, continued, setup_in}
 use Rattle.machine_defs.specs.Transcripts.{Once, CarriesOut}
 use Rattle.second_half_laws.proofs.Failed.{failures_rose}
 use Rattle.headline.proofs.Parts.{headline}
 use Rattle.state_laws.specs.Sound.{IsSound}
-use Rattle.opening_defs.specs.Opened.{IsOpenedOver}
+use Rattle.state_laws.proofs.Events.{events-sound}
 use Rattle.vault_open.specs.Devices.{AreDevices}
 use Rattle.command_laws.proofs.GoingOn.{settled, SettlesOn, MaySettle, settled-by}
 use Rattle.command_defs.specs.Seen.{sinking}
 use Rattle.damage_run.specs.Schedule.{byte}
-use Rattle.command_runs.specs.Devices.{named, four_records, none_hold}
-use Rattle.command_runs.proofs.Shape.{form-is}
+use Rattle.command_runs.specs.Devices.{named, four_records}
+use Rattle.command_runs.proofs.Shape.{over-is, from_some}
 use Rattle.command_runs.proofs.Stores.{put-old, put-new}
 use Rattle.hail_replay.specs.Answers.{devices_of_seen, AnswersReplay}
 use Rattle.hail_replay.specs.Replayed.{Replays}
@@ -38,7 +42,7 @@ use Rattle.stories.proofs.ByteText.{spelled}
 abbrev cells : Cells
 cells = firm (text four_records)
 
-pub four-stands : StandsFor (reads cells) four_records
+pub four-stands : StandsActive (reads cells) A four_records
 four-stands = put-old.images (reads cells) (IsImage-reads cells)
 
 -- an end is no step that goes on
@@ -77,50 +81,67 @@ module _ (start : State) (before : List Moment) (L : AreLeft start before (devic
   abbrev pub called : List Moment
   called = called_behind start before
 
-  -- the state in which the vault is opened
-  abbrev opened : State
-  opened = record (settled (continued w) four_records) { is_open = true; disk_faults = 0 }
+  -- the state in which the vault is opened, with this history
+  abbrev opened_over : List Record → State
+  opened_over rs = record (settled (continued w) rs four_records A) { is_open = true; disk_faults = 0 }
 
-  settles-by : MaySettle w (reads cells) → SettlesOn w four_records
-  settles-by (MaySettle.some rs F) =
-      subst (SettlesOn w) (one_meaning (reads cells) rs four_records F.good.stands four-stands) F.settles
-  settles-by (MaySettle.none N) = elim N.none [
-    | inl short ↦ absurd (omega (arith, short, put-old.known.opened.read.reads_are.0))
-    | inr none ↦ absurd (let e : four_records ≡ [] =
-        one_meaning (reads cells) four_records [] four-stands none in cc)
+  abbrev opened : State
+  opened = opened_over four_records
+
+  -- what the disk reads is settled, with some history
+  settles-by : MaySettle w (reads cells) →
+      (rs : List Record) × SettlesOn w rs four_records A × (setup_of four_records ≡ setup_of rs)
+  settles-by (MaySettle.some rs journal area F) =
+      (let one = one_meaning (reads cells) area A journal four_records F.good.stands four-stands in (
+        rs,
+        subst (λ l. SettlesOn w rs l A) one.1 (subst (SettlesOn w rs journal) one.0 F.settles),
+        ap setup_of (sym one.1) ∙ F.same,
+      ))
+  settles-by (MaySettle.none N) = elim N.plain [
+    | inl none ↦ absurd (let e : [] ≡ four_records = sym N.empty
+        ∙ (one_meaning (reads cells) w.area A w.journal four_records none four-stands).1 in cc)
+    | inr short ↦ absurd (omega (arith, short, put-old.known.opened.read.reads_are.0))
   ]
 
-  settles : SettlesOn w four_records
-  settles = settles-by
-      (settled-by w sound (reads cells) (L.devices.images (reads cells) (IsImage-reads cells)))
+  reopens-over : (rs : List Record) → SettlesOn w rs four_records A →
+      setup_of four_records ≡ setup_of rs →
+      Happens 8 (length called) (continued w) Reopen Opened (opened_over rs)
+  unfolding setup_in
+  reopens-over rs settles same = (
+    settled (continued w) rs four_records A,
+    settles (continued w) refl refl refl refl refl,
+    ap is_some (sym same),
+    subst (λ o. (setup_or_none o).n ≤ w.handed) same
+        (let e = L.devices.providers.count in omega (arith, e)),
+    (0, (let e = L.devices.faults in omega (arith, e)), refl),
+  )
 
-  over : IsOpenedOver opened four_records 0 none_hold
-  over = record {
-    records = refl;
-    whole = record { journal = refl; area = refl; unswitched = refl };
-    jobs = refl;
-    next_job = refl;
-    none_alone = refl;
-    append = refl;
-    doubt = refl;
-    is_open = refl;
-    unbarred = refl;
-    bytes = λ name file is. absurd (let e : None ≡ Some file = is in cc);
-    faults_are = refl;
-    handed = record { count = L.devices.providers.count; each = L.devices.providers.each };
-  }
+  -- no packed record stands in the journal, so it is the whole history
+  history-is : (rs : List Record) → SettlesOn w rs four_records A → setup_of four_records ≡ setup_of rs →
+      rs ≡ four_records
+  history-is rs settles same = sym ((events-sound 8 (length called) (continued w)
+      (events-sound 8 0 w sound (omega arith, omega arith) Continue Continued (continued w) tt refl)
+      (omega arith, omega arith) Reopen Opened (opened_over rs) tt
+      (reopens-over rs settles same)).journal.whole refl)
+
+  settles : SettlesOn w four_records four_records A
+  settles = (let s = settles-by
+      (settled-by w sound (reads cells) (L.devices.images (reads cells) (IsImage-reads cells))) in
+      subst (λ rs. SettlesOn w rs four_records A) (history-is s.0 s.1 s.2) s.1)
+
+  -- the state spelled out
+  same : v opened called ≡ opened
+  same = (let each = L.devices.providers.each in λ i. record opened {
+    providers = over-is w.providers empty_provider empty_provider empty_provider empty_provider
+        (from_some empty_provider (w.providers 0) (each 0 (omega arith)))
+        (from_some empty_provider (w.providers 1) (each 1 (omega arith)))
+        (from_some empty_provider (w.providers 2) (each 2 (omega arith)))
+        (from_some empty_provider (w.providers 3) (each 3 (omega arith))) i;
+  })
 
   reopens : Happens 8 (length called) (continued w) Reopen Opened (v opened called)
-  unfolding setup_in
-  reopens = subst (λ s. Happens 8 (length called) (continued w) Reopen Opened s)
-      (sym (form-is four_records w.bytes empty_provider empty_provider empty_provider empty_provider opened
-      refl over)) (
-        settled (continued w) four_records,
-        settles (continued w) refl refl refl refl,
-        refl,
-        (let e = L.devices.providers.count in omega (arith, e)),
-        (0, (let e = L.devices.faults in omega (arith, e)), refl),
-      )
+  reopens = subst (λ s. Happens 8 (length called) (continued w) Reopen Opened s) (sym same)
+      (reopens-over four_records settles refl)
 
   abbrev putting : List Moment
   putting = put_on opened called []
@@ -176,7 +197,7 @@ module _ (start : State) (before : List Moment) (L : AreLeft start before (devic
   -- the devices behind it are those of the last state
   pub left-behind : AreDevices (devices_of_seen behind_byte) (now start (later ++ called))
   left-behind = record {
-    images = λ image is. inl (inl (refl, put-new.images image is));
+    images = λ image is. inl (inl (put-new.images image is));
     faults = refl;
     providers = record { count = L.devices.providers.count; each = last-each opened called };
   }

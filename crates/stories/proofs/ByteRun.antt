@@ -2,6 +2,7 @@
 use Rattle.std.proofs.Common.{◌≡◌, ℕ, zero, suc, ◌<◌, ◌==◌, List, [], ◌∷◌, ◌++◌, Some, None, refl, ◌∙◌, inl, arith}
 use Rattle.std.specs.Prelude.{slice_get, length, if◌then◌else◌}
 use Rattle.device_defs.specs.Providers.{Provider}
+use Rattle.record_defs.specs.Areas.{A}
 use Rattle.record_defs.specs.Records.{PutStart, PutDone}
 use Rattle.machine_defs.specs.Jobs.{PutJob, GetJob, Job, Fetched, Worked}
 use Rattle.machine_defs.specs.Actions.{actions_of}
@@ -15,7 +16,7 @@ use Rattle.machine_defs.specs.Transcripts.{GoOn}
 use Rattle.machine_defs.specs.States.{State, setup_in, with_provider}
 use Rattle.command_laws.specs.Pieces.{moment}
 use Rattle.second_half_laws.proofs.ByteSteps.{block_sized, symbols, own_work, byte_back}
-use Rattle.job_laws.proofs.BeginRefusals.{refusal-of}
+use Rattle.job_laws.proofs.BeginRefusals.{refusal-alone}
 use Rattle.command_runs.specs.Devices.{named, four_records, started_records, byte_records, own_block, given_block, fetched}
 use Rattle.damage_run.specs.Schedule.{byte}
 use Rattle.command_runs.proofs.Shape.{formed}
@@ -26,7 +27,7 @@ use Rattle.stories.specs.Instances.{behind_byte}
 -- these moments are before the reopening
 module _ (w : State) (base : List Moment) where
   abbrev pub v : State
-  v = formed four_records w.bytes (empty_provider) (empty_provider) (empty_provider) (empty_provider) w
+  v = formed A four_records w.bytes (empty_provider) (empty_provider) (empty_provider) (empty_provider) w
 
   abbrev pub n : ℕ
   n = suc (length base)
@@ -40,8 +41,7 @@ module _ (w : State) (base : List Moment) where
   pub begins1 : Happens 8 n v (Begin (PutJob named byte)) (Begun 1) s0
   begins1 = (
     refl,
-    refusal-of v (PutJob named byte) None refl refl refl
-        (record { journal = refl; area = refl; unswitched = refl }) ∙ put_begins,
+    refusal-alone v (PutJob named byte) None ∙ put_begins,
     refl,
     refl,
   )
@@ -323,8 +323,7 @@ module _ (w : State) (base : List Moment) where
   pub begins2 : Happens 8 k s13 (Begin (GetJob named)) (Begun 2) t0
   begins2 = (
     refl,
-    refusal-of s13 (GetJob named) None refl refl refl
-        (record { journal = refl; area = refl; unswitched = refl }) ∙ get_begins,
+    refusal-alone s13 (GetJob named) None ∙ get_begins,
     refl,
     refl,
   )

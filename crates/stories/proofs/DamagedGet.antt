@@ -1,5 +1,6 @@
 -- A get of the file over the store in which one block is lost, from every state that was just opened.
 use Rattle.std.proofs.Common.{[], ◌∷◌, Some, None, refl, inl, arith}
+use Rattle.record_defs.specs.Areas.{A}
 use Rattle.record_defs.specs.Spellings.{spelling}
 use Rattle.machine_defs.specs.Jobs.{GetJob}
 use Rattle.machine_defs.specs.Actions.{actions_of}
@@ -20,12 +21,12 @@ use Rattle.command_runs.proofs.Made.{byte-run, alone-ends, four-each}
 use Rattle.stories.specs.Instances.{damaged_got, three_heard}
 
 -- its job gives the byte
-runs : RunsAlone byte_records (GetJob named) None (Got byte) damaged damaged_got three_heard
+runs : RunsAlone A byte_records (GetJob named) None (Got byte) damaged damaged_got three_heard
 unfolding setup_in actions_of spelling
-runs = byte-run byte_records (holds 0) (holds 1) empty_provider (holds 3) (GetJob named)
+runs = byte-run A byte_records (holds 0) (holds 1) empty_provider (holds 3) (GetJob named)
     (Works symbols ∷ Came (Some (own_block 3)) ∷ Came None ∷ Came (Some (own_block 1))
     ∷ Came (Some (own_block 0)) ∷ []) (Gives (Got byte)) (Got byte) damaged damaged_got three_heard refl
-    (omega arith) refl refl get_begins (λ w n. record {
+    (omega arith) refl refl get_begins refl (λ w n. record {
       fit = (
         refl,
         (refl, (refl, without_two_give)),
@@ -41,7 +42,7 @@ runs = byte-run byte_records (holds 0) (holds 1) empty_provider (holds 3) (GetJo
       );
       ends = (refl, (refl, byte_back));
       heard_is = refl;
-      images = λ image is. inl (inl (refl, damaged-sure.images image is));
+      images = λ image is. inl (inl (damaged-sure.images image is));
       faults_are = refl;
       count = λ e. e;
       each = four-each damaged_got.providers _ refl refl refl refl;

@@ -10,3 +10,4 @@ mod ByteText
 mod ByteRun
 mod ByteReplay
 mod DamagedGet
+mod Packed

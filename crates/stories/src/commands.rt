@@ -8,7 +8,7 @@ ghost use Rattle.machine_defs.specs.Events.{AreBytes};
 ghost use Rattle.machine_defs.specs.Heard.{HoldsForgery};
 ghost use Rattle.record_defs.specs.Records.{Record};
 ghost use Rattle.record_defs.specs.Table.{next_audit};
-ghost use Rattle.command_defs.specs.Forms.{GetOf, AuditAll, RepairDue, ScrubAll, IsForm};
+ghost use Rattle.command_defs.specs.Forms.{GetOf, AuditAll, RepairDue, UpgradeJournal, ScrubAll, PackJournal, IsForm};
 ghost use Rattle.command_defs.specs.Jobs.{IsTold};
 ghost use Rattle.command_defs.specs.Lines.{audit_lines};
 ghost use Rattle.command_defs.specs.Opens.{setup_in_effect, object_in_effect};
@@ -17,7 +17,10 @@ ghost use Rattle.command_laws.specs.After.{Follows, HasRightFile, IsUntouched, I
 ghost use Rattle.command_laws.specs.Ends.{IsDone, IsKnown, GivesUnlessMemory, put_of};
 ghost use Rattle.hail_top.specs.Answered.{AnswersWords};
 
-use command_laws::after::{gets_tell_what_stands, put_files_are_got};
+use command_laws::after::{
+    done_commands_leave_known_stores, files_stay, gets_tell_what_stands, put_files_are_got,
+    stores_stay_known,
+};
 use command_laws::ends::gets_give_the_file;
 
 /// A file put by one command, with a profile of its own or without, is got by the next, though at most b
@@ -102,6 +105,35 @@ pub fn all_others_may_go_after_a_scrub()
         → GivesUnlessMemory bytes e f last }
 {
     put_files_are_got();
+}
+
+/// A pack takes no file away. A file is put, with a profile of its own or without; the journal is given its
+/// second version and packed. Then, though at most b providers were damaged in between, or fail, a get gives
+/// the bytes, or finds no memory, unless the disk or the sink failed. Stops between the commands do no harm.
+pub fn packed_files_are_got()
+    ensures { (put upgrade pack get : List (String Global)) (name bytes : List ℕ) (own : Option ℕ)
+        (records : List Record) (spoilt : ℕ → Bool) (a b c d e f g h : Seen)
+        (first second third last : Ending)
+        → AnswersWords put a b first → IsForm put (put_of name own)
+        → AnswersWords upgrade c d second → IsForm upgrade UpgradeJournal
+        → AnswersWords pack e f third → IsForm pack PackJournal
+        → AnswersWords get g h last → IsForm get (GetOf name)
+        → Follows b c → Follows d e → Follows f g → IsKnown a records → a.source ≡ Some bytes
+        → IsDone first → IsDone second → IsDone third
+        → ((j : ℕ) → j < (setup_in_effect records).n → spoilt j ≡ false
+        → is_some (provider_at a.providers j).held ≡ true)
+        → IsUntouched (setup_in_effect records).n spoilt b c
+        → IsUntouched (setup_in_effect records).n spoilt d e
+        → IsUntouched (setup_in_effect records).n spoilt f g
+        → IsSteady (setup_in_effect records).n spoilt g h
+        → spoilt_below (setup_in_effect records).n spoilt ≤ (setup_in_effect records).b
+        → (Rose g.disk_faults h.disk_faults → ⊥) → (Rose g.sink_faults h.sink_faults → ⊥)
+        → GivesUnlessMemory bytes g h last }
+{
+    done_commands_leave_known_stores();
+    stores_stay_known();
+    files_stay();
+    gets_tell_what_stands();
 }
 
 /// n - b colluding providers are the forgery that the theorem names. Where all providers but b hold the blocks

@@ -7,7 +7,7 @@ ghost use Rattle.machine_defs.specs.Events.{AreBytes, Begun, Ended};
 ghost use Rattle.machine_defs.specs.Answers.{Put, Got};
 ghost use Rattle.machine_defs.specs.Halves.{AllTell};
 ghost use Rattle.machine_defs.specs.Untouched.{NoneAsksOn};
-ghost use Rattle.command_defs.specs.Forms.{PutUnder, GetOf, AuditAll, RepairDue, ScrubAll, IsForm};
+ghost use Rattle.command_defs.specs.Forms.{PutUnder, GetOf, AuditAll, RepairDue, UpgradeJournal, ScrubAll, PackJournal, IsForm};
 ghost use Rattle.command_defs.specs.Jobs.{IsTold};
 ghost use Rattle.command_defs.specs.Lines.{audit_lines};
 ghost use Rattle.command_defs.specs.Opens.{setup_in_effect};
@@ -15,7 +15,8 @@ ghost use Rattle.command_defs.specs.Seen.{provider_at};
 ghost use Rattle.command_laws.specs.After.{Follows, HasRightFile, IsUntouched, IsSteady, spoilt_below};
 ghost use Rattle.command_laws.specs.Ends.{IsKnown};
 ghost use Rattle.command_laws.specs.Instances.{ends};
-ghost use Rattle.command_runs.specs.Devices.{named, four_records, byte_records, to_put, byte_stored, damaged, byte_audited, answers_heard, due, repaired, mended, got, own_blocks_heard, swept, robbed_later, got_later, later_heard, ends_hearing};
+ghost use Rattle.command_runs.specs.Devices.{named, four_records, byte_records, to_put, byte_stored, damaged, byte_audited, answers_heard, due, repaired, mended, got, own_blocks_heard, swept, robbed_later, got_later, later_heard, byte_kept, byte_upgraded, upgraded_kept, ends_hearing};
+ghost use Rattle.command_runs.specs.Packed.{IsFilling, packed_kept, packed_store, got_packed};
 ghost use Rattle.damage_run.specs.Points.{counts};
 ghost use Rattle.damage_run.specs.Schedule.{byte};
 ghost use Rattle.record_defs.specs.Table.{next_audit};
@@ -28,6 +29,7 @@ ghost use Rattle.stories.specs.Files.{put_of, got_behind, IsGot};
 ghost use Rattle.stories.specs.Said.{SaysPut, SaysGot};
 ghost use Rattle.stories.specs.Instances.{byte_text, byte_lines, get_of_byte, before_byte, behind_byte, byte_end, first_state, damaged_got, three_heard, other_byte};
 
+use command_runs::packs::packs_end;
 use command_runs::runs::commands_end;
 use command_words::laws::words_spell_one_command;
 use hail_client::laws::told_providers_tell;
@@ -143,4 +145,30 @@ pub fn three_of_four_collude()
         × (is_some damaged.sink ≡ true) }
 {
     words_spell_one_command();
+}
+
+/// Behind that put the journal is given its second version and packed, and a get from the second area writes
+/// the byte. All end with status 0. What lies between the areas of the disk may be any bytes, of which there
+/// are some.
+pub fn a_packed_byte_is_got()
+    ensures upgrade { (words : List (String Global)) → IsForm words UpgradeJournal
+        → AnswersWords words byte_kept byte_upgraded (ends 0) }
+    ensures pack { (words : List (String Global)) (filling : List ℕ) → IsForm words PackJournal
+        → IsFilling filling → AnswersWords words upgraded_kept (packed_store filling) (ends 0) }
+    ensures get { (words : List (String Global)) (filling : List ℕ) → IsForm words (GetOf named)
+        → IsFilling filling
+        → AnswersWords words (packed_kept filling) (got_packed filling) (ends_hearing 0 own_blocks_heard) }
+    ensures there_is_one { (filling : List ℕ) × IsFilling filling }
+    ensures between { (filling : List ℕ) → Follows byte_stored byte_kept × Follows byte_upgraded upgraded_kept
+        × Follows (packed_store filling) (packed_kept filling)
+        × IsUntouched (setup_in_effect four_records).n (λ j. false) byte_stored byte_kept
+        × IsUntouched (setup_in_effect four_records).n (λ j. false) byte_upgraded upgraded_kept
+        × IsUntouched (setup_in_effect four_records).n (λ j. false) (packed_store filling)
+        (packed_kept filling)
+        × IsSteady (setup_in_effect four_records).n (λ j. false) (packed_kept filling) (got_packed filling)
+        × (spoilt_below (setup_in_effect four_records).n (λ j. false) ≤ (setup_in_effect four_records).b) }
+{
+    words_spell_one_command();
+    commands_end();
+    packs_end();
 }

@@ -42,6 +42,10 @@ length-block j = length-column_of_symbols thing symbols j 0
 pub block_sized : (b : List ℕ) → length b ≡ 16 → Some b ≡ sized 16 (Some b)
 block_sized b h = sym (cond_true (length b == 16) (Some b) None (eq-eqb (length b) 16 h))
 
+-- so is a provider's own
+pub own_sized : (j : ℕ) → Some (block j) ≡ sized 16 (Some (block j))
+own_sized j = block_sized (block j) (length-block j)
+
 -- ---- the first symbol of provider 0 is the byte
 
 first_symbol : slice_index (block 0) 0 ≡ 111

@@ -23,7 +23,7 @@ pub returns-clause-audit : goal.returns-clause-audit
 returns-clause-audit c =
     c.files_stay.ensures.reads AuditAll named byte byte_records byte_audited_records second damaged
     byte_audited (ends_hearing 0 answers_heard) audit refl damaged-file
-    (inr (record {
+    (inr (inl (record {
       kind = AuditJob;
       of_command = refl;
       own = audit_records byte_records 0 counts;
@@ -31,14 +31,14 @@ returns-clause-audit c =
       count = 2;
       whole = λ l. tt;
       after_is = refl;
-    }))
+    })))
 
 pub returns-clause-other : goal.returns-clause-other
 returns-clause-other c = c.files_stay.ensures.others
     (PutUnder other_name) named byte byte_records both_records (λ j. false) to_put_other stored_other
     (ends 0) other_put
     other-name to_put_other-sure.known kept-file
-    (inr (record {
+    (inr (inl (record {
       kind = PutJob other_name byte;
       of_command = (byte, [], record { are_bytes = refl; front = refl }, omega arith, refl);
       own = put_records byte_records other_name 1 None;
@@ -46,7 +46,7 @@ returns-clause-other c = c.files_stay.ensures.others
       count = 2;
       whole = λ l. (record { are_bytes = refl; front = refl }, refl);
       after_is = refl;
-    }))
+    })))
 
 pub returns-clause-repair : goal.returns-clause-repair
 returns-clause-repair c = c.files_stay.ensures.repair named byte byte_audited_records

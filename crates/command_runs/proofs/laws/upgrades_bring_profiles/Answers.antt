@@ -1,4 +1,5 @@
 use Rattle.std.proofs.Common.{[], ◌∷◌, Some, refl, inl, inr, false, arith}
+use Rattle.record_defs.specs.Areas.{A}
 use Rattle.record_defs.specs.Records.{Version}
 use Rattle.machine_defs.specs.Jobs.{PutJob, UpgradeJob}
 use Rattle.command_defs.specs.Forms.{PutAt, UpgradeJournal}
@@ -15,7 +16,7 @@ use Rattle.command_runs.proofs.Meets.{all-tell, own-steady, byte-file, own-file,
 use Rattle.command_runs.proofs.laws.upgrades_bring_profiles.Goals as goal
 
 pub returns-clause-begins : goal.returns-clause-begins
-returns-clause-begins c = c.upgrades_end_well.ensures.begins byte_records refl (omega arith)
+returns-clause-begins c = c.upgrades_end_well.ensures.begins A byte_records refl (omega arith)
 
 pub returns-clause-upgraded : goal.returns-clause-upgraded
 returns-clause-upgraded c = c.upgrades_end_well.ensures.ends_well byte_records byte_kept byte_upgraded
@@ -34,7 +35,7 @@ pub returns-clause-kept : goal.returns-clause-kept
 returns-clause-kept c = c.files_stay.ensures.reads UpgradeJournal named byte byte_records
     byte_upgraded_records
     (λ j. false) byte_kept byte_upgraded (ends 0) upgrade refl byte-file
-    (inr (record {
+    (inr (inl (record {
       kind = UpgradeJob;
       of_command = refl;
       own = Version ∷ [];
@@ -42,10 +43,10 @@ returns-clause-kept c = c.files_stay.ensures.reads UpgradeJournal named byte byt
       count = 1;
       whole = λ l. tt;
       after_is = refl;
-    }))
+    })))
 
 pub returns-clause-own_begins : goal.returns-clause-own_begins
-returns-clause-own_begins c = c.own_profiles_are_taken.ensures other_name byte 1 byte_upgraded_records refl
+returns-clause-own_begins c = c.own_profiles_are_taken.ensures other_name byte 1 A byte_upgraded_records refl
     (omega arith) refl (omega arith) refl (omega arith) (omega arith)
 
 pub returns-clause-own_put : goal.returns-clause-own_put
@@ -62,7 +63,7 @@ pub returns-clause-first : goal.returns-clause-first
 returns-clause-first c = c.files_stay.ensures.others (PutAt other_name 1) named byte byte_upgraded_records
     byte_own_records (λ j. false) to_put_own stored_own (ends 0) own_put other-name to_put_own-sure.known
     own-file
-    (inr (record {
+    (inr (inl (record {
       kind = PutJob other_name byte;
       of_command = (byte, [], record { are_bytes = refl; front = refl }, omega arith, refl);
       own = put_records byte_upgraded_records other_name 1 (Some 1);
@@ -70,7 +71,7 @@ returns-clause-first c = c.files_stay.ensures.others (PutAt other_name 1) named 
       count = 2;
       whole = λ l. (record { are_bytes = refl; front = refl }, refl);
       after_is = refl;
-    }))
+    })))
 
 pub returns-clause-second : goal.returns-clause-second
 returns-clause-second c = c.files_stay.ensures.put other_name byte (Some 1) byte_upgraded_records (λ j. false)

@@ -25,7 +25,7 @@ pub returns-clause-run : goal.returns-clause-run
 returns-clause-run c = (
   stopped_moments,
   is_stopped,
-  c.runs_leave_devices.ensures.each set_up stopped_moments is_stopped.clean is_stopped.run refl,
+  c.runs_leave_devices.ensures.each set_up stopped_moments is_stopped.clean is_stopped.run,
 )
 
 pub returns-clause-used : goal.returns-clause-used
@@ -39,7 +39,7 @@ returns-clause-used c = (
       (record { version = 1; done = refl; profiled = λ second. refl; started = refl; named = refl })
       (never_by_test name after_put refl) (λ d e. cc)
       (goes-on set_up stopped_moments (devices_left (now set_up stopped_moments)) old new end
-      (c.runs_leave_devices.ensures.each set_up stopped_moments is_stopped.clean is_stopped.run refl) refl is
+      (c.runs_leave_devices.ensures.each set_up stopped_moments is_stopped.clean is_stopped.run) refl is
       keeps),
 )
   where

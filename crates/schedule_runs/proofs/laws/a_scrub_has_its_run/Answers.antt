@@ -18,7 +18,7 @@ pub returns-clause-run : goal.returns-clause-run
 returns-clause-run c = (
   scrubbed_moments,
   is_scrubbed,
-  c.runs_leave_devices.ensures.each set_up scrubbed_moments is_scrubbed.clean is_scrubbed.run refl,
+  c.runs_leave_devices.ensures.each set_up scrubbed_moments is_scrubbed.clean is_scrubbed.run,
 )
 
 pub returns-clause-half : goal.returns-clause-half
@@ -38,6 +38,6 @@ returns-clause-used c = (
   λ old new end is keeps.
       keeps-half set_up scrubbed_moments old new end (λ j. refl)
       (goes-on set_up scrubbed_moments (devices_left (now set_up scrubbed_moments)) old new end
-      (c.runs_leave_devices.ensures.each set_up scrubbed_moments is_scrubbed.clean is_scrubbed.run refl) refl
+      (c.runs_leave_devices.ensures.each set_up scrubbed_moments is_scrubbed.clean is_scrubbed.run) refl
       is keeps),
 )

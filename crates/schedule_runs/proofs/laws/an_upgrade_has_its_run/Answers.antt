@@ -1,6 +1,8 @@
 use Rattle.std.proofs.Common.{List, refl}
 use Rattle.std.specs.Prelude.{take}
 use Rattle.machine_defs.specs.Examples.{set_up}
+use Rattle.machine_defs.specs.Actions.{actions_of}
+use Rattle.machine_defs.specs.States.{setup_in}
 use Rattle.machine_defs.specs.Runs.{Moment, now, first_moments}
 use Rattle.damage_run.specs.Schedule.{name}
 use Rattle.damage_run.proofs.Points.{last_of}
@@ -22,10 +24,11 @@ pub returns-clause-run : goal.returns-clause-run
 returns-clause-run c = (
   upgraded_moments,
   is_upgraded,
-  c.runs_leave_devices.ensures.each set_up upgraded_moments is_upgraded.clean is_upgraded.run refl,
+  c.runs_leave_devices.ensures.each set_up upgraded_moments is_upgraded.clean is_upgraded.run,
 )
 
 pub returns-clause-used : goal.returns-clause-used
+unfolding setup_in actions_of
 returns-clause-used c = (
   upgraded_moments,
   is_upgraded,
@@ -41,7 +44,7 @@ returns-clause-used c = (
       })
       (never_by_test name after_put refl) (λ d e. cc)
       (goes-on set_up upgraded_moments (devices_left (now set_up upgraded_moments)) old new end
-      (c.runs_leave_devices.ensures.each set_up upgraded_moments is_upgraded.clean is_upgraded.run refl) refl
+      (c.runs_leave_devices.ensures.each set_up upgraded_moments is_upgraded.clean is_upgraded.run) refl
       is keeps),
 )
   where

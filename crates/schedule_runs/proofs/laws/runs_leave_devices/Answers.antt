@@ -9,12 +9,12 @@ use Rattle.schedule_runs.proofs.Left.{devices-of}
 use Rattle.schedule_runs.proofs.laws.runs_leave_devices.Goals as goal
 
 pub returns-clause-each : goal.returns-clause-each
-returns-clause-each c = λ start ms starts run unpacked.
+returns-clause-each c = λ start ms starts run.
     record {
       starts = starts;
       run = run;
       devices = devices-of (now start ms)
-          (c.runs_are_sound.ensures 8 start ms (omega arith, omega arith) starts run) unpacked;
+          (c.runs_are_sound.ensures 8 start ms (omega arith, omega arith) starts run);
     }
 
 pub returns-clause-tell : goal.returns-clause-tell
@@ -26,7 +26,7 @@ returns-clause-fresh c =
 
 pub returns-clause-damaged : goal.returns-clause-damaged
 returns-clause-damaged c =
-    (damage, outright, returns-clause-each c set_up damage outright.clean outright.run refl)
+    (damage, outright, returns-clause-each c set_up damage outright.clean outright.run)
 
 pub returns-clause-faulty : goal.returns-clause-faulty
-returns-clause-faulty c = (faults, faulty, returns-clause-each c set_up faults faulty.clean faulty.run refl)
+returns-clause-faulty c = (faults, faulty, returns-clause-each c set_up faults faulty.clean faulty.run)
