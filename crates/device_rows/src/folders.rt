@@ -1,7 +1,7 @@
 // Rows of folders that fail, lose or hold something else, and of two that are one.
 use crate::adapters::OfProvider::{self, Calls, Looks};
 use crate::adapters::{first_wrong_of_provider, over_folder};
-use crate::calls::Call::{Ask, AskOfOne, Fetch, Lacks, Lose, Remove, Store};
+use crate::calls::Call::{Alter, Ask, AskOfOne, Fetch, Lacks, Lose, Remove, Store};
 use crate::files::Look;
 use crate::forgetful::{Counts, Forgetful};
 use crate::given::{CHALLENGE, WEIGHT, no_other};
@@ -51,6 +51,72 @@ static ASKED_OF_ONE: [OfProvider; 6] = [
 fn a_missing_block_has_no_answer(rt: HostRuntime) {
     no_other(&rt, over_folder(&rt, rt.alloc(), "asked", &ASKED));
     no_other(&rt, over_folder(&rt, rt.alloc(), "asked", &ASKED_OF_ONE));
+}
+
+const ZEROS: &[u128] = &[0; 6];
+
+const AS_WEIGHT: OfProvider = Calls(AskOfOne(1, Ok(Some(WEIGHT))));
+
+const AS_ZERO: OfProvider = Calls(AskOfOne(1, Ok(Some(0))));
+
+// A block that an answer read is not answered from any more behind a store, a change, a loss and a removal.
+static CHANGED: [OfProvider; 14] = [
+    Calls(Store(1, 0, SIX, Ok(()))),
+    AS_WEIGHT,
+    Calls(Store(1, 0, ZEROS, Ok(()))),
+    AS_ZERO,
+    Calls(Alter(1, 0, 1, 1, true)),
+    AS_WEIGHT,
+    Calls(Lose(1, 0, true)),
+    Calls(AskOfOne(1, Ok(None))),
+    Calls(Store(1, 0, SIX, Ok(()))),
+    AS_WEIGHT,
+    Calls(AskOfOne(2, Ok(None))),
+    Calls(Remove(1, Ok(()))),
+    Calls(AskOfOne(1, Ok(None))),
+    Looks(Look::RemoveAll("changed")),
+];
+
+// The blocks 3 and 11 of an object, and those of another, are not taken for each other.
+static OTHERS: [OfProvider; 12] = [
+    Calls(Store(1, 1, ZEROS, Ok(()))),
+    Calls(Store(1, 3, SIX, Ok(()))),
+    Calls(Store(1, 4, ZEROS, Ok(()))),
+    Calls(Store(1, 11, ZEROS, Ok(()))),
+    Calls(Store(1, 0, ZEROS, Ok(()))),
+    Calls(Store(2, 0, SIX, Ok(()))),
+    Calls(Ask(1, Ok(Some(WEIGHT)))),
+    Calls(Ask(1, Ok(Some(WEIGHT)))),
+    AS_ZERO,
+    Calls(AskOfOne(2, Ok(Some(WEIGHT)))),
+    AS_ZERO,
+    Looks(Look::RemoveAll("others")),
+];
+
+// A file that another program changes is looked at again by a fetch, and by the first answer behind it or
+// behind one about another object.
+static CHANGED_OUTSIDE: [OfProvider; 11] = [
+    Calls(Store(1, 0, SIX, Ok(()))),
+    AS_WEIGHT,
+    Looks(Look::Write("outside/1-0", &[0; 96])),
+    AS_WEIGHT,
+    Calls(Fetch(1, 0, &[1; 6], Ok(true), ZEROS)),
+    AS_ZERO,
+    Looks(Look::RemoveFile("outside/1-0")),
+    AS_ZERO,
+    Calls(AskOfOne(2, Ok(None))),
+    Calls(AskOfOne(1, Ok(None))),
+    Looks(Look::RemoveAll("outside")),
+];
+
+#[test]
+fn an_answer_is_of_the_block_that_is_there(rt: HostRuntime) {
+    no_other(&rt, over_folder(&rt, rt.alloc(), "changed", &CHANGED));
+    no_other(&rt, over_folder(&rt, rt.alloc(), "others", &OTHERS));
+    no_other(
+        &rt,
+        over_folder(&rt, rt.alloc(), "outside", &CHANGED_OUTSIDE),
+    );
 }
 
 // A hole of 16 stripes hides what is behind it.
@@ -187,8 +253,9 @@ fn asks<P: Provider>(provider: &mut P) -> Option<Symbol> {
     provider.ask(1, &challenge).ok()?
 }
 
-/// What two blocks of zeros answer, and how many files that opened. Want of memory is the one refusal.
-fn opened_by_an_answer<R: Files + Alloc + Clone + Drop>(
+/// What two blocks of zeros answer the second time, and how many files both answers opened. Want of memory is
+/// the one refusal.
+fn opened_by_two_answers<R: Files + Alloc + Clone + Drop>(
     rt: &R,
     alloc: Global,
     path: &str,
@@ -198,6 +265,7 @@ fn opened_by_an_answer<R: Files + Alloc + Clone + Drop>(
     let mut provider = FolderProvider::new(&files, alloc, path).ok()?;
     let wrong = first_wrong_of_provider(rt, &mut provider, &TWO_BLOCKS);
     let before = counts.openings.get();
+    asks(&mut provider)?;
     let symbol = asks(&mut provider)?;
     let openings = counts.openings.get().checked_sub(before)?;
     fs::remove_dir_all(rt, path).ok()?;
@@ -209,8 +277,8 @@ fn opened_by_an_answer<R: Files + Alloc + Clone + Drop>(
 }
 
 #[test]
-fn an_answer_reads_each_block_once(rt: HostRuntime) {
-    let opened = opened_by_an_answer(&rt, rt.alloc(), "two");
+fn answers_in_a_row_read_each_block_once(rt: HostRuntime) {
+    let opened = opened_by_two_answers(&rt, rt.alloc(), "two");
     assert_eq!(rt; opened, Some((Symbol(0), 2)));
 }
 

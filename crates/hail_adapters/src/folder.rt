@@ -1,19 +1,13 @@
 // A folder of blocks, each a file.
-ghost use Rattle.std.specs.Prelude.{◌≡◌, ◌≢◌, ◌≤◌, ◌<◌, ◌+◌, ◌++◌, ℕ, Ok, true, false, length, string_bytes, IfOk, OnErr};
-ghost use Rattle.std.specs.List.{All};
-ghost use Rattle.std.specs.List.Sorted.{IsSorted};
-ghost use Rattle.std.specs.Ordering.{nat_cmp};
+ghost use Rattle.std.specs.Prelude.{◌≡◌, ◌≢◌, ◌≤◌, ◌<◌, ◌+◌, ◌++◌, Ok, true, false, length, string_bytes, IfOk, OnErr};
 ghost use Rattle.hail_adapters.specs.BlockNames.{new_block};
 
 use crate::block_bytes::{BLOCK_BYTES, SYMBOL_BYTES, put_symbols, take_symbols};
 use crate::block_name::{NAME_BYTES, put_path};
 use crate::found::{found, is_missing};
-use crate::one_block::answer_in_block;
 use crate::plain::{folder_of, open_plain, open_sized, sync_folder, to_make, to_read, to_write};
 use crate::provider_folders::Mark;
-use crate::seen_rows::answer_of;
 use crate::transfer::{fill, gives};
-use challenge::{Challenge, Drawn};
 use hail_field::{Memory, Symbol};
 use std::alloc::Global;
 use std::fs::{self, DirBuilder, Files, OpenFile};
@@ -41,15 +35,6 @@ fn misses_behind(misses: u32, removed: &io::Result<bool>) -> u32
     }
 }
 
-/// Puts picked rows in ascending order, so that those of a block stand one behind the other.
-fn ascend(rows: &mut [u64])
-    ensures within { (n : ℕ) → All (λ row. row < n) rows.old → All (λ row. row < n) rows.new }
-    ensures as_many { length rows.new ≡ length rows.old }
-    ensures ascending { IsSorted nat_cmp rows.new }
-{
-    rows.sort_unstable();
-}
-
 /// A folder with a file for each block. It is made at the first store; one that isn't there holds nothing.
 #[derive(Drop)]
 pub struct Folder<R: Files + Clone + Drop> {
@@ -58,23 +43,6 @@ pub struct Folder<R: Files + Clone + Drop> {
     block_path: String,
     new_path: String,
     unsynced: Option<Mark>,
-}
-
-/// The block that was read last, if any: its stripe, and its symbols, which stand at the front.
-#[derive(Drop)]
-struct LastBlock {
-    stripe: Option<u32>,
-    symbols: [Symbol; 128],
-}
-
-impl LastBlock {
-    /// No block was read.
-    fn new() -> LastBlock {
-        LastBlock {
-            stripe: None,
-            symbols: [Symbol::ZERO; 128],
-        }
-    }
 }
 
 impl<R: Files + Clone + Drop> Folder<R> {
@@ -225,62 +193,6 @@ impl<R: Files + Clone + Drop> Folder<R> {
         }
         take_symbols(&buffer[..size], out);
         Ok(true)
-    }
-
-    /// Reads the symbol in a row; none where there is no block of the challenge's size. A block that was read
-    /// last is not read again.
-    fn symbol_in(
-        &mut self,
-        object: u64,
-        challenge: &Challenge,
-        row: u64,
-        last: &mut LastBlock,
-    ) -> io::Result<Option<Symbol>>
-        requires { row < challenge.now.rows }
-    {
-        let size = u64::from(challenge.size);
-        let stripe = (row / size) as u32;
-        if last.stripe != Some(stripe) {
-            last.stripe = None;
-            if !self.fetch(object, stripe, &mut last.symbols[..size as usize])? {
-                return Ok(None);
-            }
-            last.stripe = Some(stripe);
-        }
-        Ok(Some(last.symbols[(row % size) as usize]))
-    }
-
-    /// Answers a challenge to a file of one block; none where there is no block of the challenge's size.
-    fn answer_in_one(&mut self, object: u64, drawn: &Drawn) -> io::Result<Option<Symbol>> {
-        let mut symbols = [Symbol::ZERO; 128];
-        let block = &mut symbols[..drawn.challenge.size as usize];
-        if !self.fetch(object, 0, block)? {
-            return Ok(None);
-        }
-        Ok(answer_in_block(drawn, block))
-    }
-
-    /// Answers a challenge by what stands in the picked rows; none where one of them has no symbol. Each block
-    /// is read once.
-    pub fn answer(&mut self, object: u64, challenge: &Challenge) -> io::Result<Option<Symbol>> {
-        let drawn = challenge.draw();
-        if challenge.rows <= u64::from(challenge.size) {
-            return self.answer_in_one(object, &drawn);
-        }
-        let picks = challenge.picks as usize;
-        let mut drawn_rows = drawn.rows;
-        let picked = &mut drawn_rows[..picks];
-        ascend(picked);
-        let mut rows = [(0, Symbol::ZERO); 64];
-        let mut last = LastBlock::new();
-        for k in 0..picks {
-            let row = picked[k];
-            let Some(symbol) = self.symbol_in(object, challenge, row, &mut last)? else {
-                return Ok(None);
-            };
-            rows[k] = (row, symbol);
-        }
-        Ok(answer_of(&drawn, &rows[..picks]))
     }
 
     /// Removes the file of a block, and says whether there was one.

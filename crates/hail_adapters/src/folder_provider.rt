@@ -2,7 +2,7 @@ ghost use Rattle.std.specs.Prelude.{◌≡◌, ◌≤◌, ◌⊎◌, ◌↔◌, 
 ghost use Rattle.provider_model.specs.declared.fault.StoreFault.TheVariants as store_fault;
 ghost use Rattle.hail_adapters.specs.FolderCounts.{fresh_counts, with_store_fault, with_other_fault, with_answer, with_fetch, with_call, IsGivenUp};
 
-use crate::folder::Folder;
+use crate::asked_folder::AskedFolder;
 use crate::provider_folders::Mark;
 use crate::tried::{tried, tried_writing};
 use challenge::Challenge;
@@ -20,10 +20,12 @@ const MOST_FAILED: u64 = 8;
 /// A folder as a provider, seen in contracts as its counts. It tells nothing of what it holds. The block of
 /// object I and stripe S is the file `I-S` in it, 16 bytes a symbol. Behind eight calls in a row that failed
 /// the folder is not looked at any more, and each call fails: else each block of a provider that does not
-/// answer would be waited for. A block that is not there is no failure.
+/// answer would be waited for. A block that is not there is no failure. An answer to a challenge goes by the
+/// files, but for up to eight blocks that the answers right before it, about the same object, have read: so
+/// the rounds of an audit read a small file once. Any other call and a failing one drop these blocks.
 #[derive(Drop)]
 pub struct FolderProvider<R: Files + Clone + Drop> {
-    folder: Folder<R>,
+    folder: AskedFolder<R>,
     store_faults: u64,
     other_faults: u64,
     fetches: u64,
@@ -64,7 +66,7 @@ impl<R: Files + Clone + Drop> FolderProvider<R> {
         ensures { IfOk result (λ provider. provider ≡ fresh_counts) }
     {
         Ok(FolderProvider {
-            folder: Folder::new(rt, alloc, path, unsynced)?,
+            folder: AskedFolder::new(rt, alloc, path, unsynced)?,
             store_faults: 0,
             other_faults: 0,
             fetches: 0,

@@ -1,6 +1,7 @@
 //! Real devices: a file as a disk, folders as providers, and the standard streams as a source and a sink.
 #![tactic(auto)]
 
+mod asked_folder;
 mod block_bytes;
 mod block_name;
 mod file_disk;
@@ -9,6 +10,7 @@ mod folder_provider;
 mod found;
 mod home;
 mod kept_file;
+mod last_blocks;
 mod one_block;
 mod plain;
 mod provider_folders;

@@ -1,0 +1,164 @@
+// A folder of which challenges ask.
+ghost use Rattle.std.specs.Prelude.{◌≡◌, ◌≤◌, ◌<◌, ℕ, None, false, length, IfOk, OnErr};
+ghost use Rattle.std.specs.List.{All};
+ghost use Rattle.std.specs.List.Sorted.{IsSorted};
+ghost use Rattle.std.specs.Ordering.{nat_cmp};
+
+use crate::folder::Folder;
+use crate::last_blocks::LastBlocks;
+use crate::one_block::answer_in_block;
+use crate::provider_folders::Mark;
+use crate::seen_rows::answer_of;
+use challenge::Challenge;
+use hail_field::{Memory, Symbol};
+use std::alloc::Global;
+use std::fs::Files;
+use std::io;
+
+/// Puts picked rows in ascending order, so that those of a block stand one behind the other.
+fn ascend(rows: &mut [u64])
+    ensures within { (n : ℕ) → All (λ row. row < n) rows.old → All (λ row. row < n) rows.new }
+    ensures as_many { length rows.new ≡ length rows.old }
+    ensures ascending { IsSorted nat_cmp rows.new }
+{
+    rows.sort_unstable();
+}
+
+/// A folder of blocks. Answers in a row about one object read each block once, where no stripes eight apart
+/// are picked: the blocks are kept until a store, a fetch, a removal or a change of a block, a call that
+/// fails, or an answer about another object or to another size. None outlasts the command.
+#[derive(Drop)]
+pub struct AskedFolder<R: Files + Clone + Drop> {
+    folder: Folder<R>,
+    last: LastBlocks,
+}
+
+impl<R: Files + Clone + Drop> AskedFolder<R> {
+    /// The folder at this path, as [`Folder::new`] says, with room for the blocks that are kept.
+    pub fn new(
+        rt: &R,
+        alloc: Global,
+        path: &str,
+        unsynced: Option<Mark>,
+    ) -> Result<AskedFolder<R>, Memory>
+        ensures { IfOk result (λ asked. asked.last.of ≡ None) }
+    {
+        Ok(AskedFolder {
+            folder: Folder::new(rt, alloc, path, unsynced)?,
+            last: LastBlocks::new(alloc)?,
+        })
+    }
+
+    /// Writes the file of a block, as [`Folder::store`] does.
+    pub fn store(&mut self, object: u64, stripe: u32, block: &[Symbol]) -> io::Result<()>
+        requires { length block.now ≤ 128 }
+        ensures forgets { self.new.last.of ≡ None }
+    {
+        self.last.forget(self.folder.store(object, stripe, block))
+    }
+
+    /// Reads a block of as many symbols as `out` has from its file, and says whether the file has one.
+    pub fn fetch(&mut self, object: u64, stripe: u32, out: &mut [Symbol]) -> io::Result<bool>
+        requires { length out.old ≤ 128 }
+        ensures not_found { IfOk result (λ found. found ≡ false → out.new ≡ out.old) }
+        ensures err { OnErr result (out.new ≡ out.old) }
+        ensures forgets { self.new.last.of ≡ None }
+    {
+        self.last.forget(self.folder.fetch(object, stripe, out))
+    }
+
+    /// Answers a challenge to a file of one block; none where there is no block of the challenge's size.
+    fn answer_in_one(&mut self, object: u64, challenge: &Challenge) -> io::Result<Option<Symbol>> {
+        let size = challenge.size;
+        if !self.last.read(&mut self.folder, object, 0, size)? {
+            return Ok(None);
+        }
+        let block = &self.last.symbols(0)[..size as usize];
+        Ok(answer_in_block(&challenge.draw(), block))
+    }
+
+    /// The symbol in a row; none where there is no block of the challenge's size.
+    fn symbol_in(
+        &mut self,
+        object: u64,
+        challenge: &Challenge,
+        row: u64,
+    ) -> io::Result<Option<Symbol>>
+        requires { row < challenge.now.rows }
+    {
+        let size = u64::from(challenge.size);
+        let stripe = (row / size) as u32;
+        if !self
+            .last
+            .read(&mut self.folder, object, stripe, challenge.size)?
+        {
+            return Ok(None);
+        }
+        Ok(Some(self.last.symbols(stripe)[(row % size) as usize]))
+    }
+
+    /// Answers a challenge by what stands in the picked rows; none where one of them has no symbol.
+    fn answer_in_rows(&mut self, object: u64, challenge: &Challenge) -> io::Result<Option<Symbol>> {
+        let drawn = challenge.draw();
+        let picks = challenge.picks as usize;
+        let mut drawn_rows = drawn.rows;
+        let picked = &mut drawn_rows[..picks];
+        ascend(picked);
+        let mut rows = [(0, Symbol::ZERO); 64];
+        for k in 0..picks {
+            let row = picked[k];
+            let Some(symbol) = self.symbol_in(object, challenge, row)? else {
+                return Ok(None);
+            };
+            rows[k] = (row, symbol);
+        }
+        Ok(answer_of(&drawn, &rows[..picks]))
+    }
+
+    /// Answers a challenge by the files or by the blocks that are kept.
+    fn answer_so(&mut self, object: u64, challenge: &Challenge) -> io::Result<Option<Symbol>> {
+        if challenge.rows <= u64::from(challenge.size) {
+            return self.answer_in_one(object, challenge);
+        }
+        self.answer_in_rows(object, challenge)
+    }
+
+    /// Answers a challenge; none where a block is missing of which it picks a row.
+    pub fn answer(&mut self, object: u64, challenge: &Challenge) -> io::Result<Option<Symbol>>
+        ensures failed { OnErr result (self.new.last.of ≡ None) }
+    {
+        self.last.turn_to(object, challenge.size);
+        match self.answer_so(object, challenge) {
+            Ok(symbol) => Ok(symbol),
+            error => self.last.forget(error),
+        }
+    }
+
+    /// Removes an object's files, as [`Folder::remove`] does.
+    pub fn remove(&mut self, object: u64) -> io::Result<()>
+        ensures forgets { self.new.last.of ≡ None }
+    {
+        self.last.forget(self.folder.remove(object))
+    }
+
+    /// Puts a symbol at a place of a block, and says whether it has the place.
+    pub fn alter(
+        &mut self,
+        object: u64,
+        stripe: u32,
+        place: u32,
+        symbol: Symbol,
+    ) -> io::Result<bool>
+        ensures forgets { self.new.last.of ≡ None }
+    {
+        self.last
+            .forget(self.folder.alter(object, stripe, place, symbol))
+    }
+
+    /// Removes the file of a block, and says whether there was a block.
+    pub fn lose(&mut self, object: u64, stripe: u32) -> io::Result<bool>
+        ensures forgets { self.new.last.of ≡ None }
+    {
+        self.last.forget(self.folder.lose(object, stripe))
+    }
+}
