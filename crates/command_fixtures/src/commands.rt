@@ -1,5 +1,6 @@
 use crate::store::Store;
 use crate::told::{Faults, NONE_FAILS, Told, tell};
+use disk_model::Disk;
 use provider_model::Tamper;
 use std::alloc::Global;
 
@@ -30,7 +31,7 @@ impl<P: Tamper + Drop> Store<P> {
     }
 
     /// Whether the last command ended so.
-    fn is_told(&self, status: u8, at: u64, text: &[u8]) -> bool {
+    pub fn is_told(&self, status: u8, at: u64, text: &[u8]) -> bool {
         match &self.last {
             Some(told) => told.is(status, at, text),
             None => false,
@@ -86,6 +87,18 @@ impl<P: Tamper + Drop> Store<P> {
             },
         );
         self.is_told(status, 0, text)
+    }
+
+    /// Makes a command over another disk.
+    pub fn make_over<D: Disk>(&mut self, line: &str, input: &[u8], disk: &mut D) {
+        self.last = tell(
+            self.alloc,
+            line,
+            input,
+            NONE_FAILS,
+            disk,
+            &mut self.providers,
+        );
     }
 
     /// What a schedule writes, where it is told to its end.

@@ -20,6 +20,9 @@ pub enum Deed {
     /// A command ends with 0, and writes this where that is looked at; or it finds no memory and, made again,
     /// ends so, or with this status.
     Again(&'static str, &'static [u8], Option<&'static [u8]>, u8),
+    /// A command over a disk whose write of this number, from 0 on, finds no memory ends with 70, and writes
+    /// nothing.
+    Pinched(&'static str, &'static [u8], u64),
     /// The jobs of the last command that heard something heard so much each.
     Heard(&'static [usize]),
     /// Its first job heard, from each of so many providers in turn, the block that the provider holds.
@@ -28,8 +31,17 @@ pub enum Deed {
     WroteOther(Stored),
     /// The disk is another, which reads these bytes.
     DiskBecomes(&'static [u8]),
+    /// The disk is another, whose second area is the active one and reads these bytes; the first area has zero
+    /// bytes.
+    SecondBecomes(&'static [u8]),
+    /// The disk is another, which reads the long journal of a store of six in the first area. Its last record
+    /// is the start of a put whose name has so many letters: with three the text ends where the second area
+    /// begins.
+    LongBecomes(usize),
     /// The disk is another, which reads the journal of a store.
     DiskOf(Stored),
+    /// The disk is stopped by these picks; loose bytes past their end stay.
+    Stops(&'static [u8]),
     /// From now on the disk, whose bytes stay, fails at these of its calls.
     DiskFails(&'static [u64]),
     /// Only so many providers are left.
@@ -46,6 +58,8 @@ pub enum Deed {
     Mended,
     /// The disk reads these bytes.
     DiskIs(&'static [u8]),
+    /// From this offset on the disk reads these bytes.
+    DiskReads(usize, &'static [u8]),
     /// The disk reads so many bytes.
     DiskHas(usize),
     /// The disk reads the journal of a store, and there are providers enough for it.

@@ -1,3 +1,4 @@
+use crate::areas::{long_journal, second_area};
 use crate::deed::Deed;
 use crate::holder::Holder;
 use crate::store::{Store, disk_of};
@@ -10,6 +11,7 @@ impl<P: Holder + Drop> Store<P> {
             Deed::HeardHeld(count) => self.heard_from_all(count),
             Deed::WroteOther(stored) => self.wrote_other(stored),
             Deed::DiskIs(bytes) => self.journal() == bytes,
+            Deed::DiskReads(at, bytes) => self.reads(at, bytes),
             Deed::DiskHas(len) => self.journal().len() == len,
             Deed::Known(stored) => self.is_known(stored),
             Deed::Holds(provider, object) => self.holds(provider, object),
@@ -28,7 +30,10 @@ impl<P: Holder + Drop> Store<P> {
     fn is_done(&mut self, deed: &Deed) -> bool {
         match *deed {
             Deed::DiskBecomes(bytes) => self.takes(disk_of(self.alloc, bytes, &[])),
+            Deed::SecondBecomes(bytes) => self.takes_bytes(second_area(self.alloc, bytes)),
+            Deed::LongBecomes(letters) => self.takes_bytes(long_journal(self.alloc, letters)),
             Deed::DiskOf(stored) => self.takes(disk_of(self.alloc, stored.journal(), &[])),
+            Deed::Stops(picks) => self.is_stopped(picks),
             Deed::DiskFails(calls) => self.fails_at(calls),
             Deed::Providers(count) => self.has_left(count),
             Deed::Loses(provider) => self.loses(provider, 1),
@@ -51,6 +56,7 @@ impl<P: Holder + Drop> Store<P> {
                 line, input, call, status, text,
             ),
             Deed::Again(line, input, text, status) => self.ends_again(line, input, text, status),
+            Deed::Pinched(line, input, write) => self.is_pinched(line, input, write),
             _ => self.is_done(deed),
         }
     }

@@ -2,6 +2,7 @@
 //! it.
 #![tactic(auto)]
 
+mod areas;
 mod case;
 mod commands;
 mod deed;
@@ -9,6 +10,7 @@ mod goes;
 mod heard;
 mod holder;
 mod image;
+mod pinched;
 mod rows;
 mod schedule;
 mod shows;

@@ -101,6 +101,14 @@ impl<P: Holder + Drop> Store<P> {
         self.disk.bytes()
     }
 
+    /// Whether the disk reads these bytes from an offset on.
+    pub fn reads(&self, at: usize, bytes: &[u8]) -> bool {
+        match self.disk.bytes().get(at..) {
+            Some(rest) => rest.starts_with(bytes),
+            None => false,
+        }
+    }
+
     /// Whether the disk reads the journal of a store, and there are providers enough for it.
     pub fn is_known(&self, stored: Stored) -> bool {
         self.disk.bytes() == stored.journal() && self.providers.len() >= stored.providers()

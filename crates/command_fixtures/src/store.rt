@@ -74,6 +74,14 @@ impl<P: Holder + Drop> Store<P> {
         }
     }
 
+    /// The disk is another from now on, which reads these bytes. Answers whether there was memory for it.
+    pub fn takes_bytes(&mut self, bytes: Option<Vec<u8>>) -> bool {
+        match bytes {
+            Some(bytes) => self.takes(disk_of(self.alloc, &bytes, &[])),
+            None => false,
+        }
+    }
+
     /// From now on the disk, whose bytes stay, fails at these of its calls. Answers whether there was memory.
     pub fn fails_at(&mut self, fails: &[u64]) -> bool {
         let disk = disk_of(self.alloc, self.disk.bytes(), fails);
@@ -83,6 +91,12 @@ impl<P: Holder + Drop> Store<P> {
     /// Stops the disk by these picks.
     pub fn stops(&mut self, picks: &[u8]) {
         stop_by(&mut self.disk, picks);
+    }
+
+    /// The same, which is done whatever the picks are.
+    pub fn is_stopped(&mut self, picks: &[u8]) -> bool {
+        self.stops(picks);
+        true
     }
 
     /// Leaves so many providers.

@@ -315,6 +315,42 @@ fn an_upgrade_is_done_or_not(rt: HostRuntime) {
     check(&rt, UPGRADED);
 }
 
+/// A pack of the upgraded store, from the first area of the journal into the second, and the next, from there
+/// back.
+const PACK: Row = Row {
+    line: "pack",
+    input: b"",
+    status: 0,
+    text: b"packed 80 81\n",
+};
+
+const PACK_BACK: Row = Row {
+    line: "pack",
+    input: b"",
+    status: 0,
+    text: b"packed 81 89\n",
+};
+
+/// A pack.
+const PACKED: &Case = &Case {
+    before: &[INIT, PUT, UPGRADE],
+    lost: None,
+    row: PACK,
+    without: Shown {
+        rows: &[GOT, PACK],
+        blocks: FIRST_BLOCKS,
+    },
+    with: Shown {
+        rows: &[GOT, PACK_BACK],
+        blocks: FIRST_BLOCKS,
+    },
+};
+
+#[test]
+fn a_pack_is_done_or_not(rt: HostRuntime) {
+    check(&rt, PACKED);
+}
+
 /// A put behind it that names a profile.
 const OWN_PROFILE: &Case = &Case {
     before: &[INIT, UPGRADE],

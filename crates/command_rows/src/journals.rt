@@ -47,9 +47,9 @@ const BAD: &[Rows] = &[
     ]),
     Rows::Deeds(&[
         DiskBecomes(b"HAILJRN2\0\0\0\0"),
-        Refused("list", b"new", 8, 0),
-        Refused("init 4 1 1 0 1 1 0", KEY, 8, 0),
-        Refused("audit", b"new", 8, 0),
+        Refused("list", b"new", 8, 8_388_608),
+        Refused("init 4 1 1 0 1 1 0", KEY, 8, 8_388_608),
+        Refused("audit", b"new", 8, 8_388_608),
         DiskIs(b"HAILJRN2\0\0\0\0"),
     ]),
     Rows::Deeds(&[

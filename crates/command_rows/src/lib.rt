@@ -2,6 +2,8 @@
 #![tactic(auto)]
 
 #[cfg(test)]
+mod areas;
+#[cfg(test)]
 mod audits;
 #[cfg(test)]
 mod check;
@@ -21,6 +23,8 @@ mod journals;
 mod liars;
 #[cfg(test)]
 mod memory;
+#[cfg(test)]
+mod packs;
 #[cfg(test)]
 mod provider_faults;
 #[cfg(test)]

@@ -21,6 +21,9 @@ const COMMANDS: &[Rows] = &[Rows::Again(&[
     Again("upgrade", b"", Some(b"upgraded\n"), 24),
     Again("put b 2", b"other", Some(b"stored b 5\n"), 0),
     Again("get b", b"", Some(b"other"), 0),
+    Again("pack", b"", None, 0),
+    Again("get b", b"", Some(b"other"), 0),
+    Again("list", b"", Some(b"a 3\nb 5\n"), 0),
 ])];
 
 #[test]

@@ -1,10 +1,10 @@
-use hail_client::ClientTurn;
+use hail_client::{ClientTurn, PackStep};
 use hail_replay::*;
 use hail_scrub::{ScrubAnswer, ScrubTurn};
 use record_codec::Counts;
 use std::alloc::Global;
 use stream_model::Bytes;
-use vault::{Answer, BeginFault, Turn};
+use vault::{Answer, BeginFault, PackAnswer, Turn};
 
 /// The bytes that a get is to give.
 const WANTED: &[u8] = b"hail";
@@ -62,8 +62,13 @@ fn scrubbed(turn: ScrubTurn) -> Came<'static> {
     Came::Stepped(Some(ClientTurn::Scrub { providers: 6, turn }))
 }
 
+/// A step of a pack.
+fn packed(step: PackStep) -> Came<'static> {
+    Came::Stepped(Some(ClientTurn::Pack(step)))
+}
+
 #[test]
-fn a_scrub_counts_as_events_alone(rt: HostRuntime) {
+fn scrubs_and_packs_count_as_events_alone(rt: HostRuntime) {
     let found = ScrubAnswer::Scrubbed {
         stripes: 1,
         symbols: [9; 16],
@@ -74,10 +79,15 @@ fn a_scrub_counts_as_events_alone(rt: HostRuntime) {
         scrubbed(ScrubTurn::More),
         scrubbed(ScrubTurn::Done(found)),
         scrubbed(ScrubTurn::Done(ScrubAnswer::Lost { stripe: 0, row: 1 })),
+        packed(PackStep::More),
+        packed(PackStep::Done(PackAnswer::Packed {
+            before: 124,
+            after: 89,
+        })),
     ];
     let wanted =
-        b"trial 18446744073709551615\nevents 4\ngets 0 right 0\naudits 0 flagged\nrepairs 0\nstops 0\n";
-    assert_eq!(rt; told(rt.alloc(), &events, wanted), Some((4, true)));
+        b"trial 18446744073709551615\nevents 6\ngets 0 right 0\naudits 0 flagged\nrepairs 0\nstops 0\n";
+    assert_eq!(rt; told(rt.alloc(), &events, wanted), Some((6, true)));
 }
 
 /// Whether the end of a job is seen so by a tolerance: as a get, as a right one, as an audit, as a repair, and

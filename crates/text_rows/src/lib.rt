@@ -10,6 +10,8 @@ mod given;
 #[cfg(test)]
 mod lines;
 #[cfg(test)]
+mod packs;
+#[cfg(test)]
 mod schedules;
 #[cfg(test)]
 mod scrubs;

@@ -16,6 +16,8 @@ enum Line {
     /// A repair of this number.
     Repaired(u64),
     Upgraded,
+    /// A pack of a text of so many bytes into one of so many.
+    Packed(u64, u64),
     /// Decoded values of these numbers.
     Values(&'static [u128]),
     /// An audit with these counts: its tolerance, its number, and how many rounds were undecided.
@@ -57,6 +59,7 @@ fn told(alloc: Global, what: Line) -> Result<Bytes, Memory> {
         Line::Dropped(name) => dropped_line(alloc, name),
         Line::Repaired(number) => repaired_line(alloc, number),
         Line::Upgraded => Bytes::from_slice(alloc, upgraded_line()),
+        Line::Packed(before, after) => packed_line(alloc, before, after),
         Line::Values(numbers) => values_of(alloc, numbers),
         Line::Audit(tolerance, number, undecided) => {
             audit_lines(alloc, tolerance, number, undecided, &COUNTS)
@@ -79,7 +82,7 @@ fn first_other(alloc: Global, rows: &[Row]) -> Option<usize> {
     None
 }
 
-static CHANGES: [Row; 7] = [
+static CHANGES: [Row; 9] = [
     (Line::Ready, "ready\n"),
     (Line::Put(b"notes.txt", 100), "stored notes.txt 100\n"),
     (Line::Put(b"a", 0), "stored a 0\n"),
@@ -87,6 +90,8 @@ static CHANGES: [Row; 7] = [
     (Line::Repaired(1), "repaired 1\n"),
     (Line::Repaired(u64::MAX), "repaired 18446744073709551615\n"),
     (Line::Upgraded, "upgraded\n"),
+    (Line::Packed(124, 89), "packed 124 89\n"),
+    (Line::Packed(u64::MAX, 0), "packed 18446744073709551615 0\n"),
 ];
 
 #[test]

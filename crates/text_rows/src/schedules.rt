@@ -78,6 +78,7 @@ fn shown(alloc: Global, event: &Event) -> Result<String, AllocError> {
         Event::BeginRepair => String::from_str(alloc, "repair"),
         Event::BeginUpgrade => String::from_str(alloc, "upgrade"),
         Event::BeginScrub => String::from_str(alloc, "scrub"),
+        Event::BeginPack => String::from_str(alloc, "pack"),
         Event::Step { job } => number_shown(alloc, "step", *job),
         Event::Run { job } => number_shown(alloc, "run", *job),
         Event::Alter {
@@ -177,7 +178,7 @@ fn first_read(alloc: Global, lines: &[&str]) -> Option<usize> {
     None
 }
 
-static LINES: [Row; 26] = [
+static LINES: [Row; 28] = [
     ("reopen", "reopen;"),
     ("list", "list;"),
     ("begin put a/b 00", "put 612f62 00;"),
@@ -195,6 +196,8 @@ static LINES: [Row; 26] = [
     ("begin upgrade", "upgrade;"),
     ("begin scrub", "scrub;"),
     (" begin  scrub ", "scrub;"),
+    ("begin pack", "pack;"),
+    (" begin  pack ", "pack;"),
     ("step 0", "step 0;"),
     ("step 4294967295", "step 4294967295;"),
     ("run 1", "run 1;"),
@@ -248,7 +251,7 @@ fn lines_are_cut_at_newlines(rt: HostRuntime) {
     no_other(&rt, first_misread(rt.alloc(), &CUTS));
 }
 
-static NO_LINES: [&str; 53] = [
+static NO_LINES: [&str; 57] = [
     "fly",
     "Reopen",
     "init",
@@ -290,6 +293,10 @@ static NO_LINES: [&str; 53] = [
     "begin scrubs",
     "begin Scrub",
     "scrub",
+    "begin pack 1",
+    "begin packs",
+    "begin Pack",
+    "pack",
     "alter 0 1 0 0",
     "alter 0 1 0 0 5 6",
     "alter 4294967296 1 0 0 5",

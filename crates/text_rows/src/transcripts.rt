@@ -1,11 +1,11 @@
 use crate::given::{SETUP, TWO_FILES, is_line, no_other, table_of};
-use hail_client::{ClientTurn, ReopenFault};
+use hail_client::{ClientTurn, PackStep, ReopenFault};
 use hail_replay::*;
 use hail_scrub::{ScrubAnswer, ScrubTurn};
 use record_codec::Counts;
 use std::alloc::Global;
 use stream_model::{Bytes, Memory};
-use vault::{Answer, BeginFault, InitFault, StartFault, Turn};
+use vault::{Answer, BeginFault, InitFault, PackAnswer, StartFault, Turn};
 
 /// What a step of a job answers.
 #[derive(Clone, Copy)]
@@ -27,6 +27,15 @@ enum End {
     Upgraded,
     Lost(u32, u64),
     ProviderFault(u32),
+    DiskFault,
+    Memory,
+}
+
+/// How a pack ends.
+#[derive(Clone, Copy)]
+enum Packed {
+    /// The lengths of the text before and after.
+    Packed(u64, u64),
     DiskFault,
     Memory,
 }
@@ -55,6 +64,11 @@ enum Line {
     Scrub(u8, ScrubTurn),
     /// The end of one.
     Scrubbed(u8, ScrubAnswer),
+    /// A step of a pack that is not its last.
+    Packing,
+    /// The last step of a pack, and its end.
+    PackStepped(Packed),
+    Packed(Packed),
     /// The end of a get with these bytes.
     Got(&'static [u8]),
     /// The files of no table.
@@ -89,6 +103,18 @@ fn step_told(alloc: Global, step: Option<Step>) -> Result<Bytes, Memory> {
 
 fn scrub_told(alloc: Global, providers: u8, turn: ScrubTurn) -> Result<Bytes, Memory> {
     step_line(alloc, &Some(ClientTurn::Scrub { providers, turn }))
+}
+
+fn packed_of(end: Packed) -> PackAnswer {
+    match end {
+        Packed::Packed(before, after) => PackAnswer::Packed { before, after },
+        Packed::DiskFault => PackAnswer::DiskFault,
+        Packed::Memory => PackAnswer::Memory,
+    }
+}
+
+fn pack_told(alloc: Global, step: PackStep) -> Result<Bytes, Memory> {
+    step_line(alloc, &Some(ClientTurn::Pack(step)))
 }
 
 fn answer_of(end: End) -> Answer {
@@ -156,6 +182,9 @@ fn told(alloc: Global, what: Line) -> Result<Bytes, Memory> {
         Line::Step(step) => step_told(alloc, step),
         Line::Scrub(providers, turn) => scrub_told(alloc, providers, turn),
         Line::Scrubbed(providers, answer) => scrub_answer_line(alloc, providers, &answer),
+        Line::Packing => pack_told(alloc, PackStep::More),
+        Line::PackStepped(end) => pack_told(alloc, PackStep::Done(packed_of(end))),
+        Line::Packed(end) => pack_answer_line(alloc, &packed_of(end)),
         Line::End(end) => end_told(alloc, end),
         Line::Got(bytes) => got_told(alloc, bytes),
         Line::NoNames => names_lines(alloc, None),
@@ -179,7 +208,7 @@ fn first_other(alloc: Global, rows: &[Row]) -> Option<usize> {
     None
 }
 
-static BEGINS: [Row; 16] = [
+static BEGINS: [Row; 17] = [
     (Line::Begin(None), "closed\n"),
     (Line::Begin(Some(Ok(1))), "job 1\n"),
     (Line::Begin(Some(Ok(u32::MAX))), "job 4294967295\n"),
@@ -227,6 +256,10 @@ static BEGINS: [Row; 16] = [
     (
         Line::Begin(Some(Err(BeginFault::JournalFull))),
         "refused JournalFull\n",
+    ),
+    (
+        Line::Begin(Some(Err(BeginFault::PackTooLong))),
+        "refused PackTooLong\n",
     ),
     (
         Line::Begin(Some(Err(BeginFault::Memory))),
@@ -369,6 +402,26 @@ static SCRUBS: [Row; 10] = [
 #[test]
 fn a_scrub_tells_the_symbols_of_the_providers_in_use(rt: HostRuntime) {
     no_other(&rt, first_other(rt.alloc(), &SCRUBS));
+}
+
+static PACKS: [Row; 6] = [
+    (Line::Packing, "more\n"),
+    (
+        Line::PackStepped(Packed::Packed(124, 89)),
+        "packed 124 89\n",
+    ),
+    (Line::Packed(Packed::Packed(89, 97)), "packed 89 97\n"),
+    (
+        Line::Packed(Packed::Packed(0, u64::MAX)),
+        "packed 0 18446744073709551615\n",
+    ),
+    (Line::PackStepped(Packed::DiskFault), "disk fault\n"),
+    (Line::Packed(Packed::Memory), "memory\n"),
+];
+
+#[test]
+fn a_pack_tells_the_lengths_of_the_text(rt: HostRuntime) {
+    no_other(&rt, first_other(rt.alloc(), &PACKS));
 }
 
 static GETS: [Row; 2] = [

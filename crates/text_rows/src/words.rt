@@ -27,6 +27,8 @@ enum Wanted {
     Audit,
     Repair,
     Upgrade,
+    Scrub,
+    Pack,
     /// Providers, primaries, bad ones, and what is seen of each.
     Row([u128; 3], &'static [Option<u128>]),
 }
@@ -80,6 +82,8 @@ fn is(command: &Command, wanted: Wanted) -> bool {
         (Command::Audit, Wanted::Audit) => true,
         (Command::Repair, Wanted::Repair) => true,
         (Command::Upgrade, Wanted::Upgrade) => true,
+        (Command::Scrub, Wanted::Scrub) => true,
+        (Command::Pack, Wanted::Pack) => true,
         (Command::Row(row), Wanted::Row(numbers, seen)) => is_row(row, numbers, seen),
         _ => false,
     }
@@ -131,7 +135,7 @@ fn first_read(alloc: Global, lines: &[&str]) -> Option<usize> {
     None
 }
 
-static COMMANDS: [(&str, Wanted); 16] = [
+static COMMANDS: [(&str, Wanted); 19] = [
     ("init 6 3 1 2 4 8 0", Wanted::Init([6, 3, 1, 2, 4, 8, 0])),
     (
         "init 256 3 1 2 4 8 340282366920938463463374607431768211455",
@@ -151,6 +155,9 @@ static COMMANDS: [(&str, Wanted); 16] = [
     ("repair", Wanted::Repair),
     ("upgrade", Wanted::Upgrade),
     ("put upgrade", Wanted::Put(b"upgrade")),
+    ("scrub", Wanted::Scrub),
+    ("pack", Wanted::Pack),
+    ("get pack", Wanted::Get(b"pack")),
 ];
 
 #[test]
@@ -172,7 +179,7 @@ fn rows_are_read(rt: HostRuntime) {
     no_other(&rt, first_misread(rt.alloc(), &ROWS));
 }
 
-static NO_COMMANDS: [&str; 43] = [
+static NO_COMMANDS: [&str; 47] = [
     "",
     "fly",
     "get",
@@ -196,6 +203,10 @@ static NO_COMMANDS: [&str; 43] = [
     "upgrade now",
     "upgrade 2",
     "upgrades",
+    "scrub all",
+    "pack all",
+    "packs",
+    "Pack",
     "init",
     "init 6 3 1 2 4 8",
     "init 6 3 1 2 4 8 0 0",

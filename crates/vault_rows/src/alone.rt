@@ -1,14 +1,14 @@
-use self::Deed::{Gets, Loses, Puts, Scrubs, Steps, Stops};
+use self::Deed::{Gets, Loses, Packs, Puts, Scrubs, Steps, Stops, Upgrades};
 use crate::deeds::SIX;
 use crate::store::KEY;
 use disk_model::{Disk, SureDisk};
-use hail_client::{Client, ClientTurn};
+use hail_client::{Client, ClientTurn, PackStep};
 use hail_scrub::{ScrubAnswer, ScrubTurn};
 use key_schedule::Master;
 use provider_model::{Provider, SureProvider, Tamper};
 use std::alloc::Global;
 use stream_model::Bytes;
-use vault::{BeginFault, Turn};
+use vault::{BeginFault, PackAnswer, Turn};
 
 /// What a step came to.
 #[derive(Clone, Copy, PartialEq, Eq)]
@@ -19,16 +19,20 @@ enum Seen {
     Ended,
     /// A scrub read so many stripes, and so many blocks differed.
     Found(u64, u64),
+    /// A pack ended: the lengths of the text before and after.
+    Packed(u64, u64),
     Other,
 }
 
 /// What is done to a client and its devices, and what it is to answer.
 #[derive(Clone, Copy)]
 enum Deed {
-    /// Begins a put, a get, a scrub.
+    /// Begins a put, a get, an upgrade, a scrub, a pack.
     Puts(Result<u32, BeginFault>),
     Gets(Result<u32, BeginFault>),
+    Upgrades(Result<u32, BeginFault>),
     Scrubs(Result<u32, BeginFault>),
+    Packs(Result<u32, BeginFault>),
     /// Makes so many steps of a number, each of which is to come to this.
     Steps(u32, u32, Seen),
     /// Takes the block of the first stripe from a provider.
@@ -70,6 +74,43 @@ const ALONE: &[Deed] = &[
     Steps(6, 1, Seen::Found(1, 0)),
 ];
 
+/// So does a pack, in five steps. A stop gives it up: behind the fourth the text is in the other area.
+const PACKED: &[Deed] = &[
+    Packs(Err(BeginFault::OldVersion)),
+    Upgrades(Ok(1)),
+    Packs(Err(BeginFault::Busy)),
+    Steps(1, 4, Seen::More),
+    Steps(1, 1, Seen::Ended),
+    Packs(Ok(2)),
+    Puts(Err(BeginFault::Busy)),
+    Gets(Err(BeginFault::Busy)),
+    Upgrades(Err(BeginFault::Busy)),
+    Scrubs(Err(BeginFault::Busy)),
+    Packs(Err(BeginFault::Busy)),
+    Steps(1, 1, Seen::NoSuchJob),
+    Steps(2, 4, Seen::More),
+    Steps(3, 1, Seen::NoSuchJob),
+    Steps(2, 1, Seen::Packed(54, 64)),
+    Steps(2, 1, Seen::NoSuchJob),
+    Puts(Ok(3)),
+    Steps(3, 14, Seen::More),
+    Steps(3, 1, Seen::Ended),
+    Scrubs(Ok(4)),
+    Packs(Err(BeginFault::Busy)),
+    Steps(4, 7, Seen::More),
+    Steps(4, 1, Seen::Found(1, 0)),
+    Packs(Ok(5)),
+    Steps(5, 4, Seen::More),
+    Stops,
+    Steps(5, 1, Seen::NoSuchJob),
+    Gets(Ok(6)),
+    Steps(6, 7, Seen::More),
+    Steps(6, 1, Seen::Ended),
+    Packs(Ok(7)),
+    Steps(7, 4, Seen::More),
+    Steps(7, 1, Seen::Packed(89, 81)),
+];
+
 /// What a scrub found.
 fn seen_answer(answer: ScrubAnswer) -> Seen {
     match answer {
@@ -85,6 +126,15 @@ fn seen_answer(answer: ScrubAnswer) -> Seen {
     }
 }
 
+/// What came of a step of a pack.
+fn seen_pack(step: &PackStep) -> Seen {
+    match step {
+        PackStep::More => Seen::More,
+        PackStep::Done(PackAnswer::Packed { before, after }) => Seen::Packed(*before, *after),
+        PackStep::Done(_) => Seen::Other,
+    }
+}
+
 /// What came of a step.
 fn seen_turn(turn: &ClientTurn) -> Seen {
     match turn {
@@ -96,6 +146,7 @@ fn seen_turn(turn: &ClientTurn) -> Seen {
             ScrubTurn::More => Seen::More,
             ScrubTurn::Done(answer) => seen_answer(*answer),
         },
+        ClientTurn::Pack(step) => seen_pack(step),
     }
 }
 
@@ -180,6 +231,10 @@ fn answers(
         Scrubs(wanted) => {
             client.next_job() < u32::MAX && has_begun(client.begin_scrub(alloc), wanted)
         }
+        Upgrades(wanted) => {
+            client.next_job() < u32::MAX && has_begun(client.begin_upgrade(), wanted)
+        }
+        Packs(wanted) => client.next_job() < u32::MAX && has_begun(client.begin_pack(), wanted),
         Steps(job, count, wanted) => {
             for _ in 0..count {
                 if step_of(client, job, disk, providers) != wanted {
@@ -212,4 +267,9 @@ fn first_wrong(alloc: Global, deeds: &[Deed]) -> Option<usize> {
 #[test]
 fn a_scrub_runs_alone(rt: HostRuntime) {
     assert_eq!(rt; first_wrong(rt.alloc(), ALONE), None);
+}
+
+#[test]
+fn a_pack_runs_alone(rt: HostRuntime) {
+    assert_eq!(rt; first_wrong(rt.alloc(), PACKED), None);
 }

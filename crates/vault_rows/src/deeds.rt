@@ -1,4 +1,5 @@
 use crate::job::Job;
+use crate::packing::SeenPack;
 use crate::store::{Seen, Store};
 use record_codec::Setup;
 use std::alloc::Global;
@@ -63,6 +64,12 @@ pub enum Deed {
     Releases,
     /// A scrub of all files may come to so many steps.
     ScrubHas(u64),
+    /// The journal's text has this length.
+    Texts(u64),
+    /// A pack begins and makes at most so many steps, and the last one comes to this.
+    Packs(u32, SeenPack),
+    /// Over a disk of the same bytes that fails at a call a pack comes to this, and another behind it to that.
+    PacksOver(u64, SeenPack, SeenPack),
     /// A hold is refused where a disk call of a put failed.
     Bars(BeginFault),
 }
@@ -107,6 +114,9 @@ impl Store {
             Deed::Holds(wanted) => self.hold() == wanted,
             Deed::Releases => self.release(),
             Deed::ScrubHas(left) => self.scrub_left() == Some(left),
+            Deed::Texts(length) => self.text_length() == Some(length),
+            Deed::Packs(steps, wanted) => self.pack(steps) == wanted,
+            Deed::PacksOver(call, first, second) => self.packs_over(call) == Some((first, second)),
             Deed::Bars(fault) => self.hold_after_fault() == Some(Err(fault)),
         }
     }

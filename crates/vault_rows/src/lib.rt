@@ -16,6 +16,8 @@ mod holding;
 #[cfg(test)]
 mod job;
 #[cfg(test)]
+mod packing;
+#[cfg(test)]
 mod rebuilding;
 #[cfg(test)]
 mod sharing;

@@ -1,5 +1,6 @@
 use crate::counted::Counted;
 use crate::job::Job;
+use crate::packing::{SeenPack, pack_by, packs_over};
 use disk_model::{Disk, MemDisk, SureDisk};
 use hail_field::Symbol;
 use key_schedule::Master;
@@ -96,7 +97,7 @@ fn set_up_on<D: Disk>(alloc: Global, disk: &mut D, setup: &Setup) -> bool {
 }
 
 /// Opens a vault over a disk.
-fn opened_on<D: Disk>(alloc: Global, disk: &mut D) -> Option<Vault> {
+pub fn opened_on<D: Disk>(alloc: Global, disk: &mut D) -> Option<Vault> {
     Vault::start(alloc, disk, 1).ok()
 }
 
@@ -173,16 +174,26 @@ fn new_providers(alloc: Global, count: u8) -> Option<Vec<Counted<SureProvider>>>
     Some(providers)
 }
 
-/// What a hold is answered where the first step of a put failed, since this call of the disk did.
+/// What a hold is answered where the first step of a put failed.
+fn hold_behind<D: Disk, P: Provider>(
+    alloc: Global,
+    vault: &mut Vault,
+    disk: &mut D,
+    providers: &mut [P],
+) -> Option<Result<u32, BeginFault>> {
+    let job = begin_put(alloc, vault, b"a", b"old", None).ok()?;
+    match step_of(vault, job, disk, providers) {
+        Seen::Fault => Some(hold_of(vault)),
+        _ => None,
+    }
+}
+
+/// The same over a disk that reads these bytes and fails at a call.
 fn hold_after(alloc: Global, bytes: &[u8], call: u64) -> Option<Result<u32, BeginFault>> {
     let mut disk = MemDisk::new(alloc, bytes, &[call]).ok()?;
     let mut vault = opened_on(alloc, &mut disk)?;
     let mut providers = new_providers(alloc, vault.setup().n)?;
-    let job = begin_put(alloc, &mut vault, b"a", b"old", None).ok()?;
-    match step_of(&mut vault, job, &mut disk, &mut providers) {
-        Seen::Fault => Some(hold_of(&mut vault)),
-        _ => None,
-    }
+    hold_behind(alloc, &mut vault, &mut disk, &mut providers)
 }
 
 impl Store {
@@ -335,6 +346,24 @@ impl Store {
     /// How many steps a scrub of all files may come to.
     pub fn scrub_left(&self) -> Option<u64> {
         Some(self.vault.as_ref()?.scrub(self.alloc).ok()?.left())
+    }
+
+    /// The length of the journal's text, where the vault is open.
+    pub fn text_length(&self) -> Option<u64> {
+        Some(self.vault.as_ref()?.text_length())
+    }
+
+    /// Begins a pack, and makes at most so many steps of it.
+    pub fn pack(&mut self, steps: u32) -> SeenPack {
+        match &mut self.vault {
+            Some(vault) => pack_by(vault, &mut self.disk, steps),
+            None => SeenPack::Refused(BeginFault::MustReopen),
+        }
+    }
+
+    /// What two packs come to over a disk of the same bytes that fails at a call.
+    pub fn packs_over(&self, call: u64) -> Option<(SeenPack, SeenPack)> {
+        packs_over(self.alloc, self.disk.bytes(), call)
     }
 
     /// What a hold is answered after the first of the disk's calls whose fault ends a put at its first step.

@@ -75,15 +75,21 @@ fn gives(vault: &mut Vault, job: u32, piece: &[u8], last: bool) -> bool {
     true
 }
 
+/// Four providers that hold nothing.
+fn new_providers(alloc: Global) -> Option<Vec<SureProvider>> {
+    let mut providers = Vec::new(alloc);
+    for _ in 0..4u8 {
+        providers.push(SureProvider::new(alloc)).ok()?;
+    }
+    Some(providers)
+}
+
 impl World {
     /// A store that is set up and open.
     fn new(alloc: Global) -> Option<World> {
+        let providers = new_providers(alloc)?;
         let mut disk = SureDisk::new(alloc, &[]).ok()?;
         let vault = opened(alloc, &mut disk)?;
-        let mut providers = Vec::new(alloc);
-        for _ in 0..4u8 {
-            providers.push(SureProvider::new(alloc)).ok()?;
-        }
         Some(World {
             disk,
             providers,
@@ -123,45 +129,61 @@ impl World {
     }
 }
 
+impl World {
+    /// Gives the first job each stripe of these bytes that it waits for, until it ends, and answers whether it
+    /// was put.
+    fn streams(&mut self, bytes: &[u8]) -> bool {
+        for _ in 0..8u32 {
+            match self.goes().1 {
+                Came::Wants(stripe) => {
+                    if !self.gives(bytes, stripe) {
+                        return false;
+                    }
+                }
+                came => return came == Came::Put,
+            }
+        }
+        false
+    }
+
+    /// Puts these bytes as the first job, and answers whether that was done.
+    fn puts(&mut self, alloc: Global, bytes: &[u8]) -> Option<bool> {
+        if self.vault.next_job() != 1 {
+            return None;
+        }
+        let bytes = Bytes::from_slice(alloc, bytes).ok()?;
+        self.vault.begin_put(b"a", bytes, None).ok()?;
+        Some(self.goes().1 == Came::Put)
+    }
+}
+
 /// A store in which these bytes were streamed.
 fn streamed(alloc: Global, bytes: &[u8]) -> Option<World> {
     let mut world = World::new(alloc)?;
-    if !world.begins_stream() {
-        return None;
-    }
-    for _ in 0..8u32 {
-        match world.goes() {
-            (_, Came::Wants(stripe)) => {
-                if !world.gives(bytes, stripe) {
-                    return None;
-                }
-            }
-            (_, Came::Put) => return Some(world),
-            _ => return None,
-        }
-    }
-    None
+    let done = world.begins_stream() && world.streams(bytes);
+    done.then_some(world)
 }
 
 /// A store in which these bytes were put.
 fn put(alloc: Global, bytes: &[u8]) -> Option<World> {
     let mut world = World::new(alloc)?;
-    if world.vault.next_job() != 1 {
-        return None;
-    }
-    let bytes = Bytes::from_slice(alloc, bytes).ok()?;
-    world.vault.begin_put(b"a", bytes, None).ok()?;
-    match world.goes() {
-        (_, Came::Put) => Some(world),
-        _ => None,
+    let done = world.puts(alloc, bytes) == Some(true);
+    done.then_some(world)
+}
+
+/// Whether a put of these bytes leaves the blocks that a store holds.
+fn is_put_as(alloc: Global, streamed: &World, bytes: &[u8]) -> bool {
+    match put(alloc, bytes) {
+        Some(put) => streamed.holds_as(&put),
+        None => false,
     }
 }
 
 /// Whether a stream of these bytes and a put of them leave the same blocks.
 fn is_same(alloc: Global, bytes: &[u8]) -> bool {
-    match (streamed(alloc, bytes), put(alloc, bytes)) {
-        (Some(streamed), Some(put)) => streamed.holds_as(&put),
-        _ => false,
+    match streamed(alloc, bytes) {
+        Some(streamed) => is_put_as(alloc, &streamed, bytes),
+        None => false,
     }
 }
 
@@ -181,26 +203,37 @@ fn streams_store_what_puts_store(rt: HostRuntime) {
     }
 }
 
-/// A stream waits for its first stripe once its start is in effect, and for the next once that one is stored;
-/// given up it is gone, and what it stored stays under a number of its own.
-fn gives_up(alloc: Global) -> Option<(u32, Came, u32, Came, Came, u64, bool)> {
+/// What is seen of a stream that is given up: how many steps it made and what it came to, twice, and in the
+/// end; the number of the next object, and whether each provider holds the first block.
+type GivenUp = (u32, Came, u32, Came, Came, u64, bool);
+
+impl World {
+    /// A stream waits for its first stripe once its start is in effect, and for the next once that one is
+    /// stored; given up it is gone, and what it stored stays under a number of its own.
+    fn gives_up(&mut self) -> Option<GivenUp> {
+        if !self.begins_stream() {
+            return None;
+        }
+        let first = self.goes();
+        if !self.gives(b"0123456789abcdefFEDCBA9876543210F", 0) {
+            return None;
+        }
+        let second = self.goes();
+        if self.vault.wants(1).is_none() {
+            return None;
+        }
+        self.vault.abandon(1);
+        let last = self.goes();
+        let is_held = self.providers.iter().all(|p| p.held(1, 0).is_some());
+        let next = self.vault.table().next_id();
+        Some((first.0, first.1, second.0, second.1, last.1, next, is_held))
+    }
+}
+
+/// The same in a store of its own.
+fn gives_up(alloc: Global) -> Option<GivenUp> {
     let mut world = World::new(alloc)?;
-    if !world.begins_stream() {
-        return None;
-    }
-    let first = world.goes();
-    if !world.gives(b"0123456789abcdefFEDCBA9876543210F", 0) {
-        return None;
-    }
-    let second = world.goes();
-    if world.vault.wants(1).is_none() {
-        return None;
-    }
-    world.vault.abandon(1);
-    let last = world.goes();
-    let is_held = world.providers.iter().all(|p| p.held(1, 0).is_some());
-    let next = world.vault.table().next_id();
-    Some((first.0, first.1, second.0, second.1, last.1, next, is_held))
+    world.gives_up()
 }
 
 #[test]
@@ -216,5 +249,68 @@ fn a_stream_that_is_given_up_leaves_its_blocks(rt: HostRuntime) {
             2,
             true
         ))
+    );
+}
+
+/// Pieces, as many bytes each, whether it is the last, and whether the first job may be given it where it waits
+/// for its first stripe of 32 bytes: a whole stripe, or at most one as the last.
+const PIECES: &[(usize, bool, bool)] = &[
+    (32, false, true),
+    (31, false, false),
+    (33, false, false),
+    (0, false, false),
+    (64, false, false),
+    (32, true, true),
+    (31, true, true),
+    (0, true, true),
+    (33, true, false),
+];
+
+/// The place of the first of these pieces that a stream may be given otherwise.
+fn first_other_piece(vault: &Vault) -> Option<usize> {
+    for place in 0..PIECES.len() {
+        let (count, last, wanted) = PIECES[place];
+        if vault.may_give(1, count, last) != wanted {
+            return Some(place);
+        }
+    }
+    None
+}
+
+/// Whether a job may be given a whole stripe before its first append is done, where it waits for one, and once
+/// it was given it; whether another may where it waits; and the place of the first piece that it may be given
+/// otherwise.
+type Given = ([bool; 4], Option<usize>);
+
+impl World {
+    /// What the first job may be given, as a stream.
+    fn may_give(&mut self) -> Option<Given> {
+        if !self.begins_stream() {
+            return None;
+        }
+        let early = self.vault.may_give(1, 32, false);
+        self.goes();
+        let due = self.vault.may_give(1, 32, false);
+        let other = self.vault.may_give(2, 32, false);
+        let place = first_other_piece(&self.vault);
+        if !self.gives(b"0123456789abcdefFEDCBA9876543210", 0) {
+            return None;
+        }
+        let late = self.vault.may_give(1, 32, false);
+        Some(([early, due, other, late], place))
+    }
+}
+
+/// The same in a store of its own.
+fn may_give(alloc: Global) -> Option<Given> {
+    let mut world = World::new(alloc)?;
+    world.may_give()
+}
+
+#[test]
+fn a_stream_may_be_given_what_it_waits_for(rt: HostRuntime) {
+    assert_eq!(rt;
+        may_give(rt.alloc()),
+        Some(([false, true, false, false], None))
     );
 }
