@@ -110,6 +110,10 @@ closed_streams() {
     done
     closed 15 out upgrade
     closed 24 in upgrade
+    closed 15 out pack
+    closed 0 in pack
+    closed 0 err pack
+    closed 15 all pack
     closed 15 out scrub
     closed 0 in scrub
     closed 0 err scrub

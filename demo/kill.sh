@@ -1,6 +1,6 @@
 #!/bin/bash
-# Kills the program at random moments of puts, drops, audits, repairs, scrubs and an upgrade over a real home: kill.sh [KILLS [SEED]]
-# After half of the kills the journal is upgraded, and behind that each put names a profile.
+# Kills the program at random moments of puts, drops, audits, repairs, scrubs, an upgrade and packs over a real home: kill.sh [KILLS [SEED]]
+# After half of the kills the journal is upgraded; behind that each put names a profile, and the journal is packed.
 # One provider at a time loses its folder. After each kill the home is looked at: each acknowledged file must come back byte for
 # byte, and what the killed command was about as it was before or as it was to be. It prints 'N kills, L lost, W wrong', ends
 # with 0 exactly where L and W are 0, and leaves nothing behind.
@@ -97,6 +97,7 @@ turn() {
     local name=${names[RANDOM % 6]} file kind=$((RANDOM % 9)) spoken='' later=''
     source=/dev/null
     [ -n "$upgraded" ] || [ $killed -lt $((kills / 2)) ] || kind=upgrade
+    [ -z "$upgraded" ] || [ $((RANDOM % 4)) -ne 0 ] || kind=pack
     case $kind in
         upgrade)
             cut upgrade
@@ -112,6 +113,7 @@ turn() {
             spoken=$name
             cut drop "$name"
             ;;
+        pack) cut pack ;;
         5) cut audit ;;
         6) cut repair ;;
         7)

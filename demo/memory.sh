@@ -1,6 +1,6 @@
 #!/bin/bash
 # Refuses one allocation a run, over a real home: memory.sh [RUNS]
-# It goes through init, put, get, audit, repair, list, scrub, upgrade and a put at a profile, and refuses of each command the first allocation,
+# It goes through init, put, get, audit, repair, list, scrub, upgrade, a put at a profile and two packs, and refuses of each command the first allocation,
 # then the second and so on, at most RUNS of them, spread over all that the command makes. Such a run must end with 70, with a counted fault
 # of a device where an allocation of a call without an answer for want of memory was refused, or as it would have ended; where its very
 # words found none it may tell them as no command. Then the same command, over the home that the run left, must end well, or as where its
@@ -165,6 +165,9 @@ rm home/provider-0/1-*
 goes_on scrub
 goes_on upgrade
 source=text && goes_on put a 2
+source=/dev/null
+goes_on pack
+goes_on pack
 
 # Runs a command over the large home; the file `peak` has how much memory it had at most, in kB.
 measure() {

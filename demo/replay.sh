@@ -169,6 +169,76 @@ new_home
 row 0 "$told" schedule home replay
 row 19 'hail: bad schedule line 1' <(echo 'begin scrub 2') - replay
 
+# A pack runs alone, in five steps; a stop in one leaves the same files, whatever the switch byte is.
+{
+    echo "init 4 1 1 0 2 2 0 $digits"
+    cat <<'SCHEDULE'
+reopen
+begin pack
+begin upgrade
+begin pack
+run 1
+begin put a 07
+run 2
+begin put a 0708
+run 3
+begin pack
+begin get a
+step 4
+step 4
+step 4
+stop 00
+reopen
+list
+begin pack
+step 5
+step 5
+step 5
+stop ff
+reopen
+list
+begin pack
+run 6
+begin get a
+run 7
+SCHEDULE
+} >schedule
+told='ready
+opened
+refused OldVersion
+job 1
+refused Busy
+upgraded
+job 2
+put
+job 3
+put
+job 4
+refused Busy
+more
+more
+more
+stopped
+opened
+names 1
+a 2
+job 5
+more
+more
+more
+stopped
+opened
+names 1
+a 2
+job 6
+packed 108 81
+job 7
+got 0708'
+row 0 "$told" schedule - replay
+new_home
+row 0 "${told/packed 108/packed 89}" schedule home replay
+row 19 'hail: bad schedule line 1' <(echo 'begin pack 2') - replay
+
 # Two puts beside one another, an audit that is given up, a get and a drop: the same lines over memory and over folders.
 cat >schedule <<SCHEDULE
 # a store of four providers

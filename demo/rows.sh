@@ -171,8 +171,10 @@ done
 journal_is 'HAILJRN1\001\001\006'
 row 8 'hail: bad journal at 9' empty list
 row 8 'hail: bad journal at 9' key init 4 1 1 0 1 1 0
-journal_is 'HAILJRN2\000\000\000\000'
+journal_is 'HAILJRM1\000\000\000\000'
 row 8 'hail: bad journal at 0' empty list
+journal_is 'HAILJRN2\000\000\000\000'
+row 8 'hail: bad journal at 8388608' empty list
 journal_is 'HAILJRN1\001\005\001\000\000\000\000\000\000\000\000'
 row 8 'hail: bad journal at 9' empty list
 rm -rf home
@@ -293,7 +295,36 @@ set_up 4 1 1 0 1 1 0
 row 0 upgraded empty upgrade
 fill_journal 5
 row 11 'hail: journal full' empty put a
+# A text of the first half that reaches into the second can't be packed.
+set_up 4 1 1 0 1 1 0
+row 0 upgraded empty upgrade
+fill_journal 4
+row 26 'hail: journal too long to pack' empty pack
 rm starts
+
+# A pack needs the second version, and writes the table into the other half of the journal; numbers go on.
+set_up 6 3 1 1 4 8 0
+row 0 'stored notes.txt 100' notes put notes.txt
+row 23 'hail: old journal version' empty pack
+row 2 'hail: usage' empty pack notes.txt
+set_up 6 3 1 1 4 8 0
+row 0 upgraded empty upgrade
+row 0 'stored notes.txt 100' notes put notes.txt
+row 0 'stored notes.txt 100' notes put notes.txt
+row 0 'packed 124 89' empty pack
+[ "$(stat -c %s home/journal)" -eq 8388697 ] || wrong 'a packed journal has another length'
+[ "$(tail -c +8 home/journal | head -c 1)" = 2 ] || wrong 'a pack names another area'
+row 0 'notes.txt 100' empty list
+row 0 "$(cat notes)" empty get notes.txt
+cp home/journal packed
+row 0 'packed 89 97' empty pack
+[ "$(tail -c +8 home/journal | head -c 1)" = 1 ] || wrong 'a second pack names another area'
+row 0 "$(cat notes)" empty get notes.txt
+cp packed home/journal
+row 0 'stored b 100' notes put b
+[ -e home/provider-0/3-0 ] || wrong 'behind a pack numbers do not go on'
+printf '\377' | dd of=home/journal bs=1 seek=7 conv=notrunc 2>dd
+row 0 'notes.txt 100' empty list
 
 # With 1,024 names in effect a further one is refused, and one of them is not.
 set_up 4 1 1 0 1 1 0
@@ -303,6 +334,10 @@ done
 row 21 'hail: too many files' empty put 1025
 row 0 'stored 7 3' three put 7
 [ "$("$hail" home list </dev/null | wc -l)" -eq 1024 ] || wrong 'not all names are listed'
+"$hail" home list >before </dev/null
+row 0 upgraded empty upgrade
+"$hail" home pack >out </dev/null || wrong 'a pack of 1,024 files'
+"$hail" home list </dev/null | cmp -s - before || wrong 'a pack of 1,024 files lists others'
 
 # The longest file, and one byte more.
 set_up 6 3 1 4 4 8 0

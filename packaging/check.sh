@@ -34,7 +34,7 @@ for file in doc/hail/copyright doc/hail/changelog.gz doc/hail/README.md doc/hail
 done
 for folder in system user; do
     for unit in hail-watch@.service hail-watch@.timer hail-verify@.service hail-verify@.timer \
-        hail-scrub@.service hail-scrub@.timer; do
+        hail-scrub@.service hail-scrub@.timer hail-pack@.service hail-pack@.timer; do
         [ -s "$fresh/usr/lib/systemd/$folder/$unit" ] || wrong "there is no $folder unit $unit"
     done
 done

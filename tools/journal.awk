@@ -1,8 +1,11 @@
-# Reads a journal as decimal byte values, however many a line, and tells its records as they come. It keeps one line of bytes, the files
-# in effect, and of the last 100,000 puts those that are not done.
+# Reads a journal as decimal byte values, however many a line, and tells its records as they come: those of the area that the eighth byte
+# names. It keeps one line of bytes, the files in effect, and of the last 100,000 puts those that are not done.
 #
 #   setup N L B PROFILE ROUNDS PICKS TOLERANCE
 #   start ID NAME, done ID LENGTH PROFILE, drop NAME, audit-start NUMBER, audit-done NUMBER UNDECIDED COUNT .., repair-done NUMBER, upgrade
+#   resume ID NUMBER, held ID LENGTH PROFILE NAME, due NUMBER COUNT ..
+#                                  what a pack writes: the number of the next put and of the next audit, each file in effect, and the audit
+#                                  whose repair is due
 #   past ID LENGTH PROFILE NAME    behind the record that took a file out of effect: its number, length, profile and name
 #   cut ID NAME                    behind a start stands another record than its end: a command never writes the end later. It is not told
 #                                  where that record is one of an audit or a repair with the same number, which may be the end, altered
@@ -15,7 +18,8 @@
 #   cut ID NAME                    the last record is a start
 #   version NUMBER                 2 behind an upgrade, else 1
 #   next ID NUMBER                 the number of the next put and of the next audit
-#   end BYTES                      the length of the text: magic, records and the closed gate
+#   text BYTES                     the length of the text, with its closed gate: in the first area from the start of the journal, in the
+#                                  second from where that begins
 #   beyond ID                      behind the end stands the end of this put, as a stop leaves it, or a gate that was altered
 #   odd                            some end does not stand right behind its start, or behind the text stands what is no record: which puts
 #                                  were cut off is not sure
@@ -36,6 +40,17 @@ function byte() {
     if (!more()) bad("it ends early")
     at++
     return $(++place)
+}
+
+# Goes on at the second area, line by line.
+function go_to_second(    step) {
+    while (at < 8388608) {
+        if (!more()) bad("the second area is not there")
+        step = NF - place
+        if (at + step > 8388608) step = 8388608 - at
+        place += step
+        at += step
+    }
 }
 
 function number(size,    i, sum, weight) {
@@ -121,6 +136,31 @@ function done(before, kind,    id, size, profile, text) {
     profile_of[text] = profile
 }
 
+# A file in effect, as a pack writes it.
+function held(    id, size, profile, text) {
+    id = number(8)
+    size = number(4)
+    profile = own_profile()
+    text = name()
+    tell("held " id " " size " " profile " " text)
+    of_name[text] = id
+    length_of[text] = size
+    profile_of[text] = profile
+}
+
+function resumed() {
+    next_id = number(8)
+    next_audit = number(8)
+    tell("resume " next_id " " next_audit)
+}
+
+function due(    i, n, line) {
+    line = "due " number(8)
+    n = byte()
+    for (i = 0; i < n; i++) line = line " " number(4)
+    tell(line)
+}
+
 function dropped(    text) {
     text = name()
     tell("drop " text)
@@ -176,6 +216,9 @@ function one_record(    kind, before) {
     else if (kind == 2) started()
     else if (kind == 4) dropped()
     else if (kind == 9) upgraded()
+    else if (kind == 10) resumed()
+    else if (kind == 11) held()
+    else if (kind == 12) due()
     else { at--; bad("a kind of record is unknown") }
 }
 
@@ -185,14 +228,15 @@ function tell_end(    text) {
     if (last) print "cut " last " " begun[last]
     print "version " version
     print "next " next_id " " next_audit
-    print "end " at
+    print "text " at - base
 }
 
 BEGIN {
     for (at = 0; at < 256; at++) letters[at] = sprintf("%c", at)
-    split("72 65 73 76 74 82 78 49", magic, " ")
+    split("72 65 73 76 74 82 78", magic, " ")
     next_id = next_audit = version = 1
-    for (at = 0; at < 8;) if (byte() != magic[at]) { at = 0; bad("it does not begin as one") }
+    for (at = 0; at < 7;) if (byte() != magic[at]) { at = 0; bad("it does not begin as one") }
+    if (byte() == 50) { go_to_second(); base = at }
     gate = byte()
     if (!more()) bad("no store is set up")
     for (; gate == 1; gate = byte()) one_record()

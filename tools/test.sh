@@ -358,7 +358,6 @@ reading() {
     [ "$(cat out)" = 'done 1 100 1
 done 2 1024 2
 done 3 100 4
-end 134
 file 2 1024 2 b
 file 3 100 4 a
 next 4 1
@@ -367,6 +366,7 @@ setup 4 1 1 1 1 1 0
 start 1 a
 start 2 b
 start 3 a
+text 134
 upgrade
 version 2' ] || wrong "a journal of the second version is read as $(cat out)"
     journal_is "$upgrade$start$done"'\5\0'
@@ -375,7 +375,7 @@ version 2' ] || wrong "a journal of the second version is read as $(cat out)"
     journal_is '\1\11\1\0'
     says 4 '' hail-gc home
     told 'no journal: a version is unknown'
-    journal_is '\1\12\0'
+    journal_is '\1\15\0'
     says 2 '' hail-watch home
     told 'no journal: a kind of record is unknown at byte 51'
     journal_is "$start$done"'\1\0'
@@ -433,7 +433,7 @@ wide: profile 4
 tiny: lost from stripe 7 on; blocks are missing at provider 1 3' hail-verify -v home
 }
 
-# A copy is restored only where it is whole, shorter than no sound journal, and not further behind than was said; no number comes again.
+# A copy is restored only where it is whole, older than no sound journal, and not further behind than was said; no number comes again.
 restoring() {
     new_home 6 3 1 1 4 8 0
     cp home/journal copy
@@ -444,7 +444,7 @@ restoring() {
     echo five | "$HAIL" home put fifth >out
     "$HAIL" home drop fifth >out
     says 3 '' hail-restore home copy
-    told 'the journal in its place is sound and longer than the copy'
+    told 'the journal in its place is sound and newer than the copy'
     mv home/journal newest
     says 5 '' hail-restore home copy 0
     told 'at least 1 commands behind'
@@ -470,6 +470,61 @@ number 14: a file that was put since the copy, whose name is lost; hail-salvage 
 number 4: a file that was put since the copy, whose name is lost; hail-salvage may join its bytes
 other: too few blocks: it was dropped or replaced since the copy, or providers are away' hail-restore home copy 11
     [ -e home/journal.before ] && [ ! -e home/journal.new ] || wrong "hail-restore leaves $(ls home)"
+}
+
+# A packed journal is read in its half: its files, its next numbers, its due audit. A copy of before is older, though longer.
+packing() {
+    new_home 6 3 1 1 4 8 0
+    "$HAIL" home upgrade >out
+    cp home/journal copy && sha256sum copy >copy.sum
+    seq 1 500 | "$HAIL" home put notes 4 >out
+    "$HAIL" home drop third >out
+    rm home/provider-2/2-*
+    "$HAIL" home audit >out
+    cp home/journal whole
+    [ "$("$HAIL" home pack)" = 'packed 232 141' ] || wrong "a pack says $("$HAIL" home pack 2>&1)"
+    [ "$(stat -c %s home/journal)" -eq 8388749 ] || wrong "a packed journal has $(stat -c %s home/journal) bytes"
+    od -An -v -tu1 -w32 home/journal | LC_ALL=C awk -f "$(dirname "$(readlink -f "$tools/hail-gc")")/journal.awk" | LC_ALL=C sort >out
+    [ "$(cat out)" = 'due 1 0 0 4 0 0 0
+file 2 692 1 other
+file 4 1892 4 notes
+held 2 692 1 other
+held 4 1892 4 notes
+next 5 2
+resume 5 2
+setup 6 3 1 1 4 8 0
+text 141
+upgrade
+version 2' ] || wrong "a packed journal is read as $(cat out)"
+    says 3 '' hail-restore home copy
+    told 'the journal in its place is sound and newer than the copy'
+    says 1 'hail-watch: a repair is due' hail-watch home
+    [ "$("$HAIL" home repair)" = 'repaired 1' ] || wrong 'a pack loses the due audit'
+    says 0 '' hail-watch home
+    says 0 '' hail-verify home
+    says 0 '' hail-gc home
+    cp whole home/journal
+    [ "$("$HAIL" home pack)" = 'packed 232 141' ] || wrong 'a second pack packs otherwise'
+    cp home/journal copy && sha256sum copy >copy.sum
+    rm home/journal
+    says 0 'a repair is due, so the next audits may ask what those since the copy asked
+restored: the next put has number 8' hail-restore home copy 3
+    [ "$("$HAIL" home list | tr '\n' ' ')" = 'notes 1892 other 692 ' ] || wrong 'a restored packed journal lists others'
+}
+
+# A journal over 1 MiB should be packed.
+swelling() {
+    new_home 6 3 1 1 4 8 0
+    {
+        head -c -1 home/journal
+        LC_ALL=C awk 'BEGIN { for (k = 4; k < 45004; k++) printf "%c%c%c%c%c%c%c%c%c%c%c%s", 1, 2, k % 256, int(k / 256), 0, 0, 0, 0, 0, 0, 13, "hail-restored"; printf "%c", 0 }'
+    } >long
+    cp long home/journal
+    says 1 "the journal has $(stat -c %s long) bytes: upgrade, and then pack it" hail-watch home
+    [ "$("$HAIL" home upgrade)" = upgraded ] || wrong 'a long journal is not upgraded'
+    says 1 "the journal has $(($(stat -c %s long) + 52)) bytes: pack it" hail-watch home
+    "$HAIL" home pack >out || wrong 'a long journal is not packed'
+    says 0 '' hail-watch home
 }
 
 # Without a journal the files' own bytes are joined, and what is missing is told.
@@ -507,7 +562,7 @@ long_journal() {
     printf '\0' >>long
     { printf '\0'; tail -c 1000000 long; } >>long
     (set -o pipefail && ulimit -v 50000 && od -An -v -tu1 -w32 long | LC_ALL=C awk -f "$(dirname "$(readlink -f "$tools/hail-gc")")/journal.awk" | tail -n 2) >out 2>err
-    [ "$? $(cat out)" = '0 end 16777227
+    [ "$? $(cat out)" = '0 text 16777227
 odd' ] || wrong "of a long journal is told $(tail -n 1 out) $(tail -n 1 err)"
 }
 
@@ -674,7 +729,7 @@ run() {
 }
 
 all='setting_up words watching verifying_one stuck_repair verifying_two verifying_three no_key_is_left collecting flipping reading
-    own_profiles restoring salvaging long_journal remote_words remotes hostile_remotes false_remotes'
+    own_profiles restoring packing swelling salvaging long_journal remote_words remotes hostile_remotes false_remotes'
 running=()
 for test in ${*:-$all}; do
     run "$test" &
