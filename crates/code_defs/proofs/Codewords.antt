@@ -1,5 +1,5 @@
 -- Codewords, and the blocks that open to themselves.
-use Rattle.std.proofs.Common.{◌≡◌, ◌≤◌, ℕ, sym, ◌∙◌, refl, arith, List, [], ◌∷◌, length, map, Some}
+use Rattle.std.proofs.Common.{◌≡◌, ◌≤◌, ◌+◌, ℕ, suc, Bool, true, false, cond, nat_eq, sym, ◌∙◌, refl, arith, List, [], ◌∷◌, length, map, Some}
 use Rattle.std.proofs.lemmas.List.FromFn.{length-range_with_len, length-map-range_with_len}
 use Rattle.hail_field.specs.Nim.{nim}
 use Rattle.hail_field.proofs.AllNumbers.{nim_laws}
@@ -15,6 +15,22 @@ pub agree-values : (p points : List ℕ) → agree p points (map Some (values_at
 unfolding agree_over is_seen_over
 agree-values p [] = refl
 agree-values p (x ∷ points) = let h = agree-values p points in rw (nim_laws.eq_refl (value p x)) (omega arith)
+
+-- a polynomial agrees with a block where the block does not differ from its values
+pub agree-differences : (p xs ys : List ℕ) → length xs ≡ length ys →
+    agree p xs (map Some ys) + differences ys (values_at xs p) ≡ length xs
+unfolding agree_over is_seen_over
+agree-differences p [] [] even = refl
+agree-differences p [] (y ∷ ys) even = absurd (omega arith)
+agree-differences p (x ∷ xs) [] even = absurd (omega arith)
+agree-differences p (x ∷ xs) (y ∷ ys) even =
+    go (nat_eq y (value p x)) (agree-differences p xs ys (omega arith))
+  where
+    go : (b : Bool) → agree p xs (map Some ys) + differences ys (values_at xs p) ≡ length xs →
+        cond b 1 0 + agree p xs (map Some ys) + cond b (differences ys (values_at xs p))
+        (suc (differences ys (values_at xs p))) ≡ suc (length xs)
+    go true h = omega (arith, h)
+    go false h = omega (arith, h)
 
 -- a block differs from itself nowhere
 pub differences-same : (xs : List ℕ) → differences xs xs ≡ 0

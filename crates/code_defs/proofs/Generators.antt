@@ -33,11 +33,6 @@ value-kept n ys k long h =
     Takes-at (interpolate (upto n) ys) (upto n) ys k (omega (arith, length-range_with_len 0 n))
     (interpolate_takes nim nim_laws (upto n) ys one_not_zero even (Apart-range 0 n))
 
--- a codeword has a symbol at each place
-pub length-codeword : (profile : Profile) (kept : List ℕ) → length (codeword profile kept) ≡ profile.size
-length-codeword profile kept =
-    length-map-range_with_len (value (interpolate (upto profile.keep) kept)) 0 profile.size
-
 -- the symbol at a place of a codeword
 pub get_or-codeword : (profile : Profile) (kept : List ℕ) (k : ℕ) → k < profile.size →
     get_or (codeword profile kept) k 0 ≡ value (interpolate (upto profile.keep) kept) k

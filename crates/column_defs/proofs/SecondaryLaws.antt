@@ -1,11 +1,12 @@
 -- A secondary column without its masks is the server codeword of a combination of the primary providers'
 -- polynomials.
-use Rattle.std.specs.Prelude.{◌≡◌, ◌≢◌, ℕ, zero, suc, ◌+◌, ◌*◌, ◌%◌, ◌<◌, ◌≤◌, Bool, true, false, List, [], ◌∷◌, length, map, take, drop, slice_index, if◌then◌else◌}
+use Rattle.std.specs.Prelude.{◌≡◌, ◌≢◌, ℕ, zero, suc, ◌+◌, ◌*◌, ◌%◌, ◌<◌, ◌≤◌, Bool, true, false, List, [], ◌∷◌, length, map, drop, slice_index, if◌then◌else◌}
 use Rattle.std.proofs.Common.{arith, ap, sym, refl, ◌∙◌}
 use Rattle.std.specs.List.{range_with_len}
 use Rattle.std.proofs.lemmas.List.FromFn.{length-range_with_len, length-map-range_with_len, get_or-map-range_with_len}
 use Rattle.std.proofs.Math.ListN.{length-drop}
 use Rattle.std.proofs.Math.Nat.{mul-le-mul_right}
+use Rattle.std.proofs.lemmas.List.{length-take-le}
 use Rattle.algebra_laws.specs.Lists.{Each}
 use Rattle.algebra_laws.proofs.Lists.{map-range_same}
 use Rattle.algebra_laws.proofs.Each.{each_range}
@@ -137,14 +138,8 @@ module _ (o : Object) (symbols : List ℕ) where
       let more : suc j * o.profile.keep ≤ o.shape.l * o.profile.keep =
       mul-le-mul_right o.profile.keep below in
       let split : suc j * o.profile.keep ≡ j * o.profile.keep + o.profile.keep = grind arith in
-      length-take-some o.profile.keep (drop (j * o.profile.keep) symbols)
+      length-take-le o.profile.keep (drop (j * o.profile.keep) symbols)
       (omega (arith, long, more, split, length-drop (j * o.profile.keep) symbols))
-    where
-      length-take-some : (n : ℕ) (xs : List ℕ) → n ≤ length xs → length (take n xs) ≡ n
-      length-take-some zero xs h = refl
-      length-take-some (suc n) [] h = absurd (omega (arith, h))
-      length-take-some (suc n) (x ∷ xs) h =
-          let e = length-take-some n xs (omega (arith, h)) in omega (arith, e)
 
   kept-short : (a n : ℕ) → length symbols ≡ stripe_symbols o → a + n ≤ o.shape.l →
       Each (λ p. length p ≤ o.profile.keep) (map kept_polynomial (range_with_len a n))

@@ -1,12 +1,12 @@
 -- A block that is not wrong opens to its provider's column without masks.
-use Rattle.std.specs.Prelude.{◌≡◌, ℕ, suc, ◌+◌, ◌*◌, ◌<◌, ◌≤◌, ◌||◌, ◌==◌, Bool, true, false, not, List, [], ◌∷◌, length, map, nat_lt, nat_eq, slice_get, None, Some, cond, if◌then◌else◌}
+use Rattle.std.specs.Prelude.{◌≡◌, ℕ, suc, ◌+◌, ◌*◌, ◌<◌, ◌≤◌, ◌||◌, ◌==◌, Bool, true, false, not, List, [], ◌∷◌, length, nat_lt, slice_get, None, Some, if◌then◌else◌}
 use Rattle.std.proofs.Common.{arith, ap, sym, refl, ◌∙◌}
 use Rattle.std.proofs.lemmas.List.FromFn.{length-range_with_len, length-map-range_with_len}
-use Rattle.algebra_laws.specs.Poly.{agree as agree_over, is_seen as is_seen_over}
-use Rattle.code_defs.specs.Polynomials.{value, agree}
-use Rattle.code_defs.specs.Points.{upto, values_at}
+use Rattle.code_defs.specs.Polynomials.{value}
+use Rattle.code_defs.specs.Points.{upto}
 use Rattle.code_defs.specs.Profiles.{profile_of}
 use Rattle.code_defs.specs.ServerCode.{differences, IsCodeword}
+use Rattle.code_defs.proofs.Codewords.{agree-differences}
 use Rattle.code_defs.proofs.Values.{equal-added}
 use Rattle.column_defs.specs.Keys.{mask, secret_point}
 use Rattle.column_defs.specs.Objects.{Object, stripe_symbols, symbol_of, symbols_in, row_number, is_primary, point}
@@ -16,22 +16,6 @@ use Rattle.column_defs.proofs.ColumnLaws.{slice_get-upto, primary-symbol}
 use Rattle.column_defs.proofs.SecondaryLaws.{column_polynomial, value-column_polynomial, point-outside, bare-secondary, IsCodeword-bare_column}
 use Rattle.column_defs.proofs.MaskLengths.{length-bare}
 use Rattle.column_laws.proofs.UniqueLaws.{opens-unique}
-
--- a polynomial agrees with a block where the block does not differ from its values
-pub agree-differences : (p xs ys : List ℕ) → length ys ≡ length xs →
-    agree p xs (map Some ys) + differences ys (values_at xs p) ≡ length xs
-unfolding agree_over is_seen_over
-agree-differences p [] [] even = omega arith
-agree-differences p [] (y ∷ ys) even = absurd (omega (arith, even))
-agree-differences p (x ∷ xs) [] even = absurd (omega (arith, even))
-agree-differences p (x ∷ xs) (y ∷ ys) even =
-    go (nat_eq y (value p x)) (agree-differences p xs ys (omega (arith, even)))
-  where
-    go : (b : Bool) → agree p xs (map Some ys) + differences ys (values_at xs p) ≡ length xs →
-        cond b 1 0 + agree p xs (map Some ys) + cond b (differences ys (values_at xs p))
-        (suc (differences ys (values_at xs p))) ≡ suc (length xs)
-    go true h = omega (arith, h)
-    go false h = omega (arith, h)
 
 -- masks change no place at which two blocks differ
 differences-masked : (o : Object) (j row : ℕ) (xs ys : List ℕ) →
@@ -90,7 +74,7 @@ opens-right o bytes j stripe (Some block) below right =
             few-differences (length block) o.profile.size o.profile.fix (differences block own) right,
             differences-bare o j stripe block own,
             ap (differences seen) word.values,
-            agree-differences word.polynomial (upto o.profile.size) seen (whole ∙ sym range),
+            agree-differences word.polynomial (upto o.profile.size) seen (range ∙ sym whole),
           );
         };
       };

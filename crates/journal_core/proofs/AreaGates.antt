@@ -1,10 +1,10 @@
 -- One step of reading the text of an area.
 use Rattle.std.proofs.Common.{◌≡◌, ◌≢◌, inl, inr, ℕ, ◌+◌, ◌<◌, ◌≤◌, List, [], ◌∷◌, ◌++◌, length, ◌&&◌, refl, get_or, take, drop, sym, ap, ◌∙◌, arith, append_assoc, take-append-drop, length-take, length-append}
 use Rattle.std.proofs.lemmas.Bool.Decides.{nat_tests}
-use Rattle.std.proofs.lemmas.List.{append-nil, drop-drop, drop_at, drop_all, drop_more, take_more, take-take}
+use Rattle.std.proofs.lemmas.List.{append-nil, drop-drop, drop_at, drop_all, drop_more, take_more}
 use Rattle.record_defs.specs.Records.{Record as Entry}
 use Rattle.record_defs.specs.Spellings.{spelling, Spells, SpellsNone}
-use Rattle.record_defs.specs.Areas.{Area, A, B, base_of, magic_front, area_of, entries, IsSwitched, HasNoFront, HoldsIn}
+use Rattle.record_defs.specs.Areas.{Area, A, B, base_of, magic_front, area_of, entries, IsSwitched, HoldsIn}
 use Rattle.journal_core.specs.Gates.{IsReadIn, StopsIn}
 
 module _ (bytes : List ℕ) (area : Area) (rs : List Entry) (gate : ℕ) (is : IsReadIn bytes area rs gate) where
@@ -103,10 +103,3 @@ first-named switch is = grind (arith, nat_tests)
 pub none-read : (bytes : List ℕ) (area : Area) → IsReadIn bytes area [] (base_of area)
 none-read bytes area =
     record { in_grammar = refl; behind = drop (base_of area) bytes; bytes_are = refl; gate_is = omega arith }
-
--- bytes that begin otherwise have no front
-pub no-front : (bytes : List ℕ) → ((8 ≤ length bytes) × (take 7 bytes ≡ magic_front) → ⊥) → HasNoFront bytes
-no-front bytes other switch is =
-    let all : length (take 8 bytes) ≡ 8 = ap length is in
-    let long : 8 ≤ length bytes = omega (arith, all, length-take 8 bytes) in
-    other (long, sym (take-take 7 8 bytes (omega arith)) ∙ ap (λ (l : List ℕ). take 7 l) is)

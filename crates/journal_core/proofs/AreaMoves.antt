@@ -20,7 +20,8 @@ use Rattle.journal_core.proofs.MoveLemmas.{IfSome-mapped, IfSome-goes, IfSome-sa
 use Rattle.journal_core.proofs.ImageLemmas.{ended-text, old-text, given-text, either-after, either-given}
 use Rattle.journal_core.proofs.AreaStands.{firm-image}
 use Rattle.journal_core.proofs.Splices.{splice-written, splice-torn, drop-settled}
-use Rattle.journal_core.proofs.Texts.{behind-switch, named-below, named-settled, named-image}
+use Rattle.record_defs.proofs.Standing.{base-least}
+use Rattle.journal_core.proofs.Texts.{named-below, named-settled, named-image}
 
 -- ---- writes from where an area begins
 
@@ -101,7 +102,7 @@ module _ (area : Area) (rs : List Record) where
     within n cells h = omega (arith, longer n front body (drop base cells) h.text, length-drop base cells)
 
     behind-front : (k : ℕ) → 8 ≤ base + k
-    behind-front k = (let l = behind-switch area in omega (arith, l))
+    behind-front k = (let l = base-least area in omega (arith, l))
 
     body-at : gate + 1 ≡ base + (length front + 1)
     body-at = omega (arith, gate_is)

@@ -1,6 +1,6 @@
 -- The moves of an append, one after the other.
 use Rattle.std.proofs.Common.{◌≡◌, ◌≢◌, inl, inr, ℕ, zero, suc, ◌+◌, ◌<◌, Bool, true, false, List, [], ◌∷◌, ◌++◌, length, drop, Option, Some, None, Result, Ok, Err, refl, sym, ap, ◌∙◌, subst, arith, append_assoc, length-append}
-use Rattle.std.specs.Prelude.{IfSome, OnErr, IsErr}
+use Rattle.std.specs.Prelude.{IfSome, OnErr}
 use Rattle.std.specs.Option.{option_map}
 use Rattle.std.proofs.lemmas.List.{length-map}
 use Rattle.stream_model.specs.declared.fault.WriteFault.{WriteFault}
@@ -146,8 +146,3 @@ module _ (front body : List ℕ) where
 pub on_err : {T E : Type 0} (r : Result T E) (P : Type 0) → P → OnErr r P
 on_err (Ok x) P p = tt
 on_err (Err e) P p = p
-
--- what holds on an Err holds of an answer that is one
-pub from_on_err : {T E : Type 0} (r : Result T E) (P : Type 0) → IsErr r → OnErr r P → P
-from_on_err (Ok x) P is p = let apart : false ≡ true = is in cc
-from_on_err (Err e) P is p = p

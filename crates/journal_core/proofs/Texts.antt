@@ -15,11 +15,6 @@ use Rattle.journal_core.proofs.Splices.{IsSplice, kept-below, kept-above, drop-w
 
 -- ---- a text under a write
 
--- no area begins in front of the switch byte
-pub behind-switch : (area : Area) → 8 ≤ base_of area
-behind-switch A = omega arith
-behind-switch B = omega arith
-
 -- a text with its closed gate, and what lies behind it
 regroup : (area : Area) (rs : List Record) (cells : Cells) (t : HasText cells area rs) →
     drop (base_of area) cells ≡ (firm (entries rs) ++ (t.gate, false) ∷ []) ++ t.rest

@@ -17,7 +17,8 @@ use Rattle.journal_core.proofs.MoveLemmas.{IfSome-mapped, IfSome-goes, IfSome-sa
 use Rattle.journal_core.specs.Texts.{StandsFirm, IsApart}
 use Rattle.journal_pack.specs.Moves.{switch_to, IsAfterPack, IsBetween, IsPackGivenUp}
 use Rattle.journal_core.proofs.Splices.{IsSplice, splice-written, splice-torn}
-use Rattle.journal_core.proofs.Texts.{behind-switch, text-above, text-apart, named-below, text-written, switch-written, switch-torn, text-settled, loose-settled, named-settled, switching-settled}
+use Rattle.record_defs.proofs.Standing.{base-least}
+use Rattle.journal_core.proofs.Texts.{text-above, text-apart, named-below, text-written, switch-written, switch-torn, text-settled, loose-settled, named-settled, switching-settled}
 
 -- the switch byte that is written names the area that is written to
 pub switch-is : (area : Area) → switch_to (base_of area) ≡ switch_of area
@@ -39,7 +40,7 @@ module _ (area : Area) (rs qs : List Record) (good : IsTrue (list_all is_in_gram
   firm-apart : (old new : Cells) → IsSplice to (length text) old new → StandsFirm area rs old →
       StandsFirm area rs new
   firm-apart old new s f = record {
-    named = named-below area to (length text) old new s (behind-switch (other_area area)) f.named;
+    named = named-below area to (length text) old new s (base-least (other_area area)) f.named;
     text = text-apart area rs (length text) old new s apart short f.text;
   }
 
@@ -67,9 +68,9 @@ module _ (area : Area) (rs qs : List Record) (good : IsTrue (list_all is_in_gram
   third cells held =
       let s = splice-written 7 (switch ∷ []) cells in (
         switch-written area switch cells held.0.named,
-        text-above area rs 7 1 cells (written 7 (switch ∷ []) cells) s (behind-switch area) held.0.text,
+        text-above area rs 7 1 cells (written 7 (switch ∷ []) cells) s (base-least area) held.0.text,
         text-above (other_area area) qs 7 1 cells (written 7 (switch ∷ []) cells) s
-            (behind-switch (other_area area)) held.1,
+            (base-least (other_area area)) held.1,
       )
 
   third-torn : (old new : Cells) → IsAfterPack 2 area rs qs old → Torn 7 1 old new →
@@ -78,8 +79,8 @@ module _ (area : Area) (rs qs : List Record) (good : IsTrue (list_all is_in_gram
       let s = splice-torn 7 1 old new torn in
       record {
         front = inr (switch-torn area old new held.0.named torn);
-        old = text-above area rs 7 1 old new s (behind-switch area) held.0.text;
-        new = text-above (other_area area) qs 7 1 old new s (behind-switch (other_area area)) held.1;
+        old = text-above area rs 7 1 old new s (base-least area) held.0.text;
+        new = text-above (other_area area) qs 7 1 old new s (base-least (other_area area)) held.1;
       }
 
   fourth : (cells : Cells) → IsAfterPack 3 area rs qs cells → IsAfterPack 4 area rs qs (settled cells)

@@ -4,6 +4,7 @@ use Rattle.std.specs.Prelude.{IsTrue, ◌==◌, nat_lt, nat_le, if◌then◌else
 use Rattle.std.specs.List.{list_all}
 use Rattle.std.proofs.lemmas.Bool.{cases_Bool, and_parts, and_from, lt-ltb}
 use Rattle.std.proofs.lemmas.Bool.Decides.{nat_tests}
+use Rattle.record_defs.proofs.Sizes.{is_name-short}
 use Rattle.record_defs.specs.Records.{Setup, Record, SetUp, PutStart, PutDone, Drop, AuditStart, AuditDone, RepairDone, PutDoneIn, Version, Resume, InEffect, RepairDue, is_name, is_in_grammar, largest_file, largest_journal, all_profiles}
 use Rattle.record_defs.specs.Table.{File, Due, file_as, profile_in, setup_of, next_id, next_audit, started_as, with_file, without_file, with_put, files_of, due_of, exceeds}
 use Rattle.record_defs.specs.Acceptance.{AreAccepted}
@@ -233,15 +234,12 @@ files-more (f ∷ fs) qs h g =
     let parts = and_parts (fits f) (list_all fits fs) h in
     files-more fs (as_record f ∷ qs) parts.1 (more (as_record f) qs parts.0 g)
 
-name-short : (name : List ℕ) → is_name name ≡ true → length name ≤ 64
-name-short name h = grind (arith, nat_tests, h)
-
 counts-short : (number : ℕ) (counts : List ℕ) → IsTrue (is_in_grammar (RepairDue number counts)) →
     length counts ≤ 16
 counts-short number counts h = grind (arith, nat_tests, h)
 
 fit-short : (f : File) → fits f ≡ true → length f.name ≤ 64
-fit-short f h = name-short f.name
+fit-short f h = is_name-short f.name
     (and_parts (nat_lt f.id (2 ^ 64) && nat_le f.size largest_file && nat_lt f.profile all_profiles)
     (is_name f.name) h).1
 

@@ -1,6 +1,6 @@
 -- What is received over a link that tells what is behind it.
 use Rattle.std.proofs.Common.{◌≡◌, ℕ, ◌+◌, ◌≤◌, List, [], ◌∷◌, ◌++◌, length, take, Option, Some, None, refl, sym, ap, subst, ◌∙◌, append_assoc, arith, length-append, get_or}
-use Rattle.std.proofs.lemmas.List.{append-nil, take_all}
+use Rattle.std.proofs.lemmas.List.{append-nil}
 use Rattle.device_defs.specs.Told.{Goes}
 use Rattle.wire_defs.specs.Links.{Behind, Receives, provider_behind}
 
@@ -30,10 +30,6 @@ step (Some m) None n part g x e = absurd g
 step (Some m) (Some k) n part g x e =
     (k, refl, subst (λ (y : Behind). Receives n part y k) (let h : m ≡ x = cc in h) g)
 
--- before the first piece nothing of an answer was received
-pub begins : (first : Option Behind) (out : List ℕ) → SoFar first first out 0
-begins first out = λ b e long. (b.due, refl, e)
-
 -- some bytes more came
 pub advance : (first mid now : Option Behind) (out more part : List ℕ) (at n : ℕ) → SoFar first mid out at →
     Goes (Receives n part) mid now → length more ≡ length out →
@@ -46,14 +42,6 @@ advance first mid now out more part at n so g same is = λ b e long.
           ∙ sym (append_assoc (take at out) (take n part) t.0.due) ∙ ap (λ (l : List ℕ). l ++ t.0.due) (sym is),
       t.1 ∙ ap (λ (x : Behind). Some x) (same_behind (record b { due = s.0 }) t.0 t.0.due t.2.provider refl),
     )
-
--- all came
-pub complete : (first now : Option Behind) (out : List ℕ) (at : ℕ) → SoFar first now out at → length out ≤ at
-    → (b : Behind) → first ≡ Some b → length out ≤ length b.due →
-    (rest : List ℕ) × (b.due ≡ out ++ rest) × (now ≡ Some (record b { due = rest }))
-complete first now out at so end b e long =
-    let s = so b e long in
-    (s.0, s.1 ∙ ap (λ (l : List ℕ). l ++ s.0) (take_all at out end), s.2)
 
 -- the first byte came
 pub first_byte : (due out tail rest : List ℕ) (kind : ℕ) → due ≡ kind ∷ tail → due ≡ out ++ rest →

@@ -41,11 +41,6 @@ took_more bytes out k n symbol below wide e before =
     ∙ (λ i. before i ++ (e ∙ ap (λ (m : ℕ). from_le_bytes w128 (take m (drop (16 * k) bytes))) wide) i ∷ [])
     ∙ ap (λ (m : ℕ). symbols_read m bytes) (sym (add-one k))
 
--- no power of 256 is zero
-positive : (k : ℕ) → 0 < 256 ^ k
-positive zero = omega arith
-positive (suc k) = rw pow-suc (omega (arith, positive k))
-
 -- bytes make a number below the next power of 256
 sum-lt : (bs : List ℕ) → IsBytes bs → (k : ℕ) →
     sum_through (λ i. byte_worth i (get_or bs i 0)) k < 256 ^ suc k

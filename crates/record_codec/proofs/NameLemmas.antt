@@ -1,6 +1,5 @@
 use Rattle.std.proofs.Common.{◌≡◌, ℕ, ◌-◌, ◌≤◌, true, List, ◌++◌, length, take, drop, replicate, sym, ap, ◌∙◌, arith, length-append}
 use Rattle.std.proofs.lemmas.List.{take_at, drop_at, drop-replicate, length-replicate}
-use Rattle.std.proofs.lemmas.Bool.Decides.{nat_tests}
 use Rattle.record_defs.specs.Records.{is_name}
 use Rattle.record_codec.specs.NameParts.{IsNameKept}
 
@@ -25,7 +24,3 @@ IsKept-made name all n all_is n_is short good =
       zeros = ap (drop n) whole ∙ drop_at name _ n (sym n_is)
           ∙ ap (λ (k : ℕ). replicate (64 - k) 0) (sym n_is);
     }
-
--- a name has at most 64 bytes
-pub is_name-short : (name : List ℕ) → is_name name ≡ true → length name ≤ 64
-is_name-short name good = grind (arith, nat_tests)

@@ -1,10 +1,10 @@
 -- How long spellings are.
-use Rattle.std.specs.Prelude.{◌≡◌, ℕ, ◌+◌, ◌*◌, IsTrue, List, [], ◌∷◌, length}
+use Rattle.std.specs.Prelude.{◌≡◌, ℕ, ◌+◌, ◌*◌, ◌≤◌, true, IsTrue, List, [], ◌∷◌, length}
 use Rattle.std.specs.Int.{w32, to_le_bytes}
 use Rattle.std.specs.List.{list_all, flat_map}
 use Rattle.std.proofs.Common.{refl, arith, length-append}
 use Rattle.std.proofs.lemmas.Bool.Decides.{nat_tests}
-use Rattle.record_defs.specs.Records.{Record, SetUp, PutStart, PutDone, Drop, AuditStart, AuditDone, RepairDone, PutDoneIn, Version, Resume, InEffect, RepairDue, is_in_grammar, record_size}
+use Rattle.record_defs.specs.Records.{Record, SetUp, PutStart, PutDone, Drop, AuditStart, AuditDone, RepairDone, PutDoneIn, Version, Resume, InEffect, RepairDue, is_name, is_in_grammar, record_size}
 use Rattle.record_defs.specs.Spellings.{spelling}
 use Rattle.record_defs.specs.Journal.{before_gate, text, text_size}
 use Rattle.record_defs.specs.Areas.{entries, entries_size}
@@ -63,7 +63,6 @@ length-entries (r ∷ rs) p =
       length-entries rs others,
     )
 
--- a text in the first area has nine bytes beside its entries
-pub text_size-entries : (rs : List Record) → text_size rs ≡ 9 + entries_size rs
-text_size-entries [] = refl
-text_size-entries (r ∷ rs) = omega (arith, text_size-entries rs)
+-- a name has at most 64 bytes
+pub is_name-short : (name : List ℕ) → is_name name ≡ true → length name ≤ 64
+is_name-short name good = grind (arith, nat_tests)

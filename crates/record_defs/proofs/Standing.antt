@@ -1,19 +1,13 @@
 -- What bytes that stand for records say of their length and of their front.
-use Rattle.std.specs.Prelude.{◌≡◌, ◌≢◌, ℕ, suc, ◌+◌, ◌-◌, ◌≤◌, ◌<◌, IsTrue, List, [], ◌∷◌, length, take, drop}
-use Rattle.std.specs.List.{list_all}
-use Rattle.std.proofs.Common.{refl, sym, ap, ◌∙◌, subst, arith, length-append}
+use Rattle.std.specs.Prelude.{◌≡◌, ◌≢◌, ℕ, suc, ◌+◌, ◌-◌, ◌≤◌, ◌<◌, List, [], ◌∷◌, length, take, drop}
+use Rattle.std.proofs.Common.{refl, sym, ap, ◌∙◌, arith, length-append}
 use Rattle.std.proofs.lemmas.List.{length-take, length-drop, take-take, drop-take}
-use Rattle.record_defs.specs.Records.{Record, is_in_grammar}
+use Rattle.record_defs.specs.Records.{Record}
 use Rattle.record_defs.specs.Spellings.{spelling}
-use Rattle.record_defs.specs.Journal.{text_size, StandsFor, text}
+use Rattle.record_defs.specs.Journal.{StandsFor, text}
 use Rattle.record_defs.specs.Areas.{Area, A, B, base_of, entries, end_in, StandsActive}
 use Rattle.record_defs.proofs.Sizes.{length-entries}
-use Rattle.record_defs.proofs.AreaLaws.{Agree, active_again, text-active}
-
--- a text has nine bytes at least
-pub text_size-least : (rs : List Record) → 9 ≤ text_size rs
-text_size-least [] = omega arith
-text_size-least (r ∷ rs) = (let l = text_size-least rs in omega (arith, l))
+use Rattle.record_defs.proofs.AreaLaws.{Agree, active_again}
 
 -- each area lies behind the switch byte
 pub base-least : (area : Area) → 8 ≤ base_of area
@@ -68,11 +62,6 @@ pub active-take : (n : ℕ) (bytes : List ℕ) (area : Area) (rs : List Record) 
 active-take n bytes area rs s fits =
     active_again area rs bytes (take n bytes)
     (agree-take n bytes area rs (omega (arith, fits, length-entries rs s.holds.in_grammar))) s
-
--- a text in the first area stands for its records
-pub stands-text : (rs : List Record) → IsTrue (list_all is_in_grammar rs) → (image : List ℕ) →
-    image ≡ text rs → StandsFor image rs
-stands-text rs all image is = (A, subst (λ (l : List ℕ). StandsActive l A rs) (sym is) (text-active rs all))
 
 -- bytes that stand for a record are longer than those of an empty disk
 pub stands-long : (bytes : List ℕ) (rs : List Record) → rs ≢ [] → StandsFor bytes rs → 9 < length bytes

@@ -4,8 +4,7 @@
 --                                     area, and that text with its closed gate
 --   text_size rs                   == how many bytes the text has
 --   StandsFor bytes rs             == bytes stand for records, in the area that is active
---   StandsOrIsEmpty bytes rs       == or there is no record, and at most nine bytes, whatever they are
-use Rattle.std.specs.Prelude.{◌≡◌, ◌⊎◌, ℕ, ◌+◌, ◌≤◌, List, [], ◌∷◌, ◌++◌, length}
+use Rattle.std.specs.Prelude.{ℕ, ◌+◌, List, [], ◌∷◌, ◌++◌}
 use Rattle.record_defs.specs.Records.{Record, record_size}
 use Rattle.record_defs.specs.Spellings.{spelling}
 use Rattle.record_defs.specs.Areas.{Area, StandsActive}
@@ -32,8 +31,3 @@ text_size (r ∷ rs) = text_size rs + (1 + record_size r)
 -- bytes stand for records, in the area that is active
 abbrev pub StandsFor : List ℕ → List Record → Type 0
 StandsFor bytes rs = (area : Area) × StandsActive bytes area rs
-
--- Bytes that stand for records: where there is no record, at most nine bytes, whatever they are, stand for
--- none too.
-abbrev pub StandsOrIsEmpty : List ℕ → List Record → Type 0
-StandsOrIsEmpty bytes rs = StandsFor bytes rs ⊎ ((rs ≡ []) × (length bytes ≤ 9))

@@ -1,8 +1,8 @@
 -- The basis of the additive transform: its coefficients under a node give a polynomial that takes the values.
-use Rattle.std.proofs.Common.{◌≡◌, ◌≤◌, ◌<◌, ◌+◌, ◌*◌, ◌-◌, ◌++◌, ◌⊎◌, inl, inr, ℕ, zero, suc, Bool, true, false, ◌&&◌, ◌==◌, sym, ap, ap₂, ◌∙◌, refl, arith, eqb-true, List, [], ◌∷◌, length, take, drop, get_or, bit_xor, length-append}
+use Rattle.std.proofs.Common.{◌≡◌, ◌≤◌, ◌<◌, ◌+◌, ◌*◌, ◌-◌, ◌++◌, ◌⊎◌, inl, inr, ℕ, zero, suc, Bool, true, ◌&&◌, ◌==◌, sym, ap, ap₂, ◌∙◌, refl, arith, eqb-true, List, [], ◌∷◌, length, take, drop, get_or, bit_xor, length-append}
 use Rattle.std.proofs.lemmas.List.{take_at, drop_at, get_or-take, get_or-drop}
 use Rattle.std.proofs.lemmas.Nat.{xor_lt}
-use Rattle.std.proofs.lemmas.Bool.{cases_lt}
+use Rattle.std.proofs.lemmas.Bool.{cases_lt, and_parts}
 use Rattle.algebra_laws.specs.Poly.{value as value_over, plus as plus_over, scale as scale_over}
 use Rattle.algebra_laws.proofs.Solve.{solve, v, o, i as one, ◌⊞◌, ◌⊡◌}
 use Rattle.algebra_laws.proofs.Values.{value-plus, value-times}
@@ -89,11 +89,6 @@ are_twiddles (suc i) h b =
     (holds_below (places i) (λ k. byte_shat i (b + k) == twiddle h)
     && holds_below (places i) (λ k. byte_shat i (b + places i + k) == bit_xor (twiddle h) 1))
     && (are_twiddles i (2 * h) b && are_twiddles i (2 * h + 1) (b + places i))
-
--- both parts of a test
-both : (a b : Bool) → a && b ≡ true → (a ≡ true) × (b ≡ true)
-both true b h = (refl, h)
-both false b h = (h, cc)
 
 -- the polynomial of coefficients
 pub basis_poly : ℕ → List ℕ → List ℕ
@@ -228,29 +223,29 @@ module _ (i h b : ℕ) (test : are_twiddles (suc i) h b ≡ true) (below : b + p
   first : (holds_below (places i) (λ k. byte_shat i (b + k) == twiddle h)
       && holds_below (places i) (λ k. byte_shat i (b + places i + k) == bit_xor (twiddle h) 1)) ≡ true
   unfolding are_twiddles
-  first = (both _ _ test).0
+  first = (and_parts _ _ test).0
 
   second : (are_twiddles i (2 * h) b && are_twiddles i (2 * h + 1) (b + places i)) ≡ true
   unfolding are_twiddles
-  second = (both _ _ test).1
+  second = (and_parts _ _ test).1
 
   pub left_twiddles : are_twiddles i (2 * h) b ≡ true
-  left_twiddles = (both _ _ second).0
+  left_twiddles = (and_parts _ _ second).0
 
   pub right_twiddles : are_twiddles i (2 * h + 1) (b + places i) ≡ true
-  right_twiddles = (both _ _ second).1
+  right_twiddles = (and_parts _ _ second).1
 
   pub left_is : (k : ℕ) → k < places i → shat i (b + k) ≡ twiddle h
   left_is k l =
       shat_is i (b + k) (omega (arith, l, below))
-      ∙ eqb-true _ _ (at_each (places i) (λ k. byte_shat i (b + k) == twiddle h) (both _ _ first).0 k l)
+      ∙ eqb-true _ _ (at_each (places i) (λ k. byte_shat i (b + k) == twiddle h) (and_parts _ _ first).0 k l)
 
   pub right_is : (k : ℕ) → k < places i → shat i (b + places i + k) ≡ nim_add (twiddle h) 1
   unfolding nim_add
   right_is k l =
       shat_is i (b + places i + k) (omega (arith, l, below))
       ∙ eqb-true _ _ (at_each (places i)
-      (λ k. byte_shat i (b + places i + k) == bit_xor (twiddle h) 1) (both _ _ first).1 k l)
+      (λ k. byte_shat i (b + places i + k) == bit_xor (twiddle h) 1) (and_parts _ _ first).1 k l)
 
 -- the polynomial of the coefficients takes the values
 pub takes_values : (i h b : ℕ) (ys : List ℕ) (k : ℕ) → are_twiddles i h b ≡ true → b + places i ≤ 256 →

@@ -1,8 +1,8 @@
 -- The steps of decoding by the symbols behind the kept ones.
-use Rattle.std.proofs.Common.{◌≡◌, ◌≢◌, ◌≤◌, ◌<◌, ◌+◌, ◌-◌, ◌++◌, inr, ℕ, sym, ◌∙◌, ap, subst, refl, arith, List, [], ◌∷◌, length, take, drop, set, add-one, zero-add, add-zero}
+use Rattle.std.proofs.Common.{◌≡◌, ◌≢◌, ◌≤◌, ◌<◌, ◌+◌, ◌-◌, ◌++◌, inr, ℕ, sym, ◌∙◌, ap, subst, refl, arith, List, [], ◌∷◌, length, take, drop, add-one, zero-add, add-zero}
 use Rattle.std.specs.List.{range_with_len}
 use Rattle.std.proofs.Math.Seq.{drop-append_seam}
-use Rattle.std.proofs.lemmas.List.{take_more_set, take_all, length-append, length-drop}
+use Rattle.std.proofs.lemmas.List.{take_all, length-drop}
 use Rattle.std.proofs.lemmas.List.FromFn.{length-range_with_len}
 use Rattle.algebra_laws.proofs.Lists.{take-front}
 use Rattle.algebra_laws.specs.Field.{Apart}
@@ -26,17 +26,6 @@ value-root_times r c (a ∷ p) x =
     solve nim_ring (r ∷ c ∷ a ∷ x ∷ value p x ∷ [])
     (((v 0 ⊡ v 2) ⊞ v 1) ⊞ (v 3 ⊡ (((v 0 ⊞ v 3) ⊡ v 4) ⊞ v 2)))
     (((v 0 ⊞ v 3) ⊡ (v 2 ⊞ (v 3 ⊡ v 4))) ⊞ v 1) refl
-
--- a coefficient more in its place
-pub grown : (items part made : List ℕ) (count r last : ℕ) → count < length items → part ≡ take count items →
-    length made ≡ count →
-    made ++ last ∷ [] ≡ root_times r 0 part → take (count + 1) (set (made ++ drop count items) count last)
-    ≡ root_times r 0 (take count items)
-grown items part made count r last room is_part long is =
-    take_more_set (made ++ drop count items) count last
-    (omega (arith, length-append made (drop count items), length-drop count items)) ∙
-    ap (λ t. t ++ last ∷ []) (take-front made (drop count items) count long) ∙ is
-    ∙ ap (root_times r 0) is_part
 
 -- the product over no points
 pub points_start : (items : List ℕ) (count place x : ℕ) →

@@ -1,14 +1,14 @@
 -- What a code makes of the kept symbols and of blocks.
-use Rattle.std.proofs.Common.{◌≡◌, ◌≤◌, ◌<◌, ◌+◌, ◌-◌, ◌++◌, ◌⊎◌, inl, inr, ℕ, suc, List, [], ◌∷◌, Bool, true, false, cond, nat_eq, Some, refl, length, map, get_or, sym, ap, ◌∙◌, arith, length-append}
+use Rattle.std.proofs.Common.{◌≡◌, ◌≤◌, ◌<◌, ◌+◌, ◌-◌, ◌++◌, ◌⊎◌, inl, inr, ℕ, List, length, get_or, sym, ap, ◌∙◌, arith, length-append}
 use Rattle.std.proofs.lemmas.List.{get_or_append_left, get_or-append_right}
 use Rattle.std.proofs.lemmas.List.FromFn.{fill_by_all, length-map-range_with_len, length-range_with_len}
 use Rattle.std.proofs.lemmas.Bool.{cases_lt}
-use Rattle.algebra_laws.specs.Poly.{agree as agree_over, is_seen as is_seen_over}
-use Rattle.code_defs.specs.Polynomials.{value, agree, interpolate}
+use Rattle.code_defs.specs.Polynomials.{value, interpolate}
 use Rattle.code_defs.specs.Points.{upto, values_at}
 use Rattle.code_defs.specs.Profiles.{Profile}
 use Rattle.code_defs.specs.Sums.{dot}
 use Rattle.code_defs.specs.ServerCode.{codeword, differences, Opens}
+use Rattle.code_defs.proofs.Codewords.{agree-differences}
 use Rattle.code_defs.proofs.Generators.{value-kept, get_or-codeword}
 use Rattle.server_code.specs.Generator.{row_at, sums, IsGenerator}
 use Rattle.server_code.proofs.RowSteps.{get_or-sums}
@@ -35,22 +35,6 @@ extended_is_codeword profile rows kept n generator long sizes =
         sym ((generator.each (k - profile.keep) (omega arith)).gives kept long) ∙
         ap (λ m. get_or (codeword profile kept) m 0) same ∙
         get_or-codeword profile kept k h
-
--- a polynomial agrees with a block where the block does not differ from its values
-pub agree-differences : (p xs ys : List ℕ) → length xs ≡ length ys →
-    agree p xs (map Some ys) + differences ys (values_at xs p) ≡ length xs
-unfolding agree_over is_seen_over
-agree-differences p [] [] even = refl
-agree-differences p [] (y ∷ ys) even = absurd (omega arith)
-agree-differences p (x ∷ xs) [] even = absurd (omega arith)
-agree-differences p (x ∷ xs) (y ∷ ys) even =
-    go (nat_eq y (value p x)) (agree-differences p xs ys (omega arith))
-  where
-    go : (b : Bool) → agree p xs (map Some ys) + differences ys (values_at xs p) ≡ length xs →
-        cond b 1 0 + agree p xs (map Some ys) + cond b (differences ys (values_at xs p))
-        (suc (differences ys (values_at xs p))) ≡ suc (length xs)
-    go true h = omega (arith, h)
-    go false h = omega (arith, h)
 
 -- a block opens to what opens to itself and differs from it at few places
 pub near_opens : (profile : Profile) (block opened : List ℕ) → length block ≡ profile.size →

@@ -1,6 +1,6 @@
 -- Lists of two halves, which a loop makes pair by pair, and sums and multiples of lists.
-use Rattle.std.proofs.Common.{◌≡◌, ◌≤◌, ◌<◌, ◌+◌, ◌-◌, ◌++◌, ◌⊎◌, inl, inr, ℕ, zero, suc, sym, ap, ap₂, ◌∙◌, refl, arith, List, [], ◌∷◌, length, take, drop, set, get_or, length-append}
-use Rattle.std.proofs.lemmas.List.{ext_get_or, get_or-take, get_or-drop, get_or_append_left, get_or-append_right, length-take-le, length-drop, length-set, get_or-set_same, get_or-set_other}
+use Rattle.std.proofs.Common.{◌≡◌, ◌≤◌, ◌<◌, ◌+◌, ◌-◌, ◌++◌, ◌⊎◌, inl, inr, ℕ, zero, suc, sym, ap, ap₂, ◌∙◌, refl, arith, List, [], ◌∷◌, length, take, drop, get_or, length-append}
+use Rattle.std.proofs.lemmas.List.{ext_get_or, get_or-take, get_or-drop, get_or_append_left, get_or-append_right, length-take-le, length-drop}
 use Rattle.std.proofs.lemmas.Bool.{cases_lt}
 use Rattle.algebra_laws.specs.Poly.{plus as plus_over, scale as scale_over}
 use Rattle.algebra_laws.proofs.Ring.{zero_add}
@@ -10,7 +10,6 @@ use Rattle.hail_field.specs.Nim.{nim, nim_add, nim_mul}
 use Rattle.hail_field.proofs.AllNumbers.{nim_laws, nim_ring}
 use Rattle.code_defs.specs.Polynomials.{plus, scale}
 use Rattle.server_code.specs.Transform.{joined, parted}
-use Rattle.server_code.proofs.MakeSteps.{last_or_before}
 
 -- the sum at a place
 pub get_or-plus : (p q : List ℕ) (k : ℕ) → get_or (plus p q) k 0 ≡ nim_add (get_or p k 0) (get_or q k 0)
@@ -62,54 +61,6 @@ pub record AreDone (f g : ℕ → ℕ → ℕ) (n count : ℕ) (old v : List ℕ
   pub high : (j : ℕ) → j < count → get_or v (n + j) 0 ≡ g (get_or old j 0) (get_or old (n + j) 0)
   pub low_left : (j : ℕ) → count ≤ j → j < n → get_or v j 0 ≡ get_or old j 0
   pub high_left : (j : ℕ) → count ≤ j → j < n → get_or v (n + j) 0 ≡ get_or old (n + j) 0
-
--- none is done
-pub none_done : (f g : ℕ → ℕ → ℕ) (n : ℕ) (v : List ℕ) → length v ≡ n + n → AreDone f g n 0 v v
-none_done f g n v long = record {
-  long = long;
-  low = λ j h. absurd (omega (arith, h));
-  high = λ j h. absurd (omega (arith, h));
-  low_left = λ j h l. refl;
-  high_left = λ j h l. refl;
-}
-
--- one pair more
-pub one_more_done : (f g : ℕ → ℕ → ℕ) (n k : ℕ) (old v : List ℕ) (x y : ℕ) → AreDone f g n k old v → k < n →
-    x ≡ f (get_or v k 0) (get_or v (n + k) 0) → y ≡ g (get_or v k 0) (get_or v (n + k) 0) →
-    AreDone f g n (k + 1) old (set (set v (n + k) y) k x)
-one_more_done f g n k old v x y done below is_x is_y = record {
-  long = length-set (set v (n + k) y) k x ∙ length-set v (n + k) y ∙ done.long;
-  low = λ j h. low j (last_or_before j k h);
-  high = λ j h. high j (last_or_before j k h);
-  low_left = λ j h l.
-      get_or-set_other (set v (n + k) y) k j x 0 (omega (arith, h))
-      ∙ get_or-set_other v (n + k) j y 0 (omega (arith, l)) ∙ done.low_left j (omega (arith, h)) l;
-  high_left = λ j h l.
-      get_or-set_other (set v (n + k) y) k (n + j) x 0 (omega (arith, below))
-      ∙ get_or-set_other v (n + k) (n + j) y 0 (omega (arith, h)) ∙ done.high_left j (omega (arith, h)) l;
-}
-  where
-    here : get_or v k 0 ≡ get_or old k 0
-    here = done.low_left k (omega arith) below
-
-    there : get_or v (n + k) 0 ≡ get_or old (n + k) 0
-    there = done.high_left k (omega arith) below
-
-    low : (j : ℕ) → (j ≡ k) ⊎ (j < k) →
-        get_or (set (set v (n + k) y) k x) j 0 ≡ f (get_or old j 0) (get_or old (n + j) 0)
-    low j (inl e) = rw e (get_or-set_same (set v (n + k) y) k x 0
-        (omega (arith, below, done.long, length-set v (n + k) y)) ∙ is_x ∙ ap₂ f here there)
-    low j (inr l) =
-        get_or-set_other (set v (n + k) y) k j x 0 (omega (arith, l))
-        ∙ get_or-set_other v (n + k) j y 0 (omega (arith, l, below)) ∙ done.low j l
-
-    high : (j : ℕ) → (j ≡ k) ⊎ (j < k) →
-        get_or (set (set v (n + k) y) k x) (n + j) 0 ≡ g (get_or old j 0) (get_or old (n + j) 0)
-    high j (inl e) = rw e (get_or-set_other (set v (n + k) y) k (n + k) x 0 (omega (arith, below))
-        ∙ get_or-set_same v (n + k) y 0 (omega (arith, below, done.long)) ∙ is_y ∙ ap₂ g here there)
-    high j (inr l) =
-        get_or-set_other (set v (n + k) y) k (n + j) x 0 (omega (arith, below))
-        ∙ get_or-set_other v (n + k) (n + j) y 0 (omega (arith, l)) ∙ done.high j l
 
 -- what is made of a pair by the inverse transform
 abbrev pub join_low : ℕ → ℕ → ℕ → ℕ

@@ -16,7 +16,8 @@ use Rattle.code_defs.proofs.Generators.{value-kept}
 use Rattle.code_defs.proofs.Codewords.{codeword-short, opens_itself}
 use Rattle.code_defs.proofs.Values.{equal-added}
 use Rattle.server_code.specs.Behind.{TakesNear}
-use Rattle.server_code.proofs.Blocks.{agree-differences, near_opens}
+use Rattle.code_defs.proofs.Codewords.{agree-differences}
+use Rattle.server_code.proofs.Blocks.{near_opens}
 use Rattle.server_code.proofs.KeyRows.{length-sums}
 use Rattle.server_code.proofs.Linear.{codeword_of_front}
 
