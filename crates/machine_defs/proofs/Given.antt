@@ -1,8 +1,9 @@
 -- What the calls of a job gave it, and the parts of a run.
-use Rattle.std.proofs.Common.{◌≡◌, ℕ, ◌+◌, ◌<◌, ◌==◌, ◌&&◌, List, [], ◌∷◌, ◌++◌, Option, refl, ap, sym, ◌∙◌, inl, inr, arith, zero, suc, replicate}
-use Rattle.std.proofs.lemmas.Bool.{cases_Bool, and_from, eq-eqb}
+use Rattle.std.proofs.Common.{◌≡◌, ℕ, ◌+◌, ◌<◌, ◌==◌, ◌&&◌, List, [], ◌∷◌, ◌++◌, length, Option, refl, ap, sym, ◌∙◌, inl, inr, arith, zero, suc, replicate}
+use Rattle.std.proofs.lemmas.Bool.{cases_Bool, and_from, eq-eqb, eqb-true}
 use Rattle.std.specs.Prelude.{option_and_then}
 use Rattle.algebra_laws.proofs.Lists.{get-map_range}
+use Rattle.code_defs.specs.ServerCode.{differences}
 use Rattle.column_defs.specs.Opened.{block_at, SeenBlock}
 use Rattle.machine_defs.specs.Jobs.{Given, Worked}
 use Rattle.machine_defs.specs.States.{State}
@@ -51,3 +52,16 @@ run_part limit start (m ∷ later) ms run = run_part limit start later ms run.2
 pub zeros-bytes : (n : ℕ) → AreBytes (replicate n 0)
 zeros-bytes zero = refl
 zeros-bytes (suc n) = zeros-bytes n
+
+-- blocks of one length that differ in no place are one
+pub differs-none : (xs ys : List ℕ) → length xs ≡ length ys → differences xs ys ≡ 0 → xs ≡ ys
+differs-none [] [] e h = refl
+differs-none [] (y ∷ ys) e h = absurd (omega (arith, e))
+differs-none (x ∷ xs) [] e h = absurd (omega (arith, e))
+differs-none (x ∷ xs) (y ∷ ys) e h = elim (cases_Bool (x == y)) [
+  | inl t ↦ ap (λ a. a ∷ xs) (eqb-true x y t)
+      ∙ ap (λ l. y ∷ l) (differs-none xs ys (omega (arith, e))
+      (sym (cond_true (x == y) (differences xs ys) (suc (differences xs ys)) t) ∙ h))
+  | inr f ↦ absurd (let z : suc (differences xs ys) ≡ 0 =
+      sym (cond_false (x == y) (differences xs ys) (suc (differences xs ys)) f) ∙ h in omega (arith, z))
+]

@@ -2,12 +2,10 @@ pub mod NextActions
 pub mod Given
 pub mod RunParts
 pub mod PutSteps
-pub mod GetSteps
 pub mod PutRun
-pub mod GetRun
 pub mod JobLists
 pub mod ActionLists
-pub mod Plans
+pub mod Cases
 pub mod Changes
 pub mod Asides
 pub mod Refused

@@ -1,29 +1,20 @@
 -- What a report has of a job is what that job heard.
-use Rattle.std.proofs.Common.{◌≡◌, ℕ, ◌+◌, ◌<◌, ◌≤◌, ◌==◌, Bool, true, false, ◌⊎◌, List, [], ◌∷◌, ◌++◌, length, Option, Some, None, refl, ap, sym, subst, ◌∙◌, inl, inr, arith}
+use Rattle.std.proofs.Common.{◌≡◌, ℕ, ◌<◌, ◌≤◌, ◌==◌, ◌⊎◌, List, [], ◌∷◌, ◌++◌, length, Some, refl, ap, sym, subst, ◌∙◌, inl, inr, arith}
 use Rattle.std.proofs.lemmas.Bool.{cases_Bool, eqb-true}
 use Rattle.std.proofs.lemmas.List.{append_assoc, append-nil}
-use Rattle.record_defs.specs.Records.{Setup, is_setup}
 use Rattle.machine_defs.specs.Jobs.{Kind, PutJob, GetJob, DropJob, AuditJob, RepairJob, UpgradeJob, Given, Fetched, Answered, Worked, Job, job_of, without_job}
-use Rattle.machine_defs.specs.Actions.{Action, WriteBody, SyncBody, WriteGate, SyncGate, Store, Fetch, Ask, Work, Remove, End}
 use Rattle.machine_defs.specs.Refusals as refusal
 use Rattle.machine_defs.specs.Answers as answer
 use Rattle.machine_defs.specs.Answers.{Answer}
-use Rattle.machine_defs.specs.Events.{Event, Init, Begin, BeginAt, BeginScrub, BeginPack, Step, Alter, Lose, Stop, Reopen, Names, Continue, Outcome, Ready, Refused, Opened, Begun, More, Waiting, Ended, Replaced, NothingHeld, Stopped, Listed, Closed}
-use Rattle.machine_defs.specs.States.{State, Append, Alone, IsStart, Settles}
-use Rattle.machine_defs.specs.Begins.{BeginsAt}
-use Rattle.machine_defs.specs.Appends.{Moves}
-use Rattle.machine_defs.specs.Steps.{next_action, holder_of, Acts, ActsOrWaits, StepsOn, StepsJob, StepsMine, StepsOne, StepsOpen, Steps}
-use Rattle.machine_defs.specs.Alone.{number_alone, StepsAlone, BeginsAlone}
-use Rattle.machine_defs.specs.Openings.{reread, Rereads, Stops, Reopens, InitsClosed, InitsBy, Inits}
-use Rattle.machine_defs.specs.Replacements.{ReplacesAt, ReplacesIf}
-use Rattle.machine_defs.specs.Machine.{Lists, Happens}
+use Rattle.machine_defs.specs.Events.{Event, Init, Step, Stop, Reopen, Continue, Outcome, Ready, Refused, Opened, More, Ended, Replaced, NothingHeld, Stopped}
+use Rattle.machine_defs.specs.States.{State, IsStart}
+use Rattle.machine_defs.specs.Machine.{Happens}
 use Rattle.machine_defs.specs.Runs.{Moment, now, IsRun}
 use Rattle.machine_defs.specs.Heard.{Entry, entries_of, heard_by_kind, heard_by, heard_at, reported_after, heard_in, given_to, NoneContinues, EndsJob}
-use Rattle.device_defs.specs.Providers.{Held}
-use Rattle.std.specs.Prelude.{nat_lt}
-use Rattle.machine_defs.proofs.JobLists.{cond_true, cond_false, number_of, found_none, found_without}
+use Rattle.machine_defs.proofs.JobLists.{cond_true, cond_false, found_none, found_without}
 use Rattle.machine_defs.proofs.Changes.{IsLone, Job_is, Changes}
 use Rattle.machine_defs.proofs.Asides.{steps_aside}
+use Rattle.machine_defs.proofs.Cases.{IsStill, Acting, Cases, by_event}
 use Rattle.machine_defs.proofs.Events.{changes}
 use Rattle.machine_defs.proofs.Numbers.{objects}
 use Rattle.machine_defs.proofs.Numbers as num
@@ -89,241 +80,86 @@ pub data Report_is (old : State) (e : Event) (r : Outcome) (new : State) : Type 
       new.jobs ≡ without_job old.jobs x.number → old.next_job ≤ new.next_job → Report_is old e r new
 
 module _ (old : State) where
-  settled_next : (left mid : State) → Settles left mid → mid.next_job ≡ left.next_job
-  settled_next left mid (inl is) = ap (λ (w : State). w.next_job) is
-  settled_next left mid (inr (d, at, is)) = ap (λ (w : State). w.next_job) is
-
   module _ (job : Job) (runs : job_of old.jobs job.number ≡ Some job) where
-    abbrev Result : Outcome → State → Type 0
-    Result r new = Report_is old (Step job.number) r new
+    on : (new : State) → old.next_job ≤ new.next_job → Report_is old (Step job.number) More new
+    on new next = Report_is.same (λ xs. refl) refl (inl tt) next
 
-    on : (new : State) → new.next_job ≡ old.next_job → Result More new
-    on new next = Report_is.same (λ xs. refl) refl (inl tt) (omega (arith, next))
+    over : (how : Answer) (new : State) → old.next_job ≤ new.next_job →
+        new.jobs ≡ without_job old.jobs job.number → Report_is old (Step job.number) (Ended how) new
+    over how new next jobs = Report_is.ended job refl (λ xs. refl) (ap heard_by runs) runs jobs next
 
-    over : (how : Answer) (new : State) → new.next_job ≡ old.next_job →
-        new.jobs ≡ without_job old.jobs job.number → Result (Ended how) new
-    over how new next jobs =
-        Report_is.ended job refl (λ xs. refl) (ap heard_by runs) runs jobs (omega (arith, next))
+    acts : Acting old job (Report_is old (Step job.number))
+    acts = record {
+      begins = λ entry next none writes faults low. on _ (omega arith);
+      syncs = λ a next flight mine faults low. on _ (omega arith);
+      gates = λ a next flight mine faults low. on _ (omega arith);
+      finishes = λ a next flight mine faults low. on _ (omega arith);
+      bars = λ action plain next mine faults low rose. over answer.DiskFault _ (omega arith) refl;
+      bars_gated = λ a next flight mine faults low rose. over answer.DiskFault _ (omega arith) refl;
+      begins_not = λ next none faults low. over answer.Memory _ (omega arith) refl;
+      gates_not = λ a next flight mine faults low. over answer.Memory _ (omega arith) refl;
+      stores = λ j o s p next call. on _ (omega arith);
+      stores_not = λ j o s p how next call. over how _ (omega arith) refl;
+      fetches = λ j o s block p next call. on _ (omega arith);
+      asks = λ j o round symbol p next call. on _ (omega arith);
+      works = λ o s symbols next gives. on _ (omega arith);
+      removes = λ j o p next call. on _ (omega arith);
+      ends = λ action how next last. over how _ (omega arith) refl;
+    }
 
-    abbrev next_of : State → ℕ
-    next_of w = w.next_job
+  -- an event that ends no job
+  quiet : (e : Event) (r : Outcome) (new : State) → IsStill e r → old.next_job ≤ new.next_job →
+      Report_is old e r new
+  quiet e r new still next = Report_is.same (kept e r still) (none e r still) (inl (no_end e r still)) next
+    where
+      kept : (e : Event) (r : Outcome) → IsStill e r → (xs : List Entry) → reported_after e xs ≡ xs
+      kept Continue r h xs = absurd h
+      kept e r h xs = refl
 
-    moves : (action : Action) (flight : Option Append) (r : Outcome) (new : State) →
-        Moves old job action flight r new → Result r new
-    moves WriteBody flight More new (entry, writes, (faults, low, is)) = on new (ap next_of is)
-    moves WriteBody flight (Ended answer.DiskFault) new (faults, low, rose, is) =
-        over answer.DiskFault new (ap next_of is) (ap (λ (w : State). w.jobs) is)
-    moves WriteBody flight (Ended answer.Memory) new (faults, low, is) =
-        over answer.Memory new (ap next_of is) (ap (λ (w : State). w.jobs) is)
-    moves SyncBody (Some a) More new (at, (faults, low, is)) = on new (ap next_of is)
-    moves SyncBody (Some a) (Ended answer.DiskFault) new (at, (faults, low, rose, is)) =
-        over answer.DiskFault new (ap next_of is) (ap (λ (w : State). w.jobs) is)
-    moves WriteGate (Some a) More new (at, (faults, low, is)) = on new (ap next_of is)
-    moves WriteGate (Some a) (Ended answer.DiskFault) new (at, (faults, low, rose, is)) =
-        over answer.DiskFault new (ap next_of is) (ap (λ (w : State). w.jobs) is)
-    moves WriteGate (Some a) (Ended answer.Memory) new (at, (faults, low, is)) =
-        over answer.Memory new (ap next_of is) (ap (λ (w : State). w.jobs) is)
-    moves SyncGate (Some a) More new (at, (faults, low, is)) = on new (ap next_of is)
-    moves SyncGate (Some a) (Ended answer.DiskFault) new (at, (faults, low, rose, is)) =
-        over answer.DiskFault new (ap next_of is) (ap (λ (w : State). w.jobs) is)
-    moves action flight r new h = absurd h
+      none : (e : Event) (r : Outcome) → IsStill e r → heard_at old e r ≡ []
+      none (Step number) (Ended how) h = absurd h
+      none e r h = refl
 
-    acts : (action : Action) (r : Outcome) (new : State) → Acts old job action r new → Result r new
-    acts (Store j o s) More new (p, call, is) = on new (ap next_of is)
-    acts (Store j o s) (Ended (answer.ProviderFault k)) new (k_is, (p, call, is)) =
-        over (answer.ProviderFault k) new (ap next_of is) (ap (λ (w : State). w.jobs) is)
-    acts (Store j o s) (Ended answer.Memory) new (p, call, is) =
-        over answer.Memory new (ap next_of is) (ap (λ (w : State). w.jobs) is)
-    acts (Fetch j o s) More new (block, (p, call, is)) = on new (ap next_of is)
-    acts (Ask j o round) More new (symbol, (p, call, is)) = on new (ap next_of is)
-    acts (Work o s) More new (symbols, gives, is) = on new (ap next_of is)
-    acts (Work o s) (Ended (answer.Lost t row)) new (t_is, lost, is) =
-        over (answer.Lost t row) new (ap next_of is) (ap (λ (w : State). w.jobs) is)
-    acts (Remove j o) More new (p, call, is) = on new (ap next_of is)
-    acts End (Ended how) new (ends, is) = over how new (ap next_of is) (ap (λ (w : State). w.jobs) is)
-    acts action r new h = moves action old.append r new h
-
-    acts_or_waits : (action : Action) (holder : Option ℕ) (r : Outcome) (new : State) →
-        ActsOrWaits old job action holder r new → Result r new
-    acts_or_waits action (Some n) (Waiting h) new w =
-        Report_is.same (λ xs. refl) refl (inl tt) (let e = ap next_of w.1 in omega (arith, e))
-    acts_or_waits action None r new h = acts action r new h
-    acts_or_waits action (Some n) r new h = absurd h
-
-    steps_on : (action : Option Action) (r : Outcome) (new : State) → StepsOn old job action r new →
-        Result r new
-    steps_on None r new h = absurd h
-    steps_on (Some action) r new h = acts_or_waits action (holder_of old.append action) r new h
-
-  -- an event that ends no job, and leaves the next number
-  plain : (e : Event) (r : Outcome) (new : State) → ((xs : List Entry) → reported_after e xs ≡ xs) →
-      heard_at old e r ≡ [] → IsNoEnd r → new.next_job ≡ old.next_job → Report_is old e r new
-  plain e r new kept none no_end next = Report_is.same kept none (inl no_end) (omega (arith, next))
-
-  unchanged : (e : Event) (r : Outcome) (new : State) → ((xs : List Entry) → reported_after e xs ≡ xs) →
-      heard_at old e r ≡ [] → IsNoEnd r → new ≡ old → Report_is old e r new
-  unchanged e r new kept none no_end is = plain e r new kept none no_end (ap (λ (w : State). w.next_job) is)
-
-  steps_job : (number : ℕ) (job : Option Job) (r : Outcome) (new : State) → job_of old.jobs number ≡ job →
-      StepsJob old job r new → Report_is old (Step number) r new
-  steps_job number None (Refused refusal.NoSuchJob) new is h =
-      unchanged (Step number) (Refused refusal.NoSuchJob) new (λ xs. refl) refl tt h
-  steps_job number (Some job) r new is h =
-      (let same : job.number ≡ number = number_of old.jobs number job is in
-      subst (λ n. Report_is old (Step n) r new) same
-      (steps_on job (subst (λ n. job_of old.jobs n ≡ Some job) (sym same) is) (next_action old job) r new h))
-  steps_job number None r new is h = absurd h
+      no_end : (e : Event) (r : Outcome) → IsStill e r → IsNoEnd r
+      no_end Continue r h = absurd h
+      no_end e (Ended how) h = absurd h
+      no_end e r h = tt
 
   -- what runs alone is no job, and no job runs beside it
-  steps_beside : (number : ℕ) (x : Alone) (r : Outcome) (new : State) → old.jobs ≡ [] →
-      StepsAlone old x r new → Report_is old (Step number) r new
-  steps_beside number x r new none h = Report_is.same (λ xs. refl) (nothing_heard r) (inr none)
-      (let e = (steps_aside old x r new h).next_job in omega (arith, e))
+  beside : (number : ℕ) (r : Outcome) (new : State) → old.jobs ≡ [] → new.next_job ≡ old.next_job →
+      Report_is old (Step number) r new
+  beside number r new none next =
+      Report_is.same (λ xs. refl) (nothing_heard r) (inr none) (omega (arith, next))
     where
       nothing_heard : (r : Outcome) → heard_at old (Step number) r ≡ []
       nothing_heard (Ended how) = ap (λ (js : List Job). heard_by (job_of js number)) none
       nothing_heard r = refl
 
-  steps_mine : (number : ℕ) (x : Alone) (mine : Bool) (r : Outcome) (new : State) → old.jobs ≡ [] →
-      StepsMine old number x mine r new → Report_is old (Step number) r new
-  steps_mine number x true r new none h = steps_beside number x r new none h
-  steps_mine number x false r new none h = steps_job number (job_of old.jobs number) r new refl h
-
-  steps_one : (number : ℕ) (alone : Option Alone) (r : Outcome) (new : State) → old.alone ≡ alone →
-      IsLone old → StepsOne old number alone r new → Report_is old (Step number) r new
-  steps_one number None r new is lone h = steps_job number (job_of old.jobs number) r new refl h
-  steps_one number (Some x) r new is lone h =
-      steps_mine number x (number_alone x == number) r new (lone x is) h
-
-  steps_open : (number : ℕ) (is_barred : _) (r : Outcome) (new : State) → IsLone old →
-      StepsOpen old number is_barred r new → Report_is old (Step number) r new
-  steps_open number true (Refused refusal.MustReopen) new lone h =
-      unchanged (Step number) (Refused refusal.MustReopen) new (λ xs. refl) refl tt h
-  steps_open number false r new lone h = steps_one number old.alone r new refl lone h
-  steps_open number true r new lone h = absurd h
-
-  steps : (number : ℕ) (is_open : _) (r : Outcome) (new : State) → IsLone old →
-      Steps old number is_open r new → Report_is old (Step number) r new
-  steps number false Closed new lone h = unchanged (Step number) Closed new (λ xs. refl) refl tt h
-  steps number true r new lone h = steps_open number old.is_barred r new lone h
-  steps number false r new lone h = absurd h
-
-  begins : (e : Event) (limit moment : ℕ) (kind : Kind) (profile : Option ℕ) (r : Outcome) (new : State) →
-      ((xs : List Entry) → reported_after e xs ≡ xs) → ((r : Outcome) → heard_at old e r ≡ []) →
-      BeginsAt limit moment old kind profile r new → Report_is old e r new
-  begins e limit moment kind profile Closed new kept none h = unchanged e Closed new kept (none Closed) tt h.1
-  begins e limit moment kind profile (Refused why) new kept none h =
-      unchanged e (Refused why) new kept (none (Refused why)) tt h.2
-  begins e limit moment kind profile (Begun job) new kept none h =
-      Report_is.same kept (none (Begun job)) (inl tt)
-      (let g : new.next_job ≡ old.next_job + 1 = ap (λ (w : State). w.next_job) h.3 in omega (arith, g))
-  begins e limit moment kind profile r new kept none h = absurd h
-
-  begins_alone : (e : Event) (why : Option refusal.Refusal) (x : Alone) (r : Outcome) (new : State) →
-      ((xs : List Entry) → reported_after e xs ≡ xs) → ((r : Outcome) → heard_at old e r ≡ []) →
-      BeginsAlone old why x r new → Report_is old e r new
-  begins_alone e why x Closed new kept none h = unchanged e Closed new kept (none Closed) tt h.1
-  begins_alone e why x (Refused refused) new kept none h =
-      unchanged e (Refused refused) new kept (none (Refused refused)) tt h.2
-  begins_alone e why x (Begun job) new kept none h =
-      Report_is.same kept (none (Begun job)) (inl tt)
-      (let g : new.next_job ≡ old.next_job + 1 = ap (λ (w : State). w.next_job) h.3 in omega (arith, g))
-  begins_alone e why x r new kept none h = absurd h
-
-  reread_next : (mid : State) → Rereads old mid → mid.next_job ≡ old.next_job
-  reread_next mid (journal, area, holds, s) = settled_next (reread old journal area) mid s
-
-  stops : (picks : List ℕ) (r : Outcome) (new : State) → Stops old r new → Report_is old (Stop picks) r new
-  stops picks Stopped new h = plain (Stop picks) Stopped new (λ xs. refl) refl tt (reread_next new h)
-  stops picks r new h = absurd h
-
-  reopens : (r : Outcome) (new : State) → Reopens old r new → Report_is old Reopen r new
-  reopens Opened new (mid, s, up, enough, (faults, low, is)) =
-      plain Reopen Opened new (λ xs. refl) refl tt (ap (λ (w : State). w.next_job) is ∙ reread_next mid s)
-  reopens (Refused refusal.NotSetUp) new (mid, s, none, (faults, low, is)) =
-      plain Reopen (Refused refusal.NotSetUp) new (λ xs. refl) refl tt
-      (ap (λ (w : State). w.next_job) is ∙ reread_next mid s)
-  reopens (Refused refusal.TooFewProviders) new (mid, s, up, few, (faults, low, is)) =
-      plain Reopen (Refused refusal.TooFewProviders) new (λ xs. refl) refl tt
-      (ap (λ (w : State). w.next_job) is ∙ reread_next mid s)
-  reopens (Refused refusal.DiskFault) new (faults, low, rose, is) =
-      plain Reopen (Refused refusal.DiskFault) new (λ xs. refl) refl tt (ap (λ (w : State). w.next_job) is)
-  reopens (Refused refusal.Memory) new (faults, low, is) =
-      plain Reopen (Refused refusal.Memory) new (λ xs. refl) refl tt (ap (λ (w : State). w.next_job) is)
-  reopens r new h = absurd h
-
-  inits_closed : (s : Setup) (r : Outcome) (new : State) → InitsClosed old s r new →
-      Report_is old (Init s) r new
-  inits_closed s (Refused refusal.DiskFault) new (doubt, leaves_it, (faults, low, rose, is)) =
-      plain (Init s) (Refused refusal.DiskFault) new (λ xs. refl) refl tt (ap (λ (w : State). w.next_job) is)
-  inits_closed s (Refused refusal.Memory) new (doubt, leaves_it, (faults, low, is)) =
-      plain (Init s) (Refused refusal.Memory) new (λ xs. refl) refl tt (ap (λ (w : State). w.next_job) is)
-  inits_closed s (Refused refusal.Already) new (mid, settles, up, (faults, low, is)) =
-      plain (Init s) (Refused refusal.Already) new (λ xs. refl) refl tt
-      (ap (λ (w : State). w.next_job) is ∙ settled_next old mid settles)
-  inits_closed s Ready new (mid, settles, none, (faults, low, is)) =
-      plain (Init s) Ready new (λ xs. refl) refl tt (ap (λ (w : State). w.next_job) is
-      ∙ settled_next old mid settles)
-  inits_closed s r new h = absurd h
-
-  inits_by : (s : Setup) (good : _) (r : Outcome) (new : State) → InitsBy old s good r new →
-      Report_is old (Init s) r new
-  inits_by s false (Refused refusal.BadSetup) new h =
-      unchanged (Init s) (Refused refusal.BadSetup) new (λ xs. refl) refl tt h
-  inits_by s true r new h = inits_closed s r new h
-  inits_by s false r new h = absurd h
-
-  inits : (s : Setup) (is_open : _) (r : Outcome) (new : State) → Inits old s is_open r new →
-      Report_is old (Init s) r new
-  inits s true (Refused refusal.Already) new h =
-      unchanged (Init s) (Refused refusal.Already) new (λ xs. refl) refl tt h
-  inits s false r new h = inits_by s (is_setup s) r new h
-  inits s true r new h = absurd h
-
-  -- replacements
-  module _ (e : Event) (kept : (xs : List Entry) → reported_after e xs ≡ xs)
-      (none : (r : Outcome) → heard_at old e r ≡ []) where
-    replaces : (j : ℕ) (IsThere : Held → Type 0) (changed : Held → Held) (r : Outcome) (new : State) →
-        ReplacesAt old j IsThere changed r new → Report_is old e r new
-    replaces j IsThere changed Replaced new (p, call, is) =
-        plain e Replaced new kept (none Replaced) tt (ap (λ (w : State). w.next_job) is)
-    replaces j IsThere changed NothingHeld new (p, call, is) =
-        plain e NothingHeld new kept (none NothingHeld) tt (ap (λ (w : State). w.next_job) is)
-    replaces j IsThere changed r new h = absurd h
-
-    replaces_if : (handed : _) (j : ℕ) (IsThere : Held → Type 0) (changed : Held → Held) (r : Outcome)
-        (new : State) → ReplacesIf handed old j IsThere changed r new → Report_is old e r new
-    replaces_if true j IsThere changed r new h = replaces j IsThere changed r new h
-    replaces_if false j IsThere changed NothingHeld new h =
-        unchanged e NothingHeld new kept (none NothingHeld) tt h
-    replaces_if false j IsThere changed r new h = absurd h
-
-  lists : (is_open : _) (r : Outcome) (new : State) → Lists old is_open r new → Report_is old Names r new
-  lists true (Listed files) new h = unchanged Names (Listed files) new (λ xs. refl) refl tt h.1
-  lists false Closed new h = unchanged Names Closed new (λ xs. refl) refl tt h
-  lists true r new h = absurd h
-  lists false r new h = absurd h
+  reports : (limit moment : ℕ) → IsLone old → Cases limit moment old (Report_is old)
+  reports limit moment lone = record {
+    still = λ e r h. quiet e r old h (omega arith);
+    acts = λ job runs is_open unbarred. acts job runs;
+    alone = λ number x r new at is_open unbarred h. beside number r new (lone x at) (steps_aside old x r new h).next_job;
+    begins = λ kind is_open allowed. Report_is.same (λ xs. refl) refl (inl tt) (omega arith);
+    begins_at = λ profile name bytes is_open allowed. Report_is.same (λ xs. refl) refl (inl tt) (omega arith);
+    scrub = λ allowed. Report_is.same (λ xs. refl) refl (inl tt) (omega arith);
+    pack = λ allowed. Report_is.same (λ xs. refl) refl (inl tt) (omega arith);
+    stops = λ picks rs js area so. quiet (Stop picks) Stopped _ tt (omega arith);
+    opens = λ rs js area so up faults low. quiet Reopen Opened _ tt (omega arith);
+    opens_not = λ why rs js area so faults low. quiet Reopen (Refused why) _ tt (omega arith);
+    reads_not = λ why faults low. quiet Reopen (Refused why) _ tt (omega arith);
+    sets_up = λ s rs js good closed so none faults low. quiet (Init s) Ready _ tt (omega arith);
+    sets_up_not = λ s why doubt good closed so faults low. quiet (Init s) (Refused why) _ tt (omega arith);
+    is_set_up = λ s rs js closed so faults low. quiet (Init s) (Refused refusal.Already) _ tt (omega arith);
+    replaces = λ e j IsThere changed p still counts call. quiet e Replaced _ still (omega arith);
+    replaces_not = λ e j IsThere changed p still call. quiet e NothingHeld _ still (omega arith);
+    continues = Report_is.anew refl refl;
+  }
 
   report : (limit moment : ℕ) (e : Event) (r : Outcome) (new : State) → IsLone old →
       Happens limit moment old e r new → Report_is old e r new
-  report limit moment (Init s) r new lone h = inits s old.is_open r new h
-  report limit moment (Begin kind) r new lone h =
-      begins (Begin kind) limit moment kind None r new (λ xs. refl) (λ x. refl) h
-  report limit moment (BeginAt profile name bytes) r new lone h =
-      begins (BeginAt profile name bytes) limit moment (PutJob name bytes) (Some profile) r new (λ xs. refl)
-      (λ x. refl) h
-  report limit moment BeginScrub r new lone h = begins_alone BeginScrub _ _ r new (λ xs. refl) (λ x. refl) h
-  report limit moment BeginPack r new lone h = begins_alone BeginPack _ _ r new (λ xs. refl) (λ x. refl) h
-  report limit moment (Step number) r new lone h = steps number old.is_open r new lone h
-  report limit moment (Alter j object stripe place symbol) r new lone h =
-      replaces_if (Alter j object stripe place symbol) (λ xs. refl) (λ x. refl)
-      (nat_lt j old.handed) j _ _ r new h
-  report limit moment (Lose j object stripe) r new lone h =
-      replaces_if (Lose j object stripe) (λ xs. refl) (λ x. refl) (nat_lt j old.handed) j _ _ r new h
-  report limit moment (Stop picks) r new lone h = stops picks r new h
-  report limit moment Reopen r new lone h = reopens r new h
-  report limit moment Names r new lone h = lists old.is_open r new h
-  report limit moment Continue r new lone h = Report_is.anew refl refl
+  report limit moment e r new lone h =
+      by_event limit moment old (Report_is old) (reports limit moment lone) e r new h
 
 -- a job that runs after an event ran before, or its number was the next one
 ran : (limit moment : ℕ) (old : State) (e : Event) (r : Outcome) (new : State) (k : ℕ) (j : Job) →

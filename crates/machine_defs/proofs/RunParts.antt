@@ -8,7 +8,7 @@ use Rattle.device_defs.specs.ProviderCalls.{Stores}
 use Rattle.machine_defs.specs.Jobs.{Kind, GetJob, Job, job_of, advanced}
 use Rattle.machine_defs.specs.Answers.{Answer}
 use Rattle.machine_defs.specs.Events.{Step, Outcome, Ended, More}
-use Rattle.machine_defs.specs.States.{State, Append, Doubt, ProviderCall, going_on, given_up, with_provider}
+use Rattle.machine_defs.specs.States.{State, Append, ProviderCall, going_on, given_up, with_provider}
 use Rattle.machine_defs.specs.Appends.{moved, doubted}
 use Rattle.machine_defs.specs.Begins.{new_job}
 use Rattle.machine_defs.specs.Steps.{block_to_store}
@@ -38,14 +38,6 @@ append_at w = or_else w.append
     or_else : Option Append → Append
     or_else None = record { job = 0; entry = PutDone 0 0; moves = 0 }
     or_else (Some a) = a
-
--- the job that wrote a record in doubt
-abbrev pub maker_at : State → Option Job
-maker_at w = of w.doubt
-  where
-    of : Option Doubt → Option Job
-    of None = None
-    of (Some d) = d.maker
 
 -- an append has made its second move, or its third
 abbrev pub synced : State → ℕ → State

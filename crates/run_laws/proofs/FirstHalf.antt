@@ -16,9 +16,10 @@ use Rattle.machine_defs.specs.Runs.{Moment, now, first_moments, IsRun}
 use Rattle.machine_defs.specs.Given.{blocks_given}
 use Rattle.machine_defs.specs.Heard.{heard_by, given_to}
 use Rattle.machine_defs.specs.Halves.{IsRightGet, EndsRight, at_begin, KeepsFirstHalf, FirstHalf, FirstHalfHolds, EndsGet}
-use Rattle.machine_defs.proofs.JobLists.{cond_true, cond_false, number_of}
+use Rattle.machine_defs.proofs.JobLists.{cond_true, cond_false, number_of, found_none}
 use Rattle.machine_defs.proofs.Gets.{got_is_opened}
-use Rattle.run_laws.proofs.InEffect.{valid_setup, valid_shape, held_file}
+use Rattle.machine_defs.proofs.Held.{all}
+use Rattle.run_laws.proofs.InEffect.{valid_setup, valid_shape, held_file, facts}
 use Rattle.run_laws.proofs.Files.{file_or_forged}
 
 -- the first moments of a run are a run
@@ -43,6 +44,18 @@ shape_in w valid up = go (setup_of w.records) valid up
         IsShape (setup_or_none o).n (setup_or_none o).l (setup_or_none o).b
     go None f h = absurd (false≢true h)
     go (Some s) f h = f s refl
+
+-- while a job runs, the setup makes a shape
+pub runs_shape : (limit : ℕ) (start : State) (ms : List Moment) → IsStart start → IsRun limit start ms →
+    (k : ℕ) (job : Job) → job_of (now start ms).jobs k ≡ Some job →
+    IsShape (setup_in (now start ms)).n (setup_in (now start ms)).l (setup_in (now start ms)).b
+runs_shape limit start ms clean run k job runs = shape_in (now start ms)
+    (λ s e. valid_shape s ((facts limit start ms clean run).setup s e))
+    (elim (cases_Bool (now start ms).is_open) [
+      | inl t ↦ (facts limit start ms clean run).opened t
+      | inr f ↦ absurd (found_none (now start ms).jobs k job
+          ((all limit start clean ms run).numbers.idle.idle f).0 runs)
+    ])
 
 -- a get that ended with bytes gave those in effect at its begin, or its fetches hold a forgery
 pub got_right : (limit : ℕ) (start : State) (m : Moment) (ms : List Moment) (job : Job)

@@ -8,7 +8,7 @@ use Rattle.std.proofs.lemmas.List.Folds.{list_any-append}
 use Rattle.std.proofs.lemmas.List.Sums.{sum_by-cons, sum_by-take-drop}
 use Rattle.algebra_laws.specs.Lists.{Each}
 use Rattle.algebra_laws.proofs.Options.{some-not-none}
-use Rattle.record_defs.specs.Records.{Setup, SetUp, is_name, is_in_grammar, largest_file, largest_journal, most_files, all_profiles}
+use Rattle.record_defs.specs.Records.{is_name, largest_file, largest_journal, most_files, all_profiles}
 use Rattle.record_defs.specs.Table.{Due, version_of, next_id, next_audit, profile_in, file_of, due_of, is_same_name}
 use Rattle.record_defs.specs.Acceptance.{is_due}
 use Rattle.record_defs.proofs.FilesLaws.{same-eq}
@@ -30,7 +30,7 @@ use Rattle.state_laws.specs.Sound.{IsPutUnderWay, starts_left, IsLimit, IsSound}
 use Rattle.state_laws.proofs.Orders.{in_order}
 use Rattle.state_laws.proofs.JobLists.{sum-more, numbered-more, numbered-below, made-some}
 use Rattle.state_laws.proofs.NamesTaken.{are_put, puts_name, taken_by, once-taken, listed-taken, fewer, taken-fewer}
-use Rattle.state_laws.proofs.Records.{is_some-at, due-spelled, due-number, version-either}
+use Rattle.state_laws.proofs.Records.{is_some-at, due-spelled, due-number, setup-fits, version-either}
 use Rattle.state_laws.proofs.Packs.{journal-same}
 use Rattle.state_laws.proofs.Written.{starts-first, starts-later, set_up-in, setup-valid}
 use Rattle.state_laws.proofs.Pinning.{pins-ascend, pins-few, pins-stored, pins-plain, has-pins}
@@ -301,10 +301,7 @@ module _ (limit moment : ℕ) (old : State) (S : IsSound limit old) (kind : Kind
   added-order = in_order (setup_in old) added
 
   added-profile : (o : Option ℕ) → wish ≡ o → chosen (setup_in old) o < all_profiles
-  added-profile None e = fits (setup_in old) (setup-valid limit old S opened)
-    where
-      fits : (s : Setup) → IsTrue (is_in_grammar (SetUp s)) → s.profile < all_profiles
-      fits s g = grind (arith, nat_tests, g)
+  added-profile None e = setup-fits (setup_in old) (setup-valid limit old S opened)
   added-profile (Some p) e = (named p e).0
 
   added-own : version_of old.records ≡ 1 → (o : Option ℕ) → wish ≡ o →

@@ -11,7 +11,7 @@ use Rattle.machine_defs.proofs.JobLists.{cond_true, cond_false, found_without}
 use Rattle.state_laws.specs.Orders.{moves_made}
 use Rattle.state_laws.specs.Follows.{MayFollowIn}
 use Rattle.state_laws.specs.Sound.{IsDoubtOf, IsSoundAppend, starts_left, IsSound}
-use Rattle.state_laws.proofs.JobLists.{sum-without, length-without, numbered-without, still-without, only-without, mine, other}
+use Rattle.state_laws.proofs.JobLists.{sum-without, length-without, numbered-without, still-without, only-without, not-mine, other}
 use Rattle.state_laws.proofs.NamesTaken.{are_put, puts_name, taken-fewer}
 use Rattle.state_laws.proofs.Packs.{journal-same}
 use Rattle.state_laws.proofs.Going.{kept}
@@ -110,13 +110,10 @@ module _ (limit : ℕ) (old : State) (S : IsSound limit old) (job : Job)
   pub plain-ended : moves_made old.append job.number ≡ 0 →
       IsSound limit (left_by old job old.append old.doubt old.is_barred)
   plain-ended none = ended-sound old.append old.doubt old.is_barred (λ k n. refl)
-      (λ a flight. (S.append a flight, λ e. not-mine a flight none e)) S.barred S.undoubted S.doubt
-    where
-      not-mine : (a : Append) → old.append ≡ Some a → moves_made old.append job.number ≡ 0 →
-          a.job ≡ job.number → ⊥
-      not-mine a flight none e =
-          (let b = (S.append a flight).begun in let c = ap (λ f. moves_made f job.number) (sym flight)
-          ∙ none in let d = mine a job.number e in omega (arith, b, c, d))
+      (λ a flight. (
+        S.append a flight,
+        not-mine old.append job.number a flight (S.append a flight).begun none,
+      )) S.barred S.undoubted S.doubt
 
   -- a job ends whose append is given up, or none was in flight
   pub append-ended : (doubt : Option Doubt) (barred : Bool) →

@@ -2,23 +2,20 @@
 use Rattle.std.proofs.Common.{◌≡◌, ℕ, ◌+◌, ◌==◌, Bool, true, false, List, [], ◌∷◌, length, drop, Option, Some, None, refl, ap, sym, subst, ◌∙◌, inl, inr, arith}
 use Rattle.std.specs.Prelude.{IsSome, nat_lt, slice_get}
 use Rattle.std.proofs.lemmas.Bool.{cases_Bool, false≢true, and_parts, eqb-true}
-use Rattle.algebra_laws.proofs.Options.{some-not-none}
 use Rattle.algebra_laws.proofs.Lists.{drop-get}
 use Rattle.device_defs.specs.Providers.{Held, Provider, with_symbol, without_block, HasPlace}
 use Rattle.machine_defs.specs.Jobs.{Kind, PutJob, GetJob, DropJob, AuditJob, RepairJob, UpgradeJob, Job, Given, Fetched, Answered, Worked, job_of, advanced}
-use Rattle.machine_defs.specs.Actions.{Action, WriteBody, SyncBody, WriteGate, SyncGate, Store, Fetch, Ask, Work, Remove, End, ends_append, actions_of, actions_left}
-use Rattle.machine_defs.specs.Refusals as refusal
-use Rattle.machine_defs.specs.Answers as answer
-use Rattle.machine_defs.specs.Events.{Event, Init, Begin, BeginAt, BeginScrub, BeginPack, Step, Alter, Lose, Stop, Reopen, Names, Continue, IsSpelled, IsSpelledKind, Outcome, Refused, Begun, More, Waiting, Ended, Replaced, NothingHeld, Listed, Closed}
-use Rattle.machine_defs.specs.States.{State, IsStart, Append, Doubt, Alone, setup_in, with_provider, going_on, ended}
+use Rattle.machine_defs.specs.Actions.{Action, WriteBody, SyncBody, WriteGate, Store, Fetch, Ask, Work, Remove, End, ends_append, actions_of, actions_left}
+use Rattle.machine_defs.specs.Events.{Event, Init, Begin, BeginAt, BeginScrub, BeginPack, Step, Alter, Lose, Stop, Reopen, Names, Continue, IsSpelled, IsSpelledKind, Outcome, Refused, Begun, Replaced, NothingHeld, Listed, Closed}
+use Rattle.machine_defs.specs.States.{State, IsStart, Append, Doubt, setup_in, with_provider, going_on, ended}
 use Rattle.machine_defs.specs.Begins.{BeginsAt}
-use Rattle.machine_defs.specs.Appends.{Moves}
-use Rattle.machine_defs.specs.Steps.{is_idle_drop, next_action, holder_of, Acts, ActsOrWaits, StepsOn, StepsJob, StepsMine, StepsOne, StepsOpen, Steps}
-use Rattle.machine_defs.specs.Alone.{number_alone}
+use Rattle.machine_defs.specs.Steps.{is_idle_drop, next_action, Steps}
 use Rattle.machine_defs.specs.Replacements.{ReplacesAt, ReplacesIf}
 use Rattle.machine_defs.specs.Machine.{Lists, Happens}
 use Rattle.machine_defs.specs.Runs.{Moment, IsRun, now}
-use Rattle.machine_defs.proofs.JobLists.{cond_true, cond_false, same_value, number_of}
+use Rattle.machine_defs.specs.Answers.{Answer}
+use Rattle.machine_defs.proofs.Cases.{IsLast, Acting, by_action, by_step}
+use Rattle.machine_defs.proofs.JobLists.{cond_true, cond_false, same_value}
 use Rattle.state_laws.specs.Orders.{moves_made, moves_before, moves_after, IsInOrder}
 use Rattle.state_laws.specs.Follows.{MayFollowIn}
 use Rattle.state_laws.specs.Sound.{IsGatedDoubt, IsDoubtOf, IsLimit, IsSound}
@@ -128,24 +125,28 @@ module _ (limit moment : ℕ) (old : State) (S : IsSound limit old) where
         (S.jobs job.number job runs).order ∙ none
 
     -- an action between appends, with which a provider is called
-    called : (j : ℕ) (p : Provider) (action : Action) (given : List Given) (new : State) →
+    called : (j : ℕ) (p : Provider) (action : Action) (given : List Given) →
         next_action old job ≡ Some action → (action ≡ End → ⊥) → IsOn action →
-        new ≡ record (going_on old (onward job job.subject given))
-        { providers = with_provider old.providers j p } → IsSound limit new
-    called j p action given new next n on is =
-        subst (IsSound limit) (sym is)
-        (devices-sound limit (gone_on old (onward job job.subject given) old.append old.doubt old.bytes
+        IsSound limit
+        (record (going_on old (onward job job.subject given)) { providers = with_provider old.providers j p })
+    called j p action given next n on =
+        devices-sound limit (gone_on old (onward job job.subject given) old.append old.doubt old.bytes
         old.audits) (with_provider old.providers j p) old.disk_faults
-        (plain-sound limit old S job runs action given next n on.0 on.1 on.2))
+        (plain-sound limit old S job runs action given next n on.0 on.1 on.2)
 
     -- the job ends at an action between appends
-    ends : (action : Action) (providers : ℕ → Provider) (faults : ℕ) (new : State) →
-        next_action old job ≡ Some action → moves_before action ≡ 0 →
-        new ≡ record (ended old job) { providers = providers; disk_faults = faults } → IsSound limit new
-    ends action providers faults new next none is =
-        subst (IsSound limit) (sym is)
-        (devices-sound limit (left_by old job old.append old.doubt old.is_barred) providers faults
-        (plain-ended limit old S job runs (none-made action next none)))
+    ends : (action : Action) (providers : ℕ → Provider) (faults : ℕ) → next_action old job ≡ Some action →
+        moves_before action ≡ 0 →
+        IsSound limit (record (ended old job) { providers = providers; disk_faults = faults })
+    ends action providers faults next none =
+        devices-sound limit (left_by old job old.append old.doubt old.is_barred) providers faults
+        (plain-ended limit old S job runs (none-made action next none))
+
+    -- a job ends by itself between appends
+    none-before : (action : Action) (how : Answer) → IsLast old job action how → moves_before action ≡ 0
+    none-before (Work o s) how h = refl
+    none-before End how h = refl
+    none-before action how h = absurd h
 
     in-flight : (a : Append) → old.append ≡ Some a → a.job ≡ job.number → (b : Append) → old.append ≡ Some b →
         b.job ≡ job.number
@@ -157,140 +158,70 @@ module _ (limit moment : ℕ) (old : State) (S : IsSound limit old) where
         (subst (λ f. IsDoubtOf f old.doubt) flight (S.undoubted opened unbarred))
 
     -- the job ends and bars the vault
-    bars : (doubt : Option Doubt) (faults : ℕ) (new : State) →
-        ((a : Append) → old.append ≡ Some a → a.job ≡ job.number) →
+    bars : (doubt : Option Doubt) (faults : ℕ) → ((a : Append) → old.append ≡ Some a → a.job ≡ job.number) →
         ((d : Doubt) → doubt ≡ Some d → MayFollowIn old d.entry) →
-        new ≡ record (left_by old job None doubt true) { disk_faults = faults } → IsSound limit new
-    bars doubt faults new own doubts is = subst (IsSound limit) (sym is)
-        (devices-sound limit (left_by old job None doubt true) old.providers faults
-        (append-ended limit old S job runs doubt true own (λ o b. absurd (false≢true (sym b))) doubts))
+        IsSound limit (record (left_by old job None doubt true) { disk_faults = faults })
+    bars doubt faults own doubts = devices-sound limit (left_by old job None doubt true) old.providers faults
+        (append-ended limit old S job runs doubt true own (λ o b. absurd (false≢true (sym b))) doubts)
 
     gated : (a : Append) → old.append ≡ Some a → (d : Doubt) →
         Some (record { entry = a.entry; maker = Some (advanced job) }) ≡ Some d → MayFollowIn old d.entry
     gated a flight d h = (let e : record { entry = a.entry; maker = Some (advanced job) } ≡ d = cc in
         subst (λ (x : Doubt). MayFollowIn old x.entry) e (S.append a flight).follows)
 
-    none-flies : old.append ≡ None → (a : Append) → old.append ≡ Some a → a.job ≡ job.number
-    none-flies none a h = absurd (some-not-none old.append a h none)
+    acts : Acting old job (λ r w. IsSound limit w)
+    acts = record {
+      begins = λ entry next none writes faults low. devices-sound limit _ old.providers faults
+          (begun-sound limit old S job runs entry opened unbarred none next writes);
+      syncs = λ a next flight at faults low.
+          devices-sound limit (gone_on old (onward job job.subject job.given)
+          (Some (record a { moves = a.moves + 1 })) old.doubt old.bytes old.audits) old.providers faults
+          (moved-sound limit old S job runs a flight at.0 SyncBody old.doubt next (λ e. cc) refl
+          (let e = at.1 in omega (arith, e)) (let e = at.1 in omega (arith, e)) unbarred
+          (subst (λ n. IsGatedDoubt (record a { moves = a.moves + 1 }) (n + 1 == 3) old.doubt) (sym at.1)
+          (not-doubted a flight (ap (λ n. n == 3) at.1))) S.doubt);
+      gates = λ a next flight at faults low.
+          devices-sound limit (gone_on old (onward job job.subject job.given)
+          (Some (record a { moves = a.moves + 1 }))
+          (Some (record { entry = a.entry; maker = Some (advanced job) })) old.bytes old.audits)
+          old.providers faults
+          (moved-sound limit old S job runs a flight at.0 WriteGate
+          (Some (record { entry = a.entry; maker = Some (advanced job) })) next (λ e. cc) refl
+          (let e = at.1 in omega (arith, e)) (let e = at.1 in omega (arith, e)) unbarred
+          (subst (λ n. IsGatedDoubt (record a { moves = a.moves + 1 }) (n + 1 == 3)
+          (Some (record { entry = a.entry; maker = Some (advanced job) }))) (sym at.1)
+          (record { entry = a.entry; maker = Some (advanced job) }, refl, refl)) (gated a flight));
+      finishes = λ a next flight at faults low. devices-sound limit _ old.providers faults
+          (done-sound limit old S job runs next a flight at.0 at.1);
+      bars = λ action plain next own faults low rose. bars old.doubt faults own S.doubt;
+      bars_gated = λ a next flight at faults low rose.
+          bars (Some (record { entry = a.entry; maker = Some (advanced job) })) faults
+          (in-flight a flight at.0) (gated a flight);
+      begins_not = λ next none faults low. ends WriteBody old.providers faults next refl;
+      gates_not = λ a next flight at faults low.
+          devices-sound limit (left_by old job None old.doubt old.is_barred) old.providers faults
+          (append-ended limit old S job runs old.doubt old.is_barred (in-flight a flight at.0)
+          (λ o b. not-doubted a flight (ap (λ n. n == 3) at.1)) S.doubt);
+      stores = λ j o s p next call. called j p (Store j o s) job.given next (λ e. cc) (refl, refl, refl);
+      stores_not = λ j o s p how next call.
+          ends (Store j o s) (with_provider old.providers j p) old.disk_faults next refl;
+      fetches = λ j o s block p next call.
+          called j p (Fetch j o s) (Fetched j o s block ∷ job.given) next (λ e. cc) (refl, refl, refl);
+      asks = λ j o round symbol p next call.
+          called j p (Ask j o round) (Answered j o round symbol ∷ job.given) next (λ e. cc) (refl, refl, refl);
+      works = λ o s symbols next gives. plain-sound limit old S job runs (Work o s)
+          (Worked o s symbols ∷ job.given) next (λ e. cc) refl refl refl;
+      removes = λ j o p next call. called j p (Remove j o) job.given next (λ e. cc) (refl, refl, refl);
+      ends = λ action how next last.
+          ends action old.providers old.disk_faults next (none-before action how last);
+    }
 
-    moves : (action : Action) (flight : Option Append) (r : Outcome) (new : State) → old.append ≡ flight →
-        next_action old job ≡ Some action → holder_of flight action ≡ None →
-        Moves old job action flight r new → IsSound limit new
-    moves WriteBody None More new flight next free (entry, writes, (faults, low, is)) =
-        subst (IsSound limit) (sym is)
-        (devices-sound limit _ old.providers faults
-        (begun-sound limit old S job runs entry opened unbarred flight next writes))
-    moves WriteBody (Some a) r new flight next free h = absurd (some-not-none (Some a.job) a.job refl free)
-    moves WriteBody None (Ended answer.DiskFault) new flight next free (faults, low, rose, is) =
-        bars old.doubt faults new (none-flies flight) S.doubt is
-    moves WriteBody None (Ended answer.Memory) new flight next free (faults, low, is) =
-        ends WriteBody old.providers faults new next refl is
-    moves SyncBody (Some a) More new flight next free (at, (faults, low, is)) = subst (IsSound limit) (sym is)
-        (devices-sound limit (gone_on old (onward job job.subject job.given)
-        (Some (record a { moves = a.moves + 1 })) old.doubt old.bytes old.audits) old.providers faults
-        (moved-sound limit old S job runs a flight at.0 SyncBody old.doubt next (λ e. cc) refl
-        (let e = at.1 in omega (arith, e)) (let e = at.1 in omega (arith, e)) unbarred
-        (subst (λ n. IsGatedDoubt (record a { moves = a.moves + 1 }) (n + 1 == 3) old.doubt) (sym at.1)
-        (not-doubted a flight (ap (λ n. n == 3) at.1))) S.doubt))
-    moves SyncBody (Some a) (Ended answer.DiskFault) new flight next free (at, (faults, low, rose, is)) =
-        bars old.doubt faults new (in-flight a flight at.0) S.doubt is
-    moves WriteGate (Some a) More new flight next free (at, (faults, low, is)) =
-        subst (IsSound limit) (sym is)
-        (devices-sound limit (gone_on old (onward job job.subject job.given)
-        (Some (record a { moves = a.moves + 1 }))
-        (Some (record { entry = a.entry; maker = Some (advanced job) })) old.bytes old.audits)
-        old.providers faults
-        (moved-sound limit old S job runs a flight at.0 WriteGate
-        (Some (record { entry = a.entry; maker = Some (advanced job) })) next (λ e. cc) refl
-        (let e = at.1 in omega (arith, e)) (let e = at.1 in omega (arith, e)) unbarred
-        (subst (λ n. IsGatedDoubt (record a { moves = a.moves + 1 }) (n + 1 == 3)
-        (Some (record { entry = a.entry; maker = Some (advanced job) }))) (sym at.1)
-        (record { entry = a.entry; maker = Some (advanced job) }, refl, refl)) (gated a flight)))
-    moves WriteGate (Some a) (Ended answer.DiskFault) new flight next free (at, (faults, low, rose, is)) =
-        bars (Some (record { entry = a.entry; maker = Some (advanced job) })) faults new
-        (in-flight a flight at.0) (gated a flight) is
-    moves WriteGate (Some a) (Ended answer.Memory) new flight next free (at, (faults, low, is)) =
-        subst (IsSound limit) (sym is)
-        (devices-sound limit (left_by old job None old.doubt old.is_barred) old.providers faults
-        (append-ended limit old S job runs old.doubt old.is_barred (in-flight a flight at.0)
-        (λ o b. not-doubted a flight (ap (λ n. n == 3) at.1)) S.doubt))
-    moves SyncGate (Some a) More new flight next free (at, (faults, low, is)) = subst (IsSound limit) (sym is)
-        (devices-sound limit _ old.providers faults (done-sound limit old S job runs next a flight at.0 at.1))
-    moves SyncGate (Some a) (Ended answer.DiskFault) new flight next free (at, (faults, low, rose, is)) =
-        bars old.doubt faults new (in-flight a flight at.0) S.doubt is
-    moves action flight r new e next free h = absurd h
-
-    acts : (action : Action) (r : Outcome) (new : State) → next_action old job ≡ Some action →
-        holder_of old.append action ≡ None → Acts old job action r new → IsSound limit new
-    acts (Store j object stripe) More new next free (p, made, is) =
-        called j p (Store j object stripe) job.given new next (λ e. cc) (refl, refl, refl) is
-    acts (Store j object stripe) (Ended (answer.ProviderFault k)) new next free (same, (p, made, is)) =
-        ends (Store j object stripe) (with_provider old.providers j p) old.disk_faults new next refl is
-    acts (Store j object stripe) (Ended answer.Memory) new next free (p, made, is) =
-        ends (Store j object stripe) (with_provider old.providers j p) old.disk_faults new next refl is
-    acts (Fetch j object stripe) More new next free (block, (p, made, is)) =
-        called j p (Fetch j object stripe) (Fetched j object stripe block ∷ job.given) new next (λ e. cc)
-        (refl, refl, refl) is
-    acts (Ask j object round) More new next free (symbol, (p, made, is)) =
-        called j p (Ask j object round) (Answered j object round symbol ∷ job.given) new next (λ e. cc)
-        (refl, refl, refl) is
-    acts (Work object stripe) More new next free (symbols, gives, is) = subst (IsSound limit) (sym is)
-        (plain-sound limit old S job runs (Work object stripe) (Worked object stripe symbols ∷ job.given) next
-        (λ e. cc) refl refl refl)
-    acts (Work object stripe) (Ended (answer.Lost s row)) new next free (same, loses, is) =
-        ends (Work object stripe) old.providers old.disk_faults new next refl is
-    acts (Remove j object) More new next free (p, made, is) =
-        called j p (Remove j object) job.given new next (λ e. cc) (refl, refl, refl) is
-    acts End (Ended how) new next free (ended_so, is) =
-        ends End old.providers old.disk_faults new next refl is
-    acts action r new next free h = moves action old.append r new refl next free h
-
-    acts_or_waits : (action : Action) (holder : Option ℕ) (r : Outcome) (new : State) →
-        next_action old job ≡ Some action → holder_of old.append action ≡ holder →
-        ActsOrWaits old job action holder r new → IsSound limit new
-    acts_or_waits action (Some n) (Waiting h) new next free w = same-sound new w.1
-    acts_or_waits action None r new next free h = acts action r new next free h
-    acts_or_waits action (Some n) r new next free h = absurd h
-
-    steps_on : (action : Option Action) (r : Outcome) (new : State) → next_action old job ≡ action →
-        StepsOn old job action r new → IsSound limit new
-    steps_on None r new next h = absurd h
-    steps_on (Some action) r new next h = acts_or_waits action (holder_of old.append action) r new next refl h
-
-  steps_job : (number : ℕ) (job : Option Job) (r : Outcome) (new : State) → old.is_open ≡ true →
-      old.is_barred ≡ false → job_of old.jobs number ≡ job → StepsJob old job r new → IsSound limit new
-  steps_job number None (Refused refusal.NoSuchJob) new opened unbarred is h = same-sound new h
-  steps_job number (Some job) r new opened unbarred is h =
-      steps_on opened unbarred job
-      (subst (λ n. job_of old.jobs n ≡ Some job) (sym (number_of old.jobs number job is)) is)
-      (next_action old job) r new refl h
-  steps_job number None r new opened unbarred is h = absurd h
-
-  steps_mine : (number : ℕ) (x : Alone) (mine : Bool) (r : Outcome) (new : State) → old.is_open ≡ true →
-      old.is_barred ≡ false → old.alone ≡ Some x → StepsMine old number x mine r new → IsSound limit new
-  steps_mine number x true r new opened unbarred runs h =
-      alone-sound limit old S opened unbarred (S.lone x runs) x r new runs h
-  steps_mine number x false r new opened unbarred runs h =
-      steps_job number (job_of old.jobs number) r new opened unbarred refl h
-
-  steps_one : (number : ℕ) (x : Option Alone) (r : Outcome) (new : State) → old.is_open ≡ true →
-      old.is_barred ≡ false → old.alone ≡ x → StepsOne old number x r new → IsSound limit new
-  steps_one number None r new opened unbarred none h =
-      steps_job number (job_of old.jobs number) r new opened unbarred refl h
-  steps_one number (Some x) r new opened unbarred runs h =
-      steps_mine number x (number_alone x == number) r new opened unbarred runs h
-
-  steps_open : (number : ℕ) (is_barred : Bool) (r : Outcome) (new : State) → old.is_open ≡ true →
-      old.is_barred ≡ is_barred → StepsOpen old number is_barred r new → IsSound limit new
-  steps_open number true (Refused refusal.MustReopen) new opened e h = same-sound new h
-  steps_open number false r new opened e h = steps_one number old.alone r new opened e refl h
-  steps_open number true r new opened e h = absurd h
-
-  steps : (number : ℕ) (is_open : Bool) (r : Outcome) (new : State) → old.is_open ≡ is_open →
-      Steps old number is_open r new → IsSound limit new
-  steps number false Closed new e h = same-sound new h
-  steps number true r new e h = steps_open number old.is_barred r new e refl h
-  steps number false r new e h = absurd h
+  steps : (number : ℕ) (r : Outcome) (new : State) → Steps old number old.is_open r new → IsSound limit new
+  steps number r new h = by_step old (λ n r w. IsSound limit w) (λ n r still. S)
+      (λ job runs opened unbarred.
+      by_action old job (λ r w. IsSound limit w) (acts opened unbarred job runs))
+      (λ n x r w at opened unbarred h. alone-sound limit old S opened unbarred (S.lone x at) x r w at h)
+      number old.is_open r new refl h
 
   begins : (kind : Kind) (wish : Option ℕ) →
       ((p : ℕ) → wish ≡ Some p → (name : List ℕ) × (bytes : List ℕ) × (kind ≡ PutJob name bytes)) →
@@ -335,7 +266,7 @@ module _ (limit moment : ℕ) (old : State) (S : IsSound limit old) where
       begins (PutJob name bytes) (Some profile) (λ p e. (name, bytes, refl)) fits r new spelled.1 h
   events-sound fits BeginScrub r new spelled h = scrub-begins limit old S moment r new h
   events-sound fits BeginPack r new spelled h = pack-begins limit old S r new h
-  events-sound fits (Step number) r new spelled h = steps number old.is_open r new refl h
+  events-sound fits (Step number) r new spelled h = steps number r new h
   events-sound fits (Alter j object stripe place symbol) r new spelled h =
       replaces_if (nat_lt j old.handed) j (λ held. HasPlace (held object stripe) place)
       (with_symbol object stripe place symbol) r new h

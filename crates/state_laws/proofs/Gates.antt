@@ -1,6 +1,6 @@
 -- What is left of a job after the fourth move of its append, by which it may have decided on an object to
 -- take away.
-use Rattle.std.proofs.Common.{◌≡◌, ℕ, zero, suc, ◌+◌, ◌-◌, ◌≤◌, List, [], ◌∷◌, ◌++◌, length, drop, Some, None, refl, ap, sym, subst, ◌∙◌, inl, inr, arith}
+use Rattle.std.proofs.Common.{◌≡◌, ℕ, ◌+◌, ◌-◌, ◌≤◌, List, [], ◌∷◌, ◌++◌, length, drop, Some, ap, sym, subst, ◌∙◌, inl, inr, arith}
 use Rattle.std.specs.Prelude.{slice_get}
 use Rattle.std.proofs.Math.Seq.{drop-append-add}
 use Rattle.algebra_laws.specs.Lists.{Each}
@@ -11,7 +11,7 @@ use Rattle.machine_defs.specs.Actions.{Action, WriteBody, SyncBody, WriteGate, S
 use Rattle.machine_defs.specs.States.{State, setup_in}
 use Rattle.machine_defs.specs.Steps.{next_action}
 use Rattle.machine_defs.proofs.ActionLists.{split_get}
-use Rattle.machine_defs.proofs.Fair.{gate_place}
+use Rattle.machine_defs.proofs.Fair.{gate_is_last, gate_place}
 use Rattle.machine_defs.proofs.NextActions.{next_stands}
 use Rattle.state_laws.specs.Orders.{IsInOrder}
 use Rattle.state_laws.proofs.Orders.{IsOther, others-removals, put_rest, drop_rest, put-list, in_order-removals, appends-removals, appends-cons, appends_in, next-left}
@@ -69,18 +69,11 @@ no-gates (x ∷ xs) h = (one x h.0, no-gates xs h.1)
 pub drop-gate : (s : Setup) (job : Job) (p : ℕ) →
     slice_get (append_actions ++ drop_rest s job) p ≡ Some SyncGate → p ≡ 3
 drop-gate s job p h = elim (split_get append_actions (drop_rest s job) p SyncGate h) [
-  | inl a ↦ within p a.1
+  | inl a ↦ gate_is_last p a.1
   | inr b ↦ absurd (each_get IsNoGate (drop_rest s job) (p - 4) SyncGate
       (each_append IsNoGate (remove_actions s job) (End ∷ [])
       (no-gates (remove_actions s job) (others-removals s job)) (tt, tt)) b.1)
 ]
-  where
-    within : (p : ℕ) → slice_get append_actions p ≡ Some SyncGate → p ≡ 3
-    within zero h = absurd (let e : Some WriteBody ≡ Some SyncGate = h in cc)
-    within (suc zero) h = absurd (let e : Some SyncBody ≡ Some SyncGate = h in cc)
-    within (suc (suc zero)) h = absurd (let e : Some WriteGate ≡ Some SyncGate = h in cc)
-    within (suc (suc (suc zero))) h = refl
-    within (suc (suc (suc (suc p)))) h = absurd (let e : None ≡ Some SyncGate = h in cc)
 
 -- behind the second append of a put
 pub put-behind : (s : Setup) (job : Job) (bytes : List ℕ) (p : ℕ) →

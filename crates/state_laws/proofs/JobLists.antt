@@ -231,6 +231,13 @@ numbered-below low (x ∷ js) next k j h f = elim (at_first x js k j f) [
 pub mine : (a : Append) (number : ℕ) → a.job ≡ number → moves_made (Some a) number ≡ a.moves
 mine a number e = cond_true (a.job == number) a.moves 0 (eq-eqb a.job number e)
 
+-- an append of which a move was made is in flight for no job that has made none
+pub not-mine : (flight : Option Append) (number : ℕ) (a : Append) → flight ≡ Some a → 1 ≤ a.moves →
+    moves_made flight number ≡ 0 → a.job ≡ number → ⊥
+not-mine flight number a is begun none e =
+    (let c = ap (λ f. moves_made f number) (sym is) ∙ none in let d = mine a number e in
+    omega (arith, begun, c, d))
+
 -- any job but that of the append in flight has made no move
 pub other : (a : Append) (number : ℕ) → (a.job ≡ number → ⊥) → moves_made (Some a) number ≡ 0
 other a number n = cond_false (a.job == number) a.moves 0 (ne_eqb a.job number n)

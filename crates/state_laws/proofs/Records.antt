@@ -365,15 +365,15 @@ file-came (InEffect k size profile n) rs name file h =
 file-came (RepairDue number counts) rs name file h = inl h
 
 -- the profile of a setup that has a spelling
+pub setup-fits : (s : Setup) → IsTrue (is_in_grammar (SetUp s)) → s.profile < all_profiles
+setup-fits s h = grind (arith, nat_tests, h)
+
 profile-fits : (rs : List Record) → AreInGrammar rs → profile_in (setup_of rs) < all_profiles
 profile-fits rs g = by (setup_of rs) refl
   where
-    fits : (s : Setup) → IsTrue (is_in_grammar (SetUp s)) → s.profile < all_profiles
-    fits s h = grind (arith, nat_tests, h)
-
     by : (o : Option Setup) → setup_of rs ≡ o → profile_in o < all_profiles
     by None e = omega arith
-    by (Some s) e = fits s (setup-spelled rs s g e)
+    by (Some s) e = setup-fits s (setup-spelled rs s g e)
 
 -- what a file in effect has: a name, a length and a profile within their limits
 abbrev pub IsFit : List ℕ → File → Type 0

@@ -23,7 +23,7 @@ use Rattle.state_laws.specs.Follows.{BringsHeld, MayFollow}
 use Rattle.state_laws.specs.SoundJobs.{IsReady, IsSoundJob}
 use Rattle.state_laws.specs.Sound.{IsDoubtOf, IsSoundAppend, IsPutUnderWay, starts_left, IsSound}
 use Rattle.state_laws.proofs.Orders.{gates}
-use Rattle.state_laws.proofs.JobLists.{sum-with, length-with, numbered-with, still-with, only-with, mine, other}
+use Rattle.state_laws.proofs.JobLists.{sum-with, length-with, numbered-with, still-with, only-with, not-mine, other}
 use Rattle.state_laws.proofs.NamesTaken.{are_put, puts_name, taken-fewer}
 use Rattle.state_laws.proofs.Records.{sound-accepted, held-on, held-same}
 use Rattle.state_laws.proofs.Packs.{started-in, journal-same}
@@ -324,13 +324,6 @@ module _ (limit : ℕ) (old : State) (S : IsSound limit old) (job : Job)
       (let a = count-onward old job given action next n in let b : gates action ≡ 0 =
       cond_false (ends_append action) 1 0 plain in omega (arith, a, b))
 
-  -- an append of which a move was made is in flight for no other job
-  pub not-mine : (a : Append) → old.append ≡ Some a → moves_made old.append job.number ≡ 0 →
-      a.job ≡ job.number → ⊥
-  not-mine a flight none e =
-      (let b = (S.append a flight).begun in let c = ap (λ f. moves_made f job.number) (sym flight) ∙ none in
-      let d = mine a job.number e in omega (arith, b, c, d))
-
   -- an action between appends
   pub plain-sound : (action : Action) (given : List Given) → next_action old job ≡ Some action →
       (action ≡ End → ⊥) → ends_append action ≡ false → moves_before action ≡ 0 → moves_after action ≡ 0 →
@@ -352,7 +345,7 @@ module _ (limit : ℕ) (old : State) (S : IsSound limit old) (job : Job)
       (under job.kind refl next plain)
       count
       (λ a flight. append-other (onward job job.subject given) old.append old.doubt old.audits a refl
-      (not-mine a flight none) (S.append a flight))
+      (not-mine old.append job.number a flight (S.append a flight).begun none) (S.append a flight))
       S.barred S.undoubted S.doubt)
     where
       under : (kind : Kind) → job.kind ≡ kind → next_action old job ≡ Some action →
