@@ -1,9 +1,9 @@
 pub mod Values
-pub mod Steps
 pub mod Run
 pub mod CalmRun
 pub mod Points
 pub mod InRepair
 pub mod LostGet
+pub mod Told
 pub mod ReadOver
 pub mod SecondLoss

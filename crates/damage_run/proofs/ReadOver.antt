@@ -1,79 +1,73 @@
 -- A get over a damaged store is one.
-use Rattle.std.specs.Prelude.{◌≡◌, ℕ, List, [], ◌∷◌}
+use Rattle.std.specs.Prelude.{true, List, [], take, drop}
 use Rattle.std.proofs.Common.{refl, inl, arith}
-use Rattle.machine_defs.specs.Jobs.{GetJob}
-use Rattle.machine_defs.specs.Answers.{Got}
-use Rattle.machine_defs.specs.Events.{Begin, Step, Lose, Begun, More, Ended, Replaced}
-use Rattle.machine_defs.specs.Jobs.{AuditJob}
+use Rattle.machine_defs.specs.Actions.{actions_of}
 use Rattle.machine_defs.specs.States.{setup_in}
-use Rattle.machine_defs.specs.Runs.{Moment}
-use Rattle.machine_defs.specs.Damaged.{DamagesOnly}
-use Rattle.machine_defs.proofs.Damaged.{steps_damage_none, both_only}
-use Rattle.machine_defs.proofs.RunParts.{stepped}
-use Rattle.machine_defs.proofs.PutRun.{moments as stored, steps as put_steps}
-use Rattle.second_half_laws.proofs.ByteTold.{is_told, put_begin, reopening, put_goes_on}
+use Rattle.machine_defs.specs.Runs.{Moment, first_moments}
+use Rattle.machine_defs.specs.Untouched.{Touches, given_up}
+use Rattle.machine_defs.specs.Examples.{set_up}
+use Rattle.made_runs.specs.Instructions.{run_of}
+use Rattle.made_runs.proofs.Instructions.{are-run}
+use Rattle.run_laws.specs.Stories.{Stored}
 use Rattle.damage_run.specs.Schedule.{name, byte}
-use Rattle.damage_run.specs.ReadOver.{damaged, IsReadOver}
-use Rattle.damage_run.proofs.Steps.{state_16, state_17, state_18, state_19, state_20, state_21, state_22, state_23, state_24, state_25}
-use Rattle.damage_run.proofs.Run.{is_until_25}
+use Rattle.damage_run.specs.ReadOver.{IsReadOver}
+use Rattle.damage_run.proofs.Run.{put, read, fit_read}
 use Rattle.damage_run.proofs.CalmRun.{outright}
+use Rattle.damage_run.proofs.Points.{last_of}
+use Rattle.damage_run.proofs.Told.{no_damage, no_begin, no_begun}
+
+-- the put
+abbrev pub stored : List Moment
+stored = run_of set_up put
+
+is_told : Stored stored name byte
+unfolding setup_in actions_of
+is_told = record {
+  later = [];
+  end = last_of stored;
+  between = take 12 (drop 1 stored);
+  begin = last_of (first_moments 2 stored);
+  older = first_moments 1 stored;
+  number = 1;
+  split = refl;
+  free = given_up (last_of (first_moments 1 stored)) [] tt;
+  begin_event = inl refl;
+  begun = refl;
+  none = no_begun 1 (take 12 (drop 1 stored)) refl;
+  none_between = no_begin (λ kind. true) (Touches name) (λ kind on. refl) (take 12 (drop 1 stored)) refl;
+  end_event = refl;
+  ended = refl;
+  none_since = tt;
+}
+
+-- up to the end of the get
+abbrev up_to_end : List Moment
+up_to_end = run_of set_up read
 
 abbrev pub begin : Moment
-begin = record { event = Begin (GetJob name); outcome = Begun 2; state = state_16 }
+begin = last_of (first_moments 16 up_to_end)
 
 abbrev pub end : Moment
-end = record { event = Step 2; outcome = Ended (Got byte); state = state_25 }
+end = last_of up_to_end
 
 -- the get's fetches, the loss, the audit's begin and a step of it, and the get's work
 abbrev pub gaps : List Moment
-gaps = stepped 2 state_24
-    ∷ stepped 3 state_23
-    ∷ record { event = Begin AuditJob; outcome = Begun 3; state = state_22 }
-    ∷ record { event = Lose 2 1 0; outcome = Replaced; state = state_21 }
-    ∷ stepped 2 state_20 ∷ stepped 2 state_19 ∷ stepped 2 state_18 ∷ stepped 2 state_17 ∷ []
-
-damages_put : DamagesOnly damaged stored
-damages_put = (
-  tt,
-  both_only damaged put_steps (put_begin ∷ reopening ∷ [])
-      (steps_damage_none damaged 1 put_steps put_goes_on) (tt, (tt, tt)),
-)
+gaps = take 8 (drop 1 up_to_end)
 
 pub is_read : IsReadOver stored gaps begin end
-unfolding setup_in
+unfolding setup_in actions_of
 is_read = record {
   clean = outright.clean;
   tell = outright.tell;
-  run = is_until_25;
+  run = are-run 8 set_up read fit_read;
   stored = is_told;
   got = record {
     begin_event = refl;
     begun = refl;
-    none = (
-      (λ e. (let f : More ≡ Begun 2 = e in cc)),
-      (
-        (λ e. (let f : More ≡ Begun 2 = e in cc)),
-        (
-          (λ e. (let f : Begun 3 ≡ Begun 2 = e in let g : ◌≡◌ {A = ℕ} 3 2 = cc in omega arith)),
-          (
-            (λ e. (let f : Replaced ≡ Begun 2 = e in cc)),
-            (
-              (λ e. (let f : More ≡ Begun 2 = e in cc)),
-              (
-                (λ e. (let f : More ≡ Begun 2 = e in cc)),
-                (
-                  (λ e. (let f : More ≡ Begun 2 = e in cc)),
-                  ((λ e. (let f : More ≡ Begun 2 = e in cc)), tt),
-                ),
-              ),
-            ),
-          ),
-        ),
-      ),
-    );
+    none = no_begun 2 gaps refl;
     end_event = refl;
     ended = refl;
   };
-  damages = (tt, (tt, (tt, (tt, (inl refl, (tt, (tt, (tt, (tt, (tt, damages_put))))))))));
+  damages = no_damage 2 up_to_end refl;
   few = omega arith;
 }

@@ -1,13 +1,15 @@
 -- What the providers hold and answer in the run: the blocks of a file of one byte over four providers, one of
 -- which is lost.
 use Rattle.column_defs.specs.Forgeries.{count_of}
-use Rattle.std.proofs.Common.{◌≡◌, ℕ, ◌/◌, ◌%◌, ◌<◌, true, false, ◌&&◌, List, [], ◌∷◌, Option, Some, None, refl, ap, sym, ◌∙◌, inl, arith, zero, suc, ◌≤◌}
-use Rattle.std.specs.Prelude.{is_some, unwrap_or, if◌then◌else◌}
+use Rattle.std.proofs.Common.{◌≡◌, ℕ, ◌/◌, ◌%◌, ◌<◌, true, false, ◌&&◌, List, [], ◌∷◌, length, Option, Some, None, refl, ap, sym, subst, ◌∙◌, inl, arith, zero, suc, ◌≤◌}
+use Rattle.std.specs.Prelude.{is_some, slice_set, slice_index, unwrap_or, if◌then◌else◌}
 use Rattle.hail_field.specs.Nim.{nim_add, nim_mul, nim_pow}
 use Rattle.hail_field.proofs.AllNumbers.{nim_laws}
 use Rattle.algebra_laws.specs.Poly.{is_seen as is_seen_over, agree as agree_over}
 use Rattle.code_defs.specs.Polynomials.{value, agree, is_seen}
 use Rattle.code_defs.specs.Points.{upto}
+use Rattle.code_defs.specs.ServerCode.{differences}
+use Rattle.code_defs.proofs.Codewords.{differences-same}
 use Rattle.column_defs.specs.Objects.{Object, symbols_in, point}
 use Rattle.column_defs.specs.Columns.{is_wrong_block}
 use Rattle.column_defs.specs.Opened.{SeenBlock, bare, GivesSymbols, OpensFile, block_at}
@@ -159,6 +161,22 @@ judged = inl (
       (bare_answer thing asked 0 (right 0)) (bare_answer thing asked 1 (right 1))
       (bare_answer thing asked 3 (right 3)) (agrees_at 0) (agrees_at 1) (agrees_at 3))),
 )
+
+-- ---- a block of which the first symbol is altered
+
+-- what a block begins with, and what stands behind it
+pub head_is : (c : List ℕ) (n x : ℕ) → length c ≡ suc n → slice_index c 0 ≡ x →
+    (rest : List ℕ) × (c ≡ x ∷ rest)
+head_is [] n x size first = absurd (omega (arith, size))
+head_is (y ∷ ys) n x size first = (ys, ap (λ z. z ∷ ys) first)
+
+-- one symbol differs
+pub one_differs : (b : List ℕ) (rest : List ℕ) → b ≡ 111 ∷ rest → differences (slice_set b 0 5) b ≡ 1
+one_differs b rest is =
+    subst (λ c. differences (slice_set c 0 5) c ≡ 1) (sym is) (ap suc (differences-same rest))
+
+pub same_size : (b : List ℕ) (rest : List ℕ) → b ≡ 111 ∷ rest → length (slice_set b 0 5) ≡ length b
+same_size b rest is = subst (λ c. length (slice_set c 0 5) ≡ length c) (sym is) refl
 
 -- ---- the file, of blocks one of which is absent
 

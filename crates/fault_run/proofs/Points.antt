@@ -9,15 +9,13 @@ use Rattle.column_defs.specs.Objects.{point}
 use Rattle.column_defs.specs.Challenges.{bare_answer}
 use Rattle.device_defs.specs.Providers.{Held}
 use Rattle.record_defs.specs.Records.{Record, PutDone}
-use Rattle.machine_defs.specs.Jobs.{GetJob, Given, Fetched, Answered, Job, job_of}
+use Rattle.machine_defs.specs.Jobs.{Given, Fetched, Answered, Job, job_of}
 use Rattle.machine_defs.specs.Actions.{Action, Store, Fetch, Ask, Remove, actions_of}
 use Rattle.machine_defs.specs.Answers.{Got}
-use Rattle.machine_defs.specs.Events.{Event, BeginScrub, Step, Continue}
+use Rattle.machine_defs.specs.Events.{Event, Step, Continue}
 use Rattle.machine_defs.specs.Scrubs.{scrubbed}
 use Rattle.machine_defs.specs.Examples.{set_up}
-use Rattle.second_half_laws.specs.MarkedRuns.{BeginsNoScrub}
 use Rattle.machine_defs.specs.States.{State, Append, Doubt, setup_in}
-use Rattle.machine_defs.specs.Begins.{new_job}
 use Rattle.machine_defs.specs.Deeds.{Makes}
 use Rattle.machine_defs.specs.Steps.{next_action, holder_of}
 use Rattle.machine_defs.specs.Runs.{Moment, first_moments}
@@ -29,26 +27,11 @@ use Rattle.damage_run.specs.Schedule.{name, byte}
 use Rattle.damage_run.specs.Points.{at}
 use Rattle.damage_run.proofs.Values.{thing, right, same_first, asked, decider, agrees_at}
 use Rattle.damage_run.proofs.CalmRun.{calm_by_test, scrubs_by_test, outright}
-use Rattle.damage_run.proofs.Points.{the_file, last_of}
+use Rattle.damage_run.proofs.Points.{or_else, is-some, no_job, the_job, the_file, last_of, in-doubt}
+use Rattle.damage_run.proofs.Told.{no_scrub}
 use Rattle.fault_run.specs.Faults.{IsFaulty}
 use Rattle.fault_run.specs.Met.{Fails, HasFaults}
 use Rattle.fault_run.proofs.Run.{moments, is_run}
-
--- no scrub begins
-abbrev begins_scrub : Event → Bool
-begins_scrub BeginScrub = true
-begins_scrub event = false
-
-abbrev scrubs_never : List Moment → Bool
-scrubs_never [] = true
-scrubs_never (m ∷ ms) = not (begins_scrub m.event) && scrubs_never ms
-
-unscrubbed_by_test : (ms : List Moment) → scrubs_never ms ≡ true → BeginsNoScrub ms
-unscrubbed_by_test [] h = tt
-unscrubbed_by_test (m ∷ ms) h = (let p = and_parts (not (begins_scrub m.event)) (scrubs_never ms) h in (
-  λ e. false≢true (sym (not-true (begins_scrub m.event) p.0) ∙ ap begins_scrub e),
-  unscrubbed_by_test ms p.1,
-))
 
 -- the moments are the run: calm, with no scrub, and with the events of the schedule
 pub faulty : IsFaulty moments
@@ -59,7 +42,7 @@ faulty = record {
   run = is_run;
   calm = calm_by_test (λ moments. 0) moments refl;
   scrubs = scrubs_by_test (λ moments. 0) moments refl;
-  unscrubbed = unscrubbed_by_test moments refl;
+  unscrubbed = no_scrub moments refl;
   scrub_calm = record {
     jobs = calm_by_test (scrubbed set_up) moments refl;
     scrubs = scrubs_by_test (scrubbed set_up) moments refl;
@@ -73,34 +56,11 @@ event_at k = last_of (first_moments (suc k) moments)
 
 -- ---- what is found in a state: compared with itself, a computed job costs more than can be paid
 
--- what is found, or this
-abbrev or_else : {A : Type 0} → A → Option A → A
-or_else none None = none
-or_else none (Some x) = x
-
--- it is found where the test says so
-is-some : {A : Type 0} (none : A) (found : Option A) → is_some found ≡ true →
-    found ≡ Some (or_else none found)
-is-some none None h = absurd (false≢true h)
-is-some none (Some x) h = refl
-
--- a job that does nothing
-abbrev no_job : Job
-no_job = new_job set_up 0 (GetJob [])
-
--- a record that nobody made
-abbrev no_doubt : Doubt
-no_doubt = record { entry = PutDone 0 0; maker = None }
-
 -- an append that nothing writes
 abbrev no_append : Append
 no_append = record { job = 0; entry = PutDone 0 0; moves = 0 }
 
--- the job that is found
-abbrev the_job : Option Job → Job
-the_job found = or_else no_job found
-
--- it is that of its own number
+-- the job that is found is that of its own number
 its-job : (w : State) (n : ℕ) (found : Option Job) → job_of w.jobs n ≡ found → is_some found ≡ true →
     (the_job found).number ≡ n → job_of w.jobs (the_job found).number ≡ Some (the_job found)
 its-job w n None e h same = absurd (false≢true h)
@@ -288,13 +248,7 @@ faults = record {
     file = the_file;
     in_effect = refl;
   };
-  cut_in_doubt = record {
-    doubt = or_else no_doubt (at 37 moments).doubt;
-    in_doubt = is-some no_doubt (at 37 moments).doubt refl;
-    entry_is = refl;
-    job = the_job (or_else no_doubt (at 37 moments).doubt).maker;
-    maker = is-some no_job (or_else no_doubt (at 37 moments).doubt).maker refl;
-  };
+  cut_in_doubt = in-doubt (at 37 moments) (PutDone 3 0) refl refl refl;
   cut_ended = refl;
   cut_profile = refl;
   stop = event_at 37;

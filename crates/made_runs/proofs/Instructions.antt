@@ -35,7 +35,7 @@ turn-run limit start ms n (Goes k) l f r = plain limit start ms n k l f r
 turn-run limit start ms n turn l f r = (l, goes-so limit (length ms) (now start ms) n turn f, r)
 
 -- and so do turns
-turns-run : (limit : ℕ) (start : State) (ms : List Moment) (n : ℕ) (turns : List Turn) → n < 2 ^ 32 →
+pub turns-run : (limit : ℕ) (start : State) (ms : List Moment) (n : ℕ) (turns : List Turn) → n < 2 ^ 32 →
     AreTurns start ms n turns → IsRun limit start ms → IsRun limit start (job_run start ms n turns)
 turns-run limit start ms n [] l f r = r
 turns-run limit start ms n (turn ∷ turns) l f r =

@@ -4,3 +4,5 @@ pub mod Sweeps
 pub mod Failures
 pub mod Instructions
 pub mod Written
+pub mod Counts
+pub mod GetRun

@@ -4,3 +4,4 @@ pub mod Sweeps
 pub mod Failures
 pub mod Instructions
 pub mod Written
+pub mod Counts

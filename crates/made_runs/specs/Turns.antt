@@ -5,7 +5,7 @@
 --   FitsTurn start ms n turn == after them the job can go so
 --   job_run start ms n turns == the moments ms with those of turns of job n before them
 --   AreFitTurns              == after them the job can go so in each, and each answers more
-use Rattle.std.specs.Prelude.{◌≡◌, ℕ, zero, suc, ◌+◌, ◌&&◌, Bool, true, false, not, List, [], ◌∷◌, ◌++◌, Option, None, Some, is_some}
+use Rattle.std.specs.Prelude.{◌≡◌, ℕ, zero, suc, ◌+◌, ◌&&◌, Bool, true, false, not, List, [], ◌∷◌, Option, None, Some, is_some}
 use Rattle.column_defs.specs.Challenges.{honest_answer}
 use Rattle.column_defs.specs.Opened.{GivesSymbols, LosesRow}
 use Rattle.record_defs.specs.Records.{Record}
@@ -13,14 +13,13 @@ use Rattle.device_defs.specs.Faults.{one_more}
 use Rattle.device_defs.specs.Providers.{Provider}
 use Rattle.device_defs.specs.ProviderCalls.{FetchGives, AskGives}
 use Rattle.machine_defs.specs.Audits.{asked_challenge}
-use Rattle.machine_defs.specs.Jobs.{Kind, Job, Fetched, Answered, Worked, job_of, advanced_with}
+use Rattle.machine_defs.specs.Jobs.{Job, Fetched, Answered, Worked, job_of, advanced_with}
 use Rattle.machine_defs.specs.Actions.{Action, WriteBody, SyncBody, WriteGate, SyncGate, Store, Fetch, Ask, Work, End}
 use Rattle.machine_defs.specs.Answers.{Answer, Lost, DiskFault, ProviderFault}
 use Rattle.machine_defs.specs.Events.{Step, Outcome, More, Ended}
 use Rattle.machine_defs.specs.States.{State, setup_in, worked_object, going_on, ended}
 use Rattle.machine_defs.specs.Given.{blocks_given}
 use Rattle.machine_defs.specs.Appends.{Writes, begun_append, doubted, barred}
-use Rattle.machine_defs.specs.Begins.{new_job}
 use Rattle.machine_defs.specs.Runs.{Moment, now}
 use Rattle.machine_defs.specs.Steps.{Ends, next_action, holder_of}
 use Rattle.made_runs.specs.Steps.{called, fetched, can_step, stepped, is_at, by_flight}
@@ -175,10 +174,6 @@ FitsTurn start ms n (Goes k) = can_go_by start ms n k ≡ true
 FitsTurn start ms n turn = FitsStep (now start ms) n turn
 
 -- ---- runs
-
--- a job has begun, after so many events
-abbrev pub begun : State → ℕ → Kind → State
-begun w moment kind = record w { jobs = w.jobs ++ new_job w moment kind ∷ []; next_job = w.next_job + 1 }
 
 -- these moments with those of turns of a job before them
 abbrev pub job_run : State → List Moment → ℕ → List Turn → List Moment

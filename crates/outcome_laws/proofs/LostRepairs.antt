@@ -1,9 +1,7 @@
 -- A repair that relies on providers is lost only where a provider's count rose.
-use Rattle.std.proofs.Common.{◌≡◌, ℕ, zero, suc, ◌<◌, ◌≤◌, Bool, true, ◌⊎◌, List, length, Some, refl, sym, subst, inl, inr, arith}
+use Rattle.std.proofs.Common.{◌≡◌, ℕ, ◌<◌, ◌≤◌, Bool, true, List, length, Some, refl, sym, subst, inl, inr, arith}
 use Rattle.std.specs.Prelude.{IsTrue}
-use Rattle.std.proofs.lemmas.Bool.{cases_Bool, cases_lt}
 use Rattle.algebra_laws.specs.Lists.{In}
-use Rattle.hail_field.specs.Shape.{IsShape}
 use Rattle.code_defs.specs.Points.{upto}
 use Rattle.column_defs.specs.Objects.{Object, symbols_in}
 use Rattle.column_defs.specs.Columns.{row_polynomial, is_wrong_block}
@@ -12,7 +10,6 @@ use Rattle.column_defs.specs.Forgeries.{count_of}
 use Rattle.column_laws.proofs.Counts.{count_of-within}
 use Rattle.column_laws.proofs.UniqueLaws.{profile-room}
 use Rattle.column_laws.proofs.RightRows.{row-right}
-use Rattle.device_defs.specs.Faults.{Rose, last_count}
 use Rattle.machine_defs.specs.Jobs.{Pinned, Job, job_of}
 use Rattle.machine_defs.specs.Setups.{profiled, stripes_of, pinned_stripes}
 use Rattle.machine_defs.specs.Actions.{Fetch, Work}
@@ -21,12 +18,8 @@ use Rattle.machine_defs.specs.Given.{block_given, blocks_given}
 use Rattle.machine_defs.specs.Steps.{next_action}
 use Rattle.machine_defs.specs.Runs.{Moment, now, is_replaced_since, IsRun}
 use Rattle.machine_defs.specs.Calm.{Mark, relies, replaced_count}
-use Rattle.machine_defs.proofs.JobLists.{found_none}
-use Rattle.machine_defs.proofs.Held.{all}
 use Rattle.machine_defs.proofs.Given.{block_at-given}
-use Rattle.run_laws.proofs.InEffect as eff
-use Rattle.run_laws.proofs.InEffect.{valid_shape}
-use Rattle.run_laws.proofs.FirstHalf.{shape_in}
+use Rattle.run_laws.proofs.FirstHalf.{runs_shape}
 use Rattle.second_half_laws.specs.Behind.{HasMade}
 use Rattle.second_half_laws.specs.Damage.{RoseSince}
 use Rattle.second_half_laws.proofs.EveryRun.{always, worked_is}
@@ -34,44 +27,7 @@ use Rattle.second_half_laws.proofs.MadeFacts.{given_block, made_fetch_gave}
 use Rattle.second_half_laws.proofs.MovePlaces.{works_within}
 use Rattle.second_half_laws.proofs.Places.{fetched_before_work}
 use Rattle.second_half_laws.proofs.Points.{Facts, begin_of, mark_of}
-
--- ---- a count rose, or did not
-
-rose_or_not : (a b : ℕ) → Rose a b ⊎ (Rose a b → ⊥)
-rose_or_not a b = elim (cases_lt a last_count) [
-  | inr k ↦ inl (λ l. omega (arith, k, l))
-  | inl k ↦ elim (cases_lt a b) [
-    | inl l ↦ inl (λ z. l)
-    | inr l ↦ inr (λ rose. (let g = rose k in omega (arith, g, l)))
-  ]
-]
-
--- the count of one of these providers rose, or of none
-some_rose : (w v : State) (n : ℕ) → ((i : ℕ) × (i < n) × RoseSince w v i) ⊎
-    ((i : ℕ) → i < n → RoseSince w v i → ⊥)
-some_rose w v zero = inr (λ i l rose. omega (arith, l))
-some_rose w v (suc n) = elim (some_rose w v n) [
-  | inl p ↦ inl (p.0, (let l = p.1 in omega (arith, l)), p.2)
-  | inr none ↦ elim (rose_or_not (w.providers n).other_faults (v.providers n).other_faults) [
-    | inl rose ↦ inl (n, omega arith, rose)
-    | inr other ↦ inr (λ i l rose. elim (cases_lt i n) [
-      | inl k ↦ none i k rose
-      | inr k ↦ other (subst (RoseSince w v) (let e : i ≡ n = omega (arith, l, k) in e) rose)
-    ])
-  ]
-]
-
--- while a job runs, the setup makes a shape
-pub runs_shape : (limit : ℕ) (start : State) (ms : List Moment) → IsStart start → IsRun limit start ms →
-    (k : ℕ) (job : Job) → job_of (now start ms).jobs k ≡ Some job →
-    IsShape (setup_in (now start ms)).n (setup_in (now start ms)).l (setup_in (now start ms)).b
-runs_shape limit start ms clean run k job runs = shape_in (now start ms)
-    (λ s e. valid_shape s ((eff.facts limit start ms clean run).setup s e))
-    (elim (cases_Bool (now start ms).is_open) [
-      | inl t ↦ (eff.facts limit start ms clean run).opened t
-      | inr f ↦ absurd (found_none (now start ms).jobs k job
-          ((all limit start clean ms run).numbers.idle.idle f).0 runs)
-    ])
+use Rattle.second_half_laws.proofs.SecondHalf.{some_rose}
 
 -- ---- the work of a job that relies on providers
 
@@ -81,9 +37,6 @@ module _ (limit : ℕ) (mark : Mark) (start : State) (ms : List Moment) (clean :
     replaced_count (now start ms) (mark_of mark ms j) ms ≤ (setup_in (now start ms)).b)
     (job : Job) (runs : job_of (now start ms).jobs job.number ≡ Some job)
     (reads : relies job.kind ≡ true) where
-  shape : IsShape (setup_in (now start ms)).n (setup_in (now start ms)).l (setup_in (now start ms)).b
-  shape = runs_shape limit start ms clean run job.number job runs
-
   module _ (f : Pinned) (stripe : ℕ) (in_file : In f job.pinned)
       (below : stripe < stripes_of (profiled (setup_in (now start ms)) f.profile)
       (length ((now start ms).bytes f.id)))
@@ -126,7 +79,8 @@ module _ (limit : ℕ) (mark : Mark) (start : State) (ms : List Moment) (clean :
         (row_polynomial (pinned_object (now start ms) f)
         (symbols_in (pinned_object (now start ms) f) ((now start ms).bytes f.id) stripe) h.place)
         (row-right (pinned_object (now start ms) f) ((now start ms).bytes f.id) f.profile stripe h.place
-        (blocks_given job.given (setup_in (now start ms)).n f.id stripe) h.opened refl shape few h.opens
+        (blocks_given job.given (setup_in (now start ms)).n f.id stripe) h.opened refl
+        (runs_shape limit start ms clean run job.number job runs) few h.opens
         (let room = profile-room (pinned_object (now start ms) f) f.profile refl in let k = h.kept in
         omega (arith, room, k)))
 

@@ -1,8 +1,6 @@
 -- A repair in a run that is calm by a mark, where no count rose since its begin.
 use Rattle.std.proofs.Common.{◌≡◌, ℕ, ◌≤◌, ◌⊎◌, List, [], ◌∷◌, ◌++◌, Some, refl, ap, inl, inr, arith}
-use Rattle.std.proofs.lemmas.Bool.{cases_lt}
 use Rattle.record_defs.specs.Table.{Due, due_of}
-use Rattle.device_defs.specs.Faults.{Rose, last_count}
 use Rattle.machine_defs.specs.Jobs.{RepairJob}
 use Rattle.machine_defs.specs.Answers as answer
 use Rattle.machine_defs.specs.Answers.{Answer}
@@ -14,6 +12,7 @@ use Rattle.machine_defs.specs.Began.{NoneBegan}
 use Rattle.machine_defs.proofs.Untouched.{run_back}
 use Rattle.second_half_laws.specs.MarkedRuns.{IsMarkedRun}
 use Rattle.second_half_laws.proofs.Onward.{run_onward}
+use Rattle.second_half_laws.proofs.Readers.{rose_since}
 use Rattle.outcome_laws.specs.RunEnds.{NoneRose, EndsRepair}
 use Rattle.outcome_laws.proofs.Repairs.{repairs_end}
 
@@ -31,13 +30,6 @@ stores_on limit start j [] ms run = omega arith
 stores_on limit start j (m ∷ later) ms run =
     (let a = stores_on limit start j later ms run.2 in
     let b = ((run_onward limit start m (later ++ ms) run).provider j).stores in omega (arith, a, b))
-
--- a count that rose in a step rose since any moment before it
-rose_since : (a b c : ℕ) → a ≤ b → Rose b c → b ≤ c → Rose a c
-rose_since a b c early h l below = elim (cases_lt b last_count) [
-  | inl k ↦ (let g = h k in omega (arith, g, early))
-  | inr k ↦ omega (arith, k, l, below)
-]
 
 abbrev IsDone : State → Answer → Type 0
 IsDone begun how =

@@ -22,9 +22,6 @@ use Rattle.schedule_runs.specs.Schedule.{IsPackedRun}
 abbrev packing : List Instruction
 packing = Sweeps 3 (Tells 81 81 ∷ Moves ∷ Moves ∷ Moves ∷ []) ∷ Swept 3 Moves ∷ Begins BeginPack ∷ put
 
-abbrev instructions : List Instruction
-instructions = get 4 packing
-
 fit_pack : AreFit 8 set_up packing
 unfolding setup_in actions_of
 fit_pack = (
@@ -35,7 +32,7 @@ fit_pack = (
   ((omega arith, (refl, (refl, tt))), ((tt, refl, refl), fit_put)),
 )
 
-fit : AreFit 8 set_up instructions
+fit : AreFit 8 set_up (get 4 packing)
 unfolding setup_in actions_of
 fit = (
   (
@@ -56,7 +53,7 @@ fit = (
 
 -- all of them
 abbrev pub packed_moments : List Moment
-packed_moments = run_of set_up instructions
+packed_moments = run_of set_up (get 4 packing)
 
 -- the history ends with the put, and the disk holds it packed
 history : (now set_up packed_moments).records ≡ stored_records
@@ -72,8 +69,8 @@ pub is_packed : IsPackedRun packed_moments
 unfolding setup_in actions_of digits
 is_packed = record {
   clean = outright.clean;
-  run = are-run 8 set_up instructions fit;
-  carried_out = carries set_up instructions refl;
+  run = are-run 8 set_up (get 4 packing) fit;
+  carried_out = carries set_up (get 4 packing) refl;
   area = refl;
   journal = held ∙ ap packed (sym history);
   last = record { moment = last_of packed_moments; is = refl; event = refl; outcome = refl };

@@ -7,7 +7,7 @@ use Rattle.machine_defs.specs.States.{setup_in}
 use Rattle.machine_defs.specs.Runs.{Moment}
 use Rattle.machine_defs.specs.Scrubs.{scrubbed}
 use Rattle.machine_defs.specs.Examples.{set_up}
-use Rattle.made_runs.specs.Instructions.{Instruction, run_of, AreFit}
+use Rattle.made_runs.specs.Instructions.{run_of, AreFit}
 use Rattle.made_runs.proofs.Instructions.{are-run}
 use Rattle.made_runs.proofs.Written.{carries}
 use Rattle.damage_run.proofs.CalmRun.{calm_by_test}
@@ -17,10 +17,7 @@ use Rattle.upgrade_run.proofs.Values.{byte_back, own_sized, all_give}
 use Rattle.upgrade_run.proofs.Run.{swept, get, fit_swept, outright}
 use Rattle.schedule_runs.specs.Schedule.{IsScrubbedRun}
 
-abbrev instructions : List Instruction
-instructions = get 4 swept
-
-fit : AreFit 8 set_up instructions
+fit : AreFit 8 set_up (get 4 swept)
 unfolding setup_in actions_of
 fit = (
   (
@@ -41,15 +38,15 @@ fit = (
 
 -- all of them
 abbrev pub scrubbed_moments : List Moment
-scrubbed_moments = run_of set_up instructions
+scrubbed_moments = run_of set_up (get 4 swept)
 
 -- the moments carry out the schedule with the scrub, and the last of them gives the file
 pub is_scrubbed : IsScrubbedRun scrubbed_moments
 unfolding setup_in actions_of digits
 is_scrubbed = record {
   clean = outright.clean;
-  run = are-run 8 set_up instructions fit;
-  carried_out = carries set_up instructions refl;
+  run = are-run 8 set_up (get 4 swept) fit;
+  carried_out = carries set_up (get 4 swept) refl;
   calm = record {
     jobs = calm_by_test (scrubbed set_up) scrubbed_moments refl;
     scrubs = scrubs_calm_by_test (scrubbed set_up) scrubbed_moments refl;

@@ -6,7 +6,7 @@ use Rattle.machine_defs.specs.Actions.{actions_of}
 use Rattle.machine_defs.specs.States.{setup_in}
 use Rattle.machine_defs.specs.Runs.{Moment}
 use Rattle.machine_defs.specs.Examples.{set_up}
-use Rattle.made_runs.specs.Instructions.{Instruction, run_of, AreFit}
+use Rattle.made_runs.specs.Instructions.{run_of, AreFit}
 use Rattle.made_runs.proofs.Instructions.{are-run}
 use Rattle.made_runs.proofs.Written.{carries}
 use Rattle.damage_run.proofs.Points.{last_of}
@@ -14,10 +14,7 @@ use Rattle.upgrade_run.proofs.Values.{byte_back, own_sized, all_give}
 use Rattle.upgrade_run.proofs.Run.{put, get, fit_put, outright}
 use Rattle.schedule_runs.specs.Schedule.{IsUpgradedRun}
 
-abbrev instructions : List Instruction
-instructions = get 3 put
-
-fit : AreFit 8 set_up instructions
+fit : AreFit 8 set_up (get 3 put)
 unfolding setup_in actions_of
 fit = (
   (
@@ -38,15 +35,15 @@ fit = (
 
 -- all of them
 abbrev pub upgraded_moments : List Moment
-upgraded_moments = run_of set_up instructions
+upgraded_moments = run_of set_up (get 3 put)
 
 -- the moments carry out the schedule with the upgrade, and the last of them gives the file
 pub is_upgraded : IsUpgradedRun upgraded_moments
 unfolding setup_in actions_of digits
 is_upgraded = record {
   clean = outright.clean;
-  run = are-run 8 set_up instructions fit;
-  carried_out = carries set_up instructions refl;
+  run = are-run 8 set_up (get 3 put) fit;
+  carried_out = carries set_up (get 3 put) refl;
   version = refl;
   own_profile = refl;
   other_profile = refl;

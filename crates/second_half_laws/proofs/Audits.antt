@@ -5,7 +5,7 @@ use Rattle.std.proofs.lemmas.Bool.{cases_Bool, cases_eq}
 use Rattle.algebra_laws.specs.Lists.{In}
 use Rattle.column_defs.specs.Verdicts.{is_flagged, flags_some}
 use Rattle.record_defs.specs.Records.{Record, Setup, SetUp, PutStart, PutDone, Drop, AuditStart, AuditDone, RepairDone, PutDoneIn, Version, Resume, InEffect, RepairDue}
-use Rattle.record_defs.specs.Table.{File, Due, setup_of, next_id, next_audit, file_of, due_of}
+use Rattle.record_defs.specs.Table.{File, Due, setup_of, next_audit, file_of, due_of}
 use Rattle.machine_defs.specs.Jobs.{AuditJob, RepairJob, Job, job_of}
 use Rattle.machine_defs.specs.Actions.{Action, WriteBody, SyncGate, Store, actions_of}
 use Rattle.machine_defs.specs.Setups.{profiled, stripes_of}
@@ -34,7 +34,7 @@ use Rattle.second_half_laws.proofs.Files.{all_pinned}
 use Rattle.second_half_laws.proofs.Points as pt
 use Rattle.second_half_laws.proofs.Points.{Facts, ScrubsRight, rows_right}
 use Rattle.second_half_laws.proofs.EveryRun as ev
-use Rattle.second_half_laws.proofs.EveryRun.{Always, repair_due}
+use Rattle.second_half_laws.proofs.EveryRun.{Always, file_below, audits_below, repair_due}
 
 -- of which damage files in effect are clear while audits run, repairs are due, and repairs run
 pub record Audited (start : State) (ms : List Moment) : Type 0 where
@@ -64,14 +64,6 @@ module _ (limit : ℕ) (mark : Mark) (start : State) (m : Moment) (ms : List Mom
       IsClear start (m ∷ ms) from New
   on = pt.clear_on limit mark start m ms clean run A U I E X T (rows_right mark start ms F) R
 
-  audits_below : (number : ℕ) → number < next_audit (now start ms).records →
-      m.state.audits number ≡ (now start ms).audits number
-  audits_below = ev.audits_below limit start m ms A U I E X T
-
-  file_below : (q : List ℕ) (f : File) → file_in (now start ms) q ≡ Some f →
-      f.id < next_id (now start ms).records
-  file_below = ev.file_below limit start m ms A U I E X T
-
   -- ---- audits
 
   audit_on : (from : ℕ) → PrecedesPuts start ms from → IsClear start ms from (WrongAt start ms from) →
@@ -100,7 +92,7 @@ module _ (limit : ℕ) (mark : Mark) (start : State) (m : Moment) (ms : List Mom
           PrecedesPuts start ms from → IsClear start ms from (WrongAt start ms from) →
           IsClear start (m ∷ ms) (m.state.audits number) (WrongAt start (m ∷ ms) (m.state.audits number))
       moved below from is P clear = subst (λ n. IsClear start (m ∷ ms) n (WrongAt start (m ∷ ms) n))
-          (is ∙ sym (audits_below number below)) (audit_on from P clear)
+          (is ∙ sym (audits_below T number below)) (audit_on from P clear)
 
   -- an audit that has just begun
   audit_new : m.state.records ≡ (now start ms).records →
@@ -108,7 +100,7 @@ module _ (limit : ℕ) (mark : Mark) (start : State) (m : Moment) (ms : List Mom
   audit_new rec q f i s h l b bad =
       (let stood : file_in (now start ms) q ≡ Some f = ap (λ rs. file_of rs q) (sym rec) ∙ h in
       let setup = setup_same m.state (now start ms) (ap setup_of rec) in
-      let below = file_below q f stood in
+      let below = file_below A q f stood in
       let n = ev.bounds limit start m ms A U I E X T f.profile f.id i s setup below l b in
       elim (pt.file_bad limit mark start m ms clean run A U I E X T
       (rows_right mark start ms F) R q f i s stood setup bad) [
@@ -148,7 +140,7 @@ module _ (limit : ℕ) (mark : Mark) (start : State) (m : Moment) (ms : List Mom
   rest_on x j k action runs next_is kx kj pinned flagged subject place stores =
       (let P = E.repair k x runs kx in
       subst (λ n. IsClear start (m ∷ ms) n (Remains m.state j))
-      (sym (ap m.state.audits subject ∙ audits_below x.subject P.0))
+      (sym (ap m.state.audits subject ∙ audits_below T x.subject P.0))
       (on ((now start ms).audits x.subject) (Remains (now start ms) x) (Remains m.state j) P.1
       (G.repair k x runs kx) more))
     where
@@ -173,7 +165,7 @@ module _ (limit : ℕ) (mark : Mark) (start : State) (m : Moment) (ms : List Mom
             (A.pins.sound.file q f stood).1 (λ g in_g e. E.pin_file x.number x g q f at_number in_g stood e)
             (stores i f.id s bad.0 act bad.1)
             (pt.wrong_old limit mark start m ms clean run A U I E X T f.profile f.id i s bad.0 setup
-            (X.bytes f.id (file_below q f stood)) bad.2)))
+            (X.bytes f.id (file_below A q f stood)) bad.2)))
         | inr other ↦ inr (
           ap (λ g. g i) flagged ∙ marked,
           (
@@ -195,7 +187,7 @@ module _ (limit : ℕ) (mark : Mark) (start : State) (m : Moment) (ms : List Mom
       let P = E.due u.0 u.1 in
       let subject : j.subject ≡ u.0.number = ap (λ (x : Job). x.subject) is ∙ ap due_number u.1 in
       subst (λ n. IsClear start (m ∷ ms) n (Remains m.state j))
-      (sym (ap m.state.audits subject ∙ audits_below u.0.number P.0))
+      (sym (ap m.state.audits subject ∙ audits_below T u.0.number P.0))
       (on ((now start ms).audits u.0.number) (IsFlaggedBy (now start ms) u.0.counts) (Remains m.state j) P.1
       (G.due u.0 u.1) (more u.0 u.1)))
     where
@@ -208,7 +200,7 @@ module _ (limit : ℕ) (mark : Mark) (start : State) (m : Moment) (ms : List Mom
       more u due q f i s stood h setup l b bad marked =
           (let flagged : j.flagged i ≡ true = ap (λ (x : Job). x.flagged i) is
           ∙ (ap (λ o. due_flags (setup_in (now start ms)).tolerance o i) due ∙ marked) in
-          let bytes : m.state.bytes f.id ≡ (now start ms).bytes f.id = X.bytes f.id (file_below q f stood) in
+          let bytes : m.state.bytes f.id ≡ (now start ms).bytes f.id = X.bytes f.id (file_below A q f stood) in
           let st = store_stands (setup_in m.state) j (pinned_file (now start ms) f) i s
           (ap (λ (x : Job). x.kind) is)
           (subst (λ (x : Job). In (pinned_file (now start ms) f) x.pinned) (sym is)
@@ -221,7 +213,7 @@ module _ (limit : ℕ) (mark : Mark) (start : State) (m : Moment) (ms : List Mom
       IsClear start (m ∷ ms) (m.state.audits j.subject) (Remains m.state j)
   repair_step k j h kind = elim (X.job k j h) [
     | Job_is.kept r grown ↦ (let P = E.repair k j r kind in
-        subst (λ n. IsClear start (m ∷ ms) n (Remains m.state j)) (sym (audits_below j.subject P.0))
+        subst (λ n. IsClear start (m ∷ ms) n (Remains m.state j)) (sym (audits_below T j.subject P.0))
         (on ((now start ms).audits j.subject) (Remains (now start ms) j) (Remains m.state j) P.1
         (G.repair k j r kind)
         (λ q f i s stood h2 setup l b bad x. inr
@@ -250,7 +242,7 @@ module _ (limit : ℕ) (mark : Mark) (start : State) (m : Moment) (ms : List Mom
       IsClear start (m ∷ ms) (m.state.audits number) Never
   repair_doubt_step d number h e = elim (T.doubt d h) [
     | Doubt_now.kept was rec ↦ (let P = E.repair_doubt d number was e in
-        subst (λ n. IsClear start (m ∷ ms) n Never) (sym (audits_below number P.0))
+        subst (λ n. IsClear start (m ∷ ms) n Never) (sym (audits_below T number P.0))
         (on ((now start ms).audits number) Never Never P.1 (G.repair_doubt d number was e)
         (λ q f i s stood h2 setup l b bad x. absurd x)))
     | Doubt_now.gated job a runs next_is flight mine entry_is maker rec on_ ↦
@@ -258,7 +250,7 @@ module _ (limit : ℕ) (mark : Mark) (start : State) (m : Moment) (ms : List Mom
         (sym entry_is ∙ e) in
         let P = E.repair job.number job runs g.kind in
         subst (λ n. IsClear start (m ∷ ms) n Never)
-        (sym (ap m.state.audits g.subject ∙ audits_below job.subject P.0))
+        (sym (ap m.state.audits g.subject ∙ audits_below T job.subject P.0))
         (on ((now start ms).audits job.subject) (Remains (now start ms) job) Never P.1
         (G.repair job.number job runs g.kind)
         (λ q f i s stood h2 setup l b bad x. absurd
@@ -285,7 +277,7 @@ module _ (limit : ℕ) (mark : Mark) (start : State) (m : Moment) (ms : List Mom
       where
         by_begin : (Misses start ms c (m.state.audits number) i → ⊥) →
             is_replaced_since ((now start ms).audits number) i ms ≡ false → ⊥
-        by_begin none f = subst (λ n. Misses start ms c n i → ⊥) (audits_below number below) none
+        by_begin none f = subst (λ n. Misses start ms c n i → ⊥) (audits_below T number below) none
             (record {
               provider = l;
               unflagged = unflagged;
@@ -301,7 +293,7 @@ module _ (limit : ℕ) (mark : Mark) (start : State) (m : Moment) (ms : List Mom
     old_due : (u : Due) → due_of (now start ms).records ≡ Some u →
         IsClear start (m ∷ ms) (m.state.audits u.number) (IsFlaggedBy m.state u.counts)
     old_due u was = (let P = E.due u was in
-        subst (λ n. IsClear start (m ∷ ms) n (IsFlaggedBy m.state u.counts)) (sym (audits_below u.number P.0))
+        subst (λ n. IsClear start (m ∷ ms) n (IsFlaggedBy m.state u.counts)) (sym (audits_below T u.number P.0))
         (on ((now start ms).audits u.number) (IsFlaggedBy (now start ms) u.counts)
         (IsFlaggedBy m.state u.counts) P.1 (G.due u was)
         (λ q f i s stood h setup l b bad x. inr (ap (λ (t : Setup). is_flagged t.tolerance u.counts i) setup
@@ -317,7 +309,7 @@ module _ (limit : ℕ) (mark : Mark) (start : State) (m : Moment) (ms : List Mom
         IsReplaced ((now start ms).audits u.number) i (m ∷ ms) ⊎ IsFlaggedBy m.state u.counts i f.id s) →
         IsClear start (m ∷ ms) (m.state.audits u.number) (IsFlaggedBy m.state u.counts)
     new_due u d und at e more = (let P = E.audit_doubt d u.number und u.counts at e in
-        subst (λ n. IsClear start (m ∷ ms) n (IsFlaggedBy m.state u.counts)) (sym (audits_below u.number P.0))
+        subst (λ n. IsClear start (m ∷ ms) n (IsFlaggedBy m.state u.counts)) (sym (audits_below T u.number P.0))
         (on ((now start ms).audits u.number) (WrongAt start ms ((now start ms).audits u.number))
         (IsFlaggedBy m.state u.counts) P.1 (G.audit_doubt d u.number und u.counts at e)
         (λ q f i s stood h setup l b bad x. more q f i s stood h setup l b bad P.0 x)))
@@ -375,7 +367,7 @@ module _ (limit : ℕ) (mark : Mark) (start : State) (m : Moment) (ms : List Mom
           flags_some (setup_in m.state).tolerance c ≡ false →
           IsClear start (m ∷ ms) (m.state.audits number) Never
       settled_audit d number u c at e came_in none = (let P = E.audit_doubt d number u c at e in
-          subst (λ n. IsClear start (m ∷ ms) n Never) (sym (audits_below number P.0))
+          subst (λ n. IsClear start (m ∷ ms) n Never) (sym (audits_below T number P.0))
           (on ((now start ms).audits number) (WrongAt start ms ((now start ms).audits number)) Never P.1
           (G.audit_doubt d number u c at e)
           (λ q f i s stood h setup l b bad w. inl (since_more ((now start ms).audits number) i m ms
@@ -386,7 +378,7 @@ module _ (limit : ℕ) (mark : Mark) (start : State) (m : Moment) (ms : List Mom
       settled_repair : (d : Doubt) (number : ℕ) → (now start ms).doubt ≡ Some d →
           d.entry ≡ RepairDone number → IsClear start (m ∷ ms) (m.state.audits number) Never
       settled_repair d number at e = (let P = E.repair_doubt d number at e in
-          subst (λ n. IsClear start (m ∷ ms) n Never) (sym (audits_below number P.0))
+          subst (λ n. IsClear start (m ∷ ms) n Never) (sym (audits_below T number P.0))
           (on ((now start ms).audits number) Never Never P.1 (G.repair_doubt d number at e)
           (λ q f i s stood h setup l b bad x. absurd x)))
 

@@ -1,47 +1,72 @@
--- A put of one byte and a get of it are a run, and what it writes.
-use Rattle.std.specs.Prelude.{◌≡◌, ℕ, zero, suc, ◌<◌, List, [], ◌∷◌, ◌++◌, codes}
+-- A put of one byte and a get of it are a run, the get computed from its turns, and what it writes.
+use Rattle.std.specs.Prelude.{◌≡◌, ℕ, zero, suc, ◌<◌, List, [], ◌∷◌, ◌++◌, take, drop, codes, Some}
 use Rattle.std.proofs.Common.{refl, arith}
 use Rattle.std.specs.Fmt.{digits}
 use Rattle.machine_defs.specs.Jobs.{PutJob, GetJob}
+use Rattle.machine_defs.specs.Actions.{actions_of}
 use Rattle.machine_defs.specs.Answers.{Got}
 use Rattle.machine_defs.specs.Events.{Begin, Step, Reopen, Begun, Ended}
+use Rattle.machine_defs.specs.Machine.{Happens}
 use Rattle.machine_defs.specs.Runs.{Moment, IsRun, now}
+use Rattle.machine_defs.specs.States.{setup_in}
 use Rattle.machine_defs.specs.Transcripts.{Once, RunJob, CarriesOut}
 use Rattle.machine_defs.specs.Examples.{set_up}
-use Rattle.machine_defs.proofs.RunParts.{stepped, not_more, fits_two}
+use Rattle.machine_defs.proofs.RunParts.{begun, not_more, fits_two}
+use Rattle.machine_defs.proofs.PutSteps.{state_15}
 use Rattle.machine_defs.proofs.PutRun.{moments as stored, is_run as is_stored, transcript as stored_lines}
-use Rattle.second_half_laws.proofs.ByteSteps.{state_16, state_17, state_18, state_19, state_20, state_21, state_22, happens_15, happens_16, happens_17, happens_18, happens_19, happens_20, happens_21}
+use Rattle.made_runs.specs.Turns.{Turn, Works, Came, Gives, job_run}
+use Rattle.made_runs.specs.Instructions.{AreTurns}
+use Rattle.made_runs.proofs.Instructions.{turns-run}
+use Rattle.second_half_laws.proofs.ByteSteps.{block, block_sized, symbols, own_work, byte_back}
+
+-- the get begins behind the put
+abbrev pub get_begin : Moment
+get_begin = record {
+  event = Begin (GetJob (97 ∷ []));
+  outcome = Begun 2;
+  state = begun state_15 15 (GetJob (97 ∷ []));
+}
+
+begins : Happens 1 15 state_15 (Begin (GetJob (97 ∷ []))) (Begun 2) get_begin.state
+unfolding setup_in actions_of
+begins = (refl, refl, refl, refl)
+
+-- its turns, the newest first
+abbrev turns : List Turn
+turns = Gives (Got (111 ∷ [])) ∷ Works symbols ∷ Came (Some (block 3)) ∷ Came (Some (block 2))
+    ∷ Came (Some (block 1)) ∷ Came (Some (block 0)) ∷ []
 
 -- the moments, the newest first
-abbrev pub steps : List Moment
-steps = stepped 2 state_21 ∷ stepped 2 state_20 ∷ stepped 2 state_19 ∷ stepped 2 state_18 ∷ stepped 2
-    state_17 ∷ []
-
-abbrev begun : List Moment
-begun = record { event = Begin (GetJob (97 ∷ [])); outcome = Begun 2; state = state_16 } ∷ stored
-
 abbrev pub moments : List Moment
-moments = record { event = Step 2; outcome = Ended (Got (111 ∷ [])); state = state_22 } ∷ (steps ++ begun)
+moments = job_run set_up (get_begin ∷ stored) 2 turns
 
--- the put of a byte and the get that gives it back are a run
-pub is_run : IsRun 1 set_up moments
-is_run = (
-  fits_two,
-  happens_21,
+-- the steps of the get, but for its end
+abbrev pub steps : List Moment
+steps = take 5 (drop 1 moments)
+
+-- its end
+abbrev pub get_end : Moment
+get_end = record { event = Step 2; outcome = Ended (Got (111 ∷ [])); state = now set_up moments }
+
+fit : AreTurns set_up (get_begin ∷ stored) 2 turns
+unfolding setup_in actions_of
+fit = (
+  (refl, (refl, byte_back)),
   (
-    fits_two,
-    happens_20,
+    (refl, (refl, own_work)),
     (
-      fits_two,
-      happens_19,
+      (refl, (refl, block_sized 3)),
       (
-        fits_two,
-        happens_18,
-        (fits_two, happens_17, (fits_two, happens_16, (refl, happens_15, is_stored))),
+        (refl, (refl, block_sized 2)),
+        ((refl, (refl, block_sized 1)), ((refl, (refl, block_sized 0)), tt)),
       ),
     ),
   ),
 )
+
+-- the put of a byte and the get that gives it back are a run
+pub is_run : IsRun 1 set_up moments
+is_run = turns-run 1 set_up (get_begin ∷ stored) 2 turns fits_two fit (refl, begins, is_stored)
 
 -- a schedule of the two is carried out by these moments and has this transcript
 pub transcript : CarriesOut
@@ -51,9 +76,9 @@ pub transcript : CarriesOut
     "job 2" ++ 10 ∷ [])) ++ (codes "got 6f" ++ 10 ∷ []))
 unfolding digits
 transcript = (
-  record { event = Step 2; outcome = Ended (Got (111 ∷ [])); state = state_22 },
+  get_end,
   steps,
-  begun,
+  get_begin ∷ stored,
   (((codes "opened" ++ 10 ∷ []) ++ (codes "job 1" ++ 10 ∷ [])) ++ (codes "put" ++ 10 ∷ [])) ++ (codes
       "job 2" ++ 10 ∷ []),
   refl,
@@ -63,7 +88,7 @@ transcript = (
     before = (refl, refl, (refl, refl, (refl, refl, (refl, refl, (refl, refl, tt)))));
   },
   (
-    record { event = Begin (GetJob (97 ∷ [])); outcome = Begun 2; state = state_16 },
+    get_begin,
     stored,
     ((codes "opened" ++ 10 ∷ []) ++ (codes "job 1" ++ 10 ∷ [])) ++ (codes "put" ++ 10 ∷ []),
     refl,
@@ -76,6 +101,7 @@ transcript = (
 
 -- each provider was fetched from once
 pub fetched : (j : ℕ) → j < 4 → ((now set_up moments).providers j).fetches ≡ 1
+unfolding setup_in actions_of
 fetched zero l = refl
 fetched (suc zero) l = refl
 fetched (suc (suc zero)) l = refl

@@ -1,11 +1,12 @@
 -- The put of one byte and the get of it, told by events and outcomes alone.
-use Rattle.std.specs.Prelude.{◌≡◌, ℕ, List, [], ◌∷◌, None, Some}
+use Rattle.std.specs.Prelude.{◌≡◌, ℕ, List, [], ◌∷◌, drop, None, Some}
 use Rattle.std.proofs.Common.{refl, inl, inr, arith}
 use Rattle.machine_defs.specs.Jobs.{PutJob, GetJob}
 use Rattle.machine_defs.specs.Answers.{Put, Got}
 use Rattle.machine_defs.specs.Events.{Begin, Step, Reopen, Opened, Begun, Ended}
-use Rattle.machine_defs.specs.States.{IsStart}
-use Rattle.machine_defs.specs.Runs.{Moment}
+use Rattle.machine_defs.specs.Actions.{actions_of}
+use Rattle.machine_defs.specs.States.{IsStart, setup_in}
+use Rattle.machine_defs.specs.Runs.{Moment, now}
 use Rattle.machine_defs.specs.Transcripts.{Once, RunJob, GoOn}
 use Rattle.machine_defs.specs.Examples.{set_up}
 use Rattle.record_defs.specs.Examples.{four}
@@ -16,10 +17,9 @@ use Rattle.machine_defs.specs.Untouched.{given_up, ended, NoneAsksOn, NoneOn, Is
 use Rattle.machine_defs.proofs.Untouched.{both_none, steps_begin_none}
 use Rattle.run_laws.specs.Stories.{Stored, GetEnds}
 use Rattle.second_half_laws.specs.Told.{IsTold}
-use Rattle.second_half_laws.proofs.ByteSteps.{state_16, state_21, state_22}
-use Rattle.second_half_laws.proofs.ByteRun.{steps, is_run}
+use Rattle.second_half_laws.proofs.ByteRun.{get_begin, get_end, moments, steps, is_run}
 
--- the reopening, the begin of the put and its end, and those of the get
+-- the reopening, the begin of the put and its end
 abbrev pub reopening : Moment
 reopening = record { event = Reopen; outcome = Opened; state = state_1 }
 
@@ -28,12 +28,6 @@ put_begin = record { event = Begin (PutJob (97 ∷ []) (111 ∷ [])); outcome = 
 
 abbrev pub put_end : Moment
 put_end = record { event = Step 1; outcome = Ended Put; state = state_15 }
-
-abbrev pub get_begin : Moment
-get_begin = record { event = Begin (GetJob (97 ∷ [])); outcome = Begun 2; state = state_16 }
-
-abbrev pub get_end : Moment
-get_end = record { event = Step 2; outcome = Ended (Got (111 ∷ [])); state = state_22 }
 
 pub put_goes_on : GoOn 1 put_steps
 put_goes_on = (
@@ -128,14 +122,14 @@ untouched = record {
 
 -- all that is told
 pub all_told : IsTold stored steps get_begin get_end
-unfolding is_told
+unfolding is_told setup_in actions_of
 all_told = record {
   start = starts;
   run = is_run;
   stored = is_told;
   got = is_got;
   steps = get_goes_on;
-  get = job_at state_21 2;
+  get = job_at (now set_up (drop 1 moments)) 2;
   get_runs = refl;
   put = job_at state_14 1;
   put_ends = record { event = refl; outcome = refl; runs = refl; kind = refl };

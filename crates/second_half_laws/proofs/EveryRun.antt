@@ -288,6 +288,20 @@ repair_due limit w wish None is h =
     absurd (let a = not_barred limit w RepairJob wish h in let b = not_busy limit w RepairJob wish h in
     let e = rw (a, b, is) at h in let f : Some refusal.NothingDue ≡ None = e in cc)
 
+-- the number of a file in effect has been drawn
+pub file_below : {start : State} {ms : List Moment} (A : All start ms) (q : List ℕ) (f : File) →
+    file_in (now start ms) q ≡ Some f → f.id < next_id (now start ms).records
+file_below A q f h = (A.pins.sound.file q f h).0
+
+-- the begin of an audit number that is drawn does not change
+pub audits_below : {old new : State} (T : Turns old new) (number : ℕ) → number < next_audit old.records →
+    new.audits number ≡ old.audits number
+audits_below {old} {new} T number l = elim T.audits [
+  | Audits_are.undrawn e no_new ↦ ap (λ f. f number) e
+  | Audits_are.drew x runs free mine e ↦ ap (λ f. f number) e
+      ∙ drawn_other old x x.kind number (λ z. omega (arith, l, z))
+]
+
 module _ (limit : ℕ) (start : State) (m : Moment) (ms : List Moment) (A : All start ms)
     (U : num.Facts audits start ms) (I : eff.Facts (now start ms)) (E : Always start ms)
     (X : Changes limit (length ms) (now start ms) m.event m.outcome m.state)
@@ -377,11 +391,6 @@ module _ (limit : ℕ) (start : State) (m : Moment) (ms : List Moment) (A : All 
         (subst (λ (y : List ℕ). s < stripes_of (profiled (setup_in m.state) p) (length y))
         (X.bytes o below) k),
   )
-
-  -- the number of a file in effect has been drawn
-  pub file_below : (q : List ℕ) (f : File) → file_in (now start ms) q ≡ Some f →
-      f.id < next_id (now start ms).records
-  file_below q f h = (A.pins.sound.file q f h).0
 
   -- no running job takes away the object of a file in effect
   pub no_remover : (q : List ℕ) (f : File) → file_in (now start ms) q ≡ Some f → (x : Job) →
@@ -842,15 +851,6 @@ module _ (limit : ℕ) (start : State) (m : Moment) (ms : List Moment) (A : All 
 
   -- ---- begins of audit numbers
 
-  -- the begin of an audit number that is drawn does not change
-  pub audits_below : (number : ℕ) → number < next_audit (now start ms).records →
-      m.state.audits number ≡ (now start ms).audits number
-  audits_below number l = elim T.audits [
-    | Audits_are.undrawn e no_new ↦ ap (λ f. f number) e
-    | Audits_are.drew x runs free mine e ↦ ap (λ f. f number) e
-        ∙ drawn_other (now start ms) x x.kind number (λ z. omega (arith, l, z))
-  ]
-
   audits_stay : (b : Append) → (now start ms).append ≡ Some b → m.state.audits ≡ (now start ms).audits
   audits_stay b flight = elim T.audits [
     | Audits_are.undrawn e no_new ↦ e
@@ -949,7 +949,7 @@ module _ (limit : ℕ) (start : State) (m : Moment) (ms : List Moment) (A : All 
           j.begun ≡ x.begun → x.kind ≡ AuditJob → 4 ≤ x.place → m.state.audits j.subject ≡ j.begun
       carried x runs subject begun kx l =
           ap m.state.audits subject
-          ∙ (audits_below x.subject (U.below k x runs (audit_number x kx l))
+          ∙ (audits_below T x.subject (U.below k x runs (audit_number x kx l))
           ∙ (E.audit_kept k x runs kx l ∙ sym begun))
 
   audit_entry_step : (a : Append) (j : Job) (number u : ℕ) (c : List ℕ) → m.state.append ≡ Some a →
@@ -1013,7 +1013,7 @@ module _ (limit : ℕ) (start : State) (m : Moment) (ms : List Moment) (A : All 
         let id_is : f.id ≡ st.file.id = ap (λ (x : Pinned). x.id) st.is in
         ap (λ (x : Pinned). x.bytes) st.is
         ∙ (ap (now start ms).bytes (sym id_is)
-        ∙ sym (X.bytes f.id (let l = file_below st.name st.file st.in_effect in omega arith))))
+        ∙ sym (X.bytes f.id (let l = file_below A st.name st.file st.in_effect in omega arith))))
   ]
 
   -- files that jobs work on, or that are in effect, have one profile for one number
@@ -1084,7 +1084,7 @@ module _ (limit : ℕ) (start : State) (m : Moment) (ms : List Moment) (A : All 
       (number < next_audit m.state.records) × PrecedesPuts start (m ∷ ms) (m.state.audits number)
   moved number P = (
     (let g = grows in let l = P.0 in omega (arith, l, g)),
-    subst (PrecedesPuts start (m ∷ ms)) (sym (audits_below number P.0))
+    subst (PrecedesPuts start (m ∷ ms)) (sym (audits_below T number P.0))
         (before_on ((now start ms).audits number) P.1),
   )
 

@@ -27,7 +27,7 @@ use Rattle.second_half_laws.specs.Marks.{PrecedesPuts}
 use Rattle.second_half_laws.proofs.Turns.{Turns}
 use Rattle.second_half_laws.proofs.Blocks.{since_now, since_earlier}
 use Rattle.second_half_laws.proofs.EveryRun as ev
-use Rattle.second_half_laws.proofs.EveryRun.{Always, worked_is}
+use Rattle.second_half_laws.proofs.EveryRun.{Always, file_below, worked_is}
 use Rattle.second_half_laws.proofs.Points as pt
 use Rattle.second_half_laws.proofs.Points.{RowsRight, ScrubsRight}
 
@@ -84,7 +84,7 @@ module _ (limit : ℕ) (start : State) (m : Moment) (ms : List Moment) (clean : 
       (is_replacement m.event m.outcome i ≡ true)
   file_own W R q f i s b stood setup told old =
       (let on = columns_on f.profile f.id i s setup
-      (X.bytes f.id (ev.file_below limit start m ms A U I E X T q f stood)) in
+      (X.bytes f.id (file_below A q f stood)) in
       elim (X.block i f.id s) [
         | Block_is.same e ↦ inl (old (sym e ∙ told) ∙ ap Some on)
         | Block_is.replaced r ↦ inr r
@@ -109,7 +109,7 @@ module _ (limit : ℕ) (start : State) (m : Moment) (ms : List Moment) (clean : 
       let setup = setup_same m.state (now start ms) c.setup in
       elim c.how [
         | inl stood ↦
-            (let below = ev.file_below limit start m ms A U I E X T q f stood in
+            (let below = file_below A q f stood in
             let n = ev.bounds limit start m ms A U I E X T f.profile f.id i s setup below l k in
             elim (file_own W R q f i s block stood setup told
             (λ old. owns q f i s block stood n.0 n.1 (replaced_before from i m ms unreplaced) old)) [

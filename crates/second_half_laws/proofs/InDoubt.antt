@@ -23,7 +23,7 @@ use Rattle.machine_defs.proofs.Changes.{Block_is, Changes}
 use Rattle.machine_defs.proofs.Events.{changes}
 use Rattle.machine_defs.proofs.Numbers.{audits}
 use Rattle.machine_defs.proofs.Numbers as num
-use Rattle.machine_defs.proofs.Fair.{HasPin, is_fair, store_place}
+use Rattle.machine_defs.proofs.Fair.{is_fair, store_place}
 use Rattle.machine_defs.proofs.PinFacts.{setup_same}
 use Rattle.machine_defs.proofs.Held.{All, all, actions_are, first_more, replaced_before, store_kinds, remove_kinds}
 use Rattle.machine_defs.proofs.NextActions.{next_stands, actions_by-advanced}
@@ -251,24 +251,13 @@ rewritten limit mark start clean tell (m ∷ ms) run calm marks =
         (all_tell limit start ms tell run.2) (calm_now mark start clean ms calm.1) x.number x i o s b
         runs kind made none told
 
-    pin : (x : Job) (i o s : ℕ) → x.kind ≡ RepairJob → HasMadeStore (setup_in (now start ms)) x i o s →
-        HasPin x o
-    pin x i o s kind made =
-        rd.made_pin limit mark start m ms clean run.2 A (num.facts audits limit start clean ms run.2)
-        (eff.facts limit start ms clean run.2) E
-        (marked_facts limit mark start clean tell ms run.2 calm.1 marks.1) X
-        (turns (now start ms) limit (length ms) m.event m.outcome m.state run.1)
-        (walked (length ms) (now start ms) limit m.event m.outcome m.state
-        (all limit start clean ms run.2).numbers.idle.lone run.1) (run_onward limit start m ms run)
-        (all_tell limit start ms tell run.2) (calm_now mark start clean ms calm.1) x i o s kind made
-
     step : Rewritten start ms → Rewritten start (m ∷ ms)
     step before d job i o s b h maker kind made none told =
         elim ((turns (now start ms) limit (length ms) m.event m.outcome m.state run.1).doubt d h) [
           | Doubt_now.kept was rec ↦
               (let setup = setup_same m.state (now start ms) (ap setup_of rec) in
               let old = made_alike (setup_in m.state) (setup_in (now start ms)) job i o s setup made in
-              let p = pin job i o s kind old in
+              let p = rd.made_pin (setup_in (now start ms)) job i o s kind old in
               let below : o < next_id (now start ms).records =
               subst (λ n. n < next_id (now start ms).records) p.id_is
               ((kept limit start clean ms run.2).below d job p.file was maker p.pinned) in
@@ -294,7 +283,7 @@ rewritten limit mark start clean tell (m ∷ ms) run calm marks =
               let begun : job.begun ≡ x.begun = ap (λ (y : Job). y.begun) e in
               let kx : x.kind ≡ RepairJob = sym (ap (λ (y : Job). y.kind) e) ∙ kind in
               let old = made_before (setup_in m.state) (now start ms) x job i o s setup e next_is made in
-              let p = pin x i o s kx old in
+              let p = rd.made_pin (setup_in (now start ms)) x i o s kx old in
               let below : o < next_id (now start ms).records =
               subst (λ n. n < next_id (now start ms).records) p.id_is
               (A.pins.pins x.number x p.file runs p.pinned).0 in

@@ -20,14 +20,12 @@ use Rattle.machine_defs.proofs.Held.{all}
 use Rattle.machine_defs.proofs.Untouched.{run_back}
 use Rattle.machine_defs.proofs.Numbers.{audits, Draws, next_of_records, next_by, next_is_by}
 use Rattle.machine_defs.proofs.Numbers as num
-use Rattle.run_laws.proofs.InEffect as eff
 use Rattle.second_half_laws.specs.Marks.{IsMark}
 use Rattle.second_half_laws.specs.MarkedRuns.{IsCalmRun}
 use Rattle.second_half_laws.specs.Mended.{IsMended}
 use Rattle.second_half_laws.proofs.Turns.{turns}
 use Rattle.second_half_laws.proofs.Places.{of_kind, move_behind, store_within}
-use Rattle.second_half_laws.proofs.EveryRun as ev
-use Rattle.second_half_laws.proofs.EveryRun.{always}
+use Rattle.second_half_laws.proofs.EveryRun.{always, audits_below}
 use Rattle.second_half_laws.proofs.InRuns.{in_calm, calm_marked, mark_stays}
 
 -- ---- where an audit and a repair end
@@ -73,9 +71,7 @@ audits_stay limit start clean (m ∷ later) ms number run below =
     let U = num.facts audits limit start clean hs run.2 in
     let X = changes limit (length hs) (now start hs) m.event m.outcome m.state A.numbers.idle run.1 in
     let grows = next_of_records audits (now start hs) m.state U.written X.records in (
-      ev.audits_below limit start m hs A U (eff.facts limit start hs clean run.2)
-          (always limit start clean hs run.2) X
-          (turns (now start hs) limit (length hs) m.event m.outcome m.state run.1) number p.1 ∙ p.0,
+      audits_below (turns (now start hs) limit (length hs) m.event m.outcome m.state run.1) number p.1 ∙ p.0,
       (let l = p.1 in omega arith),
     ))
 

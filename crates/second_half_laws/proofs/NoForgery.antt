@@ -2,7 +2,6 @@
 use Rattle.std.proofs.Common.{◌≡◌, ℕ, List, [], ◌∷◌, Some, refl, ap, sym, subst, ◌∙◌, inl}
 use Rattle.std.specs.Prelude.{IsTrue, ◌≤◌}
 use Rattle.algebra_laws.specs.Lists.{In}
-use Rattle.hail_field.specs.Shape.{IsShape}
 use Rattle.column_defs.specs.Opened.{SeenBlock, AllOpen}
 use Rattle.record_defs.specs.Records.{Setup}
 use Rattle.record_defs.specs.Table.{File}
@@ -11,14 +10,13 @@ use Rattle.machine_defs.specs.Setups.{object_of, profiled}
 use Rattle.machine_defs.specs.States.{State, IsStart, setup_in, file_object, file_in}
 use Rattle.machine_defs.specs.Begins.{pinned_file}
 use Rattle.machine_defs.specs.Given.{blocks_given}
-use Rattle.machine_defs.specs.Runs.{Moment, now, first_moments, IsRun}
+use Rattle.machine_defs.specs.Runs.{Moment, now, IsRun}
 use Rattle.machine_defs.specs.Calm.{Mark, relies, replaced_count}
 use Rattle.machine_defs.specs.Heard.{heard_by, HoldsForgery}
 use Rattle.machine_defs.proofs.JobLists.{same_value}
 use Rattle.machine_defs.proofs.Gets.{HasFile, heard_blocks}
 use Rattle.machine_defs.proofs.PinFacts.{setup_same}
-use Rattle.run_laws.proofs.InEffect.{valid_setup, valid_shape, held_file}
-use Rattle.run_laws.proofs.FirstHalf.{first_run, shape_in}
+use Rattle.run_laws.proofs.FirstHalf.{runs_shape}
 use Rattle.second_half_laws.proofs.Absent.{own_row}
 use Rattle.second_half_laws.proofs.GetEnds.{have_files}
 use Rattle.second_half_laws.proofs.EveryRun.{always}
@@ -38,7 +36,8 @@ no_forgery limit mark start ms clean run F calm number job name file runs kind i
     of_now (subst (λ (t : Setup). HoldsForgery (object_of (profiled t file.profile) file.id)
     ((now start ms).bytes file.id) job.number (heard_by (Some job))) (sym setup)
     (subst (λ (y : List ℕ). HoldsForgery (file_object (begin_of start ms job) file) y job.number
-    (heard_by (Some job))) own_bytes forged))
+    (heard_by (Some job))) ((always limit start clean ms run).pinned number job
+    (pinned_file (begin_of start ms job) file) runs in_file) forged))
   where
     H : HasFile (begin_of start ms job) (now start ms) job name
     H = have_files limit start clean ms run number job name runs kind
@@ -53,19 +52,6 @@ no_forgery limit mark start ms clean run F calm number job name file runs kind i
     in_file : In (pinned_file (begin_of start ms job) file) job.pinned
     in_file = subst (In (pinned_file (begin_of start ms job) file)) (sym pinned) (inl refl)
 
-    own_bytes : (begin_of start ms job).bytes file.id ≡ (now start ms).bytes file.id
-    own_bytes = (always limit start clean ms run).pinned number job
-        (pinned_file (begin_of start ms job) file) runs in_file
-
-    shape : IsShape (setup_in (now start ms)).n (setup_in (now start ms)).l (setup_in (now start ms)).b
-    shape = subst (λ (t : Setup). IsShape t.n t.l t.b) (sym setup)
-        (shape_in (begin_of start ms job)
-        (λ s h. valid_shape s
-        (valid_setup limit start (first_moments job.begun ms) s clean
-        (first_run limit start job.begun ms run) h))
-        (held_file limit start (first_moments job.begun ms) name file clean
-        (first_run limit start job.begun ms run) in_effect).up)
-
     of_now : HoldsForgery (file_object (now start ms) file) ((now start ms).bytes file.id) job.number
         (heard_by (Some job)) → ⊥
     of_now h =
@@ -75,8 +61,8 @@ no_forgery limit mark start ms clean run F calm number job name file runs kind i
         (ap relies kind) in_file f.row_in.stripe_in in
         f.forged.other (own_row (file_object (now start ms) file)
         ((now start ms).bytes file.id) file.profile h.stripe h.place
-        (blocks_given job.given (setup_in (now start ms)).n file.id h.stripe) f.opened f.row refl shape
-        f.row_in few
+        (blocks_given job.given (setup_in (now start ms)).n file.id h.stripe) f.opened f.row refl
+        (runs_shape limit start ms clean run number job runs) f.row_in few
         (subst (λ (seen : List SeenBlock). AllOpen (file_object (now start ms) file) h.stripe 0 seen f.opened)
         (heard_blocks job name (setup_in (now start ms)).n file.id h.stripe kind) f.opens)
         f.forged.accepted))

@@ -34,7 +34,7 @@ use Rattle.second_half_laws.proofs.Blocks.{since_more, since_now, since_earlier,
 use Rattle.second_half_laws.proofs.Places.{worked_before_store}
 use Rattle.second_half_laws.proofs.MadeFacts.{given_symbols, made_work_gave}
 use Rattle.second_half_laws.proofs.EveryRun as ev
-use Rattle.second_half_laws.proofs.EveryRun.{Always, worked_is}
+use Rattle.second_half_laws.proofs.EveryRun.{Always, file_below, worked_is}
 
 -- the state at the begin of a job
 abbrev pub begin_of : State → List Moment → Job → State
@@ -196,7 +196,7 @@ module _ (limit : ℕ) (mark : Mark) (start : State) (m : Moment) (ms : List Mom
       IsBad m.state f.profile f.id i s → IsBad (now start ms) f.profile f.id i s ⊎
       (is_replacement m.event m.outcome i ≡ true)
   file_bad W R q f i s stood setup bad =
-      bad_before W f.profile f.id i s setup (ev.file_below limit start m ms A U I E X T q f stood)
+      bad_before W f.profile f.id i s setup (file_below A q f stood)
       (A.pins.sound.file q f stood).1 (λ y g runs_y in_g e. E.pin_file y.number y g q f runs_y in_g stood e)
       (ev.no_remover limit start m ms A U I E X T q f stood)
       (λ scrub rest at next_is. R scrub rest i s q f at next_is stood) bad
@@ -228,7 +228,7 @@ module _ (limit : ℕ) (mark : Mark) (start : State) (m : Moment) (ms : List Mom
       let setup = setup_same m.state (now start ms) c.setup in
       elim c.how [
         | inl stood ↦
-            (let below = ev.file_below limit start m ms A U I E X T q f stood in
+            (let below = file_below A q f stood in
             let n = ev.bounds limit start m ms A U I E X T f.profile f.id i s setup below l k in
             elim (file_bad W R q f i s stood setup bad) [
               | inl old ↦ elim (clear q f i s stood n.0 n.1 old)

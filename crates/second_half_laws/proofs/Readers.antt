@@ -5,7 +5,6 @@ use Rattle.std.specs.Option.{option_map}
 use Rattle.std.proofs.lemmas.Bool.{cases_Bool, cases_lt, and_parts, eqb-true, false≢true}
 use Rattle.algebra_laws.specs.Lists.{In}
 use Rattle.algebra_laws.proofs.Each.{each_get}
-use Rattle.hail_field.specs.Shape.{IsShape}
 use Rattle.code_defs.specs.Points.{upto}
 use Rattle.algebra_laws.proofs.Options.{some-not-none}
 use Rattle.column_defs.specs.Objects.{Object, symbols_in}
@@ -39,9 +38,8 @@ use Rattle.machine_defs.proofs.PinFacts.{Pins_is, pins_is, setup_stays}
 use Rattle.machine_defs.proofs.Held.{All, first_more, first_all, store_kinds, remove_kinds}
 use Rattle.machine_defs.proofs.Refused.{none_lone}
 use Rattle.machine_defs.proofs.Given.{block_at-given}
-use Rattle.run_laws.proofs.InEffect.{valid_shape}
 use Rattle.run_laws.proofs.InEffect as eff
-use Rattle.run_laws.proofs.FirstHalf.{shape_in}
+use Rattle.run_laws.proofs.FirstHalf.{runs_shape}
 use Rattle.second_half_laws.specs.FewWrong.{is_wrong_seen}
 use Rattle.second_half_laws.specs.Origins.{IsHeldThen}
 use Rattle.second_half_laws.proofs.Absent.{own_symbols}
@@ -53,7 +51,7 @@ use Rattle.second_half_laws.proofs.Turns.{Turns}
 use Rattle.second_half_laws.proofs.Blocks.{since_more, since_now, sized_wrong}
 use Rattle.second_half_laws.proofs.MovePlaces.{works_within, next_repairs, same_actions}
 use Rattle.second_half_laws.proofs.EveryRun as ev
-use Rattle.second_half_laws.proofs.EveryRun.{Always}
+use Rattle.second_half_laws.proofs.EveryRun.{Always, file_below}
 use Rattle.second_half_laws.proofs.Points as pt
 use Rattle.second_half_laws.proofs.Points.{Facts, begin_of, mark_of, rows_right}
 
@@ -61,7 +59,8 @@ use Rattle.second_half_laws.proofs.Points.{Facts, begin_of, mark_of, rows_right}
 pub rose_on : (a b c : ℕ) → Rose a b → b ≤ c → Rose a c
 rose_on a b c h l below = (let g = h below in omega (arith, g, l))
 
-rose_since : (a b c : ℕ) → a ≤ b → Rose b c → b ≤ c → Rose a c
+-- a count that rose in a step rose since any moment before it
+pub rose_since : (a b c : ℕ) → a ≤ b → Rose b c → b ≤ c → Rose a c
 rose_since a b c early h l below = elim (cases_lt b last_count) [
   | inl k ↦ (let g = h k in omega (arith, g, early))
   | inr k ↦ omega (arith, k, l, below)
@@ -117,6 +116,12 @@ few_of w ms from given f s calm gave =
             is_replaced_since from i ms ≡ true
         by_seen None is h = absurd (false≢true h)
         by_seen (Some block) is h = gave i block l (block_in given f.id s i block is) h
+
+-- a block that a repair has stored is of one of its files
+pub made_pin : (t : Setup) (x : Job) (i o s : ℕ) → x.kind ≡ RepairJob → HasMadeStore t x i o s → HasPin x o
+made_pin t x i o s kind made =
+    each_get (IsFair x RepairJob) (actions_by t x RepairJob) made.place (Store i o s) (fair t x RepairJob)
+    (by_kind t x RepairJob made.place (Store i o s) kind made.action)
 
 -- of each file that a job works on which relies on providers, at most b of them gave it a wrong block of a
 -- stripe
@@ -189,7 +194,7 @@ module _ (limit : ℕ) (mark : Mark) (start : State) (m : Moment) (ms : List Mom
         (length (m.state.bytes x.id))) st.is b in
         let bad_file = subst (λ (x : Pinned). IsBad m.state x.profile x.id i s) st.is bad in
         let n = ev.bounds limit start m ms A U I E X T st.file.profile st.file.id i s setup
-        (ev.file_below limit start m ms A U I E X T st.name st.file st.in_effect) l b_file in
+        (file_below A st.name st.file st.in_effect) l b_file in
         subst (λ z. IsReplaced z i (m ∷ ms)) (sym (ap mark (first_new j (ap (λ (x : Job). x.begun) is))))
         (elim (pt.file_bad limit mark start m ms clean run A U I E X T (rows_right mark start ms F)
         (λ scrub rest i2 s2 q g at. absurd
@@ -352,12 +357,6 @@ module _ (limit : ℕ) (mark : Mark) (start : State) (m : Moment) (ms : List Mom
 
   -- ---- what the work of a get or a repair gave
 
-  -- while a job runs, the setup makes a shape
-  runs_shape : (k : ℕ) (j : Job) → job_of (now start ms).jobs k ≡ Some j →
-      IsShape (setup_in (now start ms)).n (setup_in (now start ms)).l (setup_in (now start ms)).b
-  runs_shape k j runs = shape_in (now start ms) (λ s e. valid_shape s (I.setup s e))
-      (ev.runs_up limit start m ms A U I E X T k j runs)
-
   -- the symbols of a number among files are the file's
   abbrev Right : State → List Pinned → ℕ → ℕ → List ℕ → Type 0
   Right w files o s symbols = symbols ≡ symbols_in (object_among w files o) (w.bytes o) s
@@ -381,7 +380,8 @@ module _ (limit : ℕ) (mark : Mark) (start : State) (m : Moment) (ms : List Mom
           subst (λ n. (n < next_id (now start ms).records) × Right (now start ms) x.pinned n s symbols) id_is (
             (A.pins.pins k x f runs in_x).0,
             own_symbols (pinned_object (now start ms) f) ((now start ms).bytes f.id) f.profile s
-                (blocks_given x.given (setup_in (now start ms)).n f.id s) symbols refl (runs_shape k x runs) b
+                (blocks_given x.given (setup_in (now start ms)).n f.id s) symbols refl
+                (runs_shape limit start ms clean run k x runs) b
                 (few_there mark start ms F calm k x f s runs kind in_x b)
                 (subst (λ (ob : Object). GivesSymbols ob s
                 (blocks_given x.given (setup_in (now start ms)).n f.id s) symbols) object
@@ -468,14 +468,6 @@ module _ (limit : ℕ) (mark : Mark) (start : State) (m : Moment) (ms : List Mom
   replaced_less from i none = elim (cases_Bool (is_replaced_since from i ms))
       [ inl t ↦ absurd (false≢true (sym none ∙ since_more from i m ms t)) | inr f ↦ f ]
 
-  -- a block that a repair has stored is of one of its files
-  pub made_pin : (x : Job) (i o s : ℕ) → x.kind ≡ RepairJob → HasMadeStore (setup_in (now start ms)) x i o s →
-      HasPin x o
-  made_pin x i o s kind made =
-      each_get (IsFair x RepairJob) (actions_by (setup_in (now start ms)) x RepairJob) made.place
-      (Store i o s) (fair (setup_in (now start ms)) x RepairJob)
-      (by_kind (setup_in (now start ms)) x RepairJob made.place (Store i o s) kind made.action)
-
   -- the objects of one number among the files of two jobs are one
   objects_are : (x y : Job) (o : ℕ) → job_of (now start ms).jobs x.number ≡ Some x →
       job_of (now start ms).jobs y.number ≡ Some y → HasPin x o → HasPin y o →
@@ -499,7 +491,7 @@ module _ (limit : ℕ) (mark : Mark) (start : State) (m : Moment) (ms : List Mom
     | Block_is.stored y runs_y next_y is ↦
         (let b_is = some_told (block_to_store (now start ms) y y.kind i o s)
         ((now start ms).providers i).held b (sym is ∙ told) in
-        let p = made_pin x i o s kind made in
+        let p = made_pin (setup_in (now start ms)) x i o s kind made in
         let at_x = subst (λ n. job_of (now start ms).jobs n ≡ Some x)
         (sym (number_of (now start ms).jobs k x runs)) runs in
         elim (store_kinds y y.kind i o s refl (is_fair (now start ms) y (Store i o s) next_y)) [
@@ -515,7 +507,7 @@ module _ (limit : ℕ) (mark : Mark) (start : State) (m : Moment) (ms : List Mom
         ])
     | Block_is.scrubbed scrub rest at next_is is ↦
         pt.no_scrub limit mark start m ms clean run A U I E X T k x runs scrub at
-    | Block_is.removed y runs_y next_y ↦ absurd (let p = made_pin x i o s kind made in
+    | Block_is.removed y runs_y next_y ↦ absurd (let p = made_pin (setup_in (now start ms)) x i o s kind made in
         A.pins.older_free y.number k y x o p.file runs_y
         (remove_kinds y y.kind i o refl (is_fair (now start ms) y (Remove i o) next_y)) runs p.pinned p.id_is)
   ]
@@ -529,7 +521,8 @@ module _ (limit : ℕ) (mark : Mark) (start : State) (m : Moment) (ms : List Mom
     | Job_is.kept r grown ↦
         (let old : HasMadeStore (setup_in (now start ms)) j i o s =
         record { place = made.place; made = made.made; action = at_old } in
-        columns_on k j refl r (made_pin j i o s kind old) (carry k j i o s b r kind old none told))
+        columns_on k j refl r (made_pin (setup_in (now start ms)) j i o s kind old)
+        (carry k j i o s b r kind old none told))
     | Job_is.begun kd wish is k_is allowed rec ↦ absurd
         (let e : j.place ≡ 0 = ap (λ (x : Job). x.place) is in let l = made.made in omega arith)
     | Job_is.plain x action runs next_is is_plain goes rec st ↦
@@ -579,7 +572,7 @@ module _ (limit : ℕ) (mark : Mark) (start : State) (m : Moment) (ms : List Mom
           elim (cases_lt made.place x.place) [
             | inl l ↦ (let old : HasMadeStore (setup_in (now start ms)) x i o s =
                 record { place = made.place; made = l; action = at_x } in
-                columns_on k x pinned runs (made_pin x i o s kx old)
+                columns_on k x pinned runs (made_pin (setup_in (now start ms)) x i o s kx old)
                 (carry k x i o s b runs kx old
                 (subst (λ n. is_replaced_since n i (m ∷ ms) ≡ false) begun none) told))
             | inr l ↦

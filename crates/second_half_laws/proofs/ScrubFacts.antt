@@ -18,7 +18,7 @@ use Rattle.record_defs.specs.Records.{Setup}
 use Rattle.record_defs.specs.Table.{setup_of, file_of, File}
 use Rattle.device_defs.specs.Providers.{Held}
 use Rattle.device_defs.specs.ProviderCalls.{FetchGives}
-use Rattle.machine_defs.specs.Jobs.{Pinned, Given, Fetched, Worked, Job, job_of}
+use Rattle.machine_defs.specs.Jobs.{Pinned, Given, Fetched, Worked}
 use Rattle.machine_defs.specs.Actions.{Action, Store, Fetch, Work, End, on_each_provider, on_each_stripe, open_actions}
 use Rattle.machine_defs.specs.Setups.{object_of, profiled, stripes_of, pinned_stripes}
 use Rattle.machine_defs.specs.States.{State, Scrub, Scrubbing, setup_in, object_in, pinned_object, file_in}
@@ -160,6 +160,35 @@ pub same_scrub : (w : State) (a b : Scrub) → w.alone ≡ Some (Scrubbing a) �
     a ≡ b
 same_scrub w a b h g = (let e : Some (Scrubbing a) ≡ Some (Scrubbing b) = sym h ∙ g in cc)
 
+-- what runs alone stores no block but the provider's own column
+pub stores_own : (mark : Mark) (start : State) (ms : List Moment) (A : All start ms) (scrub : Scrub) →
+    (now start ms).alone ≡ Some (Scrubbing scrub) → Scrubbed mark start ms scrub → (f : Pinned) (i s : ℕ) →
+    In f scrub.files → (other : Scrub) (rest : List Action) →
+    (now start ms).alone ≡ Some (Scrubbing other) → other.todo ≡ Store i f.id s ∷ rest →
+    block_to_scrub (now start ms) other i f.id s ≡ columns (pinned_object (now start ms) f)
+    ((now start ms).bytes f.id) i s
+stores_own mark start ms A scrub at K f i s in_f other rest at_other next_is =
+    (let same = same_scrub (now start ms) scrub other at at_other in
+    subst (λ (x : Scrub). block_to_scrub (now start ms) x i f.id s
+    ≡ columns (pinned_object (now start ms) f) ((now start ms).bytes f.id) i s) same
+    (right mark start ms A scrub K f rest i s in_f (ap (λ (x : Scrub). x.todo) same ∙ next_is)))
+
+-- what a fetch gave stands for its place under each name of that place
+pub gives_there : (w : State) (scrub : Scrub) (i o s : ℕ) (block : Option (List ℕ)) (f : Pinned) (j t : ℕ)
+    (c : List ℕ) → j ≡ i → f.id ≡ o → t ≡ s → Some c ≡ block →
+    FetchGives (scrubbed_object w scrub o).profile.size o s (w.providers i).held block ⊎ (block ≡ None) →
+    FetchGives (scrubbed_object w scrub f.id).profile.size f.id t (w.providers j).held (Some c)
+gives_there w scrub i o s block f j t c ji fo ts cb (inr gone) =
+    absurd (let z : Some c ≡ None = cb ∙ gone in cc)
+gives_there w scrub i o s block f j t c ji fo ts cb (inl g) =
+    subst (λ n. FetchGives (scrubbed_object w scrub f.id).profile.size f.id t (w.providers n).held (Some c))
+    (sym ji)
+    (subst (λ n. FetchGives (scrubbed_object w scrub n).profile.size n t (w.providers i).held (Some c))
+    (sym fo)
+    (subst (λ n. FetchGives (scrubbed_object w scrub o).profile.size o n (w.providers i).held (Some c))
+    (sym ts)
+    (subst (FetchGives (scrubbed_object w scrub o).profile.size o s (w.providers i).held) (sym cb) g)))
+
 module _ (limit : ℕ) (mark : Mark) (start : State) (m : Moment) (ms : List Moment) (A : All start ms)
     (I : eff.Facts (now start ms)) (X : Changes limit (length ms) (now start ms) m.event m.outcome m.state)
     (tell : AllTell (now start ms))
@@ -169,9 +198,6 @@ module _ (limit : ℕ) (mark : Mark) (start : State) (m : Moment) (ms : List Mom
 
   bytes_are : (o : ℕ) → m.state.bytes o ≡ (now start ms).bytes o
   bytes_are o = ap (λ g. g o) b.bytes
-
-  no_job : (x : Job) → job_of (now start ms).jobs x.number ≡ Some x → ⊥
-  no_job x runs = found_none (now start ms).jobs x.number x none runs
 
   stands_on : (f : Pinned) → Stands (now start ms) f → Stands m.state f
   stands_on f st = record {
@@ -204,14 +230,14 @@ module _ (limit : ℕ) (mark : Mark) (start : State) (m : Moment) (ms : List Mom
       elim (X.block i f.id s) [
         | Block_is.same e ↦ inl (block, sym e ∙ told, w)
         | Block_is.replaced r ↦ inr r
-        | Block_is.stored x runs next_is is ↦ absurd (no_job x runs)
+        | Block_is.stored x runs next_is is ↦ absurd (found_none (now start ms).jobs x.number x none runs)
         | Block_is.scrubbed scrub rest at next_is is ↦
             absurd (right_block (pinned_object (now start ms) f) ((now start ms).bytes f.id) i s
             (subst (λ y. is_wrong_block (pinned_object (now start ms) f) ((now start ms).bytes f.id) i s y
             ≡ true)
             (some_told (block_to_scrub (now start ms) scrub i f.id s) ((now start ms).providers i).held block
             (sym is ∙ told) ∙ ap Some (scrubs scrub rest at next_is)) w))
-        | Block_is.removed x runs next_is ↦ absurd (no_job x runs)
+        | Block_is.removed x runs next_is ↦ absurd (found_none (now start ms).jobs x.number x none runs)
       ])
 
   -- a scrub that ran before
@@ -252,23 +278,12 @@ module _ (limit : ℕ) (mark : Mark) (start : State) (m : Moment) (ms : List Mom
             s < pinned_stripes (setup_in m.state) f → IsBad m.state f.profile f.id i s →
             IsReplaced (scrub_mark mark ms scrub) i (m ∷ ms)
         read f i s in_f l k bad =
-            elim (bad_was f i s (λ other rest at_other next_is. mine f i s in_f other rest at_other next_is)
-            bad) [
+            elim (bad_was f i s (stores_own mark start ms A scrub at K f i s in_f) bad) [
               | inl old ↦ since_more (scrub_mark mark ms scrub) i m ms
                   (K.reads f i s in_f (subst (λ (t : Setup). i < t.n) setup l)
                   (subst (λ (t : Setup). s < pinned_stripes t f) setup k) old)
               | inr r ↦ since_now (scrub_mark mark ms scrub) i m ms r K.marked
             ]
-          where
-            mine : (f : Pinned) (i s : ℕ) → In f scrub.files → (other : Scrub) (rest : List Action) →
-                (now start ms).alone ≡ Some (Scrubbing other) → other.todo ≡ Store i f.id s ∷ rest →
-                block_to_scrub (now start ms) other i f.id s
-                ≡ columns (pinned_object (now start ms) f) ((now start ms).bytes f.id) i s
-            mine f i s in_f other rest at_other next_is =
-                (let same = same_scrub (now start ms) scrub other at at_other in
-                subst (λ (x : Scrub). block_to_scrub (now start ms) x i f.id s
-                ≡ columns (pinned_object (now start ms) f) ((now start ms).bytes f.id) i s) same
-                (right mark start ms A scrub K f rest i s in_f (ap (λ (x : Scrub). x.todo) same ∙ next_is)))
 
     -- what a fetch gave is wrong where what is held is
     fetched_wrong : (f : Pinned) (i s : ℕ) (block : List ℕ) → In f scrub.files →
@@ -329,22 +344,6 @@ module _ (limit : ℕ) (mark : Mark) (start : State) (m : Moment) (ms : List Mom
         (all_more (setup_in (now start ms)) scrub.files scrub.given (Fetched i o s block) rest
         (subst (Each (Ready (setup_in (now start ms)) scrub.files scrub.given)) todo K.todo).1))
       where
-        newest : (f : Pinned) (j t : ℕ) (c : List ℕ) → j ≡ i → f.id ≡ o → t ≡ s → Some c ≡ block →
-            FetchGives (scrubbed_object (now start ms) scrub o).profile.size o s
-            ((now start ms).providers i).held block ⊎ (block ≡ None) →
-            FetchGives (scrubbed_object (now start ms) scrub f.id).profile.size f.id t
-            ((now start ms).providers j).held (Some c)
-        newest f j t c ji fo ts cb (inr gone) = absurd (let z : Some c ≡ None = cb ∙ gone in cc)
-        newest f j t c ji fo ts cb (inl g) =
-            subst (λ n. FetchGives (scrubbed_object (now start ms) scrub f.id).profile.size f.id t
-            ((now start ms).providers n).held (Some c)) (sym ji)
-            (subst (λ n. FetchGives (scrubbed_object (now start ms) scrub n).profile.size n t
-            ((now start ms).providers i).held (Some c)) (sym fo)
-            (subst (λ n. FetchGives (scrubbed_object (now start ms) scrub o).profile.size o n
-            ((now start ms).providers i).held (Some c)) (sym ts)
-            (subst (FetchGives (scrubbed_object (now start ms) scrub o).profile.size o s
-            ((now start ms).providers i).held) (sym cb) g)))
-
         gave : (f : Pinned) (j t : ℕ) (c : List ℕ) → In f scrub.files → j < (setup_in (now start ms)).n →
             t < pinned_stripes (setup_in (now start ms)) f →
             In (Fetched j f.id t (Some c)) (Fetched i o s block ∷ scrub.given) →
@@ -353,7 +352,8 @@ module _ (limit : ℕ) (mark : Mark) (start : State) (m : Moment) (ms : List Mom
         gave f j t c in_f l k (inl e) wrong = (let z : Fetched j f.id t (Some c) ≡ Fetched i o s block = e in
             let ji : j ≡ i = cc in let fo : f.id ≡ o = cc in let ts : t ≡ s = cc in
             let cb : Some c ≡ block = cc in
-            fetched_wrong f j t c in_f l k (newest f j t c ji fo ts cb got) wrong)
+            fetched_wrong f j t c in_f l k
+            (gives_there (now start ms) scrub i o s block f j t c ji fo ts cb got) wrong)
         gave f j t c in_f l k (inr old) wrong = K.gave f j t c in_f l k old wrong
 
         rows : (f : Pinned) (t : ℕ) (symbols : List ℕ) → In f scrub.files →

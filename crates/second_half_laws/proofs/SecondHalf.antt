@@ -243,7 +243,8 @@ rose_or_not a b = elim (cases_lt a last_count) [
   ]
 ]
 
-some_rose : (w v : State) (n : ℕ) → ((i : ℕ) × (i < n) × RoseSince w v i) ⊎
+-- the count of one of these providers rose, or of none
+pub some_rose : (w v : State) (n : ℕ) → ((i : ℕ) × (i < n) × RoseSince w v i) ⊎
     ((i : ℕ) → i < n → RoseSince w v i → ⊥)
 some_rose w v zero = inr (λ i l rose. omega (arith, l))
 some_rose w v (suc n) = elim (some_rose w v n) [

@@ -7,7 +7,6 @@ use Rattle.algebra_laws.specs.Lists.{Each, In}
 use Rattle.algebra_laws.proofs.Each.{each_append, each_map, each_flat, in_left, in_right, in_flat}
 use Rattle.code_defs.specs.Points.{upto}
 use Rattle.code_defs.specs.Profiles.{profile_of}
-use Rattle.code_defs.specs.ServerCode.{differences}
 use Rattle.column_defs.specs.Objects.{Object}
 use Rattle.column_defs.specs.Opened.{GivesSymbols}
 use Rattle.column_defs.specs.Columns.{columns, column_of_symbols}
@@ -16,7 +15,7 @@ use Rattle.record_defs.specs.Records.{Setup}
 use Rattle.record_defs.specs.Table.{File, setup_of, file_of}
 use Rattle.device_defs.specs.Providers.{Held, sized}
 use Rattle.device_defs.specs.ProviderCalls.{FetchGives}
-use Rattle.machine_defs.specs.Jobs.{Pinned, Fetched, Worked, Job, job_of}
+use Rattle.machine_defs.specs.Jobs.{Pinned, Fetched, Worked}
 use Rattle.machine_defs.specs.Actions.{Action, Store, Fetch, Work, End, on_each_provider, on_each_stripe, open_actions}
 use Rattle.machine_defs.specs.Setups.{object_of, profiled, pinned_stripes}
 use Rattle.machine_defs.specs.States.{State, Scrub, Scrubbing, setup_in, pinned_object, file_in}
@@ -30,6 +29,7 @@ use Rattle.machine_defs.specs.Deeds.{told_block}
 use Rattle.machine_defs.proofs.JobLists.{cond_true, cond_false, found_none}
 use Rattle.machine_defs.proofs.Changes.{Block_is, Changes}
 use Rattle.machine_defs.proofs.Events.{some_told}
+use Rattle.machine_defs.proofs.Given.{differs-none}
 use Rattle.machine_defs.proofs.PinFacts.{setup_same}
 use Rattle.machine_defs.proofs.Held.{All, replaced_before}
 use Rattle.run_laws.proofs.InEffect as eff
@@ -39,7 +39,7 @@ use Rattle.second_half_laws.proofs.Scrubbing.{Beside, Scrub_goes, Scrub_is}
 use Rattle.second_half_laws.proofs.Blocks.{since_more, since_now, telling}
 use Rattle.second_half_laws.proofs.Files.{all_pinned}
 use Rattle.second_half_laws.proofs.Readers.{block_in}
-use Rattle.second_half_laws.proofs.ScrubFacts.{scrub_mark, Scrubbed, same_scrub, object_is, right, opened_right}
+use Rattle.second_half_laws.proofs.ScrubFacts.{scrub_mark, Scrubbed, stores_own, gives_there, object_is, right, opened_right}
 
 -- ---- lists of actions
 
@@ -101,19 +101,6 @@ in_stores w scrub o s symbols i l off =
     (subst (In (Store i o s)) (sym (cond_false (off_by w scrub o s symbols i == 0) [] (Store i o s ∷ []) off))
     (inl refl))
 
--- blocks that differ in no place are one
-places_same : (xs ys : List ℕ) → length xs ≡ length ys → differences xs ys ≡ 0 → xs ≡ ys
-places_same [] [] e h = refl
-places_same [] (y ∷ ys) e h = absurd (omega (arith, e))
-places_same (x ∷ xs) [] e h = absurd (omega (arith, e))
-places_same (x ∷ xs) (y ∷ ys) e h = elim (cases_Bool (x == y)) [
-  | inl t ↦ ap (λ a. a ∷ xs) (eqb-true x y t)
-      ∙ ap (λ l. y ∷ l) (places_same xs ys (omega (arith, e))
-      (sym (cond_true (x == y) (differences xs ys) (suc (differences xs ys)) t) ∙ h))
-  | inr f ↦ absurd (let z : suc (differences xs ys) ≡ 0 =
-      sym (cond_false (x == y) (differences xs ys) (suc (differences xs ys)) f) ∙ h in omega (arith, z))
-]
-
 -- a block of the size is there whole
 sized_is : (size : ℕ) (b : Option (List ℕ)) (c : List ℕ) → sized size b ≡ Some c →
     (b ≡ Some c) × (length c ≡ size)
@@ -159,9 +146,6 @@ module _ (limit : ℕ) (mark : Mark) (start : State) (m : Moment) (ms : List Mom
   bytes_are : (o : ℕ) → m.state.bytes o ≡ (now start ms).bytes o
   bytes_are o = ap (λ g. g o) b.bytes
 
-  no_job : (x : Job) → job_of (now start ms).jobs x.number ≡ Some x → ⊥
-  no_job x runs = found_none (now start ms).jobs x.number x none runs
-
   file_is : (f : File) → pinned_file (now start ms) f ≡ pinned_file m.state f
   file_is f = ap (λ l. record { id = f.id; profile = f.profile; bytes = l }) (sym (bytes_are f.id))
 
@@ -174,16 +158,6 @@ module _ (limit : ℕ) (mark : Mark) (start : State) (m : Moment) (ms : List Mom
 
   module _ (scrub : Scrub) (at : (now start ms).alone ≡ Some (Scrubbing scrub))
       (K : Scrubbed mark start ms scrub) (C : Swept start ms scrub) where
-    mine : (f : Pinned) (i s : ℕ) → In f scrub.files → (other : Scrub) (rest : List Action) →
-        (now start ms).alone ≡ Some (Scrubbing other) → other.todo ≡ Store i f.id s ∷ rest →
-        block_to_scrub (now start ms) other i f.id s ≡ columns (pinned_object (now start ms) f)
-        ((now start ms).bytes f.id) i s
-    mine f i s in_f other rest at_other next_is =
-        (let same = same_scrub (now start ms) scrub other at at_other in
-        subst (λ (x : Scrub). block_to_scrub (now start ms) x i f.id s
-        ≡ columns (pinned_object (now start ms) f) ((now start ms).bytes f.id) i s) same
-        (right mark start ms A scrub K f rest i s in_f (ap (λ (x : Scrub). x.todo) same ∙ next_is)))
-
     -- what is seen of a block, before the event
     abbrev Seen : Pinned → ℕ → ℕ → List ℕ → Option (List ℕ) → Type 0
     Seen f i s block c = (sized (pinned_object (now start ms) f).profile.size c ≡ Some block) ⊎
@@ -238,12 +212,13 @@ module _ (limit : ℕ) (mark : Mark) (start : State) (m : Moment) (ms : List Mom
               ]
           | Block_is.replaced r ↦
               absurd (false≢true (sym unreplaced ∙ since_now scrub.begun i m ms r K.begun))
-          | Block_is.stored x runs next_is is ↦ absurd (no_job x runs)
+          | Block_is.stored x runs next_is is ↦ absurd (found_none (now start ms).jobs x.number x none runs)
           | Block_is.scrubbed other rest at_other next_is is ↦
               inr (some_told (block_to_scrub (now start ms) other i f.id s)
               ((now start ms).providers i).held c (sym is ∙ told)
-              ∙ ap Some (mine f i s in_f other rest at_other next_is ∙ columns_are f i s))
-          | Block_is.removed x runs next_is ↦ absurd (no_job x runs)
+              ∙ ap Some (stores_own mark start ms A scrub at K f i s in_f other rest at_other next_is
+              ∙ columns_are f i s))
+          | Block_is.removed x runs next_is ↦ absurd (found_none (now start ms).jobs x.number x none runs)
         ]
 
         leave : (f : Pinned) (i s : ℕ) (block : Option (List ℕ)) → In f scrub.files →
@@ -252,12 +227,13 @@ module _ (limit : ℕ) (mark : Mark) (start : State) (m : Moment) (ms : List Mom
         leave f i s block in_f l k told = elim (X.block i f.id s) [
           | Block_is.same e ↦ left f i s block in_f l k told (sym e ∙ told)
           | Block_is.replaced r ↦ inr (inl (since_now scrub.begun i m ms r K.begun))
-          | Block_is.stored x runs next_is is ↦ absurd (no_job x runs)
+          | Block_is.stored x runs next_is is ↦ absurd (found_none (now start ms).jobs x.number x none runs)
           | Block_is.scrubbed other rest at_other next_is is ↦
               inl (some_told (block_to_scrub (now start ms) other i f.id s)
               ((now start ms).providers i).held block (sym is ∙ told)
-              ∙ ap Some (mine f i s in_f other rest at_other next_is ∙ columns_are f i s))
-          | Block_is.removed x runs next_is ↦ absurd (no_job x runs)
+              ∙ ap Some (stores_own mark start ms A scrub at K f i s in_f other rest at_other next_is
+              ∙ columns_are f i s))
+          | Block_is.removed x runs next_is ↦ absurd (found_none (now start ms).jobs x.number x none runs)
         ]
 
     -- where it was left before, with what is still to do
@@ -323,22 +299,6 @@ module _ (limit : ℕ) (mark : Mark) (start : State) (m : Moment) (ms : List Mom
         (record scrub { todo = rest; given = Fetched i o s block ∷ scrub.given }) refl refl seen leave
         (ended_tail (Fetch i o s) rest tt (subst IsEnded todo C.ended))
       where
-        newest : (f : Pinned) (j t : ℕ) (c : List ℕ) → j ≡ i → f.id ≡ o → t ≡ s → Some c ≡ block →
-            FetchGives (scrubbed_object (now start ms) scrub o).profile.size o s
-            ((now start ms).providers i).held block ⊎ (block ≡ None) →
-            FetchGives (scrubbed_object (now start ms) scrub f.id).profile.size f.id t
-            ((now start ms).providers j).held (Some c)
-        newest f j t c ji fo ts cb (inr gone) = absurd (let z : Some c ≡ None = cb ∙ gone in cc)
-        newest f j t c ji fo ts cb (inl g) =
-            subst (λ n. FetchGives (scrubbed_object (now start ms) scrub f.id).profile.size f.id t
-            ((now start ms).providers n).held (Some c)) (sym ji)
-            (subst (λ n. FetchGives (scrubbed_object (now start ms) scrub n).profile.size n t
-            ((now start ms).providers i).held (Some c)) (sym fo)
-            (subst (λ n. FetchGives (scrubbed_object (now start ms) scrub o).profile.size o n
-            ((now start ms).providers i).held (Some c)) (sym ts)
-            (subst (FetchGives (scrubbed_object (now start ms) scrub o).profile.size o s
-            ((now start ms).providers i).held) (sym cb) g)))
-
         seen : (f : Pinned) (j t : ℕ) (c : List ℕ) (d : Option (List ℕ)) → In f scrub.files →
             In (Fetched j f.id t (Some c)) (Fetched i o s block ∷ scrub.given) →
             is_replaced_since scrub.begun j ms ≡ false → told_block (now start ms) j f.id t ≡ Some d →
@@ -352,7 +312,8 @@ module _ (limit : ℕ) (mark : Mark) (start : State) (m : Moment) (ms : List Mom
             let gives = subst (λ (held : Option Held). FetchGives
             (pinned_object (now start ms) f).profile.size f.id t held (Some c)) h.1
             (subst (λ (ob : Object). FetchGives ob.profile.size f.id t ((now start ms).providers j).held
-            (Some c)) (object_is mark start ms A scrub K f in_f) (newest f j t c ji fo ts cb got)) in
+            (Some c)) (object_is mark start ms A scrub K f in_f)
+            (gives_there (now start ms) scrub i o s block f j t c ji fo ts cb got)) in
             inl (ap (sized (pinned_object (now start ms) f).profile.size) (sym h.2) ∙ sym gives))
 
         leave : Leaves rest
@@ -432,7 +393,7 @@ module _ (limit : ℕ) (mark : Mark) (start : State) (m : Moment) (ms : List Mom
                 | inl whole ↦ (let p =
                     sized_is (pinned_object (now start ms) f).profile.size block c whole in
                     p.0 ∙ ap Some
-                    (places_same c (column_of_symbols (scrubbed_object (now start ms) scrub f.id)
+                    (differs-none c (column_of_symbols (scrubbed_object (now start ms) scrub f.id)
                     symbols j t) (p.1 ∙ sym size_is) z ∙ column_is))
                 | inr e ↦ e
               ])

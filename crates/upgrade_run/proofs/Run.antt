@@ -59,10 +59,6 @@ abbrev packed_too : List Instruction
 packed_too = Reopens ∷ Comes (Stop []) Stopped pack_stays
     ∷ Sweeps 4 (Moves ∷ Moves ∷ Moves ∷ []) ∷ Begins BeginPack ∷ swept
 
--- all of it
-abbrev instructions : List Instruction
-instructions = get 5 packed_too
-
 -- they can be carried out
 pub fit_put : AreFit 8 set_up put
 unfolding setup_in actions_of
@@ -125,7 +121,7 @@ fit_swept = (
   ),
 )
 
-fit : AreFit 8 set_up instructions
+fit : AreFit 8 set_up (get 5 packed_too)
 unfolding setup_in actions_of
 fit = (
   (
@@ -161,7 +157,7 @@ fit = (
 
 -- the run
 abbrev pub moments : List Moment
-moments = run_of set_up instructions
+moments = run_of set_up (get 5 packed_too)
 
 -- event k
 abbrev event_at : ℕ → Moment
@@ -184,7 +180,7 @@ outright = record {
     closed = refl;
     unbarred = refl;
   };
-  run = are-run 8 set_up instructions fit;
+  run = are-run 8 set_up (get 5 packed_too) fit;
   events = refl;
   upgraded = record { moment = event_at 6; is = refl; event_is = refl; outcome_is = refl };
   version = refl;

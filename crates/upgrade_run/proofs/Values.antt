@@ -1,6 +1,6 @@
 -- What the providers hold in the run: the blocks of a file of one byte over four providers, of one of which a
 -- symbol is altered.
-use Rattle.std.proofs.Common.{◌≡◌, ℕ, suc, ◌+◌, ◌==◌, false, List, [], ◌∷◌, ◌++◌, length, map, Some, None, refl, ap, sym, subst, ◌∙◌, arith}
+use Rattle.std.proofs.Common.{◌≡◌, ℕ, ◌+◌, ◌==◌, false, List, [], ◌∷◌, ◌++◌, length, map, Some, None, refl, sym, ◌∙◌, arith}
 use Rattle.std.specs.Prelude.{take, slice_set, slice_index, if◌then◌else◌}
 use Rattle.std.specs.List.{flat_map}
 use Rattle.std.proofs.lemmas.Bool.{eq-eqb}
@@ -20,6 +20,7 @@ use Rattle.column_laws.proofs.RightRows.{given-right, kept-symbol}
 use Rattle.run_laws.proofs.SymbolBytes.{bytes_back}
 use Rattle.second_half_laws.proofs.GivesRight.{own_give}
 use Rattle.damage_run.specs.Schedule.{byte}
+use Rattle.damage_run.proofs.Values.{head_is, one_differs, same_size}
 use Rattle.upgrade_run.specs.Schedule.{thing}
 
 -- the symbols of the only stripe
@@ -52,10 +53,6 @@ first_symbol : slice_index (block 0) 0 ≡ 111
 unfolding column_of_symbols symbol_of
 first_symbol = kept-symbol thing byte 0 0 0 (omega arith) (omega arith) (omega arith)
 
-head_is : (c : List ℕ) (n x : ℕ) → length c ≡ suc n → slice_index c 0 ≡ x → (rest : List ℕ) × (c ≡ x ∷ rest)
-head_is [] n x size first = absurd (omega (arith, size))
-head_is (y ∷ ys) n x size first = (ys, ap (λ z. z ∷ ys) first)
-
 -- what stands behind it
 abbrev rest_of : List ℕ
 rest_of = (head_is (block 0) 15 111 (length-block 0) first_symbol).0
@@ -66,14 +63,6 @@ block_is = (head_is (block 0) 15 111 (length-block 0) first_symbol).1
 -- the block with its first symbol altered
 abbrev pub altered : List ℕ
 altered = slice_set (block 0) 0 5
-
--- one symbol differs
-one_differs : (b : List ℕ) (rest : List ℕ) → b ≡ 111 ∷ rest → differences (slice_set b 0 5) b ≡ 1
-one_differs b rest is =
-    subst (λ c. differences (slice_set c 0 5) c ≡ 1) (sym is) (ap suc (differences-same rest))
-
-same_size : (b : List ℕ) (rest : List ℕ) → b ≡ 111 ∷ rest → length (slice_set b 0 5) ≡ length b
-same_size b rest is = subst (λ c. length (slice_set c 0 5) ≡ length c) (sym is) refl
 
 -- the altered block has 16 bytes too
 pub length-altered : length altered ≡ 16

@@ -1,6 +1,5 @@
 use Rattle.std.proofs.Common.{refl, inl, inr}
-use Rattle.machine_defs.proofs.PutRun.{moments as stored}
-use Rattle.damage_run.proofs.ReadOver.{gaps, begin, end, is_read}
+use Rattle.damage_run.proofs.ReadOver.{stored, gaps, begin, end, is_read}
 use Rattle.damage_run.proofs.runs.a_damaged_store_is_read.Goals as goal
 
 pub returns-clause-read : goal.returns-clause-read

@@ -1,5 +1,7 @@
 use Rattle.std.proofs.Common.{[], refl}
+use Rattle.machine_defs.specs.Actions.{actions_of}
 use Rattle.machine_defs.specs.Events.{Names, Listed, Closed}
+use Rattle.machine_defs.specs.States.{setup_in}
 use Rattle.record_defs.specs.Table.{files_of}
 use Rattle.machine_defs.specs.Runs.{Moment, now}
 use Rattle.machine_defs.specs.Examples.{set_up}
@@ -18,6 +20,7 @@ abbrev shut : Moment
 shut = record { event = Names; outcome = Closed; state = set_up }
 
 pub returns-clause-opened : goal.returns-clause-opened
+unfolding setup_in actions_of
 returns-clause-opened c = (
   moments,
   listed,

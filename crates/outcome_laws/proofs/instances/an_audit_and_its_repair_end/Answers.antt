@@ -4,9 +4,9 @@ use Rattle.machine_defs.specs.States.{setup_in}
 use Rattle.machine_defs.specs.Runs.{Moment, IsRun, now}
 use Rattle.machine_defs.specs.Examples.{set_up}
 use Rattle.machine_defs.proofs.Untouched.{run_back}
+use Rattle.run_laws.proofs.FirstHalf.{runs_shape}
 use Rattle.second_half_laws.specs.MarkedRuns.{IsCalmRun}
 use Rattle.second_half_laws.specs.Mended.{IsMended}
-use Rattle.outcome_laws.proofs.LostRepairs.{runs_shape}
 use Rattle.outcome_laws.proofs.instances.an_audit_and_its_repair_end.Goals as goal
 
 -- up to the audit's end

@@ -1,7 +1,9 @@
 use Rattle.std.proofs.Common.{List, refl}
 use Rattle.std.specs.Prelude.{take}
 use Rattle.machine_defs.specs.Examples.{set_up}
+use Rattle.machine_defs.specs.Actions.{actions_of}
 use Rattle.machine_defs.specs.Runs.{Moment, now, first_moments}
+use Rattle.machine_defs.specs.States.{setup_in}
 use Rattle.damage_run.specs.Schedule.{name}
 use Rattle.damage_run.proofs.Points.{last_of}
 use Rattle.fault_run.proofs.Points.{never_by_test}
@@ -29,6 +31,7 @@ returns-clause-run c = (
 )
 
 pub returns-clause-used : goal.returns-clause-used
+unfolding setup_in actions_of
 returns-clause-used c = (
   stopped_moments,
   is_stopped,

@@ -43,6 +43,7 @@ returns-clause-trial c = λ start ms number old new end starts run is does.
     (subst (AreLeft start ms) (sym is) (c.runs_leave_devices.ensures.each start ms starts run))
 
 pub returns-clause-damaged : goal.returns-clause-damaged
+unfolding setup_in actions_of
 returns-clause-damaged c = (
   damage,
   outright,

@@ -1,0 +1,13 @@
+use Rattle.std.specs.Fmt.{digits}
+use Rattle.std.proofs.Common.{refl}
+use Rattle.machine_defs.specs.Actions.{actions_of}
+use Rattle.machine_defs.specs.States.{setup_in}
+use Rattle.machine_defs.specs.Examples.{set_up}
+use Rattle.made_runs.specs.Instructions.{run_of}
+use Rattle.made_runs.proofs.Written.{carries}
+use Rattle.made_runs.proofs.GetRun.{instructions, is_run}
+use Rattle.made_runs.proofs.runs.stored_is_got.Goals as goal
+
+pub returns : goal.returns
+unfolding setup_in actions_of digits
+returns c = (run_of set_up instructions, is_run, carries set_up instructions refl)
