@@ -19,7 +19,7 @@ use Rattle.record_defs.specs.Records.{Record, largest_file}
 use Rattle.record_defs.specs.Areas.{Area}
 use Rattle.record_defs.specs.Table.{files_of}
 use Rattle.machine_defs.specs.Jobs.{Kind, PutJob, GetJob, DropJob, AuditJob, RepairJob, UpgradeJob}
-use Rattle.command_defs.specs.Forms.{Command, RowOf, InitWith, PutUnder, PutAt, GetOf, DropOf, ListAll, AuditAll, RepairDue, UpgradeJournal, ScrubAll, PackJournal}
+use Rattle.command_defs.specs.Forms.{Command, RowOf, InitWith, PutUnder, PutAt, GetOf, DropOf, ListAll, AuditAll, RepairAll, UpgradeJournal, ScrubAll, PackJournal}
 use Rattle.command_defs.specs.Seen.{Seen, Ending, IsSynced, SameSource, ReadsAtMost, ReadsFront, IsRefused, sinking}
 use Rattle.command_defs.specs.Sinking.{Refuses, WritesLine}
 use Rattle.command_defs.specs.Opens.{IsOpened, Unstarted}
@@ -108,7 +108,7 @@ Answers (GetOf name) old new end = AnswersAlone (GetJob name) old new end × Sam
 Answers (DropOf name) old new end = AnswersAlone (DropJob name) old new end × SameSource old new
 Answers ListAll old new end = AnswersList old new end × SameSource old new
 Answers AuditAll old new end = AnswersAlone AuditJob old new end × SameSource old new
-Answers RepairDue old new end = AnswersAlone RepairJob old new end × SameSource old new
+Answers RepairAll old new end = AnswersAlone RepairJob old new end × SameSource old new
 Answers UpgradeJournal old new end = AnswersAlone UpgradeJob old new end × SameSource old new
 Answers ScrubAll old new end = AnswersScrub old new end × SameSource old new
 Answers PackJournal old new end = AnswersPack old new end × SameSource old new

@@ -103,7 +103,7 @@ pub data Command : Type 0 where
   DropOf : (name : List ℕ) → Command
   ListAll : Command
   AuditAll : Command
-  RepairDue : Command
+  RepairAll : Command
   UpgradeJournal : Command
   ScrubAll : Command
   PackJournal : Command
@@ -118,7 +118,7 @@ IsForm words (GetOf name) = IsGetForm words name
 IsForm words (DropOf name) = IsDropForm words name
 IsForm words ListAll = IsListForm words
 IsForm words AuditAll = IsAuditForm words
-IsForm words RepairDue = IsRepairForm words
+IsForm words RepairAll = IsRepairForm words
 IsForm words UpgradeJournal = IsUpgradeForm words
 IsForm words ScrubAll = IsScrubForm words
 IsForm words PackJournal = IsPackForm words

@@ -12,7 +12,7 @@ use Rattle.device_defs.proofs.PickLaws.{IsImage-reads}
 use Rattle.record_defs.specs.Records.{Record, Setup, largest_journal}
 use Rattle.record_defs.specs.Areas.{Area, StandsActive}
 use Rattle.machine_defs.specs.Jobs.{Kind, PutJob, GetJob, DropJob, AuditJob, RepairJob, UpgradeJob}
-use Rattle.command_defs.specs.Forms.{Command, Numbers, RowOf, InitWith, PutUnder, PutAt, GetOf, DropOf, ListAll, AuditAll, RepairDue, UpgradeJournal, ScrubAll, PackJournal}
+use Rattle.command_defs.specs.Forms.{Command, Numbers, RowOf, InitWith, PutUnder, PutAt, GetOf, DropOf, ListAll, AuditAll, RepairAll, UpgradeJournal, ScrubAll, PackJournal}
 use Rattle.command_defs.specs.Sinking.{WritesLine, TellsLine}
 use Rattle.opening_defs.specs.Journals.{IsResynced, IsRead}
 use Rattle.command_defs.specs.Seen.{Seen, Ending, IsRefused, sinking}
@@ -228,7 +228,7 @@ refusal-told (GetOf name) old new end A refuses = alone-told (GetJob name) old n
 refusal-told (DropOf name) old new end A refuses = alone-told (DropJob name) old new end A.0 refuses
 refusal-told ListAll old new end A refuses = list-told old new end A.0 refuses
 refusal-told AuditAll old new end A refuses = alone-told AuditJob old new end A.0 refuses
-refusal-told RepairDue old new end A refuses = alone-told RepairJob old new end A.0 refuses
+refusal-told RepairAll old new end A refuses = alone-told RepairJob old new end A.0 refuses
 refusal-told UpgradeJournal old new end A refuses = alone-told UpgradeJob old new end A.0 refuses
 refusal-told ScrubAll old new end A refuses = scrub-told old new end A.0 refuses
 refusal-told PackJournal old new end A refuses = pack-told old new end A.0 refuses

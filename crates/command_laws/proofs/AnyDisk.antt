@@ -6,7 +6,7 @@ use Rattle.record_defs.specs.Areas.{Area}
 use Rattle.machine_defs.specs.Jobs.{GetJob, RepairJob}
 use Rattle.machine_defs.specs.Answers as answer
 use Rattle.machine_defs.specs.Answers.{Answer}
-use Rattle.command_defs.specs.Forms.{GetOf, ListAll, RepairDue}
+use Rattle.command_defs.specs.Forms.{GetOf, ListAll, RepairAll}
 use Rattle.command_defs.specs.Seen.{Seen, Ending, provider_at}
 use Rattle.command_defs.specs.Opens.{setup_in_effect}
 use Rattle.command_defs.specs.Lines.{text_of}
@@ -83,7 +83,7 @@ pub repair-order : (old new : Seen) (end : Ending) → AnswersAlone RepairJob ol
     (Rose old.disk_faults new.disk_faults → ⊥) →
     ((j : ℕ) → Rose (provider_at old.providers j).store_faults (provider_at new.providers j).store_faults →
     ⊥) → (Rose old.sink_faults new.sink_faults → ⊥) →
-    EndsInOrder RepairDue old new end ⊎ LosesRepair old new end
+    EndsInOrder RepairAll old new end ⊎ LosesRepair old new end
 repair-order old new end (AnswersAlone.unstarted u) disk stores sink = inl (EndsInOrder.unstarted u)
 repair-order old new end (AnswersAlone.begun records opened (AnswersJob.refused why is synced r)) disk stores sink =
     inl (EndsInOrder.refused records RepairJob why opened refl is r)
@@ -91,7 +91,7 @@ repair-order old new end (AnswersAlone.begun records opened (AnswersJob.no_memor
     inl (EndsInOrder.no_memory r.status_is)
 repair-order old new end (AnswersAlone.begun records opened (AnswersJob.ended how none runs left by)) disk stores sink =
     elim (repair-comes records old new end disk stores sink how left left.leaves.by_kind.0.gives by) [
-      | inl well ↦ inl (in-order RepairDue old new end well)
+      | inl well ↦ inl (in-order RepairAll old new end well)
       | inr four ↦ inr (repair-loses old new end
           (AnswersAlone.begun records opened (AnswersJob.ended how none runs left by)) four)
     ]

@@ -11,7 +11,7 @@ use Rattle.machine_defs.specs.Answers as answer
 use Rattle.machine_defs.specs.Answers.{Answer}
 use Rattle.machine_defs.specs.Refusals as refusal
 use Rattle.machine_defs.specs.Refusals.{Refusal}
-use Rattle.command_defs.specs.Forms.{Command, Numbers, RowOf, InitWith, PutUnder, PutAt, GetOf, DropOf, ListAll, AuditAll, RepairDue, UpgradeJournal, ScrubAll, PackJournal}
+use Rattle.command_defs.specs.Forms.{Command, Numbers, RowOf, InitWith, PutUnder, PutAt, GetOf, DropOf, ListAll, AuditAll, RepairAll, UpgradeJournal, ScrubAll, PackJournal}
 use Rattle.command_defs.specs.Sinking.{WritesLine}
 use Rattle.command_defs.specs.Seen.{Seen, Ending, provider_at, sinking}
 use Rattle.command_defs.specs.Opens.{Unstarted}
@@ -254,7 +254,7 @@ module _ (old new : Seen) (end : Ending) where
   store-causes (DropOf name) A opens = alone-causes (DropJob name) A.0
   store-causes ListAll A opens = list-causes A.0
   store-causes AuditAll A opens = alone-causes AuditJob A.0
-  store-causes RepairDue A opens = alone-causes RepairJob A.0
+  store-causes RepairAll A opens = alone-causes RepairJob A.0
   store-causes UpgradeJournal A opens = alone-causes UpgradeJob A.0
   store-causes ScrubAll A opens = scrub-causes A.0
   store-causes PackJournal A opens = pack-causes A.0

@@ -13,10 +13,11 @@ use Rattle.record_defs.specs.Areas as areas
 use Rattle.record_defs.specs.Areas.{Area}
 use Rattle.record_defs.specs.Table.{Due, next_audit, setup_of, file_of, due_of, exceeds}
 use Rattle.record_defs.specs.Acceptance.{refused}
-use Rattle.record_defs.proofs.FilesLaws.{same-refl}
-use Rattle.record_codec.proofs.NameLemmas.{is_name-short}
-use Rattle.machine_defs.specs.Jobs.{PutJob, GetJob, DropJob, AuditJob, RepairJob}
+use Rattle.record_defs.proofs.FilesLaws.{find-files_of, same-refl}
+use Rattle.record_defs.proofs.Sizes.{is_name-short}
+use Rattle.machine_defs.specs.Jobs.{PutJob, GetJob, DropJob, AuditJob, RepairJob, ToPut}
 use Rattle.machine_defs.specs.Refusals as refusal
+use Rattle.machine_defs.specs.Sights.{is_too_full}
 use Rattle.machine_defs.proofs.JobLists.{cond_true, cond_false}
 use Rattle.command_defs.specs.Forms.{Numbers, AuditAll}
 use Rattle.command_defs.specs.Keys.{IsKeyForm}
@@ -27,7 +28,7 @@ use Rattle.command_defs.specs.Lines.{ready_line, stored_line, audit_lines}
 use Rattle.command_defs.specs.Audits.{audit_records}
 use Rattle.command_defs.specs.Jobs.{IsTold}
 use Rattle.command_defs.specs.Inits.{AnswersInit, setup_with}
-use Rattle.command_defs.specs.Refusals.{refusal_over, takes_too_much}
+use Rattle.command_defs.specs.Refusals.{sight_over, refusal_over}
 use Rattle.command_defs.specs.Scrubs.{AnswersScrub}
 use Rattle.command_defs.specs.Commands.{AnswersPut, AnswersAlone, Answers}
 use Rattle.state_laws.proofs.Records.{file-spelled}
@@ -73,8 +74,9 @@ get-refused : (area : Area) (name : List ℕ) (records : List Record) → is_nam
     file_of records name ≡ None →
     refusal_over area records (GetJob name) None ≡ Some refusal.NoSuchName
 get-refused area name records named none =
+    (let missing = find-files_of records name ∙ none in
     (λ i. cond (not (named i)) (Some refusal.BadName)
-    (cond (not (is_some (none i))) (Some refusal.NoSuchName) None))
+    (cond (not (is_some (missing i))) (Some refusal.NoSuchName) None)))
 
 -- a get of a name with no file says so, or finds no memory
 pub get-missing : (name : List ℕ) (records : List Record) (old new : Seen) (end : Ending) →
@@ -150,7 +152,7 @@ first-begins area s name bytes named short =
     (λ i. cond (not (named i)) (Some refusal.BadName)
     (cond (long i) (Some refusal.TooLong) (cond (room area i || false) (Some refusal.JournalFull) None))))
   where
-    room : (area : Area) → takes_too_much area (SetUp s ∷ []) (PutJob name bytes) ≡ false
+    room : (area : Area) → is_too_full (sight_over area (SetUp s ∷ [])) (ToPut name (length bytes)) ≡ false
     room areas.A = ap (nat_lt largest_journal) (omega arith)
         ∙ le-ltb largest_journal (51 + (11 + (length name + 14)))
         (let l = is_name-short name named in omega (arith, l))

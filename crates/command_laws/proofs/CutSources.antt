@@ -1,11 +1,11 @@
 -- Commands whose source failed, or has more bytes than a file may have: which end so, and what they leave.
-use Rattle.std.proofs.Common.{◌≡◌, ◌⊎◌, ℕ, Bool, true, false, cond, List, Option, Some, None, refl, sym, ◌∙◌, inl, inr, arith}
+use Rattle.std.proofs.Common.{◌≡◌, ◌⊎◌, ℕ, List, Option, Some, None, refl, sym, ◌∙◌, inl, inr, arith}
 use Rattle.record_defs.specs.Records.{Record}
 use Rattle.record_defs.specs.Areas.{Area}
 use Rattle.machine_defs.specs.Jobs.{Kind, PutJob, GetJob, DropJob, AuditJob, RepairJob, UpgradeJob}
 use Rattle.machine_defs.specs.Refusals as refusal
 use Rattle.machine_defs.specs.Refusals.{Refusal}
-use Rattle.command_defs.specs.Forms.{Command, Numbers, RowOf, InitWith, PutUnder, PutAt, GetOf, DropOf, ListAll, AuditAll, RepairDue, UpgradeJournal, ScrubAll, PackJournal}
+use Rattle.command_defs.specs.Forms.{Command, Numbers, RowOf, InitWith, PutUnder, PutAt, GetOf, DropOf, ListAll, AuditAll, RepairAll, UpgradeJournal, ScrubAll, PackJournal}
 use Rattle.command_defs.specs.Seen.{Seen, Ending, IsRefused, sinking}
 use Rattle.command_defs.specs.Sinking.{WritesLine}
 use Rattle.command_defs.specs.Refusals.{refusal_over, pack_refusal_over}
@@ -16,7 +16,7 @@ use Rattle.command_defs.specs.Commands.{AnswersPut, AnswersAlone, AnswersList, A
 use Rattle.command_laws.specs.Ends.{put_of, GivesUpPut}
 use Rattle.command_laws.proofs.Known.{refused-not, told-refusal, status-written, status-ended}
 use Rattle.command_laws.proofs.RowCauses.{none-at}
-use Rattle.command_laws.proofs.JobEnds.{short-never, cut-not, unstarted-cut, ended-cut, job-cut, given-gives}
+use Rattle.command_laws.proofs.JobEnds.{never, short-never, cut-not, unstarted-cut, ended-cut, job-cut, given-gives}
 use Rattle.command_laws.proofs.Images.{ReadsNone}
 
 -- its source failed, or is too long
@@ -24,11 +24,6 @@ abbrev IsCut : ℕ → Type 0
 IsCut status = (status ≡ 14) ⊎ (status ≡ 16)
 
 -- ---- commands that read no source
-
-never : (b : Bool) (x : Refusal) (rest : Option Refusal) → (Some x ≡ Some refusal.TooLong → ⊥) →
-    (rest ≡ Some refusal.TooLong → ⊥) → cond b (Some x) rest ≡ Some refusal.TooLong → ⊥
-never true x rest here there e = here e
-never false x rest here there e = there e
 
 -- only a put is refused for a length
 kind-short : (area : Area) (kind : Kind) (records : List Record) → ReadsNone kind →
@@ -164,7 +159,7 @@ command-cut (GetOf name) old new end A cut = absurd (alone-cut (GetJob name) old
 command-cut (DropOf name) old new end A cut = absurd (alone-cut (DropJob name) old new end tt A.0 cut)
 command-cut ListAll old new end A cut = absurd (list-cut old new end A.0 cut)
 command-cut AuditAll old new end A cut = absurd (alone-cut AuditJob old new end tt A.0 cut)
-command-cut RepairDue old new end A cut = absurd (alone-cut RepairJob old new end tt A.0 cut)
+command-cut RepairAll old new end A cut = absurd (alone-cut RepairJob old new end tt A.0 cut)
 command-cut UpgradeJournal old new end A cut = absurd (alone-cut UpgradeJob old new end tt A.0 cut)
 command-cut ScrubAll old new end A cut = absurd (scrub-cut old new end A.0 cut)
 command-cut PackJournal old new end A cut = absurd (pack-cut old new end A.0 cut)

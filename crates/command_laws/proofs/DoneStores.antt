@@ -26,7 +26,7 @@ use Rattle.machine_defs.specs.Answers as answer
 use Rattle.machine_defs.specs.Answers.{Answer}
 use Rattle.machine_defs.specs.Refusals.{Refusal}
 use Rattle.machine_defs.proofs.JobLists.{same_value}
-use Rattle.command_defs.specs.Forms.{Command, Numbers, RowOf, InitWith, PutUnder, PutAt, GetOf, DropOf, ListAll, AuditAll, RepairDue, UpgradeJournal, ScrubAll, PackJournal}
+use Rattle.command_defs.specs.Forms.{Command, Numbers, RowOf, InitWith, PutUnder, PutAt, GetOf, DropOf, ListAll, AuditAll, RepairAll, UpgradeJournal, ScrubAll, PackJournal}
 use Rattle.command_defs.specs.Keys.{IsKeyForm}
 use Rattle.command_defs.specs.Seen.{Seen, Ending, IsRefused, IsSynced, ReadsUpTo}
 use Rattle.opening_defs.specs.Journals.{journal_read, IsSetUpOn}
@@ -599,7 +599,7 @@ command-comes (DropOf name) records old new end K A opens =
     inr (alone-comes (DropJob name) records old new end K tt A.0)
 command-comes ListAll records old new end K A opens = list-comes records old new end K A.0
 command-comes AuditAll records old new end K A opens = inr (alone-comes AuditJob records old new end K tt A.0)
-command-comes RepairDue records old new end K A opens =
+command-comes RepairAll records old new end K A opens =
     inr (alone-comes RepairJob records old new end K tt A.0)
 command-comes UpgradeJournal records old new end K A opens =
     inr (alone-comes UpgradeJob records old new end K tt A.0)
@@ -628,7 +628,7 @@ command-alike (GetOf name) records old new end K A = inr (no-pack (GetOf name) r
 command-alike (DropOf name) records old new end K A = inr (no-pack (DropOf name) refl)
 command-alike ListAll records old new end K A = inr (no-pack ListAll refl)
 command-alike AuditAll records old new end K A = inr (no-pack AuditAll refl)
-command-alike RepairDue records old new end K A = inr (no-pack RepairDue refl)
+command-alike RepairAll records old new end K A = inr (no-pack RepairAll refl)
 command-alike UpgradeJournal records old new end K A = inr (no-pack UpgradeJournal refl)
 command-alike ScrubAll records old new end K A = inr (no-pack ScrubAll refl)
 command-alike PackJournal records old new end K A = elim (pack-alike-of records old new end K A.0) [

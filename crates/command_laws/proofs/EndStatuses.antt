@@ -9,7 +9,7 @@ use Rattle.record_defs.specs.Areas.{Area}
 use Rattle.machine_defs.specs.Jobs.{Kind, PutJob, GetJob, DropJob, AuditJob, RepairJob, UpgradeJob}
 use Rattle.machine_defs.specs.Refusals as refusal
 use Rattle.machine_defs.specs.Refusals.{Refusal}
-use Rattle.command_defs.specs.Forms.{Command, Numbers, RowOf, InitWith, PutUnder, PutAt, GetOf, DropOf, ListAll, AuditAll, RepairDue, UpgradeJournal, ScrubAll, PackJournal}
+use Rattle.command_defs.specs.Forms.{Command, Numbers, RowOf, InitWith, PutUnder, PutAt, GetOf, DropOf, ListAll, AuditAll, RepairAll, UpgradeJournal, ScrubAll, PackJournal}
 use Rattle.command_defs.specs.Sinking.{WritesLine, TellsLine}
 use Rattle.command_defs.specs.Seen.{Seen, Ending, sinking}
 use Rattle.command_defs.specs.Opens.{Unstarted}
@@ -225,7 +225,7 @@ command-ending (GetOf name) old new end A = alone-ending (GetJob name) old new e
 command-ending (DropOf name) old new end A = alone-ending (DropJob name) old new end A.0
 command-ending ListAll old new end A = list-ending old new end A.0
 command-ending AuditAll old new end A = alone-ending AuditJob old new end A.0
-command-ending RepairDue old new end A = alone-ending RepairJob old new end A.0
+command-ending RepairAll old new end A = alone-ending RepairJob old new end A.0
 command-ending UpgradeJournal old new end A = alone-ending UpgradeJob old new end A.0
 command-ending ScrubAll old new end A = scrub-ending old new end A.0
 command-ending PackJournal old new end A = pack-ending old new end A.0

@@ -12,7 +12,7 @@ use Rattle.machine_defs.specs.Jobs.{Kind, PutJob, GetJob, DropJob, AuditJob, Rep
 use Rattle.machine_defs.specs.Answers as answer
 use Rattle.machine_defs.specs.Answers.{Answer}
 use Rattle.machine_defs.specs.Refusals.{Refusal}
-use Rattle.command_defs.specs.Forms.{Command, Numbers, RowOf, InitWith, PutUnder, PutAt, GetOf, DropOf, ListAll, AuditAll, RepairDue, UpgradeJournal, ScrubAll, PackJournal}
+use Rattle.command_defs.specs.Forms.{Command, Numbers, RowOf, InitWith, PutUnder, PutAt, GetOf, DropOf, ListAll, AuditAll, RepairAll, UpgradeJournal, ScrubAll, PackJournal}
 use Rattle.command_defs.specs.Sinking.{WritesLine}
 use Rattle.command_defs.specs.Seen.{Seen, Ending, ReadsFront, provider_at, sinking}
 use Rattle.command_defs.specs.Opens.{IsOpened, Unstarted, setup_in_effect}
@@ -563,7 +563,7 @@ stores-only (GetOf name) old new end A is = absurd (alone-13 (GetJob name) old n
 stores-only (DropOf name) old new end A is = absurd (alone-13 (DropJob name) old new end A.0 is)
 stores-only ListAll old new end A is = absurd (list-own 13 old new end A.0 is (inl refl))
 stores-only AuditAll old new end A is = absurd (alone-13 AuditJob old new end A.0 is)
-stores-only RepairDue old new end A is = refl
+stores-only RepairAll old new end A is = refl
 stores-only UpgradeJournal old new end A is = absurd (alone-13 UpgradeJob old new end A.0 is)
 stores-only ScrubAll old new end A is = refl
 stores-only PackJournal old new end A is = absurd (pack-own 13 old new end A.0 is (inl refl))
@@ -579,7 +579,7 @@ rows-only (GetOf name) old new end A is = refl
 rows-only (DropOf name) old new end A is = absurd (alone-4 (DropJob name) old new end A.0 is)
 rows-only ListAll old new end A is = absurd (list-own 4 old new end A.0 is (inr refl))
 rows-only AuditAll old new end A is = absurd (alone-4 AuditJob old new end A.0 is)
-rows-only RepairDue old new end A is = refl
+rows-only RepairAll old new end A is = refl
 rows-only UpgradeJournal old new end A is = absurd (alone-4 UpgradeJob old new end A.0 is)
 rows-only ScrubAll old new end A is = refl
 rows-only PackJournal old new end A is = absurd (pack-own 4 old new end A.0 is (inr refl))

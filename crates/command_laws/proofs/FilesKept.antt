@@ -17,7 +17,7 @@ use Rattle.machine_defs.specs.Answers as answer
 use Rattle.machine_defs.specs.Answers.{Answer}
 use Rattle.machine_defs.proofs.JobLists.{cond_true, cond_false, same_value}
 use Rattle.machine_defs.proofs.RecordFacts.{AreSound, other_name}
-use Rattle.command_defs.specs.Forms.{Command, RowOf, InitWith, PutUnder, PutAt, GetOf, DropOf, ListAll, AuditAll, RepairDue, UpgradeJournal, ScrubAll, PackJournal}
+use Rattle.command_defs.specs.Forms.{Command, RowOf, InitWith, PutUnder, PutAt, GetOf, DropOf, ListAll, AuditAll, RepairAll, UpgradeJournal, ScrubAll, PackJournal}
 use Rattle.machine_defs.specs.Begins.{chosen}
 use Rattle.command_defs.specs.Seen.{Seen, Ending, IsRefused, provider_at}
 use Rattle.command_defs.specs.Opens.{setup_in_effect, object_in_effect}
@@ -226,7 +226,7 @@ reads-have (PutUnder other) name bytes records after spoilt old new end A keeps 
 reads-have (PutAt other profile) name bytes records after spoilt old new end A keeps H T =
     absurd (false≢true keeps)
 reads-have (DropOf other) name bytes records after spoilt old new end A keeps H T = absurd (false≢true keeps)
-reads-have RepairDue name bytes records after spoilt old new end A keeps H T = absurd (false≢true keeps)
+reads-have RepairAll name bytes records after spoilt old new end A keeps H T = absurd (false≢true keeps)
 reads-have ScrubAll name bytes records after spoilt old new end A keeps H T = absurd (false≢true keeps)
 
 -- a file that is right stays so over a refusal
@@ -417,7 +417,7 @@ others-have (InitWith numbers) name bytes records after spoilt old new end A dif
 others-have (GetOf got) name bytes records after spoilt old new end A differ K H T = absurd differ
 others-have ListAll name bytes records after spoilt old new end A differ K H T = absurd differ
 others-have AuditAll name bytes records after spoilt old new end A differ K H T = absurd differ
-others-have RepairDue name bytes records after spoilt old new end A differ K H T = absurd differ
+others-have RepairAll name bytes records after spoilt old new end A differ K H T = absurd differ
 others-have UpgradeJournal name bytes records after spoilt old new end A differ K H T = absurd differ
 others-have ScrubAll name bytes records after spoilt old new end A differ K H T = absurd differ
 others-have PackJournal name bytes records after spoilt old new end A differ K H T = absurd differ

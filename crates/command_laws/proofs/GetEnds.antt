@@ -7,6 +7,7 @@ use Rattle.device_defs.specs.Told.{told_then, TakesFront}
 use Rattle.record_defs.specs.Records.{Record, is_name}
 use Rattle.record_defs.specs.Areas.{Area}
 use Rattle.record_defs.specs.Table.{File, file_of}
+use Rattle.record_defs.proofs.FilesLaws.{find-files_of}
 use Rattle.machine_defs.specs.Jobs.{Kind, GetJob}
 use Rattle.machine_defs.specs.Answers as answer
 use Rattle.machine_defs.specs.Answers.{Answer}
@@ -52,8 +53,9 @@ module _ (name bytes : List ℕ) (records : List Record) (file : File) (old new 
   begins : refusal_over K.opened.area records (GetJob name) None ≡ None
   begins = (let named : is_name name ≡ true =
       (file-spelled records name file K.opened.read.in_grammar in_effect).0 in
+      let found = find-files_of records name ∙ in_effect in
       (λ i. cond (not (named i)) (Some refusal.BadName)
-      (cond (not (is_some (in_effect i))) (Some refusal.NoSuchName) None)))
+      (cond (not (is_some (found i))) (Some refusal.NoSuchName) None)))
 
   no-refusal : (why : Refusal) → refusal_over K.opened.area records (GetJob name) None ≡ Some why → ⊥
   no-refusal why is = (let e : None ≡ Some why = sym begins ∙ is in cc)

@@ -40,7 +40,7 @@ use Rattle.state_laws.proofs.Events.{events-sound}
 use Rattle.state_laws.proofs.Records.{is_some-at, none-set_up, second-set_up, setup-more}
 use Rattle.state_laws.proofs.Packs.{switched-room}
 use Rattle.record_defs.proofs.PackLaws.{packed_are}
-use Rattle.command_defs.specs.Forms.{Command, RowOf, InitWith, PutUnder, PutAt, GetOf, DropOf, ListAll, AuditAll, RepairDue, UpgradeJournal, ScrubAll, PackJournal}
+use Rattle.command_defs.specs.Forms.{Command, RowOf, InitWith, PutUnder, PutAt, GetOf, DropOf, ListAll, AuditAll, RepairAll, UpgradeJournal, ScrubAll, PackJournal}
 use Rattle.command_defs.specs.Sinking.{WritesLine}
 use Rattle.command_defs.specs.Seen.{Seen, Ending, NoCountFalls, IsRefused, IsSynced, ReadsFront, sinking}
 use Rattle.opening_defs.specs.Journals.{journal_read, IsRead, IsBadStart, IsResynced}
@@ -1095,8 +1095,8 @@ module _ (start : State) (ms : List Moment) (R : IsRun 8 start ms) (old : Seen)
   command-on ListAll new end counts opens spelled A = list-by ListAll new end counts found refl A.0
   command-on AuditAll new end counts opens spelled A =
       alone-by AuditAll new end counts found AuditJob tt refl refl tt A.0
-  command-on RepairDue new end counts opens spelled A =
-      alone-by RepairDue new end counts found RepairJob tt refl refl tt A.0
+  command-on RepairAll new end counts opens spelled A =
+      alone-by RepairAll new end counts found RepairJob tt refl refl tt A.0
   command-on UpgradeJournal new end counts opens spelled A =
       alone-by UpgradeJournal new end counts found UpgradeJob tt refl refl tt A.0
   command-on ScrubAll new end counts opens spelled A = scrub-by ScrubAll new end counts found refl A.0

@@ -21,7 +21,7 @@ use Rattle.journal_core.proofs.Meanings.{one_list}
 use Rattle.machine_defs.specs.Jobs.{Kind, PutJob, GetJob, DropJob, AuditJob, RepairJob, UpgradeJob}
 use Rattle.machine_defs.specs.Answers as answer
 use Rattle.machine_defs.specs.Answers.{Answer}
-use Rattle.command_defs.specs.Forms.{Command, Numbers, RowOf, InitWith, PutUnder, PutAt, GetOf, DropOf, ListAll, AuditAll, RepairDue, UpgradeJournal, ScrubAll, PackJournal}
+use Rattle.command_defs.specs.Forms.{Command, Numbers, RowOf, InitWith, PutUnder, PutAt, GetOf, DropOf, ListAll, AuditAll, RepairAll, UpgradeJournal, ScrubAll, PackJournal}
 use Rattle.opening_defs.specs.Journals.{IsResynced, IsFree, IsSetUpOn, MayBeLeft}
 use Rattle.opening_defs.proofs.Resyncs.{image-resynced}
 use Rattle.opening_defs.proofs.SetUps.{set_up-free}
@@ -470,7 +470,7 @@ store-images (DropOf name) old new end A opens =
     alone-images (DropOf name) (DropJob name) old new end refl refl tt A.0
 store-images ListAll old new end A opens = LeavesImages.kept (list-images old new end A.0)
 store-images AuditAll old new end A opens = alone-images AuditAll AuditJob old new end refl refl tt A.0
-store-images RepairDue old new end A opens = alone-images RepairDue RepairJob old new end refl refl tt A.0
+store-images RepairAll old new end A opens = alone-images RepairAll RepairJob old new end refl refl tt A.0
 store-images UpgradeJournal old new end A opens =
     alone-images UpgradeJournal UpgradeJob old new end refl refl tt A.0
 store-images ScrubAll old new end A opens = LeavesImages.kept (scrub-images old new end A.0)

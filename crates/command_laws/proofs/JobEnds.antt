@@ -1,6 +1,6 @@
 -- How puts, drops, audits and repairs end, and what they have done where they are done.
-use Rattle.std.proofs.Common.{◌≡◌, ◌≢◌, ℕ, ◌+◌, ◌*◌, ◌<◌, ◌≤◌, ◌==◌, ◌⊎◌, Bool, true, false, cond, List, [], ◌∷◌, ◌++◌, length, drop, Option, None, Some, refl, ap, sym, subst, ◌∙◌, inl, inr, arith, length-append, not, ◌&&◌}
-use Rattle.std.specs.Prelude.{IsSomeAnd, IfSome, IsTrue, is_some, nat_lt}
+use Rattle.std.proofs.Common.{◌≡◌, ◌≢◌, ℕ, ◌+◌, ◌*◌, ◌<◌, ◌≤◌, ◌==◌, ◌⊎◌, Bool, true, false, cond, List, [], ◌∷◌, ◌++◌, length, drop, Option, None, Some, refl, ap, sym, subst, ◌∙◌, inl, inr, arith, length-append}
+use Rattle.std.specs.Prelude.{IsSomeAnd, IfSome, IsTrue, nat_lt}
 use Rattle.std.proofs.lemmas.Bool.{cases_Bool, cases_lt, eq-eqb, false≢true}
 use Rattle.std.proofs.lemmas.List.{append-nil, take-append-drop}
 use Rattle.device_defs.specs.Cells.{Cells}
@@ -9,11 +9,11 @@ use Rattle.device_defs.specs.Images.{EachImage}
 use Rattle.device_defs.specs.Told.{then_told}
 use Rattle.device_defs.specs.Providers.{Held, Provider}
 use Rattle.device_defs.proofs.Lasting.{rose-before}
-use Rattle.record_defs.specs.Records.{Setup, Record, PutStart, PutDone, PutDoneIn, is_byte, is_name, largest_file}
+use Rattle.record_defs.specs.Records.{Setup, Record, PutStart, PutDone, PutDoneIn, is_byte, largest_file}
 use Rattle.record_defs.specs.Areas.{Area, StandsActive}
 use Rattle.record_defs.specs.Table.{File, Due, version_of, next_id, next_audit, file_of, due_of, started_as, is_start_of, is_same_name, file_as, profile_in, setup_of}
 use Rattle.record_defs.proofs.FilesLaws.{same-refl}
-use Rattle.machine_defs.specs.Jobs.{Kind, PutJob, GetJob, DropJob, AuditJob, RepairJob, UpgradeJob}
+use Rattle.machine_defs.specs.Jobs.{Kind, PutJob, GetJob, DropJob, AuditJob, RepairJob, UpgradeJob, ToPut, ToUpgrade}
 use Rattle.machine_defs.specs.Answers as answer
 use Rattle.machine_defs.specs.Answers.{Answer}
 use Rattle.machine_defs.specs.Events.{AreBytes}
@@ -23,11 +23,12 @@ use Rattle.machine_defs.specs.Begins.{chosen}
 use Rattle.machine_defs.specs.Appends.{done_record}
 use Rattle.machine_defs.specs.Refusals as refusal
 use Rattle.machine_defs.specs.Refusals.{Refusal}
+use Rattle.machine_defs.specs.Sights.{causes}
 use Rattle.machine_defs.proofs.JobLists.{cond_true, cond_false, same_value}
 use Rattle.command_defs.specs.Forms.{Command, DropOf, AuditAll, UpgradeJournal}
 use Rattle.command_defs.specs.Seen.{Seen, Ending, IsRefused, ReadsUpTo, ReadsFront, provider_at}
 use Rattle.command_defs.specs.Opens.{IsOpened, Unstarted, setup_in_effect}
-use Rattle.command_defs.specs.Refusals.{is_unknown, is_crowded_by, is_full_for, refusal_over, status_of}
+use Rattle.command_defs.specs.Refusals.{sight_over, is_unknown, refusal_over, status_of}
 use Rattle.command_defs.specs.Lines.{text_of, stored_line, dropped_line, audit_lines, repaired_line, upgraded_line}
 use Rattle.command_defs.specs.Ran.{Ran, SameHeld}
 use Rattle.command_defs.specs.Puts.{put_done, MayHaveEnd, PutLeaves}
@@ -40,6 +41,7 @@ use Rattle.command_defs.specs.Jobs.{AnswersJob, EndsByAnswer, LeftAlone, IsTold}
 use Rattle.command_defs.specs.Commands.{MayBeWhole, AnswersPut, AnswersAlone, AnswersList, Answers}
 use Rattle.job_laws.specs.Failing.{bad_seen}
 use Rattle.command_laws.specs.Ends.{IsDone, IsKnown, GivesUnlessMemory, EndsInOrder, GivesUpPut, RunsKind, SameHolds, put_of, profile_named, put_refusal, after_put, IsWholePut, IsDropped, IsAudited, IsRepaired, IsUpgraded}
+use Rattle.state_laws.proofs.Begun.{none-applies}
 use Rattle.state_laws.proofs.Records.{version-either}
 use Rattle.job_laws.proofs.Complete.{put-end, drop-end, audit-end, upgrade-end}
 use Rattle.job_laws.proofs.Mended.{repair-end}
@@ -122,31 +124,23 @@ calm-disk records kind how old new heard left calm rose =
 
 -- ---- puts
 
-third-off : (b c d : Bool) (x y z : Refusal) (rest : Option Refusal) →
-    cond b (Some x) (cond c (Some y) (cond d (Some z) rest)) ≡ None → (c ≡ false) × (d ≡ false)
-third-off true c d x y z rest h = absurd (let e : Some x ≡ None = h in cc)
-third-off false true d x y z rest h = absurd (let e : Some y ≡ None = h in cc)
-third-off false false true x y z rest h = absurd (let e : Some z ≡ None = h in cc)
-third-off false false false x y z rest h = (refl, refl)
-
-fourth-off : (b c d e : Bool) (x y z u : Refusal) (rest : Option Refusal) →
-    cond b (Some x) (cond c (Some y) (cond d (Some z) (cond e (Some u) rest))) ≡ None → e ≡ false
-fourth-off true c d e x y z u rest h = absurd (let f : Some x ≡ None = h in cc)
-fourth-off false true d e x y z u rest h = absurd (let f : Some y ≡ None = h in cc)
-fourth-off false false true e x y z u rest h = absurd (let f : Some z ≡ None = h in cc)
-fourth-off false false false true x y z u rest h = absurd (let f : Some u ≡ None = h in cc)
-fourth-off false false false false x y z u rest h = refl
-
 -- a put that is not refused has a file that is not too long, and names no profile that there is none of
 pub put-begins : (area : Area) (records : List Record) (name bytes : List ℕ) (own : Option ℕ) →
     refusal_over area records (PutJob name bytes) own ≡ None →
     (is_unknown own ≡ false) × (length bytes ≤ largest_file)
-put-begins area records name bytes own none =
-    (let off = third-off _ (is_unknown own) (nat_lt largest_file (length bytes)) _ _ _ _ none in
-    (off.0, at-most largest_file (length bytes) off.1))
+put-begins area records name bytes own none = by-profile own none
   where
     at-most : (a b : ℕ) → nat_lt a b ≡ false → b ≤ a
     at-most a b e = grind (arith, e)
+
+    by-profile : (own : Option ℕ) → refusal_over area records (PutJob name bytes) own ≡ None →
+        (is_unknown own ≡ false) × (length bytes ≤ largest_file)
+    by-profile None h =
+        (let off = none-applies (causes 1 (sight_over area records) (ToPut name (length bytes)) None) h in
+        (refl, at-most largest_file (length bytes) off.1.1.1.0))
+    by-profile (Some p) h =
+        (let off = none-applies (causes 1 (sight_over area records) (ToPut name (length bytes)) (Some p)) h in
+        (off.1.1.1.0, at-most largest_file (length bytes) off.1.1.1.1.0))
 
 -- the last record of a put is that of one version or the other
 pub done-case : (P : Record → Type 0) (records : List Record) (size : ℕ) (own : Option ℕ) →
@@ -188,10 +182,9 @@ first-profile : (area : Area) (records : List Record) (name bytes : List ℕ) (o
     profile_in (setup_of records) ≡ chosen (setup_in_effect records) own
 first-profile area records name bytes None one h = setup-profile (setup_of records)
 first-profile area records name bytes (Some p) one h = absurd
-    (let off = fourth-off (not (is_name name)) (is_unknown (Some p)) (nat_lt largest_file (length bytes))
-    (version_of records == 1) refusal.BadName refusal.BadProfile refusal.TooLong refusal.OldVersion _ h in
+    (let off = none-applies (causes 1 (sight_over area records) (ToPut name (length bytes)) (Some p)) h in
     let on : (version_of records == 1) ≡ true = eq-eqb (version_of records) 1 one in
-    false≢true (sym off ∙ on))
+    false≢true (sym off.1.1.1.1.1.0 ∙ on))
 
 -- after a put's two records its file is in effect under its name, with the profile that it names
 pub put-in_effect : (area : Area) (records : List Record) (name bytes : List ℕ) (own : Option ℕ) →
@@ -358,25 +351,12 @@ put-job-well name bytes size own records old new end begins disk stores sink (An
 no-lt : (a b : ℕ) → b ≤ a → nat_lt a b ≡ false
 no-lt a b l = grind (arith, l)
 
--- why a put is refused whose file is not too long
-abbrev short_refusal : Area → List Record → List ℕ → Option ℕ → Option Refusal
-short_refusal area records name own = cond (not (is_name name)) (Some refusal.BadName)
-    (cond (is_unknown own) (Some refusal.BadProfile)
-    (cond (is_some own && version_of records == 1) (Some refusal.OldVersion)
-    (cond (is_crowded_by records name) (Some refusal.TooManyFiles)
-    (cond (is_full_for area records (PutJob name [])) (Some refusal.JournalFull) None))))
-
+-- a file that is not too long is refused as one of no byte
 short-is : (area : Area) (records : List Record) (name bytes : List ℕ) (own : Option ℕ) →
     length bytes ≤ largest_file →
-    refusal_over area records (PutJob name bytes) own ≡ short_refusal area records name own
-short-is area records name bytes own few =
-    ap (λ b. cond (not (is_name name)) (Some refusal.BadName)
-    (cond (is_unknown own) (Some refusal.BadProfile)
-    (cond b (Some refusal.TooLong)
-    (cond (is_some own && version_of records == 1) (Some refusal.OldVersion)
-    (cond (is_crowded_by records name) (Some refusal.TooManyFiles)
-    (cond (is_full_for area records (PutJob name [])) (Some refusal.JournalFull) None))))))
-    (no-lt largest_file (length bytes) few)
+    refusal_over area records (PutJob name bytes) own ≡ refusal_over area records (PutJob name []) own
+short-is area records name bytes None few = rw (no-lt largest_file (length bytes) few) refl
+short-is area records name bytes (Some p) few = rw (no-lt largest_file (length bytes) few) refl
 
 -- two files that are not too long are refused alike
 pub same-refusal : (area : Area) (records : List Record) (name a b : List ℕ) (own : Option ℕ) →
@@ -386,21 +366,27 @@ pub same-refusal : (area : Area) (records : List Record) (name a b : List ℕ) (
 same-refusal area records name a b own la lb =
     short-is area records name a own la ∙ sym (short-is area records name b own lb)
 
-never-long : (a b c d e : Bool) → cond a (Some refusal.BadName) (cond b (Some refusal.BadProfile)
-    (cond c (Some refusal.OldVersion) (cond d (Some refusal.TooManyFiles)
-    (cond e (Some refusal.JournalFull) None)))) ≡ Some refusal.TooLong → ⊥
-never-long true b c d e h = cc
-never-long false true c d e h = cc
-never-long false false true d e h = cc
-never-long false false false true e h = cc
-never-long false false false false true h = cc
-never-long false false false false false h = cc
+-- a first cause is none, nor any other
+pub never : (b : Bool) (x : Refusal) (rest : Option Refusal) → (Some x ≡ Some refusal.TooLong → ⊥) →
+    (rest ≡ Some refusal.TooLong → ⊥) → cond b (Some x) rest ≡ Some refusal.TooLong → ⊥
+never true x rest here there e = here e
+never false x rest here there e = there e
+
+empty-never : (area : Area) (records : List Record) (name : List ℕ) (own : Option ℕ) →
+    refusal_over area records (PutJob name []) own ≡ Some refusal.TooLong → ⊥
+empty-never area records name None =
+    never _ refusal.BadName _ (λ e. cc) (never _ refusal.TooManyFiles _ (λ e. cc)
+    (never _ refusal.JournalFull None (λ e. cc) (λ e. cc)))
+empty-never area records name (Some p) =
+    never _ refusal.BadName _ (λ e. cc) (never _ refusal.BadProfile _ (λ e. cc)
+    (never _ refusal.OldVersion _ (λ e. cc) (never _ refusal.TooManyFiles _ (λ e. cc)
+    (never _ refusal.JournalFull None (λ e. cc) (λ e. cc)))))
 
 -- none of these is refused for its length
 pub short-never : (area : Area) (records : List Record) (name bytes : List ℕ) (own : Option ℕ) →
     length bytes ≤ largest_file → refusal_over area records (PutJob name bytes) own ≡ Some refusal.TooLong → ⊥
 short-never area records name bytes own few is =
-    never-long _ _ _ _ _ (sym (short-is area records name bytes own few) ∙ is)
+    empty-never area records name own (sym (short-is area records name bytes own few) ∙ is)
 
 -- what no file is refused for that is not too long, no put is refused for
 pub known-refusal : (area : Area) (records : List Record) (name bytes : List ℕ) (own : Option ℕ) →
@@ -891,7 +877,8 @@ upgrade-by records old new end opened begins answer.Upgraded left L by same done
   was_first = elim (version-either records) [
     | inl one ↦ one
     | inr two ↦ absurd (let on : (version_of records == 2) ≡ true = eq-eqb (version_of records) 2 two in
-        let off = first-off (version_of records == 2) _ _ begins in false≢true (sym off ∙ on))
+        let off = none-applies (causes 1 (sight_over opened.area records) ToUpgrade None) begins in
+        false≢true (sym off.1.1.0 ∙ on))
   ];
   told = by;
   disk = images-have opened.area new.disk left.after left.doubt _ L.0.after L.0.sure left.images;
@@ -899,10 +886,6 @@ upgrade-by records old new end opened begins answer.Upgraded left L by same done
   files = refl;
   held = same;
 }
-  where
-    first-off : (b : Bool) (x : Refusal) (rest : Option Refusal) → cond b (Some x) rest ≡ None → b ≡ false
-    first-off true x rest h = absurd (let e : Some x ≡ None = h in cc)
-    first-off false x rest h = refl
 upgrade-by records old new end opened begins answer.DiskFault left L by same done =
     absurd (not-done end.status 12 by.status_is (λ e. omega (arith, e)) (λ e. omega (arith, e)) done)
 upgrade-by records old new end opened begins answer.Memory left L by same done =

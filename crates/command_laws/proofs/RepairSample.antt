@@ -12,7 +12,7 @@ use Rattle.machine_defs.specs.Jobs.{RepairJob, Job}
 use Rattle.machine_defs.specs.Machine.{Happens}
 use Rattle.machine_defs.specs.Runs.{Moment}
 use Rattle.machine_defs.specs.States.{State, Append, setup_in, going_on, ended}
-use Rattle.command_defs.specs.Forms.{RepairDue}
+use Rattle.command_defs.specs.Forms.{RepairAll}
 use Rattle.opening_defs.specs.Opened.{AreHanded, IsOpenAtRest}
 use Rattle.command_defs.specs.JobRuns.{AreSteps}
 use Rattle.command_defs.specs.Jobs.{RanAlone, RunsAlone, AnswersJob}
@@ -127,7 +127,7 @@ repair-alone = record {
 }
 
 -- a repair of the store with no file is done
-pub repair : Answers RepairDue (store due_records) repaired_store (ends 0)
+pub repair : Answers RepairAll (store due_records) repaired_store (ends 0)
 repair = (
   AnswersAlone.begun due_records due-sure.known.opened (AnswersJob.ended (Repaired 1) refl repair-alone
       (left-alone due_records RepairJob None (Repaired 1) (store due_records) repaired_store []

@@ -10,7 +10,7 @@ use lib.Utf8.{scalar, scalars, encode, encodes, next, scalar_cases}
 use lib.Dec.{ltb}
 use Rattle.record_defs.specs.Records.{is_byte}
 use Rattle.machine_defs.specs.Events.{AreBytes}
-use Rattle.command_defs.specs.Forms.{Command, RowOf, InitWith, PutUnder, PutAt, GetOf, DropOf, ListAll, AuditAll, RepairDue, UpgradeJournal, ScrubAll, PackJournal, IsNamedForm, IsForm}
+use Rattle.command_defs.specs.Forms.{Command, RowOf, InitWith, PutUnder, PutAt, GetOf, DropOf, ListAll, AuditAll, RepairAll, UpgradeJournal, ScrubAll, PackJournal, IsNamedForm, IsForm}
 use Rattle.command_laws.specs.Pieces.{IsSpelledCommand}
 
 -- ---- a character's bytes
@@ -85,7 +85,7 @@ form-spelled words (GetOf name) h = name-spelled _ words name h
 form-spelled words (DropOf name) h = name-spelled _ words name h
 form-spelled words ListAll h = tt
 form-spelled words AuditAll h = tt
-form-spelled words RepairDue h = tt
+form-spelled words RepairAll h = tt
 form-spelled words UpgradeJournal h = tt
 form-spelled words ScrubAll h = tt
 form-spelled words PackJournal h = tt

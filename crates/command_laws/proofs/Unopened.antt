@@ -8,7 +8,7 @@ use Rattle.record_defs.specs.Records.{Record}
 use Rattle.record_defs.specs.Areas.{Area}
 use Rattle.record_defs.specs.Reading.{HasNoSetup}
 use Rattle.machine_defs.specs.Jobs.{Kind, GetJob, DropJob, AuditJob, RepairJob, UpgradeJob}
-use Rattle.command_defs.specs.Forms.{Command, RowOf, InitWith, PutUnder, PutAt, GetOf, DropOf, ListAll, AuditAll, RepairDue, UpgradeJournal, ScrubAll, PackJournal}
+use Rattle.command_defs.specs.Forms.{Command, RowOf, InitWith, PutUnder, PutAt, GetOf, DropOf, ListAll, AuditAll, RepairAll, UpgradeJournal, ScrubAll, PackJournal}
 use Rattle.command_defs.specs.Sinking.{WritesLine}
 use Rattle.command_defs.specs.Seen.{Seen, Ending, sinking}
 use Rattle.opening_defs.specs.Journals.{journal_read, IsRead, IsBadStart}
@@ -87,7 +87,7 @@ opening-of (GetOf name) old new end A opens = alone-opening (GetJob name) old ne
 opening-of (DropOf name) old new end A opens = alone-opening (DropJob name) old new end A.0
 opening-of ListAll old new end A opens = list-opening old new end A.0
 opening-of AuditAll old new end A opens = alone-opening AuditJob old new end A.0
-opening-of RepairDue old new end A opens = alone-opening RepairJob old new end A.0
+opening-of RepairAll old new end A opens = alone-opening RepairJob old new end A.0
 opening-of UpgradeJournal old new end A opens = alone-opening UpgradeJob old new end A.0
 opening-of ScrubAll old new end A opens = scrub-opening old new end A.0
 opening-of PackJournal old new end A opens = pack-opening old new end A.0

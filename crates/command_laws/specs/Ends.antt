@@ -47,7 +47,7 @@ use Rattle.command_defs.specs.Seen.{Seen, Ending, ReadsUpTo, ReadsFront, IsRefus
 use Rattle.command_defs.specs.Opens.{IsOpened, Unstarted, setup_in_effect, object_in_effect, stripes_in_effect}
 use Rattle.command_defs.specs.Refusals.{is_unknown, refusal_over, pack_refusal_over, status_of}
 use Rattle.command_defs.specs.Ran.{Ran, ran_alone, EachHeldGoes}
-use Rattle.command_defs.specs.Forms.{Command, RowOf, InitWith, PutUnder, PutAt, GetOf, DropOf, AuditAll, RepairDue, UpgradeJournal, PackJournal}
+use Rattle.command_defs.specs.Forms.{Command, RowOf, InitWith, PutUnder, PutAt, GetOf, DropOf, AuditAll, RepairAll, UpgradeJournal, PackJournal}
 use Rattle.command_defs.specs.Lines.{stored_line, dropped_line, audit_lines, repaired_line, upgraded_line, scrub_lines, packed_line}
 use Rattle.command_defs.specs.Blocks.{DroppedFrom}
 use Rattle.command_defs.specs.Puts.{put_done, StoresFile, StoresAll}
@@ -115,7 +115,7 @@ RunsKind (PutAt name profile) old new kind = PutsFront name old new kind
 RunsKind (GetOf name) old new kind = kind ≡ GetJob name
 RunsKind (DropOf name) old new kind = kind ≡ DropJob name
 RunsKind AuditAll old new kind = kind ≡ AuditJob
-RunsKind RepairDue old new kind = kind ≡ RepairJob
+RunsKind RepairAll old new kind = kind ≡ RepairJob
 RunsKind UpgradeJournal old new kind = kind ≡ UpgradeJob
 RunsKind command old new kind = ⊥
 

@@ -33,7 +33,7 @@ use Rattle.record_defs.specs.Table.{File, Due, file_of, due_of}
 use Rattle.record_defs.specs.Packed.{packed}
 use Rattle.machine_defs.specs.Events.{AreBytes}
 use Rattle.machine_defs.specs.Jobs.{Kind, PutJob, GetJob, DropJob, AuditJob, RepairJob, UpgradeJob}
-use Rattle.command_defs.specs.Forms.{Command, Numbers, RowOf, PutUnder, PutAt, GetOf, RepairDue, ScrubAll, PackJournal}
+use Rattle.command_defs.specs.Forms.{Command, Numbers, RowOf, PutUnder, PutAt, GetOf, RepairAll, ScrubAll, PackJournal}
 use Rattle.command_defs.specs.Seen.{Seen, Ending, ReadsFront, provider_at}
 use Rattle.opening_defs.specs.Journals.{IsSetUpOn, MayBeLeft}
 use Rattle.command_defs.specs.Opens.{IsOpened, setup_in_effect}
@@ -95,7 +95,7 @@ SameFetches old new = (j : ℕ) → (provider_at new.providers j).fetches ≡ (p
 abbrev pub stores_blocks : Command → Bool
 stores_blocks (PutUnder name) = true
 stores_blocks (PutAt name profile) = true
-stores_blocks RepairDue = true
+stores_blocks RepairAll = true
 stores_blocks ScrubAll = true
 stores_blocks command = false
 
@@ -103,7 +103,7 @@ stores_blocks command = false
 abbrev pub opens_rows : Command → Bool
 opens_rows (RowOf n l b seen) = true
 opens_rows (GetOf name) = true
-opens_rows RepairDue = true
+opens_rows RepairAll = true
 opens_rows ScrubAll = true
 opens_rows command = false
 

@@ -8,7 +8,7 @@ ghost use Rattle.device_defs.specs.Told.{told_then};
 ghost use Rattle.record_defs.specs.Records.{Record, SetUp, is_name, largest_file};
 ghost use Rattle.record_defs.specs.Table.{File, Due, next_audit, file_of, due_of};
 ghost use Rattle.record_defs.specs.Packed.{packed};
-ghost use Rattle.command_defs.specs.Forms.{Command, Numbers, RowOf, InitWith, PutUnder, GetOf, DropOf, ListAll, AuditAll, RepairDue, UpgradeJournal, ScrubAll, PackJournal};
+ghost use Rattle.command_defs.specs.Forms.{Command, Numbers, RowOf, InitWith, PutUnder, GetOf, DropOf, ListAll, AuditAll, RepairAll, UpgradeJournal, ScrubAll, PackJournal};
 ghost use Rattle.command_defs.specs.Keys.{IsKeyForm};
 ghost use Rattle.command_defs.specs.Seen.{Seen, Ending, IsRefused, provider_at};
 ghost use Rattle.opening_defs.specs.Journals.{IsFree};
@@ -95,7 +95,7 @@ pub fn done_commands_leave_known_stores()
         × IsTold (audit_lines (setup_in_effect records).tolerance (next_audit records) undecided counts) old
         new end }
     ensures repair { (records : List Record) (due : Due) (old new : Seen) (end : Ending)
-        → Answers RepairDue old new end → IsDone end →
+        → Answers RepairAll old new end → IsDone end →
         IsKnown old records → due_of records ≡ Some due → IsSure new (after_repair records due) }
     ensures upgrade { (records : List Record) (old new : Seen) (end : Ending)
         → Answers UpgradeJournal old new end → IsDone end →
@@ -106,7 +106,7 @@ pub fn done_commands_leave_known_stores()
         → Answers PackJournal old new end → IsDone end →
         IsKnown old records → IsSure new (packed records) }
     ensures failed_repair { (records : List Record) (old new : Seen) (end : Ending)
-        → Answers RepairDue old new end →
+        → Answers RepairAll old new end →
         (end.status ≡ 4) ⊎ (end.status ≡ 13) → IsKnown old records → IsSure new records }
 {}
 
@@ -153,7 +153,7 @@ pub fn files_stay()
         IsThen command records old new after → HasRightFile new after name bytes spoilt }
     ensures repair { (name bytes : List ℕ) (records : List Record) (due : Due) (spoilt : ℕ → Bool)
         (old new : Seen) (end : Ending) →
-        Answers RepairDue old new end → IsDone end → IsKnown old records → due_of records ≡ Some due
+        Answers RepairAll old new end → IsDone end → IsKnown old records → due_of records ≡ Some due
         → HasRightFile old records name bytes spoilt →
         IsSteady (setup_in_effect records).n spoilt old new
         → spoilt_below (setup_in_effect records).n spoilt ≤ (setup_in_effect records).b →
@@ -179,7 +179,7 @@ pub fn files_stay()
         HasRightFile new records name bytes spoilt }
     ensures repair_in_effect { (name bytes : List ℕ) (records : List Record) (due : Due) (spoilt : ℕ → Bool)
         (old new next : Seen) (end : Ending) →
-        Answers RepairDue old new end → IsSure old records → due_of records ≡ Some due → Follows new next →
+        Answers RepairAll old new end → IsSure old records → due_of records ≡ Some due → Follows new next →
         IsKnown next (after_repair records due) → HasRightFile old records name bytes spoilt →
         IsSteady (setup_in_effect records).n spoilt old new
         → spoilt_below (setup_in_effect records).n spoilt ≤ (setup_in_effect records).b →
@@ -281,7 +281,7 @@ pub fn put_files_are_got()
         (last.status ≡ 3) ⊎ (last.status ≡ 70) }
     ensures repaired { (name bytes : List ℕ) (records : List Record) (spoilt later : ℕ → Bool) (due : Due)
         (c d e f : Seen) (second last : Ending) →
-        Answers RepairDue c d second → Answers (GetOf name) e f last → Follows d e → IsKnown c records
+        Answers RepairAll c d second → Answers (GetOf name) e f last → Follows d e → IsKnown c records
         → due_of records ≡ Some due →
         HasRightFile c records name bytes spoilt → IsDone second
         → IsSteady (setup_in_effect records).n spoilt c d →
@@ -324,7 +324,7 @@ pub fn put_files_are_got()
         → GivesUnlessMemory bytes e f last }
     ensures mended { (name bytes : List ℕ) (own : Option ℕ) (records : List Record) (spoilt : ℕ → Bool)
         (a b c d e f g h : Seen) (first second third last : Ending) →
-        Answers (put_of name own) a b first → Answers AuditAll c d second → Answers RepairDue e f third
+        Answers (put_of name own) a b first → Answers AuditAll c d second → Answers RepairAll e f third
         → Answers (GetOf name) g h last →
         Follows b c → Follows d e → Follows f g → IsKnown a records → a.source ≡ Some bytes → IsDone first
         → IsDone second → IsDone third →

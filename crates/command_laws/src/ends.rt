@@ -14,11 +14,12 @@ ghost use Rattle.machine_defs.specs.Jobs.{Kind, PutJob, DropJob, AuditJob, Repai
 ghost use Rattle.machine_defs.specs.Events.{AreBytes};
 ghost use Rattle.machine_defs.specs.Heard.{HoldsForgery};
 ghost use Rattle.machine_defs.specs.Refusals.{Refusal};
-ghost use Rattle.command_defs.specs.Forms.{Command, Numbers, RowOf, InitWith, GetOf, DropOf, ListAll, AuditAll, RepairDue, UpgradeJournal, ScrubAll, PackJournal};
+ghost use Rattle.machine_defs.specs.Sights.{is_crowded_for};
+ghost use Rattle.command_defs.specs.Forms.{Command, Numbers, RowOf, InitWith, GetOf, DropOf, ListAll, AuditAll, RepairAll, UpgradeJournal, ScrubAll, PackJournal};
 ghost use Rattle.command_defs.specs.Seen.{Seen, Ending, IsRefused, provider_at};
 ghost use Rattle.opening_defs.specs.Journals.{journal_read, IsRead, IsBadStart};
 ghost use Rattle.command_defs.specs.Opens.{setup_in_effect, object_in_effect};
-ghost use Rattle.command_defs.specs.Refusals.{is_crowded_by, refusal_over, reaches_over, pack_refusal_over, status_of};
+ghost use Rattle.command_defs.specs.Refusals.{sight_over, refusal_over, reaches_over, pack_refusal_over, status_of};
 ghost use Rattle.command_defs.specs.Lines.{stored_line, dropped_line, upgraded_line, packed_line};
 ghost use Rattle.command_defs.specs.Jobs.{AnswersJob};
 ghost use Rattle.command_defs.specs.Commands.{AnswersAlone, Answers};
@@ -112,7 +113,7 @@ pub fn puts_store_the_source()
 pub fn own_profiles_are_taken()
     ensures { (name bytes : List ℕ) (own : ℕ) (area : Area) (records : List Record) → version_of records ≡ 2
         → own < all_profiles → is_name name ≡ true → length bytes ≤ largest_file
-        → is_crowded_by records name ≡ false
+        → is_crowded_for (sight_over area records) name ≡ false
         → end_in area records + 26 + length name ≤ largest_journal → next_id records ≤ 2 ^ 64 - 32
         → refusal_over area records (PutJob name bytes) (Some own) ≡ None }
 {}
@@ -155,10 +156,10 @@ pub fn audits_count_what_they_hear()
 /// ends so, or finds no memory, or is refused with its cause, or has found a row lost, unless such a count
 /// rose.
 pub fn repairs_write_anew()
-    ensures done { (old new : Seen) (end : Ending) → Answers RepairDue old new end → IsDone end
+    ensures done { (old new : Seen) (end : Ending) → Answers RepairAll old new end → IsDone end
         → IsRepaired old new end }
     ensures ends_well { (records : List Record) (old new : Seen) (end : Ending) (bytes : ℕ → List ℕ)
-        → Answers RepairDue old new end →
+        → Answers RepairAll old new end →
         (known : IsKnown old records) → refusal_over known.opened.area records RepairJob None ≡ None
         → (Rose old.disk_faults new.disk_faults → ⊥) →
         ((j : ℕ) → j < (setup_in_effect records).n
@@ -167,18 +168,18 @@ pub fn repairs_write_anew()
         AreSafe records old new bytes → (end.status ≡ 0) ⊎ (end.status ≡ 70) }
     ensures right { (name bytes : List ℕ) (records : List Record) (file : File) (due : Due) (j : ℕ)
         (old new : Seen) (end : Ending) →
-        Answers RepairDue old new end → IsKnown old records → IsDone end → due_of records ≡ Some due
+        Answers RepairAll old new end → IsKnown old records → IsDone end → due_of records ≡ Some due
         → file_of records name ≡ Some file →
         length bytes ≡ file.size → bad_seen records old new file bytes ≤ (setup_in_effect records).b
         → j < (setup_in_effect records).n →
         is_flagged (setup_in_effect records).tolerance due.counts j ≡ true
         → HoldsFile records new bytes file j }
-    ensures ends { (old new : Seen) (end : Ending) → Answers RepairDue old new end
+    ensures ends { (old new : Seen) (end : Ending) → Answers RepairAll old new end
         → (Rose old.disk_faults new.disk_faults → ⊥) →
         ((j : ℕ) → Rose (provider_at old.providers j).store_faults
         (provider_at new.providers j).store_faults → ⊥) →
         (Rose old.sink_faults new.sink_faults → ⊥)
-        → EndsInOrder RepairDue old new end ⊎ LosesRepair old new end }
+        → EndsInOrder RepairAll old new end ⊎ LosesRepair old new end }
 {}
 
 /// A scrub of status 0 or 15 has had every row of every place accepted, has told what differed, and each

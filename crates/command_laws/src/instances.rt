@@ -7,11 +7,12 @@ ghost use Rattle.record_defs.specs.Packed.{packed};
 ghost use Rattle.record_defs.specs.Table.{version_of, next_id, files_of};
 ghost use Rattle.machine_defs.specs.Events.{AreBytes};
 ghost use Rattle.machine_defs.specs.Openings.{IsNotSetUp};
+ghost use Rattle.machine_defs.specs.Sights.{is_crowded_for};
 ghost use Rattle.machine_defs.specs.States.{State};
-ghost use Rattle.command_defs.specs.Forms.{InitWith, PutUnder, PutAt, GetOf, ListAll, AuditAll, RepairDue, UpgradeJournal, ScrubAll, PackJournal, RowOf};
+ghost use Rattle.command_defs.specs.Forms.{InitWith, PutUnder, PutAt, GetOf, ListAll, AuditAll, RepairAll, UpgradeJournal, ScrubAll, PackJournal, RowOf};
 ghost use Rattle.command_defs.specs.Lines.{list_lines};
 ghost use Rattle.command_defs.specs.Opens.{setup_in_effect};
-ghost use Rattle.command_defs.specs.Refusals.{is_crowded_by, reaches_over};
+ghost use Rattle.command_defs.specs.Refusals.{sight_over, reaches_over};
 ghost use Rattle.command_defs.specs.Seen.{NoCountFalls};
 ghost use Rattle.command_defs.specs.Commands.{Answers, IsUsage};
 ghost use Rattle.job_laws.specs.Failing.{bad_seen};
@@ -80,7 +81,7 @@ pub fn there_are_answers()
     ensures too_long { (bytes : List ℕ) → AreBytes bytes → length bytes ≡ largest_file + 1 →
         Answers (PutUnder held_name) (reading set_up_records bytes) (reading started_records []) (ends 16) }
     ensures audit { Answers AuditAll (store set_up_records) audited_store (ends 0) }
-    ensures repair { Answers RepairDue (store due_records) repaired_store (ends 0) }
+    ensures repair { Answers RepairAll (store due_records) repaired_store (ends 0) }
     ensures upgrade { Answers UpgradeJournal (store set_up_records) upgraded_store (ends 0) }
     ensures own_put { Answers (PutAt held_name 1) (store upgraded_records) own_store (ends 0) }
     ensures scrub { Answers ScrubAll (store held_records) scrubbed_store (ends 0) }
@@ -103,7 +104,7 @@ pub fn there_is_room()
     ensures upgrade { (version_of set_up_records ≡ 1)
         × (end_in A set_up_records + 3 ≤ largest_journal) }
     ensures own { (version_of upgraded_records ≡ 2) × (1 < all_profiles) × (is_name held_name ≡ true)
-        × (is_crowded_by upgraded_records held_name ≡ false)
+        × (is_crowded_for (sight_over A upgraded_records) held_name ≡ false)
         × (end_in A upgraded_records + 26 + length held_name ≤ largest_journal)
         × (next_id upgraded_records ≤ 2 ^ 64 - 32) }
     ensures pack { (version_of upgraded_records ≡ 2) × (reaches_over A upgraded_records ≡ false) }

@@ -7,7 +7,7 @@ ghost use Rattle.record_defs.specs.Records.{Record, largest_file};
 ghost use Rattle.record_defs.specs.Journal.{StandsFor};
 ghost use Rattle.record_defs.specs.Packed.{packed};
 ghost use Rattle.machine_defs.specs.Jobs.{Kind};
-ghost use Rattle.command_defs.specs.Forms.{Command, Numbers, RowOf, InitWith, GetOf, DropOf, ListAll, AuditAll, RepairDue, UpgradeJournal, ScrubAll, PackJournal};
+ghost use Rattle.command_defs.specs.Forms.{Command, Numbers, RowOf, InitWith, GetOf, DropOf, ListAll, AuditAll, RepairAll, UpgradeJournal, ScrubAll, PackJournal};
 ghost use Rattle.command_defs.specs.Seen.{Seen, Ending, IsRefused, KeepsDisk, provider_at};
 ghost use Rattle.command_defs.specs.Opens.{setup_in_effect};
 ghost use Rattle.command_defs.specs.Commands.{Answers};
@@ -64,7 +64,7 @@ pub fn failed_stores_leave()
     ensures put { (name : List ℕ) (own : Option ℕ) (old new : Seen) (end : Ending)
         → Answers (put_of name own) old new end → end.status ≡ 13 →
         FailsToPut name own old new end }
-    ensures repair { (old new : Seen) (end : Ending) → Answers RepairDue old new end → end.status ≡ 13
+    ensures repair { (old new : Seen) (end : Ending) → Answers RepairAll old new end → end.status ≡ 13
         → FailsToRepair old new end }
     ensures scrub { (old new : Seen) (end : Ending) → Answers ScrubAll old new end → end.status ≡ 13
         → FailsToScrub old new end }
@@ -102,7 +102,7 @@ pub fn lost_rows_are_told()
     ensures get { (name : List ℕ) (old new : Seen) (end : Ending) → Answers (GetOf name) old new end
         → end.status ≡ 4 →
         LosesFile name old new end }
-    ensures repair { (old new : Seen) (end : Ending) → Answers RepairDue old new end → end.status ≡ 4
+    ensures repair { (old new : Seen) (end : Ending) → Answers RepairAll old new end → end.status ≡ 4
         → LosesRepair old new end }
     ensures scrub { (old new : Seen) (end : Ending) → Answers ScrubAll old new end → end.status ≡ 4
         → LosesScrub old new end }

@@ -13,7 +13,7 @@ use Rattle.record_defs.specs.Areas.{A, HasNoFront}
 use Rattle.record_defs.specs.Examples.{four}
 use Rattle.machine_defs.specs.Refusals as refusal
 use Rattle.damage_run.proofs.LostGet.{at_most_two}
-use Rattle.command_defs.specs.Forms.{RowOf, InitWith, PutUnder, PutAt, GetOf, ListAll, AuditAll, RepairDue, UpgradeJournal}
+use Rattle.command_defs.specs.Forms.{RowOf, InitWith, PutUnder, PutAt, GetOf, ListAll, AuditAll, RepairAll, UpgradeJournal}
 use Rattle.command_defs.specs.Keys.{IsKeyForm}
 use Rattle.opening_defs.specs.Journals.{journal_read}
 use Rattle.command_defs.specs.Opens.{Unstarted}
@@ -156,7 +156,7 @@ repair-due = (
 )
 
 -- a repair where none is due ends with 7
-pub nothing-due : Answers RepairDue byte_kept byte_kept (ends 7)
+pub nothing-due : Answers RepairAll byte_kept byte_kept (ends 7)
 nothing-due = (
   AnswersAlone.begun byte_records stored-sure.known.opened
       (AnswersJob.refused refusal.NothingDue refl (same-disk byte_records)
@@ -362,7 +362,7 @@ hidden-list = (
 )
 
 -- over devices that tell nothing a repair may end with 7
-pub hidden-repair : Answers RepairDue all_hidden all_hidden (ends 7)
+pub hidden-repair : Answers RepairAll all_hidden all_hidden (ends 7)
 hidden-repair = (
   AnswersAlone.begun byte_records hidden-opened
       (AnswersJob.refused refusal.NothingDue refl refl

@@ -11,7 +11,7 @@ use Rattle.machine_defs.specs.Answers.{Repaired, Lost, ProviderFault, DiskFault}
 use Rattle.machine_defs.specs.Examples.{empty_provider}
 use Rattle.machine_defs.specs.States.{State, setup_in}
 use Rattle.second_half_laws.proofs.ByteSteps.{block_sized, symbols}
-use Rattle.command_defs.specs.Forms.{RepairDue}
+use Rattle.command_defs.specs.Forms.{RepairAll}
 use Rattle.command_defs.specs.Jobs.{RunsAlone}
 use Rattle.command_defs.specs.Commands.{Answers}
 use Rattle.damage_run.proofs.Values.{without_two_give}
@@ -62,7 +62,7 @@ done-runs = byte-run A byte_audited_records (holds 0) (holds 1) empty_provider (
     })
 
 -- it ends with status 0
-pub done : Answers RepairDue due repaired (ends 0)
+pub done : Answers RepairAll due repaired (ends 0)
 done = (
   alone-ends byte_audited_records RepairJob (Repaired 1) due repaired (ends 0) due-sure.known.opened refl tt
       repair_begins done-runs (record { written = inl (refl, refl); place = refl }),
@@ -91,7 +91,7 @@ cut-runs = byte-run A byte_audited_records (holds 0) (holds 1) empty_provider (h
     })
 
 -- it ends with status 12
-pub cut : Answers RepairDue due repair_cut (ends 12)
+pub cut : Answers RepairAll due repair_cut (ends 12)
 cut = (
   alone-ends byte_audited_records RepairJob DiskFault due repair_cut (ends 12) due-sure.known.opened refl tt
       repair_begins cut-runs (record { status_is = refl; place = refl; sink = refl }),
@@ -115,7 +115,7 @@ failed-runs = byte-run A byte_audited_records (holds 0) (holds 1) empty_provider
     })
 
 -- it ends with status 13, at provider 2
-pub failed : Answers RepairDue due repair_failed (ends_at 13 2)
+pub failed : Answers RepairAll due repair_failed (ends_at 13 2)
 failed = (
   alone-ends byte_audited_records RepairJob (ProviderFault 2) due repair_failed (ends_at 13 2)
       due-sure.known.opened refl tt repair_begins failed-runs
@@ -148,7 +148,7 @@ lost-runs = byte-run A byte_audited_records empty_provider empty_provider empty_
     })
 
 -- it ends with status 4
-pub lost : Answers RepairDue due_lost repair_lost (ends 4)
+pub lost : Answers RepairAll due_lost repair_lost (ends 4)
 lost = (
   alone-ends byte_audited_records RepairJob (Lost 0 0) due_lost repair_lost (ends 4)
       robbed_due-old.known.opened refl tt repair_begins lost-runs

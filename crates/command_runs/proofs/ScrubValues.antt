@@ -1,6 +1,6 @@
 -- What a scrub finds of one byte's blocks, of which one has a symbol altered, and one is lost.
-use Rattle.std.proofs.Common.{◌≡◌, ℕ, suc, ◌+◌, ◌==◌, false, List, [], ◌∷◌, ◌++◌, length, map, Some, None, refl, ap, sym, subst, ◌∙◌, arith}
-use Rattle.std.specs.Prelude.{slice_set, slice_index, if◌then◌else◌}
+use Rattle.std.proofs.Common.{◌≡◌, ℕ, ◌+◌, ◌==◌, false, List, [], ◌∷◌, ◌++◌, length, map, Some, None, refl, sym, ◌∙◌, arith}
+use Rattle.std.specs.Prelude.{slice_index, if◌then◌else◌}
 use Rattle.std.specs.List.{flat_map}
 use Rattle.std.proofs.lemmas.Bool.{eq-eqb}
 use Rattle.code_defs.specs.Points.{upto}
@@ -20,6 +20,7 @@ use Rattle.machine_defs.specs.Setups.{object_of}
 use Rattle.machine_defs.proofs.JobLists.{cond_true}
 use Rattle.second_half_laws.proofs.ByteSteps.{symbols}
 use Rattle.damage_run.specs.Schedule.{byte}
+use Rattle.damage_run.proofs.Values.{head_is, one_differs, same_size}
 use Rattle.command_runs.specs.Devices.{own_block, altered_block, symbols_off, blocks_off}
 
 -- the object of the file
@@ -40,27 +41,16 @@ first-symbol : slice_index (own_block 0) 0 ≡ 111
 unfolding column_of_symbols symbol_of
 first-symbol = kept-symbol thing byte 0 0 0 (omega arith) (omega arith) (omega arith)
 
-head-is : (c : List ℕ) (n x : ℕ) → length c ≡ suc n → slice_index c 0 ≡ x → (rest : List ℕ) × (c ≡ x ∷ rest)
-head-is [] n x size first = absurd (omega (arith, size))
-head-is (y ∷ ys) n x size first = (ys, ap (λ z. z ∷ ys) first)
-
 block-is : (rest : List ℕ) × (own_block 0 ≡ 111 ∷ rest)
-block-is = head-is (own_block 0) 5 111 (length-block 0) first-symbol
-
-one-differs : (b : List ℕ) (rest : List ℕ) → b ≡ 111 ∷ rest → differences (slice_set b 0 5) b ≡ 1
-one-differs b rest is =
-    subst (λ c. differences (slice_set c 0 5) c ≡ 1) (sym is) (ap suc (differences-same rest))
-
-same-size : (b : List ℕ) (rest : List ℕ) → b ≡ 111 ∷ rest → length (slice_set b 0 5) ≡ length b
-same-size b rest is = subst (λ c. length (slice_set c 0 5) ≡ length c) (sym is) refl
+block-is = head_is (own_block 0) 5 111 (length-block 0) first-symbol
 
 -- the altered block has six symbols too
 pub length-altered : length altered_block ≡ 6
-length-altered = same-size (own_block 0) block-is.0 block-is.1 ∙ length-block 0
+length-altered = same_size (own_block 0) block-is.0 block-is.1 ∙ length-block 0
 
 -- of which one differs
 pub differs-altered : differences altered_block (own_block 0) ≡ 1
-differs-altered = one-differs (own_block 0) block-is.0 block-is.1
+differs-altered = one_differs (own_block 0) block-is.0 block-is.1
 
 -- a block differs in no symbol from itself
 pub differs-not : (j : ℕ) → differences (own_block j) (own_block j) ≡ 0

@@ -9,8 +9,8 @@ ghost use Rattle.record_defs.specs.Areas.{A};
 ghost use Rattle.record_defs.specs.Records.{Record, is_setup};
 ghost use Rattle.machine_defs.specs.Jobs.{PutJob, GetJob, DropJob, AuditJob, RepairJob, UpgradeJob};
 ghost use Rattle.machine_defs.specs.Answers.{Put, Got, Dropped, Audited, Repaired, Upgraded, Scrubbed, Lost, ProviderFault, DiskFault, Memory};
-ghost use Rattle.machine_defs.specs.Refusals.{RepairDue as DueRefusal, NothingDue, BadProfile, OldVersion, NewVersion};
-ghost use Rattle.command_defs.specs.Forms.{PutUnder, GetOf, DropOf, ListAll, RepairDue as RepairCommand, UpgradeJournal, ScrubAll};
+ghost use Rattle.machine_defs.specs.Refusals.{RepairDue, NothingDue, BadProfile, OldVersion, NewVersion};
+ghost use Rattle.command_defs.specs.Forms.{PutUnder, GetOf, DropOf, ListAll, RepairAll, UpgradeJournal, ScrubAll};
 ghost use Rattle.command_defs.specs.Keys.{IsKeyForm};
 ghost use Rattle.opening_defs.specs.Journals.{journal_read, IsBadStart, IsBadInit, IsSetUpAlready};
 ghost use Rattle.command_defs.specs.Inits.{setup_with};
@@ -99,7 +99,7 @@ pub fn statuses_have_their_causes()
     ensures sink { FaultsHaveCauses byte_kept (record byte_kept { sink_faults = 1 }) (ends 15) }
     ensures bad_journal { (9 < length (journal_read (firm (replicate 12 0))))
         × IsBadStart (journal_read (firm (replicate 12 0))) 0 }
-    ensures repair_due { refusal_over A byte_audited_records AuditJob None ≡ Some DueRefusal }
+    ensures repair_due { refusal_over A byte_audited_records AuditJob None ≡ Some RepairDue }
     ensures nothing_due { refusal_over A byte_records RepairJob None ≡ Some NothingDue }
     ensures bad_profile { put_refusal A four_records named (Some 5) ≡ Some BadProfile }
     ensures old_version { put_refusal A four_records named (Some 1) ≡ Some OldVersion }
@@ -110,7 +110,7 @@ pub fn statuses_have_their_causes()
     ensures hidden_put { EndsInOrder (PutUnder named) all_hidden all_hidden (ends 0) }
     ensures hidden_lost { EndsInOrder (GetOf named) all_hidden hidden_fetched (ends_hearing 4 no_blocks)
         ⊎ LosesFile named all_hidden hidden_fetched (ends_hearing 4 no_blocks) }
-    ensures hidden_repair { EndsInOrder RepairCommand all_hidden all_hidden (ends 7)
+    ensures hidden_repair { EndsInOrder RepairAll all_hidden all_hidden (ends 7)
         ⊎ LosesRepair all_hidden all_hidden (ends 7) }
     ensures hidden_list { EndsInOrder ListAll all_hidden all_hidden (ends 0) }
     ensures lost_scrub { EndsInOrder ScrubAll all_lost found_lost (ends 4)

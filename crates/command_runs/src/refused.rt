@@ -1,6 +1,6 @@
 //! Commands over devices that end before a job of theirs begins, given outright.
 ghost use Rattle.std.specs.Prelude.{[], ◌∷◌, Some, None};
-ghost use Rattle.command_defs.specs.Forms.{RowOf, InitWith, PutUnder, PutAt, GetOf, ListAll, AuditAll, RepairDue, UpgradeJournal};
+ghost use Rattle.command_defs.specs.Forms.{RowOf, InitWith, PutUnder, PutAt, GetOf, ListAll, AuditAll, RepairAll, UpgradeJournal};
 ghost use Rattle.command_defs.specs.Line.{values_line, no_row_line};
 ghost use Rattle.command_defs.specs.Commands.{Answers};
 ghost use Rattle.command_runs.specs.Devices.{with_source, named, good_numbers, bad_numbers, to_put, put_unmade, byte_kept, upgraded_kept, due, seen_after_drop, disk_failed, deserted, scrambled, all_hidden};
@@ -17,7 +17,7 @@ pub fn commands_end_early()
     ensures bad_journal { Answers ListAll scrambled scrambled (ends 8) }
     ensures too_few { Answers ListAll deserted deserted (ends 22) }
     ensures repair_due { Answers AuditAll due due (ends 6) }
-    ensures nothing_due { Answers RepairDue byte_kept byte_kept (ends 7) }
+    ensures nothing_due { Answers RepairAll byte_kept byte_kept (ends 7) }
     ensures bad_name { Answers (PutUnder []) to_put put_unmade (ends 17) }
     ensures bad_profile { Answers (PutAt named 5) to_put to_put (ends 20) }
     ensures old_version { Answers (PutAt named 1) to_put put_unmade (ends 23) }
@@ -28,7 +28,7 @@ pub fn commands_end_early()
     ensures lost_row { Answers (RowOf 4 1 1 (None ∷ None ∷ Some 7 ∷ Some 9 ∷ [])) byte_kept
         (with_sink byte_kept no_row_line) (ends 4) }
     ensures hidden_list { Answers ListAll all_hidden all_hidden (ends 0) }
-    ensures hidden_repair { Answers RepairDue all_hidden all_hidden (ends 7) }
+    ensures hidden_repair { Answers RepairAll all_hidden all_hidden (ends 7) }
     ensures hidden_get { Answers (GetOf other_name) all_hidden all_hidden (ends 3) }
 {}
 

@@ -1,5 +1,5 @@
 //! Commands over devices that run a job, given outright.
-ghost use Rattle.command_defs.specs.Forms.{PutUnder, PutAt, GetOf, DropOf, AuditAll, RepairDue, UpgradeJournal, ScrubAll};
+ghost use Rattle.command_defs.specs.Forms.{PutUnder, PutAt, GetOf, DropOf, AuditAll, RepairAll, UpgradeJournal, ScrubAll};
 ghost use Rattle.command_defs.specs.Commands.{Answers};
 ghost use Rattle.command_runs.specs.Devices.{named, all_hidden, hidden_fetched, to_put_other, stored_other, ends_hearing, to_put, byte_stored, put_failed, put_cut, put_torn, put_unmade, drop_cut, audit_cut, repair_cut, byte_kept, dropped, all_lost, found_lost, due_lost, repair_lost, no_blocks, damaged, byte_audited, answers_heard, due, repaired, repair_failed, mended, got, own_blocks_heard, byte_upgraded, upgrade_cut, to_put_own, stored_own, two_damaged, scrubbed, scrub_failed, swept, robbed_later, got_later, later_heard, ends_at};
 ghost use Rattle.command_laws.specs.Instances.{other_name, ends};
@@ -24,12 +24,12 @@ pub fn commands_end()
     ensures drop { Answers (DropOf named) byte_kept dropped (ends 0) }
     ensures cut_drop { Answers (DropOf named) byte_kept drop_cut (ends 12) }
     ensures lost_get { Answers (GetOf named) all_lost found_lost (ends_hearing 4 no_blocks) }
-    ensures lost_repair { Answers RepairDue due_lost repair_lost (ends 4) }
+    ensures lost_repair { Answers RepairAll due_lost repair_lost (ends 4) }
     ensures audit { Answers AuditAll damaged byte_audited (ends_hearing 0 answers_heard) }
     ensures cut_audit { Answers AuditAll damaged audit_cut (ends_hearing 12 answers_heard) }
-    ensures cut_repair { Answers RepairDue due repair_cut (ends 12) }
-    ensures repair { Answers RepairDue due repaired (ends 0) }
-    ensures failed_repair { Answers RepairDue due repair_failed (ends_at 13 2) }
+    ensures cut_repair { Answers RepairAll due repair_cut (ends 12) }
+    ensures repair { Answers RepairAll due repaired (ends 0) }
+    ensures failed_repair { Answers RepairAll due repair_failed (ends_at 13 2) }
     ensures get { Answers (GetOf named) mended got (ends_hearing 0 own_blocks_heard) }
     ensures scrub { Answers ScrubAll two_damaged scrubbed (ends 0) }
     ensures swept { Answers ScrubAll damaged swept (ends 0) }

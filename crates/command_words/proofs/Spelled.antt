@@ -6,7 +6,7 @@ use Rattle.std.specs.Str.{bytes_eq}
 use Rattle.std.specs.Str.Parse.{IsNumeral, digits_value}
 use Rattle.std.specs.String.{string_bytes}
 use Rattle.command_defs.specs.Words.{IsSymbolWord, AreSymbolWords}
-use Rattle.command_defs.specs.Forms.{Numbers, Command, RowOf, InitWith, PutUnder, PutAt, GetOf, DropOf, ListAll, AuditAll, RepairDue, UpgradeJournal, ScrubAll, PackJournal, IsForm, IsInitForm, IsPutAtForm, AreNumbers, IsNamedForm, IsBareForm}
+use Rattle.command_defs.specs.Forms.{Numbers, Command, RowOf, InitWith, PutUnder, PutAt, GetOf, DropOf, ListAll, AuditAll, RepairAll, UpgradeJournal, ScrubAll, PackJournal, IsForm, IsInitForm, IsPutAtForm, AreNumbers, IsNamedForm, IsBareForm}
 use Rattle.command_defs.specs.Row.{IsRowForm}
 use Rattle.command_words.proofs.RowWords.{Word}
 
@@ -62,7 +62,7 @@ by_word first words =
     else if bytes_eq first (codes "drop") then named (λ name. DropOf name) words
     else if bytes_eq first (codes "list") then Some ListAll
     else if bytes_eq first (codes "audit") then Some AuditAll
-    else if bytes_eq first (codes "repair") then Some RepairDue
+    else if bytes_eq first (codes "repair") then Some RepairAll
     else if bytes_eq first (codes "upgrade") then Some UpgradeJournal
     else if bytes_eq first (codes "scrub") then Some ScrubAll
     else if bytes_eq first (codes "pack") then Some PackJournal
@@ -180,7 +180,7 @@ spelled-IsForm words (DropOf name) form =
     spelled-named words (codes "drop") name (λ n. DropOf n) form (λ n. refl)
 spelled-IsForm words ListAll form = spelled-bare words (codes "list") ListAll form refl
 spelled-IsForm words AuditAll form = spelled-bare words (codes "audit") AuditAll form refl
-spelled-IsForm words RepairDue form = spelled-bare words (codes "repair") RepairDue form refl
+spelled-IsForm words RepairAll form = spelled-bare words (codes "repair") RepairAll form refl
 spelled-IsForm words UpgradeJournal form = spelled-bare words (codes "upgrade") UpgradeJournal form refl
 spelled-IsForm words ScrubAll form = spelled-bare words (codes "scrub") ScrubAll form refl
 spelled-IsForm words PackJournal form = spelled-bare words (codes "pack") PackJournal form refl

@@ -6,7 +6,7 @@
 use Rattle.std.specs.Prelude.{◌≡◌, List, [], ◌∷◌, codes, None, Some, String}
 use Rattle.std.specs.String.{string_bytes}
 use Rattle.std.specs.declared.alloc.Global.{Global}
-use Rattle.command_defs.specs.Forms.{RowOf, InitWith, PutUnder, PutAt, GetOf, DropOf, ListAll, AuditAll, RepairDue, UpgradeJournal, ScrubAll, PackJournal}
+use Rattle.command_defs.specs.Forms.{RowOf, InitWith, PutUnder, PutAt, GetOf, DropOf, ListAll, AuditAll, RepairAll, UpgradeJournal, ScrubAll, PackJournal}
 use Rattle.command_defs.specs.Forms.{Numbers as SevenNumbers, Command as Spelled}
 use Rattle.command_words.specs.declared.init.Numbers.{Numbers}
 use Rattle.command_words.specs.declared.command.Command.{Command}
@@ -34,7 +34,7 @@ command_of (kind.Get name) = GetOf name.now
 command_of (kind.Drop name) = DropOf name.now
 command_of kind.List = ListAll
 command_of kind.Audit = AuditAll
-command_of kind.Repair = RepairDue
+command_of kind.Repair = RepairAll
 command_of kind.Upgrade = UpgradeJournal
 command_of kind.Scrub = ScrubAll
 command_of kind.Pack = PackJournal

@@ -1,13 +1,11 @@
 -- What an audit leaves whose job was the only one.
-use Rattle.std.proofs.Common.{◌≡◌, ℕ, ◌+◌, ◌<◌, ◌≤◌, ◌⊎◌, List, [], ◌∷◌, ◌++◌, length, map, take, drop, reverse, Option, None, Some, refl, ap, sym, subst, ◌∙◌, inl, inr, arith}
+use Rattle.std.proofs.Common.{◌≡◌, ℕ, ◌<◌, ◌≤◌, ◌⊎◌, List, [], ◌∷◌, ◌++◌, length, map, take, Option, None, Some, refl, ap, sym, subst, ◌∙◌, inl, inr, arith}
 use Rattle.std.specs.Prelude.{slice_get, IfSome}
 use Rattle.std.specs.Option.{option_map}
 use Rattle.std.specs.List.{flat_map}
 use Rattle.std.proofs.lemmas.Bool.{cases_lt}
-use Rattle.std.proofs.lemmas.List.{take-append-drop}
 use Rattle.algebra_laws.specs.Lists.{Each}
 use Rattle.algebra_laws.proofs.Each.{each_get, each_append, each_map, each_flat, each_take}
-use Rattle.algebra_laws.proofs.Lists.{drop-get}
 use Rattle.code_defs.specs.Points.{upto}
 use Rattle.column_defs.specs.Challenges.{challenge_of, honest_answer}
 use Rattle.column_defs.specs.Verdicts.{Sums, Judges}
@@ -17,45 +15,42 @@ use Rattle.record_defs.specs.Records.{Setup, Record, AuditStart, AuditDone}
 use Rattle.record_defs.specs.Table.{File, next_audit, files_of}
 use Rattle.machine_defs.specs.Jobs.{AuditJob, Pinned, Given, Answered, Job}
 use Rattle.machine_defs.specs.Setups.{profiled, object_of}
-use Rattle.machine_defs.specs.Actions.{Action, WriteBody, SyncBody, WriteGate, SyncGate, Store, Fetch, Ask, Work, Remove, End, append_actions, ask_actions, rounds_of, actions_of, actions_left, appends_left}
+use Rattle.machine_defs.specs.Actions.{Action, WriteBody, SyncBody, WriteGate, SyncGate, Store, Fetch, Ask, Work, Remove, End, append_actions, ask_actions, rounds_of, actions_of, appends_left}
 use Rattle.machine_defs.specs.Answers as answer
 use Rattle.machine_defs.specs.Answers.{Answer}
 use Rattle.machine_defs.specs.Audits.{challenge_in, HasSums, JudgesFiles}
-use Rattle.machine_defs.specs.Events.{Ended}
 use Rattle.machine_defs.specs.Given.{answer_given, answers_given, pinned_size}
 use Rattle.machine_defs.specs.Heard.{Entry, entries_of, heard_by_kind}
-use Rattle.machine_defs.specs.States.{State, Append, Doubt, setup_in}
-use Rattle.machine_defs.specs.Appends.{Moves}
-use Rattle.machine_defs.specs.Steps.{next_action, holder_of, Acts, Ends as EndsAs}
-use Rattle.machine_defs.proofs.Numbers.{next_by, next_is_by}
-use Rattle.machine_defs.proofs.RecordFacts.{listed_file}
+use Rattle.machine_defs.specs.States.{State, Doubt, setup_in, ended}
+use Rattle.machine_defs.specs.Steps.{next_action, Ends as EndsAs}
 use Rattle.machine_defs.proofs.NextActions.{next_stands}
 use Rattle.command_defs.specs.Audits.{Question, files_by_number, questions, challenge_at, answer_heard, answer_entries, HearsRounds, JudgesOne, no_sums, CountsHeard, audit_records, AuditIsCut, AuditGives, AuditLeaves}
 use Rattle.command_defs.specs.JobRuns.{RunsJob}
 use Rattle.command_defs.specs.Jobs.{Leaves}
 use Rattle.command_defs.specs.Ran.{Ran, ran_from, object_at_begin, IsWhole}
 use Rattle.command_defs.specs.Truthful.{IsTruthful}
-use Rattle.state_laws.specs.Orders.{moves_made, IsInOrder}
 use Rattle.state_laws.proofs.Given.{valid-shape}
-use Rattle.state_laws.proofs.Orders.{audit_rest, audit-list, audit-first, audit-later, appends_in, appends-cons}
+use Rattle.state_laws.proofs.Orders.{audit_rest, audit-list, audit-first, audit-later}
 use Rattle.state_laws.proofs.Written.{setup-valid}
 use Rattle.lone_laws.specs.Made.{With, Made, object_made}
 use Rattle.opening_defs.specs.Opened.{IsOpenAtRest}
 use Rattle.lone_laws.specs.Walked.{MayName, RecordsAre, with_job_of, Walked}
-use Rattle.lone_laws.proofs.Lists.{made-append, made-split, made-one}
-use Rattle.lone_laws.proofs.Walk.{Wrote, wrote, runs, left-start, opened-sound, first-body}
+use Rattle.lone_laws.proofs.Lists.{made-split}
+use Rattle.lone_laws.proofs.Walk.{Wrote, wrote, runs, opened-sound, first-body}
 use Rattle.job_laws.proofs.Runs.{Ends, job-ends}
 use Rattle.job_laws.proofs.Given.{answer-heard}
 use Rattle.job_laws.proofs.Providers.{Called, each-upto, made-keeps}
 use Rattle.job_laws.proofs.Heard.{AreDistinct, entries-made}
-use Rattle.job_laws.proofs.Lasts.{Faults, move-faults, NoRoom, move-memory, none-moving}
-use Rattle.job_laws.proofs.Moving.{IsMove, IsUnmoved, move-is, moved-first, moved-second}
+use Rattle.job_laws.proofs.Lasts.{Faults, NoRoom}
+use Rattle.job_laws.proofs.Moving.{IsMove, IsUnmoved, moved-first, moved-second}
 use Rattle.job_laws.proofs.Leaving.{counts-rise, others-stay}
+use Rattle.job_laws.proofs.Endings.{move-ends, act-ends, first-doubted, Stand, two-stand, two-cut, end-left, end-sure, end-made}
 use Rattle.job_laws.proofs.Asked.{pinned-by_number, asks_of, asks-questions, distinct-asks, entries-questions, each-by_number}
 use Rattle.job_laws.proofs.Profiles.{made-numbered, numbered-file}
-use Rattle.job_laws.proofs.Judged.{sums-one, files-questions}
+use Rattle.run_laws.proofs.Sums.{sums-one}
+use Rattle.job_laws.proofs.Judged.{files-questions}
 use Rattle.job_laws.proofs.Truth.{IsQuiet, asks-told}
-use Rattle.job_laws.proofs.Questions.{each-in, each-both, all-each, each-question, sizes-pinned, Fits, told-questions, lacks-questions}
+use Rattle.job_laws.proofs.Questions.{each-in, held-sizes, each-both, all-each, each-question, sizes-pinned, Fits, told-questions, lacks-questions}
 use Rattle.column_defs.specs.Objects.{Object}
 
 -- ---- the actions of an audit
@@ -100,18 +95,6 @@ moves-still : (x : With) (old new : ℕ → Provider) (given now : List Given) �
     Made x append_actions old new given now → (new ≡ old) × (now ≡ given)
 moves-still x old new given now (a, ga, da, (b, gb, db, (c, gc, dc, (d, gd, dd, last)))) =
     (last.0 ∙ (dd.0 ∙ (dc.0 ∙ (db.0 ∙ da.0))), last.1 ∙ (dd.1 ∙ (dc.1 ∙ (db.1 ∙ da.1))))
-
--- answers with which a move ends a job
-pub move-answers : (w : State) (job : Job) (new : State) (action : Action) (flight : Option Append)
-    (how : Answer) → Moves w job action flight (Ended how) new →
-    (how ≡ answer.DiskFault) ⊎ (how ≡ answer.Memory)
-move-answers w job new WriteBody flight answer.DiskFault h = inl refl
-move-answers w job new WriteBody flight answer.Memory h = inr refl
-move-answers w job new SyncBody (Some a) answer.DiskFault h = inl refl
-move-answers w job new WriteGate (Some a) answer.DiskFault h = inl refl
-move-answers w job new WriteGate (Some a) answer.Memory h = inr refl
-move-answers w job new SyncGate (Some a) answer.DiskFault h = inl refl
-move-answers w job new action flight how h = absurd h
 
 module _ (start : State) (O : IsOpenAtRest start 1) (w : State) (job : Job)
     (W : Walked start AuditJob w job) where
@@ -177,34 +160,6 @@ module _ (start : State) (O : IsOpenAtRest start 1) (w : State) (job : Job)
   abbrev number : ℕ
   number = next_audit start.records
 
-  abbrev Doubtful : Option Doubt → Type 0
-  Doubtful doubt = (undecided : ℕ) × (counts : List ℕ) ×
-      ((done : List Record) × (next : Record) × (rest : List Record)
-      × (audit_records start.records undecided counts ≡ done ++ next ∷ rest) ×
-      (w.records ≡ reverse done ++ start.records))
-
-  -- where the records stand, of a job with an append left
-  data Stand : Type 0 where
-    at_first : appends_left (setup_in w) job ≡ 2 → w.records ≡ start.records → Stand
-    at_second : appends_left (setup_in w) job ≡ 1 → w.records ≡ AuditStart number ∷ start.records → Stand
-
-  stands : 0 < appends_left (setup_in w) job → Stand
-  stands left = by_records w.records refl W.records
-    where
-      same : appends_left (setup_in start) job ≡ appends_left (setup_in w) job
-      same = left-start start O AuditJob w job W (appends_left (setup_in w) job) refl
-
-      by_records : (rs : List Record) → w.records ≡ rs → RecordsAre start AuditJob job rs → Stand
-      by_records rs e (RecordsAre.none l is) = Stand.at_first (sym same ∙ l) (e ∙ is)
-      by_records rs e (RecordsAre.one l is) = Stand.at_second (omega (arith, l, same)) (e ∙ is)
-      by_records rs e (RecordsAre.two entry l sec is) = absurd (omega (arith, l, same, left))
-
-  cut-at : 0 < appends_left (setup_in w) job → Doubtful w.doubt
-  cut-at left = elim (stands left) [
-    | Stand.at_first l is ↦ (0, [], ([], AuditStart number, AuditDone number 0 [] ∷ [], refl, is))
-    | Stand.at_second l is ↦ (0, [], (AuditStart number ∷ [], AuditDone number 0 [], [], refl, is))
-  ]
-
   -- ---- an audit at a move of one of its appends
 
   unmoved-asks : Each IsUnmoved (ask_actions s job)
@@ -249,36 +204,12 @@ module _ (start : State) (O : IsOpenAtRest start 1) (w : State) (job : Job)
   -- ---- an audit that came to its end
 
   module _ (next : next_action w job ≡ Some End) where
-    end-left : actions_left (setup_in w) job ≡ End ∷ []
-    end-left =
-        (let listed : slice_get (actions_of (setup_in w) job) job.place ≡ Some End =
-        ap (λ xs. slice_get xs job.place) (audit-list (setup_in w) job W.kind_is)
-        ∙ (sym (next_is_by w job ∙ ap (λ kd. next_by w job kd job.place) W.kind_is) ∙ next) in
-        let left = drop-get (actions_of (setup_in w) job) job.place End listed in
-        let o : IsInOrder (moves_made w.append job.number)
-        (End ∷ drop (job.place + 1) (actions_of (setup_in w) job)) =
-        subst (IsInOrder (moves_made w.append job.number)) left
-        (W.sound.jobs job.number job (runs start O AuditJob w job W)).order in
-        left ∙ ap (λ xs. End ∷ xs) o.1)
-
-    end-count : appends_left (setup_in start) job ≡ 0
-    end-count = left-start start O AuditJob w job W 0 (ap appends_in end-left ∙ appends-cons End [])
-
     -- all actions but the end were made
     made-asks : Made x (ask_actions s job) start.providers w.providers [] job.given
     made-asks =
-        (let left : drop job.place (actions_of s job) ≡ End ∷ [] =
-        subst (λ (t : Setup). actions_left t job ≡ End ∷ []) W.setup end-left in
-        let whole : take job.place (actions_of s job) ++ End ∷ []
-        ≡ append_actions ++ (ask_actions s job ++ (append_actions ++ End ∷ [])) =
-        ap (λ xs. take job.place (actions_of s job) ++ xs) (sym left)
-        ∙ (take-append-drop job.place (actions_of s job) ∙ list-is) in
-        let all : Made x (append_actions ++ (ask_actions s job ++ (append_actions ++ End ∷ [])))
+        (let all : Made x (append_actions ++ (ask_actions s job ++ (append_actions ++ End ∷ [])))
         start.providers w.providers [] job.given =
-        subst (λ xs. Made x xs start.providers w.providers [] job.given) whole
-        (made-append x (take job.place (actions_of s job)) (End ∷ []) start.providers w.providers w.providers
-        [] job.given job.given W.made
-        (made-one x End w.providers w.providers job.given job.given (refl, refl))) in
+        subst (λ xs. Made x xs start.providers w.providers [] job.given) list-is (end-made O W refl next) in
         let a = made-split x append_actions (ask_actions s job ++ (append_actions ++ End ∷ []))
         start.providers w.providers [] job.given all in
         let b = made-split x (ask_actions s job) (append_actions ++ End ∷ []) a.0 w.providers a.1 job.given
@@ -303,12 +234,8 @@ module _ (start : State) (O : IsOpenAtRest start 1) (w : State) (job : Job)
     abbrev asked : List Question
     asked = questions s files
 
-    sizes : Each (λ (f : File). length (start.bytes f.id) ≡ f.size) files
-    sizes = each-in (λ (f : File). length (start.bytes f.id) ≡ f.size) files
-        (λ f i. (O.rest.files f.name f (listed_file start.records f i)).1)
-
     asks-are : ask_actions s job ≡ asks_of s.n asked
-    asks-are = asks-questions s start job files W.pinned sizes
+    asks-are = asks-questions s start job files W.pinned (held-sizes start O)
 
     made-questions : Made x (asks_of s.n asked) start.providers w.providers [] job.given
     made-questions = subst (λ xs. Made x xs start.providers w.providers [] job.given) asks-are asks
@@ -386,7 +313,7 @@ module _ (start : State) (O : IsOpenAtRest start 1) (w : State) (job : Job)
           (subst (λ ps. Each (λ (f : File). pinned_size ps f.id ≡ f.size) (files_by_number files))
           (sym (pinned-by_number start files))
           (sizes-pinned start (files_by_number files)
-          (each-by_number (λ (f : File). length (start.bytes f.id) ≡ f.size) files sizes)))
+          (each-by_number (λ (f : File). length (start.bytes f.id) ≡ f.size) files (held-sizes start O))))
           (each-by_number IsMade files files-made))
 
       fits : (held : Held) (j : ℕ) (below : j < s.n) →
@@ -449,7 +376,7 @@ module _ (start : State) (O : IsOpenAtRest start 1) (w : State) (job : Job)
           CountsHeard ran job.subject sums.undecided sums.counts
       unfolding setup_in
       judged sums has = files-questions ran s start job one (files_by_number files) (no_sums ran) sums
-          (each-by_number (λ (f : File). length (start.bytes f.id) ≡ f.size) files sizes)
+          (each-by_number (λ (f : File). length (start.bytes f.id) ≡ f.size) files (held-sizes start O))
           (subst (λ ps. JudgesFiles s job ps (no_sums ran) sums) (W.pinned ∙ pinned-by_number start files)
           (subst (λ (t : Setup). HasSums t job sums) W.setup has))
         where
@@ -469,23 +396,18 @@ module _ (start : State) (O : IsOpenAtRest start 1) (w : State) (job : Job)
       whole next sums has records doubt =
           record {
             after = records ∙ by_records w.records refl W.records;
-            sure = ap (option_map (λ (d : Doubt). d.entry)) (doubt ∙ sure);
+            sure = ap (option_map (λ (d : Doubt). d.entry)) (doubt ∙ end-sure O W refl next);
           }
         where
           by_records : (rs : List Record) → w.records ≡ rs → RecordsAre start AuditJob job rs →
               w.records ≡ AuditDone number sums.undecided sums.counts ∷ AuditStart number ∷ start.records
-          by_records rs e (RecordsAre.none l is) = absurd (let c = end-count next in omega (arith, l, c))
-          by_records rs e (RecordsAre.one l is) = absurd (let c = end-count next in omega (arith, l, c))
+          by_records rs e (RecordsAre.none l is) = absurd (let c = end-left O W refl next in omega (arith, l, c))
+          by_records rs e (RecordsAre.one l is) = absurd (let c = end-left O W refl next in omega (arith, l, c))
           by_records rs e (RecordsAre.two entry l sec is) =
               e ∙ (is ∙ (ap (λ (r : Record). r ∷ AuditStart number ∷ start.records)
               (sec.2 ∙ ap (λ (t : Sums). AuditDone number t.undecided t.counts)
               (sums-one s job (valid-shape s (setup-valid 8 start (opened-sound start O) O.opened)) sec.0
               sums sec.1 (subst (λ (t : Setup). HasSums t job sums) W.setup has)))))
-
-          sure : w.doubt ≡ None
-          sure = (none-moving start O AuditJob w job W
-              (subst (IsInOrder (moves_made w.append job.number)) (end-left next)
-              (W.sound.jobs job.number job (runs start O AuditJob w job W)).order).0).1
 
 -- ---- all ends of an audit
 
@@ -516,8 +438,9 @@ module _ (start new : State) (how : Answer) (heard : List Entry) (O : IsOpenAtRe
       ((first-body start O AuditJob E.before E.job E.walked E.action E.next
       (λ e. (let f : End ≡ WriteBody = sym at ∙ e in cc)) AuditJob refl).1 refl)
 
-  ended : (a : Answer) → E.action ≡ End → Acts E.before E.job End (Ended a) new → Gives a
-  ended a at (so, is) = by_answer a (subst (λ kd. EndsAs E.before E.job kd a) E.walked.kind_is so)
+  audit-ends : (a : Answer) → E.action ≡ End → EndsAs E.before E.job AuditJob a → new ≡ ended E.before E.job →
+      Gives a
+  audit-ends a at so is = by_answer a so
     where
       next : next_action E.before E.job ≡ Some End
       next = E.next ∙ ap Some at
@@ -555,20 +478,9 @@ module _ (start new : State) (how : Answer) (heard : List Entry) (O : IsOpenAtRe
 
     cut-first : appends_left (setup_in E.before) E.job ≡ 2 → E.before.records ≡ start.records →
         AuditIsCut (ran_from start new heard)
-    cut-first two is = AuditIsCut.at_start (F.records ∙ is) in-doubt
+    cut-first two is = AuditIsCut.at_start (F.records ∙ is)
+        (first-doubted O E.walked F (λ l. omega (arith, l, two)))
         (heard-is ∙ ap (entries_of 1) (heard-none start O E.before E.job E.walked action next-is n move two))
-      where
-        in-doubt : (option_map (λ (d : Doubt). d.entry) new.doubt ≡ None) ⊎
-            (option_map (λ (d : Doubt). d.entry) new.doubt ≡ Some (AuditStart (next_audit start.records)))
-        in-doubt = elim F.doubt [
-          | inl none ↦ inl (ap (option_map (λ (d : Doubt). d.entry)) none)
-          | inr (d, in_doubt, writes) ↦
-              elim (wrote start O AuditJob E.before E.job E.walked d.entry F.left writes) [
-                | Wrote.first l is entry ↦
-                    inr (ap (option_map (λ (z : Doubt). z.entry)) in_doubt ∙ ap Some entry)
-                | Wrote.second l is sec ↦ absurd (omega (arith, l, two))
-              ]
-        ]
 
     module _ (one : appends_left (setup_in E.before) E.job ≡ 1) where
       asks : Made (with_job_of start AuditJob E.job)
@@ -614,7 +526,7 @@ module _ (start new : State) (how : Answer) (heard : List Entry) (O : IsOpenAtRe
     faulted = (
       (
         rose-before start.disk_faults E.before.disk_faults new.disk_faults E.walked.disk F.low F.rose,
-        elim (stands start O E.before E.job E.walked F.left) [
+        elim (two-stand O E.walked refl F.left) [
           | Stand.at_first l is ↦ cut-first l is
           | Stand.at_second l is ↦ cut-second l is
         ],
@@ -624,57 +536,25 @@ module _ (start new : State) (how : Answer) (heard : List Entry) (O : IsOpenAtRe
     )
 
   no-room : NoRoom start O AuditJob E.before E.job E.walked new → Gives answer.Memory
-  no-room N =
-      (let d = cut-at start O E.before E.job E.walked N.left in
-      let c = d.2 in (
-        (
-          d.0,
-          d.1,
-          record {
-            done = c.0;
-            next = c.1;
-            rest = c.2;
-            parts = c.3;
-            after = N.records ∙ c.4;
-            sure = ap (option_map (λ (z : Doubt). z.entry)) N.doubt;
-          },
-        ),
-        N.providers,
-        N.low,
-      ))
-
-  moved : (action : Action) → E.action ≡ action → holder_of E.before.append action ≡ None →
-      Moves E.before E.job action E.before.append (Ended how) new → Gives how
-  moved action at free h = elim (move-answers E.before E.job new action E.before.append how h) [
-    | inl e ↦ (let failed = subst (λ a. Moves E.before E.job action E.before.append (Ended a) new) e h in
-        let move = move-is E.before E.job new action E.before.append failed in
-        subst Gives (sym e) (faulted action at (λ end. subst IsMove end move) move
-        (move-faults start O AuditJob E.before E.job E.walked action E.before.append new refl
-        (E.next ∙ ap Some at) failed)))
-    | inr e ↦ subst Gives (sym e)
-        (no-room (move-memory start O AuditJob E.before E.job E.walked action E.before.append new refl free
-        (E.next ∙ ap Some at)
-        (subst (λ a. Moves E.before E.job action E.before.append (Ended a) new) e h)))
-  ]
-
-  by-action : (action : Action) → E.action ≡ action → holder_of E.before.append action ≡ None →
-      Acts E.before E.job action (Ended how) new →
-      ((action ≡ End → ⊥) → IsAuditing (setup_in start).n action) → Gives how
-  by-action End at free h u = ended how at h
-  by-action WriteBody at free h u = moved WriteBody at free h
-  by-action SyncBody at free h u = moved SyncBody at free h
-  by-action WriteGate at free h u = moved WriteGate at free h
-  by-action SyncGate at free h u = moved SyncGate at free h
-  by-action (Ask j o r) at free h u = moved (Ask j o r) at free h
-  by-action (Store j o t) at free h u = absurd (u (λ e. cc))
-  by-action (Fetch j o t) at free h u = absurd (u (λ e. cc))
-  by-action (Work o t) at free h u = absurd (u (λ e. cc))
-  by-action (Remove j o) at free h u = absurd (u (λ e. cc))
+  no-room N = (
+    (
+      0,
+      [],
+      two-cut O E.walked refl new heard (AuditDone (next_audit start.records) 0 []) N.left N.records N.doubt,
+    ),
+    N.providers,
+    N.low,
+  )
 
   -- an audit gives what its answer says, and calls no provider in its last step
   pub gives : Gives how
-  gives = by-action E.action refl E.free E.acts
-      (λ n. auditing-next start O E.before E.job E.walked E.action E.next n)
+  gives = act-ends E Gives (audit-ends how)
+      (λ action at move tail h. move-ends O E Gives action at
+      (λ failed F. faulted action at (λ e. subst IsMove e move) move F) no-room h)
+      (λ j o t at h. absurd (auditing-next start O E.before E.job E.walked (Store j o t)
+      (E.next ∙ ap Some at) (λ e. cc)))
+      (λ o t at h. absurd (auditing-next start O E.before E.job E.walked (Work o t)
+      (E.next ∙ ap Some at) (λ e. cc)))
 
   audit-leaves : AuditLeaves (ran_from start new heard) how
   unfolding setup_in

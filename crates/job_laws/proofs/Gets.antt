@@ -48,7 +48,7 @@ use Rattle.job_laws.proofs.Given.{block-heard}
 use Rattle.job_laws.proofs.Providers.{Called, made-keeps}
 use Rattle.job_laws.proofs.Heard.{IsOver, AreDistinct, block-later, block-newest, symbols-later, distinct-append, distinct-range, distinct-map, entry_for, entries-made, IsNot}
 use Rattle.job_laws.proofs.Truth.{call-hit, call-miss, made-rises, lacks, range-hit, lacks-same, lacks-few}
-use Rattle.job_laws.proofs.Questions.{all-each, each-at}
+use Rattle.job_laws.proofs.Questions.{each-front, all-each, each-at}
 use Rattle.job_laws.proofs.Profiles.{made-got, worked-made}
 use Rattle.job_laws.proofs.Lasts.{none-moving}
 use Rattle.job_laws.proofs.Leaving.{counts-rise, others-stay}
@@ -178,14 +178,10 @@ module _ (s : Setup) (id : ℕ) where
   distinct-left [] ys d = tt
   distinct-left (x ∷ xs) ys d = (over-left x d.0, distinct-left xs ys d.1)
     where
-      each-left : (P : Action → Type 0) (zs : List Action) → Each P (zs ++ ys) → Each P zs
-      each-left P [] h = tt
-      each-left P (z ∷ zs) h = (h.0, each-left P zs h.1)
-
       over-left : (x : Action) → IsOver x (xs ++ ys) → IsOver x xs
-      over-left (Fetch j o t) h = each-left (IsNot (Fetch j o t)) xs h
-      over-left (Ask j o r) h = each-left (IsNot (Ask j o r)) xs h
-      over-left (Work o t) h = each-left (IsNot (Work o t)) xs h
+      over-left (Fetch j o t) h = each-front (IsNot (Fetch j o t)) xs ys h
+      over-left (Ask j o r) h = each-front (IsNot (Ask j o r)) xs ys h
+      over-left (Work o t) h = each-front (IsNot (Work o t)) xs ys h
       over-left (Store j o t) h = tt
       over-left (Remove j o) h = tt
       over-left WriteBody h = tt

@@ -19,6 +19,7 @@ pub mod PlaceFacts
 pub mod Repairs
 pub mod Gets
 pub mod Removals
+pub mod Endings
 pub mod Puts
 pub mod Refused
 pub mod Drops

@@ -6,12 +6,8 @@ use Rattle.std.specs.Prelude.{slice_get}
 use Rattle.algebra_laws.specs.Lists.{Each}
 use Rattle.algebra_laws.proofs.Each.{each_get}
 use Rattle.device_defs.specs.Providers.{Provider}
-use Rattle.machine_defs.specs.Jobs.{Given, Job}
+use Rattle.machine_defs.specs.Jobs.{Given}
 use Rattle.machine_defs.specs.Actions.{Action, WriteBody, SyncBody, WriteGate, SyncGate, Store, Fetch, Ask, Work, Remove, End, append_actions}
-use Rattle.machine_defs.specs.Answers as answer
-use Rattle.machine_defs.specs.Events.{Ended}
-use Rattle.machine_defs.specs.States.{State}
-use Rattle.machine_defs.specs.Appends.{Moves}
 use Rattle.machine_defs.proofs.ActionLists.{split_get}
 use Rattle.lone_laws.specs.Made.{With, Did, Made}
 use Rattle.lone_laws.proofs.Lists.{take-append-add, made-split}
@@ -27,15 +23,6 @@ IsMove action = ⊥
 -- any other action
 abbrev pub IsUnmoved : Action → Type 0
 IsUnmoved action = IsMove action → ⊥
-
--- a move that failed is a move
-pub move-is : (w : State) (job : Job) (new : State) (action : Action) (flight : _) →
-    Moves w job action flight (Ended answer.DiskFault) new → IsMove action
-move-is w job new WriteBody flight h = tt
-move-is w job new SyncBody flight h = tt
-move-is w job new WriteGate flight h = tt
-move-is w job new SyncGate flight h = tt
-move-is w job new action flight h = absurd h
 
 -- moves change nothing of providers, and give nothing
 did-move : (x : With) (action : Action) (old new : ℕ → Provider) (given now : List Given) → IsMove action →

@@ -121,15 +121,12 @@ module _ (records : List Record) (how : Answer) (old new : Seen) (R : opens.IsOp
   left-by : PackLeaves R.area records how old new × (ran.last.providers ≡ w.providers)
   left-by = leaves-by how (pack-ends w over.at_rest ran.last 1 how ran.runs)
 
-  provider-is : (j : ℕ) → ran.last.providers j ≡ provider_at new.providers j
-  provider-is = providers-seen w ran.last old new (setup_in_effect records).n refl R.enough same ran.handed
-      (λ j l. ap (λ (f : ℕ → Provider). f j) left-by.1)
-
   -- what a command tells of its pack's run leaves what a pack leaves
   pub packed-alone : PackedAlone R.area records how old new
   packed-alone = record {
     leaves = left-by.0;
     tells = A.tells;
     providers = same-providers new.providers old.providers same
-        (λ j. sym (provider-is j) ∙ ap (λ (f : ℕ → Provider). f j) left-by.1);
+        (λ j. sym (providers-seen w ran.last old new (setup_in_effect records).n refl R.enough same ran.handed
+        (λ k l. ap (λ (f : ℕ → Provider). f k) left-by.1) j) ∙ ap (λ (f : ℕ → Provider). f j) left-by.1);
   }

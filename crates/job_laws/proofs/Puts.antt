@@ -1,10 +1,10 @@
 -- What a put leaves whose job was the only one.
-use Rattle.std.proofs.Common.{◌≡◌, ℕ, zero, suc, ◌+◌, ◌-◌, ◌<◌, ◌≤◌, ◌==◌, ◌&&◌, ◌⊎◌, List, [], ◌∷◌, ◌++◌, length, take, drop, reverse, Option, None, Some, refl, ap, sym, subst, ◌∙◌, inl, inr, arith}
+use Rattle.std.proofs.Common.{◌≡◌, ℕ, zero, suc, ◌+◌, ◌-◌, ◌<◌, ◌≤◌, ◌==◌, ◌&&◌, ◌⊎◌, List, [], ◌∷◌, ◌++◌, length, take, drop, Option, None, Some, refl, ap, sym, subst, ◌∙◌, inl, inr, arith}
 use Rattle.std.specs.Prelude.{slice_get}
 use Rattle.std.specs.Option.{option_map}
 use Rattle.std.specs.List.{flat_map, range_with_len}
 use Rattle.std.proofs.lemmas.Bool.{cases_Bool, cases_eq, cases_lt, eq-eqb, eqb-true, and_parts, and_from}
-use Rattle.std.proofs.lemmas.List.{append_assoc, take-append-drop}
+use Rattle.std.proofs.lemmas.List.{append_assoc}
 use Rattle.algebra_laws.specs.Lists.{Each}
 use Rattle.algebra_laws.proofs.Each.{each_get, each_append, each_map, each_flat, each_take}
 use Rattle.algebra_laws.proofs.Lists.{drop-get}
@@ -20,41 +20,40 @@ use Rattle.record_defs.specs.Records.{Setup, Record, PutStart}
 use Rattle.record_defs.specs.Table.{File, version_of, file_of, next_id}
 use Rattle.machine_defs.specs.Jobs.{PutJob, Pinned, Given, Job}
 use Rattle.machine_defs.specs.Setups.{profiled, object_of, stripes_of}
-use Rattle.machine_defs.specs.Actions.{Action, WriteBody, SyncBody, WriteGate, SyncGate, Store, Fetch, Ask, Work, Remove, End, append_actions, on_each_provider, store_actions, remove_actions, actions_of, actions_left, appends_left}
+use Rattle.machine_defs.specs.Actions.{Action, WriteBody, SyncBody, WriteGate, SyncGate, Store, Fetch, Ask, Work, Remove, End, append_actions, on_each_provider, store_actions, remove_actions, actions_of, appends_left}
 use Rattle.machine_defs.specs.Answers as answer
 use Rattle.machine_defs.specs.Answers.{Answer}
 use Rattle.machine_defs.specs.Events.{Ended}
 use Rattle.machine_defs.specs.Heard.{Entry, heard_by_kind}
-use Rattle.machine_defs.specs.States.{State, Doubt, setup_in}
+use Rattle.machine_defs.specs.States.{State, Doubt, setup_in, ended}
 use Rattle.machine_defs.specs.Begins.{chosen}
-use Rattle.machine_defs.specs.Appends.{done_record, Moves}
+use Rattle.machine_defs.specs.Appends.{done_record}
 use Rattle.machine_defs.specs.Steps as step
-use Rattle.machine_defs.specs.Steps.{holder_of, Acts}
+use Rattle.machine_defs.specs.Steps.{next_action, Acts}
 use Rattle.machine_defs.proofs.JobLists.{cond_true, cond_false}
 use Rattle.machine_defs.proofs.ActionLists.{split_get}
-use Rattle.machine_defs.proofs.Numbers.{next_by, next_is_by}
 use Rattle.machine_defs.proofs.NextActions.{next_stands}
 use Rattle.command_defs.specs.Blocks.{StoredOn, PartlyStored, DroppedFrom}
-use Rattle.command_defs.specs.Puts.{put_done, put_records, StoresFile, StoresAll, PutIsCut, StoresPart, PutLeaves}
+use Rattle.command_defs.specs.Puts.{put_done, StoresFile, StoresAll, PutIsCut, StoresPart, PutLeaves}
 use Rattle.command_defs.specs.Jobs.{Leaves}
 use Rattle.command_defs.specs.Ran.{Ran, ran_from, NoFetches}
 use Rattle.state_laws.specs.Orders.{moves_made, IsInOrder}
-use Rattle.state_laws.proofs.Orders.{put_rest, put-list, put-first, put-later, appends_in, appends-append, appends-cons, moves-first}
+use Rattle.state_laws.proofs.Orders.{put_rest, put-list, put-first, put-later, appends_in, appends-append, moves-first}
 use Rattle.state_laws.proofs.Records.{sound-accepted}
 use Rattle.lone_laws.specs.Made.{With, Made}
 use Rattle.opening_defs.specs.Opened.{IsOpenAtRest}
 use Rattle.lone_laws.specs.Walked.{RecordsAre, with_job_at}
-use Rattle.lone_laws.proofs.Lists.{made-append, made-split, made-one}
-use Rattle.lone_laws.proofs.Walk.{Wrote, wrote, runs, left-start, first-body}
+use Rattle.lone_laws.proofs.Lists.{made-split}
+use Rattle.lone_laws.proofs.Walk.{Wrote, wrote, runs, first-body}
 use Rattle.job_laws.proofs.Runs.{Ends}
 use Rattle.job_laws.proofs.Providers.{Called, IsBelow, made-keeps}
 use Rattle.job_laws.proofs.Truth.{made-rises}
-use Rattle.job_laws.proofs.Lasts.{Faults, move-faults, NoRoom, move-memory, none-moving}
-use Rattle.job_laws.proofs.Moving.{IsMove, IsUnmoved, move-is, moved-first, moved-second}
-use Rattle.job_laws.proofs.Leaving.{below, LastCall, last-call, counts-rise, others-stay}
-use Rattle.job_laws.proofs.Audits.{move-answers}
+use Rattle.job_laws.proofs.Lasts.{Faults, NoRoom, none-moving}
+use Rattle.job_laws.proofs.Moving.{IsMove, IsUnmoved, moved-first, moved-second}
+use Rattle.job_laws.proofs.Leaving.{below, counts-rise, others-stay}
 use Rattle.job_laws.proofs.Gets.{take-within}
-use Rattle.job_laws.proofs.Removals.{left-within, row-hit, goes-same, goes-more, goes-map, goes-mono, IsWriting, writing-fetches, last-keeps, moves-made, dropped-over, OlderGoes, older-goes}
+use Rattle.job_laws.proofs.Removals.{left-within, row-hit, goes-same, goes-more, goes-map, goes-mono, IsWriting, writing-fetches, moves-made, dropped-over, OlderGoes, older-goes}
+use Rattle.job_laws.proofs.Endings.{listed, last-kept, move-ends, act-ends, left-same, first-doubted, Stand, two-stand, two-cut, end-left, end-sure, end-made}
 use Rattle.job_laws.proofs.Tails.{IsTail, tail-list}
 
 -- ---- blocks that are set
@@ -371,18 +370,6 @@ module _ (start new : State) (name bytes : List ℕ) (own : Option ℕ) (how : A
   nothing-heard : heard ≡ []
   nothing-heard = E.heard_is ∙ ap (heard_by_kind E.job) E.walked.kind_is
 
-  L : LastCall E.action E.before new × (E.before.disk_faults ≤ new.disk_faults)
-  L = last-call E.before E.job new E.action how E.acts
-
-  same-left : appends_left (setup_in start) E.job ≡ appends_left (setup_in E.before) E.job
-  same-left = left-start start O (PutJob name bytes) E.before E.job E.walked
-      (appends_left (setup_in E.before) E.job) refl
-
-  listed : (action : Action) → E.action ≡ action → (action ≡ End → ⊥) →
-      slice_get (actions_of (setup_in start) E.job) E.job.place ≡ Some action
-  listed action at n = subst (λ (t : Setup). slice_get (actions_of t E.job) E.job.place ≡ Some action)
-      E.walked.setup (next_stands E.before E.job action (E.next ∙ ap Some at) n)
-
   -- ---- a put that was cut off
 
   subject-is : 1 ≤ E.job.place → E.job.subject ≡ next_id start.records
@@ -430,7 +417,7 @@ module _ (start new : State) (name bytes : List ℕ) (own : Option ℕ) (how : A
       front = elim (split_get (put_front (setup_in start) E.job bytes)
           (remove_actions (setup_in start) E.job ++ End ∷ []) E.job.place action
           (ap (λ xs. slice_get xs E.job.place)
-          (sym (put-parts (setup_in start) E.job name bytes E.walked.kind_is)) ∙ listed action at n)) [
+          (sym (put-parts (setup_in start) E.job name bytes E.walked.kind_is)) ∙ listed E action at n)) [
             | inl a ↦ subst
                 (Each (IsStoring (setup_in start) its name bytes E.job.subject E.job.subject [] 0))
                 (sym (take-within (put_front (setup_in start) E.job bytes)
@@ -448,53 +435,10 @@ module _ (start new : State) (name bytes : List ℕ) (own : Option ℕ) (how : A
   unfolding setup_in
   stores-part action at n m =
       λ j l. subst (λ h. Goes (PartlyStored stored_as bytes j)
-      (start.providers j).held h) (sym (last-keeps E.action E.before new j L.0).0)
+      (start.providers j).held h) (sym (last-kept E j).0)
       (partly-goes (setup_in start) its name bytes E.job.subject (next_id start.records) [] j
       (take E.job.place (actions_of (setup_in start) E.job)) start.providers E.before.providers
       [] E.job.given (storing-taken action at n m) E.walked.made)
-
-  -- where the records stand, of a put with an append left
-  data Stand : Type 0 where
-    at_first : appends_left (setup_in E.before) E.job ≡ 2 → E.before.records ≡ start.records → Stand
-    at_second : appends_left (setup_in E.before) E.job ≡ 1 →
-        E.before.records ≡ PutStart (next_id start.records) name ∷ start.records → Stand
-
-  stands : 0 < appends_left (setup_in E.before) E.job → Stand
-  stands left = by_records E.before.records refl E.walked.records
-    where
-      by_records : (rs : List Record) → E.before.records ≡ rs →
-          RecordsAre start (PutJob name bytes) E.job rs → Stand
-      by_records rs e (RecordsAre.none l is) = Stand.at_first (sym same-left ∙ l) (e ∙ is)
-      by_records rs e (RecordsAre.one l is) =
-          Stand.at_second (let same = same-left in omega (arith, l, same)) (e ∙ is)
-      by_records rs e (RecordsAre.two entry l sec is) =
-          absurd (let same = same-left in omega (arith, l, same, left))
-
-  abbrev Doubtful : Option Doubt → Type 0
-  Doubtful doubt = (done : List Record) × (next : Record) × (rest : List Record)
-      × (put_records start.records name (length bytes) own ≡ done ++ next ∷ rest) ×
-      (E.before.records ≡ reverse done ++ start.records)
-      × (option_map (λ (d : Doubt). d.entry) doubt ≡ None)
-
-  cut-at : (doubt : Option Doubt) → 0 < appends_left (setup_in E.before) E.job → doubt ≡ None → Doubtful doubt
-  cut-at doubt left none = elim (stands left) [
-    | Stand.at_first l is ↦ (
-      [],
-      PutStart (next_id start.records) name,
-      put_done start.records (length bytes) own ∷ [],
-      refl,
-      is,
-      ap (option_map (λ (d : Doubt). d.entry)) none,
-    )
-    | Stand.at_second l is ↦ (
-      PutStart (next_id start.records) name ∷ [],
-      put_done start.records (length bytes) own,
-      [],
-      refl,
-      is,
-      ap (option_map (λ (d : Doubt). d.entry)) none,
-    )
-  ]
 
   abbrev Gives : Answer → Type 0
   Gives a = PutLeaves ran own name bytes a
@@ -522,7 +466,7 @@ module _ (start new : State) (name bytes : List ℕ) (own : Option ℕ) (how : A
         (setup_in start) E.job
         bytes ++ (append_actions ++ (remove_actions (setup_in start) E.job ++ End ∷ [])))) E.job.place
         ≡ Some action
-    here = ap (λ xs. slice_get xs E.job.place) (sym list) ∙ listed action at n
+    here = ap (λ xs. slice_get xs E.job.place) (sym list) ∙ listed E action at n
 
     made-so-far : Made put_with
         (take E.job.place (append_actions ++ (store_actions
@@ -569,18 +513,6 @@ module _ (start new : State) (name bytes : List ℕ) (own : Option ℕ) (how : A
         (StoredOn stored_as bytes None ⊥ j)
         (start.providers j).held (f j).held) (sym same) (all-goes l j below)
 
-    doubt-first : appends_left (setup_in E.before) E.job ≡ 2 →
-        (F : Faults start O (PutJob name bytes) E.before E.job E.walked new) →
-        (ran.doubt ≡ None) ⊎ (ran.doubt ≡ Some (PutStart (next_id start.records) name))
-    doubt-first two F = elim F.doubt [
-      | inl none ↦ inl (ap (option_map (λ (d : Doubt). d.entry)) none)
-      | inr (d, in_doubt, writes) ↦
-          elim (wrote start O (PutJob name bytes) E.before E.job E.walked d.entry F.left writes) [
-            | Wrote.first l is entry ↦ inr (ap (option_map (λ (z : Doubt). z.entry)) in_doubt ∙ ap Some entry)
-            | Wrote.second l is sec ↦ absurd (omega (arith, l, two))
-          ]
-    ]
-
     doubt-second : appends_left (setup_in E.before) E.job ≡ 1 →
         (F : Faults start O (PutJob name bytes) E.before E.job E.walked new) →
         (ran.doubt ≡ None) ⊎ (ran.doubt ≡ Some (put_done start.records (length bytes) own))
@@ -598,8 +530,9 @@ module _ (start new : State) (name bytes : List ℕ) (own : Option ℕ) (how : A
     faulted : Faults start O (PutJob name bytes) E.before E.job E.walked new → Gives answer.DiskFault
     faulted F = (
       rose-before start.disk_faults E.before.disk_faults new.disk_faults E.walked.disk F.low F.rose,
-      elim (stands F.left) [
-        | Stand.at_first l is ↦ PutIsCut.at_start (F.records ∙ is) (doubt-first l F)
+      elim (two-stand O E.walked refl F.left) [
+        | Stand.at_first l is ↦ PutIsCut.at_start (F.records ∙ is)
+            (first-doubted O E.walked F (λ b. omega (arith, b, l)))
             (λ j below. ap (λ (f : ℕ → Provider). (f j).held) (F.providers ∙ untouched l))
         | Stand.at_second l is ↦ PutIsCut.at_done (F.records ∙ is) (doubt-second l F)
             (stores-all (second l) F.providers)
@@ -608,23 +541,10 @@ module _ (start new : State) (name bytes : List ℕ) (own : Option ℕ) (how : A
 
   no-room : StoresPart ran own bytes → NoRoom start O (PutJob name bytes) E.before E.job E.walked new →
       Gives answer.Memory
-  no-room part N =
-      (let d = cut-at new.doubt N.left N.doubt in
-      (record { done = d.0; next = d.1; rest = d.2; parts = d.3; after = N.records ∙ d.4; sure = d.5 }, part))
-
-  moved : (action : Action) → E.action ≡ action → (action ≡ End → ⊥) → (IsTail action → ⊥) →
-      Moves E.before E.job action E.before.append (Ended how) new → Gives how
-  moved action at n m h = elim (move-answers E.before E.job new action E.before.append how h) [
-    | inl e ↦ (let failed = subst (λ a. Moves E.before E.job action E.before.append (Ended a) new) e h in
-        subst Gives (sym e) (faulted action at n (move-is E.before E.job new action E.before.append failed)
-        (move-faults start O (PutJob name bytes) E.before E.job E.walked action E.before.append new refl
-        (E.next ∙ ap Some at) failed)))
-    | inr e ↦ subst Gives (sym e)
-        (no-room (stores-part action at n m)
-        (move-memory start O (PutJob name bytes) E.before E.job E.walked action E.before.append new refl
-        (subst (λ z. holder_of E.before.append z ≡ None) at E.free) (E.next ∙ ap Some at)
-        (subst (λ a. Moves E.before E.job action E.before.append (Ended a) new) e h)))
-  ]
+  no-room part N = (
+    two-cut O E.walked refl new heard (put_done start.records (length bytes) own) N.left N.records N.doubt,
+    part,
+  )
 
   -- ---- a store that ended it
 
@@ -632,11 +552,14 @@ module _ (start new : State) (name bytes : List ℕ) (own : Option ℕ) (how : A
     place : (4 ≤ E.job.place) × (0 < appends_left (setup_in E.before) E.job)
     place = (let list = put-list (setup_in start) E.job name bytes E.walked.kind_is in
         let p = store-place (setup_in start) E.job bytes E.job.place k o t
-        (ap (λ xs. slice_get xs E.job.place) (sym list) ∙ listed (Store k o t) at (λ e. cc)) in
-        (p.0, subst (λ n. 0 < n) (ap (λ xs. appends_in (drop E.job.place xs)) (sym list) ∙ same-left) p.1))
+        (ap (λ xs. slice_get xs E.job.place) (sym list) ∙ listed E (Store k o t) at (λ e. cc)) in (
+          p.0,
+          subst (λ n. 0 < n) (ap (λ xs. appends_in (drop E.job.place xs)) (sym list) ∙ left-same O E.walked)
+              p.1,
+        ))
 
     started : E.before.records ≡ PutStart (next_id start.records) name ∷ start.records
-    started = elim (stands place.1) [
+    started = elim (two-stand O E.walked refl place.1) [
       | Stand.at_first l is ↦
           absurd (let a = put-later (setup_in E.before) E.job name bytes E.walked.kind_is place.0 in
           omega (arith, a, l))
@@ -655,7 +578,7 @@ module _ (start new : State) (name bytes : List ℕ) (own : Option ℕ) (how : A
 
     below-n : k < (setup_in start).n
     below-n = each_get (IsBelow (setup_in start).n) (actions_of (setup_in start) E.job) E.job.place
-        (Store k o t) (below (setup_in start) E.job) (listed (Store k o t) at (λ e. cc))
+        (Store k o t) (below (setup_in start) E.job) (listed E (Store k o t) at (λ e. cc))
 
     store-ends : (a : Answer) → Acts E.before E.job (Store k o t) (Ended a) new → Gives a
     unfolding setup_in
@@ -681,15 +604,8 @@ module _ (start new : State) (name bytes : List ℕ) (own : Option ℕ) (how : A
             ∙ ap (λ (z : Provider). z.store_faults)
             (cond_true (k == k) p (E.before.providers k) (eq-eqb k k refl))
     store-ends answer.Memory (p, made, is) = (
-      record {
-        done = PutStart (next_id start.records) name ∷ [];
-        next = put_done start.records (length bytes) own;
-        rest = [];
-        parts = refl;
-        after = ap (λ (v : State). v.records) is ∙ started;
-        sure = ap (λ (v : State). option_map (λ (d : Doubt). d.entry) v.doubt) is
-            ∙ ap (option_map (λ (d : Doubt). d.entry)) calm;
-      },
+      two-cut O E.walked refl new heard (put_done start.records (length bytes) own) place.1
+          (ap (λ (v : State). v.records) is) (ap (λ (v : State). v.doubt) is ∙ calm),
       stores-part (Store k o t) at (λ e. cc) (λ u. u),
     )
     store-ends a h = absurd h
@@ -697,47 +613,11 @@ module _ (start new : State) (name bytes : List ℕ) (own : Option ℕ) (how : A
   -- ---- a put that came to its end
 
   module _ (at : E.action ≡ End) where
-    stand-end : slice_get (actions_of (setup_in start) E.job) E.job.place ≡ Some End
-    stand-end = subst (λ (t : Setup). slice_get (actions_of t E.job) E.job.place ≡ Some End) E.walked.setup
-        (ap (λ xs. slice_get xs E.job.place) (put-list (setup_in E.before) E.job name bytes E.walked.kind_is)
-        ∙ (sym (next_is_by E.before E.job ∙ ap (λ kd. next_by E.before E.job kd E.job.place) E.walked.kind_is)
-        ∙ (E.next ∙ ap Some at)))
-
-    end-order : IsInOrder (moves_made E.before.append E.job.number)
-        (End ∷ drop (E.job.place + 1) (actions_of (setup_in E.before) E.job))
-    end-order = subst (IsInOrder (moves_made E.before.append E.job.number))
-        (drop-get (actions_of (setup_in E.before) E.job) E.job.place End
-        (subst (λ (t : Setup). slice_get (actions_of t E.job) E.job.place ≡ Some End)
-        (sym E.walked.setup) stand-end))
-        (E.walked.sound.jobs E.job.number E.job
-        (runs start O (PutJob name bytes) E.before E.job E.walked)).order
-
-    end-left : actions_left (setup_in E.before) E.job ≡ End ∷ []
-    end-left = drop-get (actions_of (setup_in E.before) E.job) E.job.place End
-        (subst (λ (t : Setup). slice_get (actions_of t E.job) E.job.place ≡ Some End)
-        (sym E.walked.setup) stand-end) ∙ ap (λ xs. End ∷ xs) end-order.1
+    last : next_action E.before E.job ≡ Some End
+    last = E.next ∙ ap Some at
 
     no-append : appends_left (setup_in start) E.job ≡ 0
-    no-append = left-start start O (PutJob name bytes) E.before E.job E.walked 0
-        (ap appends_in end-left ∙ appends-cons End [])
-
-    end-made : Made put_with
-        (append_actions ++ (store_actions (setup_in start) E.job
-        bytes ++ (append_actions ++ (remove_actions (setup_in start) E.job ++ End ∷ [])))) start.providers
-        E.before.providers [] E.job.given
-    end-made =
-        (let left : drop E.job.place (actions_of (setup_in start) E.job) ≡ End ∷ [] =
-        subst (λ (t : Setup). actions_left t E.job ≡ End ∷ []) E.walked.setup end-left in
-        let whole : take E.job.place (actions_of (setup_in start) E.job) ++ End ∷ []
-        ≡ append_actions ++ put_rest (setup_in start) E.job bytes =
-        ap (λ xs. take E.job.place (actions_of (setup_in start) E.job) ++ xs) (sym left)
-        ∙ (take-append-drop E.job.place (actions_of (setup_in start) E.job)
-        ∙ put-list (setup_in start) E.job name bytes E.walked.kind_is) in
-        subst (λ xs. Made put_with xs start.providers E.before.providers [] E.job.given) whole
-        (made-append put_with (take E.job.place (actions_of (setup_in start) E.job))
-        (End ∷ []) start.providers E.before.providers E.before.providers
-        [] E.job.given E.job.given E.walked.made
-        (made-one put_with End E.before.providers E.before.providers E.job.given E.job.given (refl, refl))))
+    no-append = end-left O E.walked refl last
 
     -- providers once the file is stored, and the givens by then
     record Stored : Type 0 where
@@ -752,7 +632,9 @@ module _ (start new : State) (name bytes : List ℕ) (own : Option ℕ) (how : A
     stored : Stored
     stored =
         (let a = made-split put_with append_actions (put_rest (setup_in start) E.job bytes) start.providers
-        E.before.providers [] E.job.given end-made in
+        E.before.providers [] E.job.given
+        (subst (λ xs. Made put_with xs start.providers E.before.providers [] E.job.given)
+        (put-list (setup_in start) E.job name bytes E.walked.kind_is) (end-made O E.walked refl last)) in
         let b = made-split put_with (store_actions (setup_in start) E.job bytes)
         (append_actions ++ (remove_actions (setup_in start) E.job ++ End ∷ [])) a.0 E.before.providers a.1
         E.job.given a.3 in
@@ -852,41 +734,32 @@ module _ (start new : State) (name bytes : List ℕ) (own : Option ℕ) (how : A
             ∙ (is ∙ ap (λ (r : Record). r ∷ PutStart (next_id start.records) name ∷ start.records)
             (sec ∙ ends-with))
 
-    end-sure : E.before.doubt ≡ None
-    end-sure = (none-moving start O (PutJob name bytes) E.before E.job E.walked end-order.0).1
-
-    put-ends : (a : Answer) → Acts E.before E.job End (Ended a) new → Gives a
-    put-ends a (so, is) = by_answer a (subst (λ kd. step.Ends E.before E.job kd a) E.walked.kind_is so)
-      where
-        by_answer : (a : Answer) → step.Ends E.before E.job (PutJob name bytes) a → Gives a
-        by_answer answer.Put u = (
-          record {
-            after = ap (λ (v : State). v.records) is ∙ whole-records;
-            sure = ap (λ (v : State). option_map (λ (d : Doubt). d.entry) v.doubt) is
-                ∙ ap (option_map (λ (d : Doubt). d.entry)) end-sure;
-          },
-          stores-file (ap (λ (v : State). v.providers) is),
-        )
-        by_answer a h = absurd h
+  put-ends : (a : Answer) → E.action ≡ End → step.Ends E.before E.job (PutJob name bytes) a →
+      new ≡ ended E.before E.job → Gives a
+  put-ends answer.Put at so is = (
+    record {
+      after = ap (λ (v : State). v.records) is ∙ whole-records at;
+      sure = ap (λ (v : State). option_map (λ (d : Doubt). d.entry) v.doubt) is
+          ∙ ap (option_map (λ (d : Doubt). d.entry)) (end-sure O E.walked refl (last at));
+    },
+    stores-file at (ap (λ (v : State). v.providers) is),
+  )
+  put-ends a at so is = absurd so
 
   -- ---- all ends
 
-  by-action : (action : Action) → E.action ≡ action → Acts E.before E.job action (Ended how) new → Gives how
-  by-action End at h = put-ends at how h
-  by-action (Store k o t) at h = store-ends k o t at how h
-  by-action WriteBody at h = moved WriteBody at (λ e. cc) (λ u. u) h
-  by-action SyncBody at h = moved SyncBody at (λ e. cc) (λ u. u) h
-  by-action WriteGate at h = moved WriteGate at (λ e. cc) (λ u. u) h
-  by-action SyncGate at h = moved SyncGate at (λ e. cc) (λ u. u) h
-  by-action (Remove k o) at h = absurd h
-  by-action (Fetch k o t) at h = absurd h
-  by-action (Ask k o r) at h = absurd h
-  by-action (Work o t) at h =
-      absurd (each_get IsWriting (actions_of (setup_in start) E.job) E.job.place (Work o t)
-      (writing-put (setup_in start) E.job name bytes E.walked.kind_is) (listed (Work o t) at (λ e. cc)))
+  gives : Gives how
+  gives = act-ends E Gives (put-ends how)
+      (λ action at move tail h. let n : action ≡ End → ⊥ = λ e. subst IsMove e move in
+      move-ends O E Gives action at (λ failed F. faulted action at n move F)
+      (no-room (stores-part action at n tail)) h)
+      (λ k o t at h. store-ends k o t at how h)
+      (λ o t at h. absurd
+      (each_get IsWriting (actions_of (setup_in start) E.job) E.job.place (Work o t)
+      (writing-put (setup_in start) E.job name bytes E.walked.kind_is) (listed E (Work o t) at (λ e. cc))))
 
   no-fetches : NoFetches ran
-  no-fetches j l = (last-keeps E.action E.before new j L.0).1
+  no-fetches j l = (last-kept E j).1
       ∙ writing-fetches put_with (take E.job.place (actions_of (setup_in start) E.job)) start.providers
       E.before.providers [] E.job.given j
       (each_take IsWriting (actions_of (setup_in start) E.job) E.job.place
@@ -896,7 +769,7 @@ module _ (start new : State) (name bytes : List ℕ) (own : Option ℕ) (how : A
   pub put-leaves : Leaves ran (PutJob name bytes) own how
   unfolding setup_in
   put-leaves = record {
-    by_kind = (by-action E.action refl E.acts, no-fetches, nothing-heard);
+    by_kind = (gives, no-fetches, nothing-heard);
     counts = counts-rise start new (PutJob name bytes) own how heard O E;
     others = others-stay start new (PutJob name bytes) own how heard O E;
   }

@@ -9,7 +9,7 @@ use Rattle.algebra_laws.proofs.Each.{each_append, each_map}
 use Rattle.column_defs.specs.Challenges.{honest_answer}
 use Rattle.device_defs.specs.Providers.{Held}
 use Rattle.record_defs.specs.Records.{Setup}
-use Rattle.record_defs.specs.Table.{File}
+use Rattle.record_defs.specs.Table.{File, files_of}
 use Rattle.machine_defs.specs.Jobs.{Given}
 use Rattle.machine_defs.specs.Setups.{profiled}
 use Rattle.machine_defs.specs.Actions.{Action, Ask, rounds_of}
@@ -17,9 +17,11 @@ use Rattle.machine_defs.specs.Begins.{pinned_file}
 use Rattle.machine_defs.specs.Given.{answer_given, pinned_size}
 use Rattle.machine_defs.specs.States.{State}
 use Rattle.machine_defs.proofs.JobLists.{cond_true, cond_false}
+use Rattle.machine_defs.proofs.RecordFacts.{listed_file}
 use Rattle.command_defs.specs.Audits.{Question}
 use Rattle.command_defs.specs.Truthful.{missing}
 use Rattle.lone_laws.specs.Made.{With, challenge_made}
+use Rattle.opening_defs.specs.Opened.{IsOpenAtRest}
 use Rattle.job_laws.proofs.Asked.{asks_one, asks_of, questions_in}
 use Rattle.job_laws.proofs.Truth.{lacks, IsTold, lack_at, range-hit}
 
@@ -29,6 +31,17 @@ use Rattle.job_laws.proofs.Truth.{lacks, IsTold, lack_at, range-hit}
 pub each-in : {X : Type 0} (P : X → Type 0) (xs : List X) → ((x : X) → In x xs → P x) → Each P xs
 each-in P [] h = tt
 each-in P (x ∷ xs) h = (h x (inl refl), each-in P xs (λ y i. h y (inr i)))
+
+-- what holds of a list holds of its front
+pub each-front : {X : Type 0} (P : X → Type 0) (xs ys : List X) → Each P (xs ++ ys) → Each P xs
+each-front P [] ys h = tt
+each-front P (x ∷ xs) ys h = (h.0, each-front P xs ys h.1)
+
+-- of each file in effect the bytes have its length
+pub held-sizes : (start : State) → IsOpenAtRest start 1 →
+    Each (λ (f : File). length (start.bytes f.id) ≡ f.size) (files_of start.records)
+held-sizes start O = each-in (λ (f : File). length (start.bytes f.id) ≡ f.size) (files_of start.records)
+    (λ f i. (O.rest.files f.name f (listed_file start.records f i)).1)
 
 -- two facts of each element are one of both
 pub each-both : {X : Type 0} (P Q : X → Type 0) (xs : List X) → Each P xs → Each Q xs →

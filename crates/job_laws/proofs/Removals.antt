@@ -59,12 +59,6 @@ module _ (x : With) (f : ℕ → Action) (call : ℕ → Provider → Provider �
 
 -- ---- what is told
 
--- both tell, or neither does
-pub goes-by : (R : Held → Held → Type 0) (old new : Option Held) → (old ≡ None → new ≡ None) →
-    ((p : Held) → old ≡ Some p → (q : Held) × (new ≡ Some q) × R p q) → Goes R old new
-goes-by R None new none some = subst (Goes R None) (sym (none refl)) tt
-goes-by R (Some p) new none some = (let r = some p refl in subst (Goes R (Some p)) (sym r.1) r.2)
-
 -- what is told and stays goes by a relation of each to itself
 pub goes-same : (R : Held → Held → Type 0) → ((p : Held) → R p p) → (h : Option Held) → Goes R h h
 goes-same R same None = tt

@@ -1,5 +1,5 @@
 -- What a repair leaves whose job was the only one.
-use Rattle.std.proofs.Common.{◌≡◌, ℕ, zero, suc, ◌+◌, ◌-◌, ◌<◌, ◌≤◌, ◌==◌, ◌⊎◌, Bool, true, false, List, [], ◌∷◌, ◌++◌, length, take, drop, Option, None, Some, refl, ap, sym, subst, ◌∙◌, inl, inr, arith, All, Contains}
+use Rattle.std.proofs.Common.{◌≡◌, ℕ, zero, suc, ◌-◌, ◌<◌, ◌≤◌, ◌==◌, ◌⊎◌, Bool, true, false, List, [], ◌∷◌, ◌++◌, length, take, drop, Option, None, Some, refl, ap, sym, subst, ◌∙◌, inl, inr, arith, All, Contains}
 use Rattle.std.specs.Prelude.{slice_get, IfSome}
 use Rattle.std.specs.Option.{option_map}
 use Rattle.std.specs.List.{flat_map}
@@ -7,7 +7,6 @@ use Rattle.std.proofs.lemmas.Bool.{eq-eqb, false≢true}
 use Rattle.std.proofs.lemmas.List.{append_assoc, append-nil}
 use Rattle.algebra_laws.specs.Lists.{Each, In}
 use Rattle.algebra_laws.proofs.Each.{each_get, each_append, each_map, each_mono, each_take, in_contains, in_left, in_right}
-use Rattle.algebra_laws.proofs.Lists.{drop-get}
 use Rattle.code_defs.specs.Points.{upto}
 use Rattle.column_defs.specs.Objects.{Object}
 use Rattle.column_defs.specs.Opened.{GivesSymbols, LosesRow}
@@ -16,8 +15,8 @@ use Rattle.device_defs.specs.Providers.{Held, Provider, sized}
 use Rattle.device_defs.specs.ProviderCalls.{FailsToStore, FindsNoMemory, StoreCounts}
 use Rattle.device_defs.specs.Told.{Goes}
 use Rattle.device_defs.proofs.Lasting.{rose-before}
-use Rattle.record_defs.specs.Records.{Setup, Record, RepairDone}
-use Rattle.record_defs.specs.Table.{File, Due, files_of, due_of}
+use Rattle.record_defs.specs.Records.{Setup, RepairDone}
+use Rattle.record_defs.specs.Table.{Due, files_of, due_of}
 use Rattle.machine_defs.specs.Jobs.{RepairJob, Given, Job}
 use Rattle.machine_defs.specs.Actions.{Action, WriteBody, SyncBody, WriteGate, SyncGate, Store, Fetch, Ask, Work, Remove, End, append_actions, open_actions, rewrite_actions, repair_actions, actions_of, appends_left}
 use Rattle.machine_defs.specs.Answers as answer
@@ -28,35 +27,33 @@ use Rattle.machine_defs.specs.Given.{block_given, blocks_given, symbols_given}
 use Rattle.machine_defs.specs.Heard.{Entry, heard_by_kind}
 use Rattle.machine_defs.specs.States.{State, Doubt, setup_in, worked_object, with_provider, ended}
 use Rattle.machine_defs.specs.Appends.{Moves}
-use Rattle.machine_defs.specs.Steps.{next_action, holder_of, Acts, Ends as EndsAs}
+use Rattle.machine_defs.specs.Steps.{next_action, Acts, Ends as EndsAs}
 use Rattle.machine_defs.proofs.ActionLists.{split_get}
 use Rattle.machine_defs.proofs.JobLists.{cond_true}
-use Rattle.machine_defs.proofs.Numbers.{next_by, next_is_by}
-use Rattle.machine_defs.proofs.RecordFacts.{listed_file}
-use Rattle.machine_defs.proofs.NextActions.{next_stands}
 use Rattle.command_defs.specs.JobRuns.{RunsJob}
 use Rattle.command_defs.specs.Jobs.{Leaves}
-use Rattle.command_defs.specs.Ran.{Ran, ran_from, object_numbered, EachHeldGoes, IsWhole, IsCut}
+use Rattle.command_defs.specs.Ran.{Ran, ran_from, object_numbered, EachHeldGoes, IsWhole, IsCut, IsCutInDoubt}
 use Rattle.command_defs.specs.Repairs.{Place, places, Gave, blocks_at, held_at, IsTruth, GivesPlace, RewrittenOn, PartlyRewrittenOn, IfFlagged, flags, RewritesAll, RewritesPart, RewritesSome, LosesAtPlace, RepairGives}
 use Rattle.command_defs.specs.Truthful.{IsTruthful}
-use Rattle.state_laws.specs.Orders.{moves_made, moves_before, IsInOrder, AreAscending}
+use Rattle.state_laws.specs.Orders.{moves_made, moves_before, AreAscending}
 use Rattle.state_laws.proofs.Begun.{begun-repair}
 use Rattle.state_laws.proofs.Events.{moves-next}
-use Rattle.state_laws.proofs.Orders.{appends_in, appends-cons}
+use Rattle.state_laws.proofs.Orders.{appends_in}
 use Rattle.state_laws.proofs.Records.{is_some-at}
 use Rattle.lone_laws.specs.Made.{With, Made, object_made}
 use Rattle.opening_defs.specs.Opened.{IsOpenAtRest}
-use Rattle.lone_laws.specs.Walked.{MayName, RecordsAre, with_job_of, Walked}
+use Rattle.lone_laws.specs.Walked.{MayName, first_record, with_job_of, Walked}
 use Rattle.lone_laws.proofs.Prefixes.{repair-list, audit-within}
-use Rattle.lone_laws.proofs.Walk.{Wrote, wrote, runs, left-start}
+use Rattle.lone_laws.proofs.Walk.{runs}
 use Rattle.job_laws.proofs.Runs.{Ends, job-ends}
 use Rattle.job_laws.proofs.Providers.{Called, calls-at, made-keeps}
 use Rattle.job_laws.proofs.Profiles.{made-numbered, worked-made}
-use Rattle.job_laws.proofs.Lasts.{InDoubt, Faults, move-faults, NoRoom, move-memory, none-moving}
+use Rattle.job_laws.proofs.Lasts.{Faults, NoRoom, none-moving}
 use Rattle.job_laws.proofs.Truth.{made-rises}
 use Rattle.job_laws.proofs.Leaving.{counts-rise, others-stay}
-use Rattle.job_laws.proofs.Audits.{move-answers}
-use Rattle.job_laws.proofs.Questions.{each-in, all-each}
+use Rattle.job_laws.proofs.Moving.{IsMove}
+use Rattle.job_laws.proofs.Endings.{listed, move-ends, act-ends, end-stands, end-left, end-sure, none-written, one-whole, one-doubted, one-cut}
+use Rattle.job_laws.proofs.Questions.{each-in, held-sizes, all-each}
 use Rattle.job_laws.proofs.Heard.{IsNot}
 use Rattle.job_laws.proofs.Rewritten.{IsNoneOf, IsBefore, AreOrdered, IsRepairing, column_at, after, after-either, after-none, after-some, Told, made-told, works-opened}
 use Rattle.job_laws.proofs.Places.{fetches_at, actions_at, IsAt, at-place, repairs-places, AreApart, all-apart, ordered-places, Cut, cut-at}
@@ -109,13 +106,10 @@ module _ (start : State) (O : IsOpenAtRest start 1) (w : State) (job : Job)
   abbrev acts : List Action
   acts = take job.place (actions_of s job)
 
-  sizes : Each (λ (f : File). length (start.bytes f.id) ≡ f.size) (files_of start.records)
-  sizes = each-in (λ (f : File). length (start.bytes f.id) ≡ f.size) (files_of start.records)
-      (λ f i. (O.rest.files f.name f (listed_file start.records f i)).1)
-
   list-is : actions_of s job ≡ flat_map (actions_at s job) all ++ tail
   list-is = repair-list s job W.kind_is
-      ∙ ap (λ xs. xs ++ tail) (repairs-places s start job (files_of start.records) W.pinned sizes)
+      ∙ ap (λ xs. xs ++ tail) (repairs-places s start job (files_of start.records) W.pinned
+      (held-sizes start O))
 
   places-apart : AreApart all
   places-apart = all-apart s start (files_of start.records)
@@ -347,20 +341,6 @@ module _ (start : State) (O : IsOpenAtRest start 1) (w : State) (job : Job)
         }
         by_flag j held below false f = λ o t. same-unflagged all st j held f o t
 
-  -- ---- the record of the repair
-
-  unwritten : 0 < appends_left (setup_in w) job → w.records ≡ start.records
-  unwritten left = by_records w.records refl W.records
-    where
-      same : appends_left (setup_in start) job ≡ appends_left (setup_in w) job
-      same = left-start start O RepairJob w job W (appends_left (setup_in w) job) refl
-
-      by_records : (rs : List Record) → w.records ≡ rs → RecordsAre start RepairJob job rs →
-          w.records ≡ start.records
-      by_records rs e (RecordsAre.none l is) = e ∙ is
-      by_records rs e (RecordsAre.one l is) = absurd (omega (arith, l, same, left))
-      by_records rs e (RecordsAre.two entry l sec is) = absurd (omega (arith, l))
-
   -- before the append it is left
   places-left : (a : Action) → slice_get (actions_of s job) job.place ≡ Some a → (p : Place) → IsAt p a →
       0 < appends_left (setup_in w) job
@@ -394,11 +374,6 @@ module _ (start new : State) (how : Answer) (heard : List Entry) (O : IsOpenAtRe
 
   subject-is : E.job.subject ≡ due.number
   subject-is = E.walked.subject ∙ ap due_number is-due
-
-  listed : (action : Action) → E.action ≡ action → (action ≡ End → ⊥) →
-      slice_get (actions_of sx E.job) E.job.place ≡ Some action
-  listed action at n = subst (λ (t : Setup). slice_get (actions_of t E.job) E.job.place ≡ Some action)
-      E.walked.setup (next_stands E.before E.job action (E.next ∙ ap Some at) n)
 
   -- a move, or the end, stands behind all places
   behind-all : (action : Action) → slice_get (actions_of sx E.job) E.job.place ≡ Some action →
@@ -564,7 +539,7 @@ module _ (start new : State) (how : Answer) (heard : List Entry) (O : IsOpenAtRe
 
   none-done : (new.records ≡ E.before.records) → 0 < appends_left (setup_in E.before) E.job →
       new.records ≡ start.records
-  none-done e left = e ∙ unwritten start O E.before E.job E.walked left
+  none-done e left = e ∙ none-written O E.walked refl left
 
   -- a store is one of a flagged provider, at a place
   store-flagged : (j o t : ℕ) → slice_get (actions_of sx E.job) E.job.place ≡ Some (Store j o t) →
@@ -605,7 +580,7 @@ module _ (start new : State) (how : Answer) (heard : List Entry) (O : IsOpenAtRe
       Gives (answer.ProviderFault j)
   unfolding setup_in
   store-fails j o t at p failed is =
-      (let h = listed (Store j o t) at (λ e. cc) in
+      (let h = listed E (Store j o t) at (λ e. cc) in
       let e : new.providers ≡ with_provider E.before.providers j p = ap (λ (v : State). v.providers) is in
       let kept = called-held j p (failed.held, failed.counts) e in
       let cut = store-flagged j o t h in
@@ -622,28 +597,26 @@ module _ (start new : State) (how : Answer) (heard : List Entry) (O : IsOpenAtRe
         store-some (λ k. (kept k).0) (λ k. (kept k).1) j o t h,
       ))
 
+  -- its one record
+  record-is : first_record start RepairJob ≡ RepairDone due.number
+  record-is = ap RepairDone (ap due_number is-due)
+
   -- a cut before the one record
-  cut-none : new.records ≡ start.records → new.doubt ≡ None →
+  cut-none : 0 < appends_left (setup_in E.before) E.job → new.records ≡ E.before.records → new.doubt ≡ None →
       IsCut (ran_from start new heard) (RepairDone due.number ∷ [])
-  cut-none e d = record {
-    done = [];
-    next = RepairDone due.number;
-    rest = [];
-    parts = refl;
-    after = e;
-    sure = ap (option_map (λ (z : Doubt). z.entry)) d;
-  }
+  cut-none left records none = subst (λ r. IsCut (ran_from start new heard) (r ∷ [])) record-is
+      (one-cut O E.walked refl new heard left records none)
 
   store-memory : (j o t : ℕ) → E.action ≡ Store j o t → (p : Provider) →
       FindsNoMemory (E.before.providers j) p →
       new ≡ record (ended E.before E.job) { providers = with_provider E.before.providers j p } →
       Gives answer.Memory
   store-memory j o t at p failed is =
-      (let h = listed (Store j o t) at (λ e. cc) in
+      (let h = listed E (Store j o t) at (λ e. cc) in
       let kept = called-held j p (failed.held, failed.counts) (ap (λ (v : State). v.providers) is) in
       let cut = store-flagged j o t h in
       let left = places-left start O E.before E.job E.walked (Store j o t) h cut.0 cut.3 in (
-        cut-none (none-done (ap (λ (v : State). v.records) is) left)
+        cut-none left (ap (λ (v : State). v.records) is)
             (ap (λ (v : State). v.doubt) is ∙ sure (Store j o t) at refl),
         store-some (λ k. (kept k).0) (λ k. (kept k).1) j o t h,
       ))
@@ -653,7 +626,7 @@ module _ (start new : State) (how : Answer) (heard : List Entry) (O : IsOpenAtRe
       LosesRow (worked_object E.before E.job o) t (blocks_given E.job.given (setup_in E.before).n o t) row →
       new ≡ ended E.before E.job → Gives (answer.Lost t row)
   work-loses o t row at loses is =
-      (let h = listed (Work o t) at (λ e. cc) in
+      (let h = listed E (Work o t) at (λ e. cc) in
       let e : new.providers ≡ E.before.providers = ap (λ (v : State). v.providers) is in
       let lost = lost-at (same-held e) (same-count e) o t row h loses in
       let left = places-left start O E.before E.job E.walked (Work o t) h (record { object = o; stripe = t })
@@ -667,58 +640,30 @@ module _ (start new : State) (how : Answer) (heard : List Entry) (O : IsOpenAtRe
       ))
 
   -- a move failed
-  moved : (action : Action) → E.action ≡ action → holder_of E.before.append action ≡ None →
-      (action ≡ End → ⊥) → ((p : Place) → IsAt p action → ⊥) →
+  moved : (action : Action) → E.action ≡ action → (action ≡ End → ⊥) → ((p : Place) → IsAt p action → ⊥) →
       Moves E.before E.job action E.before.append (Ended how) new → Gives how
-  moved action at free not_end n h = elim (move-answers E.before E.job new action E.before.append how h) [
-    | inl e ↦ subst Gives (sym e)
-        (faulted (move-faults start O RepairJob E.before E.job E.walked action E.before.append new refl
-        (E.next ∙ ap Some at)
-        (subst (λ a. Moves E.before E.job action E.before.append (Ended a) new) e h)))
-    | inr e ↦ subst Gives (sym e)
-        (no-room (move-memory start O RepairJob E.before E.job E.walked action E.before.append new refl free
-        (E.next ∙ ap Some at)
-        (subst (λ a. Moves E.before E.job action E.before.append (Ended a) new) e h)))
-  ]
+  moved action at not_end n h = move-ends O E Gives action at (λ failed F. faulted F) no-room h
     where
       some : new.providers ≡ E.before.providers → RewritesSome (ran_from start new heard)
           (flags (ran_from start new heard) due)
-      some e = all-some (same-held e) (same-count e) action (listed action at not_end) n
+      some e = all-some (same-held e) (same-count e) action (listed E action at not_end) n
 
       whole : new.providers ≡ E.before.providers → RewritesAll (ran_from start new heard)
           (flags (ran_from start new heard) due)
-      whole e = (let b = behind-all action (listed action at not_end) n in
+      whole e = (let b = behind-all action (listed E action at not_end) n in
           all-part start O E.before E.job E.walked new heard (same-held e) (same-count e) due is-due
           (take b.0 (append_actions ++ End ∷ [])) b.1 (quiet-tail b.0))
 
       faulted : Faults start O RepairJob E.before E.job E.walked new → Gives answer.DiskFault
       faulted F = (
         rose-before start.disk_faults E.before.disk_faults new.disk_faults E.walked.disk F.low F.rose,
-        record {
-          done = [];
-          next = RepairDone due.number;
-          rest = [];
-          parts = refl;
-          after = none-done F.records F.left;
-          doubt = in-doubt F.doubt;
-        },
+        subst (λ r. IsCutInDoubt (ran_from start new heard) (r ∷ [])) record-is
+            (one-doubted O E.walked refl new heard F),
         whole F.providers,
       )
-        where
-          in-doubt : InDoubt start O RepairJob E.before E.job E.walked new.doubt →
-              (option_map (λ (d : Doubt). d.entry) new.doubt ≡ None) ⊎
-              (option_map (λ (d : Doubt). d.entry) new.doubt ≡ Some (RepairDone due.number))
-          in-doubt (inl none) = inl (ap (option_map (λ (d : Doubt). d.entry)) none)
-          in-doubt (inr (d, in_doubt, writes)) =
-              elim (wrote start O RepairJob E.before E.job E.walked d.entry F.left writes) [
-                | Wrote.first l is entry ↦
-                    inr (ap (option_map (λ (z : Doubt). z.entry)) in_doubt
-                    ∙ ap Some (entry ∙ ap RepairDone (ap due_number is-due)))
-                | Wrote.second l is sec ↦ absurd sec
-              ]
 
       no-room : NoRoom start O RepairJob E.before E.job E.walked new → Gives answer.Memory
-      no-room N = (cut-none (none-done N.records N.left) N.doubt, some N.providers)
+      no-room N = (cut-none N.left N.records N.doubt, some N.providers)
 
   -- the repair came to its end
   at-end : E.action ≡ End → (new.records ≡ E.before.records) → new.doubt ≡ E.before.doubt →
@@ -727,36 +672,16 @@ module _ (start new : State) (how : Answer) (heard : List Entry) (O : IsOpenAtRe
       RewritesAll (ran_from start new heard) (flags (ran_from start new heard) due)
   at-end at records doubt providers =
       (let next : next_action E.before E.job ≡ Some End = E.next ∙ ap Some at in
-      let here : slice_get (actions_of (setup_in E.before) E.job) E.job.place ≡ Some End =
-      ap (λ xs. slice_get xs E.job.place) (repair-list (setup_in E.before) E.job E.walked.kind_is)
-      ∙ (sym (next_is_by E.before E.job ∙ ap (λ kd. next_by E.before E.job kd E.job.place) E.walked.kind_is)
-      ∙ next) in
-      let left = drop-get (actions_of (setup_in E.before) E.job) E.job.place End here in
-      let o : IsInOrder (moves_made E.before.append E.job.number)
-      (End ∷ drop (E.job.place + 1) (actions_of (setup_in E.before) E.job)) =
-      subst (IsInOrder (moves_made E.before.append E.job.number)) left
-      (E.walked.sound.jobs E.job.number E.job (runs start O RepairJob E.before E.job E.walked)).order in
-      let none : appends_left (setup_in E.before) E.job ≡ 0 = ap appends_in (left ∙ ap (λ xs. End ∷ xs) o.1)
-      ∙ appends-cons End [] in
-      let b = behind-all End
-      (subst (λ (t : Setup). slice_get (actions_of t E.job) E.job.place ≡ Some End) E.walked.setup here)
-      (λ p u. u) in (
-        record {
-          after = records
-              ∙ by_records E.before.records refl E.walked.records
-              (left-start start O RepairJob E.before E.job E.walked 0 none);
-          sure = ap (option_map (λ (d : Doubt). d.entry)) (doubt ∙ sure End at refl);
-        },
+      let stands : slice_get (actions_of sx E.job) E.job.place ≡ Some End =
+      subst (λ (t : Setup). slice_get (actions_of t E.job) E.job.place ≡ Some End) E.walked.setup
+      (end-stands O E.walked refl next) in
+      let b = behind-all End stands (λ p u. u) in (
+        subst (λ r. IsWhole (ran_from start new heard) (r ∷ [])) record-is
+            (one-whole O E.walked refl new heard (end-left O E.walked refl next)
+            (end-sure O E.walked refl next) records doubt),
         all-part start O E.before E.job E.walked new heard (same-held providers)
             (same-count providers) due is-due (take b.0 (append_actions ++ End ∷ [])) b.1 (quiet-tail b.0),
       ))
-    where
-      by_records : (rs : List Record) → E.before.records ≡ rs → RecordsAre start RepairJob E.job rs →
-          appends_left (setup_in start) E.job ≡ 0 → E.before.records ≡ RepairDone due.number ∷ start.records
-      by_records rs e (RecordsAre.none l is) none = absurd (omega (arith, l, none))
-      by_records rs e (RecordsAre.one l is) none =
-          e ∙ (is ∙ ap (λ n. RepairDone n ∷ start.records) (ap due_number is-due))
-      by_records rs e (RecordsAre.two entry l sec is) none = absurd (omega (arith, l, none))
 
   ended-by : (a : Answer) → E.action ≡ End → EndsAs E.before E.job RepairJob a → new ≡ ended E.before E.job →
       Gives a
@@ -778,22 +703,18 @@ module _ (start new : State) (how : Answer) (heard : List Entry) (O : IsOpenAtRe
       subst (λ n. Gives (answer.Lost n row)) (sym same) (work-loses o t row at loses is)
   by-work o t a at h = absurd h
 
-  by-action : (action : Action) → E.action ≡ action → holder_of E.before.append action ≡ None →
-      Acts E.before E.job action (Ended how) new → Gives how
-  by-action End at free (so, is) =
-      ended-by how at (subst (λ kd. EndsAs E.before E.job kd how) E.walked.kind_is so) is
-  by-action WriteBody at free h = moved WriteBody at free (λ e. cc) (λ p u. u) h
-  by-action SyncBody at free h = moved SyncBody at free (λ e. cc) (λ p u. u) h
-  by-action WriteGate at free h = moved WriteGate at free (λ e. cc) (λ p u. u) h
-  by-action SyncGate at free h = moved SyncGate at free (λ e. cc) (λ p u. u) h
-  by-action (Store j o t) at free h = by-store j o t how at h
-  by-action (Work o t) at free h = by-work o t how at h
-  by-action (Fetch j o t) at free h = absurd h
-  by-action (Ask j o r) at free h = absurd h
-  by-action (Remove j o) at free h = absurd h
+  -- a move stands at no place
+  no-place : (action : Action) → IsMove action → (p : Place) → IsAt p action → ⊥
+  no-place WriteBody m p u = u
+  no-place SyncBody m p u = u
+  no-place WriteGate m p u = u
+  no-place SyncGate m p u = u
+  no-place action m p u = absurd m
 
   repair-gives : Gives how
-  repair-gives = by-action E.action refl E.free E.acts
+  repair-gives = act-ends E Gives (ended-by how)
+      (λ action at move tail h. moved action at (λ e. subst IsMove e move) (no-place action move) h)
+      (λ j o t at h. by-store j o t how at h) (λ o t at h. by-work o t how at h)
 
   repair-silent : heard ≡ []
   repair-silent = E.heard_is ∙ ap (heard_by_kind E.job) E.walked.kind_is

@@ -128,10 +128,6 @@ module _ (records : List Record) (kind : Kind) (own : Option ℕ) (answer : Answ
   left-by : Leaves (ran_from w ran.last heard) kind own answer
   left-by = law w ran.last 1 over.at_rest ran.runs
 
-  provider-is : (j : ℕ) → ran.last.providers j ≡ provider_at new.providers j
-  provider-is = providers-seen w ran.last old new (setup_in_effect records).n refl R.enough same ran.handed
-      left-by.others
-
   -- the disk holds the whole history, in the same area
   kept : Keeps w ran.last
   kept = runs-keep w over.at_rest kind own ran.last 1 answer heard spelled named ran.runs
@@ -158,7 +154,8 @@ module _ (records : List Record) (kind : Kind) (own : Option ℕ) (answer : Answ
           ran.faults_are
           (subst (λ (f : ℕ → Provider).
           Leaves (record (ran_from w ran.last heard) { new = f }) kind own answer)
-          (λ i j. provider-is j i) left-by);
+          (λ i j. providers-seen w ran.last old new (setup_in_effect records).n refl R.enough same
+          ran.handed left-by.others j i) left-by);
       images = each_image-mono new.disk _ (λ image. StandsActive image R.area ran.last.records ⊎
           IsSomeAnd (option_map (λ (d : Doubt). d.entry) ran.last.doubt)
           (λ entry. StandsActive image R.area (entry ∷ ran.last.records)))

@@ -1,27 +1,14 @@
 -- A block that is not off is the column.
-use Rattle.std.proofs.Common.{◌≡◌, ℕ, zero, suc, ◌<◌, ◌==◌, ◌⊎◌, List, [], ◌∷◌, length, Option, None, Some, refl, ap, sym, ◌∙◌, inl, inr, arith}
+use Rattle.std.proofs.Common.{◌≡◌, ℕ, zero, suc, ◌<◌, ◌==◌, ◌⊎◌, List, length, Option, None, Some, ap, sym, ◌∙◌, inl, inr, arith}
 use Rattle.std.proofs.lemmas.Bool.{cases_Bool, eqb-true}
 use Rattle.code_defs.specs.Profiles.{profile_of}
-use Rattle.code_defs.specs.ServerCode.{differences}
 use Rattle.column_defs.specs.Objects.{Object}
 use Rattle.column_defs.specs.Columns.{column_of_symbols}
 use Rattle.column_defs.proofs.ColumnLaws.{length-column_of_symbols}
 use Rattle.device_defs.specs.Providers.{sized}
 use Rattle.machine_defs.specs.Alone.{differs}
+use Rattle.machine_defs.proofs.Given.{differs-none}
 use Rattle.machine_defs.proofs.JobLists.{cond_true, cond_false}
-
--- lists of one length that differ in no place are one
-same-lists : (xs ys : List ℕ) → length xs ≡ length ys → differences xs ys ≡ 0 → xs ≡ ys
-same-lists [] [] e h = refl
-same-lists [] (y ∷ ys) e h = absurd (omega (arith, e))
-same-lists (x ∷ xs) [] e h = absurd (omega (arith, e))
-same-lists (x ∷ xs) (y ∷ ys) e h = elim (cases_Bool (x == y)) [
-  | inl t ↦ ap (λ a. a ∷ xs) (eqb-true x y t)
-      ∙ ap (λ l. y ∷ l) (same-lists xs ys (omega (arith, e))
-      (sym (cond_true (x == y) (differences xs ys) (suc (differences xs ys)) t) ∙ h))
-  | inr f ↦ absurd (let z : suc (differences xs ys) ≡ 0 =
-      sym (cond_false (x == y) (differences xs ys) (suc (differences xs ys)) f) ∙ h in omega (arith, z))
-]
 
 -- a block of the size is held whole
 sized-is : (size : ℕ) (held : Option (List ℕ)) (block : List ℕ) → Some block ≡ sized size held →
@@ -51,7 +38,7 @@ own-block object None held symbols j t some tells none =
     absurd (let e = length-column_of_symbols object symbols j t in omega (arith, e, none, some))
 own-block object (Some block) held symbols j t some (inl e) none =
     (let w = sized-is object.profile.size held block e in
-    w.0 ∙ ap Some (same-lists block (column_of_symbols object symbols j t)
+    w.0 ∙ ap Some (differs-none block (column_of_symbols object symbols j t)
     (w.1 ∙ sym (length-column_of_symbols object symbols j t)) none))
 own-block object (Some block) held symbols j t some (inr e) none =
     absurd (let z : Some block ≡ None = e in cc)

@@ -12,6 +12,7 @@ use Rattle.machine_defs.specs.Actions.{Action, WriteBody, SyncBody, WriteGate, S
 use Rattle.command_defs.specs.Repairs.{Place}
 use Rattle.lone_laws.specs.Made.{With, Did, Made}
 use Rattle.job_laws.proofs.Heard.{IsNot}
+use Rattle.job_laws.proofs.Questions.{each-front}
 use Rattle.job_laws.proofs.Rewritten.{IsNoneOf, IsBefore, AreOrdered}
 use Rattle.job_laws.proofs.Places.{fetches_at}
 use Rattle.job_laws.proofs.PlaceFacts.{FetchesAll, OpensAll}
@@ -141,14 +142,10 @@ pub ordered-front : (xs ys : List Action) → AreOrdered (xs ++ ys) → AreOrder
 ordered-front [] ys h = tt
 ordered-front (x ∷ xs) ys h = (front x xs h.0, ordered-front xs ys h.1)
   where
-    each-front : (P : Action → Type 0) (zs : List Action) → Each P (zs ++ ys) → Each P zs
-    each-front P [] e = tt
-    each-front P (z ∷ zs) e = (e.0, each-front P zs e.1)
-
     front : (x : Action) (zs : List Action) → IsBefore x (zs ++ ys) → IsBefore x zs
-    front (Fetch k p t) zs e = each-front (IsNot (Fetch k p t)) zs e
-    front (Work p t) zs e = each-front (IsNoneOf p t) zs e
-    front (Store k p t) zs e = each-front (IsNoneOf p t) zs e
+    front (Fetch k p t) zs e = each-front (IsNot (Fetch k p t)) zs ys e
+    front (Work p t) zs e = each-front (IsNoneOf p t) zs ys e
+    front (Store k p t) zs e = each-front (IsNoneOf p t) zs ys e
     front (Ask k p r) zs e = tt
     front (Remove k p) zs e = tt
     front WriteBody zs e = tt

@@ -14,7 +14,7 @@ use Rattle.column_defs.specs.Opened.{GivesSymbols}
 use Rattle.device_defs.specs.Providers.{Provider}
 use Rattle.device_defs.specs.ProviderCalls.{Fetches, Stores}
 use Rattle.record_defs.specs.Records.{Setup}
-use Rattle.record_defs.specs.Table.{File, files_of}
+use Rattle.record_defs.specs.Table.{files_of}
 use Rattle.machine_defs.specs.Alone.{differs, scrubbed_object, off_by, scrub_stores, opened_scrub, block_to_scrub, Scrubs, StepsScrub, scrub_actions, new_scrub}
 use Rattle.machine_defs.specs.Jobs.{RepairJob, Pinned, Given, Fetched, Job}
 use Rattle.machine_defs.specs.Actions.{Action, WriteBody, SyncBody, WriteGate, SyncGate, Store, Fetch, Ask, Work, Remove, End, open_actions, on_each_stripe, rewrite_actions}
@@ -27,7 +27,6 @@ use Rattle.machine_defs.specs.Setups.{profiled, object_of}
 use Rattle.machine_defs.specs.States.{State, Scrub, Scrubbing, setup_in, with_provider}
 use Rattle.machine_defs.specs.Steps.{StepsOpen, Steps, StepsMine}
 use Rattle.machine_defs.proofs.Given.{symbols_given-newest}
-use Rattle.machine_defs.proofs.RecordFacts.{listed_file}
 use Rattle.command_defs.specs.JobRuns.{AreSteps}
 use Rattle.command_defs.specs.Repairs.{Place, places}
 use Rattle.command_defs.specs.Scrubs.{everyone}
@@ -37,7 +36,7 @@ use Rattle.state_laws.proofs.Resting.{rest-sound}
 use Rattle.lone_laws.specs.Made.{With, CallsOne, Made, object_made}
 use Rattle.lone_laws.specs.Walked.{with_job_of}
 use Rattle.job_laws.proofs.Providers.{IsBelow, each-upto}
-use Rattle.job_laws.proofs.Questions.{each-in}
+use Rattle.job_laws.proofs.Questions.{held-sizes}
 use Rattle.job_laws.proofs.Rewritten.{AreOrdered, IsRepairing}
 use Rattle.job_laws.proofs.Places.{fetches_at, actions_at, repairs-places, IsElse, AreApart, all-apart, ordered-places}
 use Rattle.job_laws.proofs.PlaceFacts.{IsStoreOf, stores-wider}
@@ -601,16 +600,12 @@ module _ (start : State) (O : IsOpenAtRest start 1) where
   plain : (o t : ℕ) → open_actions s o t ++ rewrite_actions s quiet o t ≡ open_actions s o t
   plain o t = ap (λ l. open_actions s o t ++ l) (none-stored (upto s.n) o t) ∙ append-nil (open_actions s o t)
 
-  sizes : Each (λ (f : File). length (start.bytes f.id) ≡ f.size) (files_of start.records)
-  sizes = each-in (λ (f : File). length (start.bytes f.id) ≡ f.size) (files_of start.records)
-      (λ f i. (O.rest.files f.name f (listed_file start.records f i)).1)
-
   -- what a scrub has to do at its begin are the openings of all places, and the end
   todo-is : scrub_actions s (pin_all start (files_of start.records)) ≡ opens all
   todo-is = ap (λ l. l ++ End ∷ [])
       ((λ i. flat_map (λ (f : Pinned). on_each_stripe (profiled s f.profile) (length f.bytes)
       (λ t. sym (plain f.id t) i)) (pin_all start (files_of start.records)))
-      ∙ (repairs-places s start quiet (files_of start.records) refl sizes
+      ∙ (repairs-places s start quiet (files_of start.records) refl (held-sizes start O)
       ∙ (λ i. flat_map (λ (p : Place). plain p.object p.stripe i) all)))
 
   quiet-is : flat_map (actions_at s quiet) all ++ End ∷ [] ≡ opens all

@@ -1,5 +1,5 @@
 -- From the run of a scrub, as its command tells it, to what it leaves.
-use Rattle.std.proofs.Common.{◌≡◌, ℕ, List, [], length, None, refl, ap, subst}
+use Rattle.std.proofs.Common.{◌≡◌, List, [], length, None, refl, ap, subst}
 use Rattle.std.specs.Option.{option_map}
 use Rattle.record_defs.specs.Records.{Record}
 use Rattle.machine_defs.specs.Answers.{Answer}
@@ -27,10 +27,6 @@ module _ (records : List Record) (answer : Answer) (old new : Seen) (R : opens.I
   ended : Ended_by w ran.last answer
   ended = scrub-ends w over.at_rest ran.last 1 answer ran.runs
 
-  provider-is : (j : ℕ) → ran.last.providers j ≡ provider_at new.providers j
-  provider-is = providers-seen w ran.last old new (setup_in_effect records).n refl R.enough same ran.handed
-      ended.leaves.others
-
   records-are : ran.last.records ≡ records
   records-are = ap (λ (v : State). v.records) ended.is_past
 
@@ -44,7 +40,8 @@ module _ (records : List Record) (answer : Answer) (old new : Seen) (R : opens.I
     after = records-are i;
     doubt = doubt-is i;
     old = provider_at old.providers;
-    new = λ j. provider-is j i;
+    new = λ j. providers-seen w ran.last old new (setup_in_effect records).n refl R.enough same ran.handed
+        ended.leaves.others j i;
     disk_before = A.faults;
     disk_after = ran.faults_are i;
     heard = [];
