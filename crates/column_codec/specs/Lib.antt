@@ -5,3 +5,4 @@ pub mod OpenedBlocks
 pub mod PresentBlocks
 pub mod Tables
 pub mod Agreement
+pub mod Views

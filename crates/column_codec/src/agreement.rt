@@ -1,7 +1,7 @@
 ghost use Rattle.std.specs.Prelude.{◌≡◌, ◌≤◌, ◌<◌, ◌+◌, ◌==◌, ℕ, IfNone, IfSome, length, slice_index, if◌then◌else◌};
 
-use crate::block::Block;
 use crate::keys::ObjectKeys;
+use crate::opened::Opened;
 use hail_field::Symbol;
 
 /// 1 where two symbols are one, else 0.
@@ -38,12 +38,9 @@ fn first_below(counts: &[u8], need: u8) -> Option<usize>
 }
 
 impl ObjectKeys {
-    ghost use Rattle.std.specs.Prelude.{◌≡◌, ◌≤◌, ◌<◌, ◌*◌, ℕ, [], length, slice_index_or};
-    ghost use Rattle.column_defs.specs.Columns.{row_polynomial};
-    ghost use Rattle.column_defs.specs.Opened.{AcceptsRow};
+    ghost use Rattle.std.specs.Prelude.{◌≡◌, ◌≤◌, ◌<◌, ◌*◌, ℕ, Some, None, length, slice_index, if◌then◌else◌};
     ghost use Rattle.file_layout.specs.Files.{shaped_object};
-    ghost use Rattle.column_codec.specs.OpenedBlocks.{opened_at, opened_of};
-    ghost use Rattle.column_codec.specs.Agreement.{agreeing_at, agreed};
+    ghost use Rattle.column_codec.specs.Agreement.{agreeing_at};
 
     /// Counts a provider where its opened symbols are the values of the rows with these primary symbols.
     fn count_provider(
@@ -73,47 +70,47 @@ impl ObjectKeys {
             count_same(values, block, counts);
         }
     }
+}
+
+impl<'a> Opened<'a> {
+    ghost use Rattle.std.specs.Prelude.{◌≡◌, ◌<◌, ◌*◌, ℕ, IfNone, IfSome, length, slice_index};
+    ghost use Rattle.column_defs.specs.Columns.{row_polynomial};
+    ghost use Rattle.column_defs.specs.Opened.{AcceptsRow};
+    ghost use Rattle.column_codec.specs.Agreement.{agreed};
+    ghost use Rattle.column_codec.specs.Views.{opened_object, opened_blocks};
 
     /// Counts, from zeros on, how many providers agree with each kept row of these primary symbols.
-    fn count_all(&self, marks: &[bool; 16], blocks: &[Block], rows: &[Symbol], counts: &mut [u8])
-        requires blocks { length blocks.now ≡ self.now.file.shape.n }
-        requires sizes { (j : ℕ) → j < length blocks.now
-            → length (slice_index_or blocks.now j []) ≡ self.now.file.profile.size }
-        requires rows { length rows.now ≡ self.now.file.shape.l * self.now.file.profile.keep }
-        requires counts { length counts.old ≡ self.now.file.profile.keep }
+    fn count_all(&self, rows: &[Symbol], counts: &mut [u8])
+        requires rows { length rows.now
+            ≡ self.now.keys.now.file.shape.l * self.now.keys.now.file.profile.keep }
+        requires counts { length counts.old ≡ self.now.keys.now.file.profile.keep }
         requires zeros { (place : ℕ) → slice_index counts.old place ≡ 0 }
-        ensures size { length counts.new ≡ self.now.file.profile.keep }
-        ensures counts { (place : ℕ) → place < self.now.file.profile.keep → slice_index counts.new place
-            ≡ agreed (shaped_object self.now.master.0 self.now.file) rows.now marks.now blocks.now place
-            self.now.file.shape.n }
+        ensures size { length counts.new ≡ self.now.keys.now.file.profile.keep }
+        ensures counts { (place : ℕ) → place < self.now.keys.now.file.profile.keep
+            → slice_index counts.new place
+            ≡ agreed (opened_object self.now) rows.now self.now.marks.now self.now.blocks.now place
+            self.now.keys.now.file.shape.n }
     {
+        let (keys, marks, blocks) = (self.keys, self.marks, self.blocks);
         for j in 0..blocks.len() {
-            self.count_provider(rows, j, marks[j], blocks[j].symbols(), counts);
+            keys.count_provider(rows, j, marks[j], blocks[j].symbols(), counts);
         }
     }
 
     /// The first kept place whose row, by these primary symbols, too few providers agree with; none where all
     /// are accepted.
-    pub(crate) fn uncarried(
-        &self,
-        marks: &[bool; 16],
-        blocks: &[Block],
-        rows: &[Symbol],
-    ) -> Option<usize>
-        requires blocks { length blocks.now ≡ self.now.file.shape.n }
-        requires sizes { (j : ℕ) → j < length blocks.now
-            → length (slice_index_or blocks.now j []) ≡ self.now.file.profile.size }
-        requires rows { length rows.now ≡ self.now.file.shape.l * self.now.file.profile.keep }
-        ensures none { IfNone result ((place : ℕ) → place < self.now.file.profile.keep →
-            AcceptsRow (shaped_object self.now.master.0 self.now.file)
-            (opened_of marks.now blocks.now self.now.file.shape.n) place
-            (row_polynomial (shaped_object self.now.master.0 self.now.file) rows.now place)) }
-        ensures some { IfSome result (λ place. place < self.now.file.profile.keep) }
+    pub(crate) fn uncarried(&self, rows: &[Symbol]) -> Option<usize>
+        requires rows { length rows.now
+            ≡ self.now.keys.now.file.shape.l * self.now.keys.now.file.profile.keep }
+        ensures none { IfNone result ((place : ℕ) → place < self.now.keys.now.file.profile.keep →
+            AcceptsRow (opened_object self.now) (opened_blocks self.now) place
+            (row_polynomial (opened_object self.now) rows.now place)) }
+        ensures some { IfSome result (λ place. place < self.now.keys.now.file.profile.keep) }
     {
-        let keep = self.file.profile.keep as usize;
+        let file = &self.keys.file;
         let mut buffer = [0; 96];
-        let counts = &mut buffer[..keep];
-        self.count_all(marks, blocks, rows, counts);
-        first_below(counts, self.file.shape.n - self.file.shape.b)
+        let counts = &mut buffer[..file.profile.keep as usize];
+        self.count_all(rows, counts);
+        first_below(counts, file.shape.n - file.shape.b)
     }
 }

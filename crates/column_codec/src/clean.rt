@@ -1,11 +1,12 @@
 use crate::block::Block;
+use crate::coder::StripeCoder;
 use crate::guess::lacking;
-use crate::keys::ObjectKeys;
 use crate::masks::MasksAtHand;
+use crate::opened::Opened;
+use crate::seen::SeenStripe;
 use crate::trust::Trust;
 use hail_field::Symbol;
 use hail_poly::Work;
-use server_code::AnyCode;
 
 /// The providers whose blocks were not looked at, where those of `first` were until `enough` were marked:
 /// where these are too few, each of them was.
@@ -19,117 +20,111 @@ fn not_looked_at(first: &[bool; 16], marks: &[bool; 16], enough: u8) -> [bool; 1
     left
 }
 
-impl ObjectKeys {
-    ghost use Rattle.std.specs.Prelude.{◌≡◌, ◌≤◌, ◌<◌, ◌*◌, ℕ, Some, None, [], length, slice_index_or};
+/// A look at the blocks of some providers, until there are `most` that are codewords: those are marked. How
+/// many guesses follow the first, if it fails.
+#[derive(Drop)]
+struct Look {
+    marks: [bool; 16],
+    wanted: [bool; 16],
+    most: u8,
+    more: u8,
+}
+
+/// What the stripes before left at hand, which decides nothing: who is trusted, and masks.
+#[derive(Drop)]
+pub(crate) struct AtHand<'a, 'b> {
+    pub(crate) trust: &'a mut Trust,
+    pub(crate) masks: &'b mut MasksAtHand,
+}
+
+impl<'a> StripeCoder<'a> {
+    ghost use Rattle.std.specs.Prelude.{◌≡◌, ◌<◌, Some, length};
     ghost use Rattle.std.specs.Bool.{OnTrue};
-    ghost use Rattle.column_defs.specs.Opened.{OpensTo, GivesSymbols};
-    ghost use Rattle.file_layout.specs.Files.{shaped_object};
-    ghost use Rattle.server_code.specs.Any.{code_profile};
-    ghost use Rattle.column_codec.specs.OpenedBlocks.{AreOpened};
-    ghost use Rattle.column_codec.specs.PresentBlocks.{present_blocks};
+    ghost use Rattle.column_defs.specs.Opened.{OpensTo};
+    ghost use Rattle.column_codec.specs.Views.{coder_object};
 
     /// Looks whether a block of the right size is a codeword without its masks; then `out` is that codeword.
     fn look_whole(
         &self,
-        code: &AnyCode,
-        stripe: u32,
         provider: usize,
         seen: &[Symbol],
         masks: &mut MasksAtHand,
         out: &mut [Symbol],
     ) -> bool
-        requires provider { provider < self.now.file.shape.n }
-        requires code { code_profile code.now ≡ self.now.file.profile }
-        requires seen { length seen.now ≡ self.now.file.profile.size }
-        requires out { length out.old ≡ self.now.file.profile.size }
-        ensures { OnTrue result (OpensTo (shaped_object self.now.master.0 self.now.file) provider stripe
+        requires provider { provider < self.now.keys.now.file.shape.n }
+        requires seen { length seen.now ≡ self.now.keys.now.file.profile.size }
+        requires out { length out.old ≡ self.now.keys.now.file.profile.size }
+        ensures { OnTrue result (OpensTo (coder_object self.now) provider self.now.stripe
             (Some seen.now) (Some out.new)) }
     {
         out.copy_from_slice(seen);
-        self.take_masks_off(stripe, provider, masks, out);
-        code.is_codeword(out)
+        self.keys.take_masks_off(self.stripe, provider, masks, out);
+        self.code.is_codeword(out)
     }
+}
+
+impl<'a> SeenStripe<'a> {
+    ghost use Rattle.std.specs.Prelude.{◌≡◌, ◌≤◌, ◌<◌, ◌*◌, ℕ, Some, None, [], length, slice_index_or};
+    ghost use Rattle.std.specs.Bool.{OnTrue};
+    ghost use Rattle.column_defs.specs.Opened.{OpensTo, GivesSymbols};
+    ghost use Rattle.column_codec.specs.OpenedBlocks.{AreOpened};
+    ghost use Rattle.column_codec.specs.Views.{coder_object, blocks_of};
 
     /// The mark of a provider after a look at its block, if one is wanted: whether it is a codeword as it was
     /// seen.
     fn look_present(
         &self,
-        code: &AnyCode,
-        stripe: u32,
         provider: usize,
-        seen: &[Symbol],
-        present: &[bool],
         mark: bool,
         wanted: bool,
         masks: &mut MasksAtHand,
         out: &mut [Symbol],
     ) -> bool
-        requires provider { provider < self.now.file.shape.n }
-        requires code { code_profile code.now ≡ self.now.file.profile }
-        requires seen { length seen.now ≡ self.now.file.shape.n * self.now.file.profile.size }
-        requires present { length present.now ≡ self.now.file.shape.n }
-        requires out { length out.old ≡ self.now.file.profile.size }
-        requires mark { OnTrue mark (OpensTo (shaped_object self.now.master.0 self.now.file) provider stripe
-            (slice_index_or (present_blocks self.now.file.profile.size present.now seen.now) provider None)
-            (Some out.old)) }
-        ensures { OnTrue result (OpensTo (shaped_object self.now.master.0 self.now.file) provider stripe
-            (slice_index_or (present_blocks self.now.file.profile.size present.now seen.now) provider None)
-            (Some out.new)) }
+        requires provider { provider < self.now.coder.keys.now.file.shape.n }
+        requires out { length out.old ≡ self.now.coder.keys.now.file.profile.size }
+        requires mark { OnTrue mark (OpensTo (coder_object self.now.coder) provider self.now.coder.stripe
+            (slice_index_or (blocks_of self.now) provider None) (Some out.old)) }
+        ensures { OnTrue result (OpensTo (coder_object self.now.coder) provider self.now.coder.stripe
+            (slice_index_or (blocks_of self.now) provider None) (Some out.new)) }
     {
         if mark {
             return true;
         }
+        let (seen, present) = (self.symbols, self.present);
         if !wanted || !present[provider] {
             return false;
         }
         let size = out.len();
         let start = provider * size;
-        self.look_whole(
-            code,
-            stripe,
-            provider,
-            &seen[start..start + size],
-            masks,
-            out,
-        )
+        self.coder
+            .look_whole(provider, &seen[start..start + size], masks, out)
     }
 
     /// Marks blocks of some providers that are codewords as they were seen, until there are `most` of them,
     /// and tells how many are marked.
     fn mark_clean(
         &self,
-        code: &AnyCode,
-        stripe: u32,
-        seen: &[Symbol],
-        present: &[bool],
         wanted: &[bool; 16],
         most: u8,
         marks: &mut [bool; 16],
         masks: &mut MasksAtHand,
         out: &mut [Block],
     ) -> u8
-        requires code { code_profile code.now ≡ self.now.file.profile }
-        requires seen { length seen.now ≡ self.now.file.shape.n * self.now.file.profile.size }
-        requires present { length present.now ≡ self.now.file.shape.n }
-        requires out { length out.old ≡ self.now.file.shape.n }
+        requires out { length out.old ≡ self.now.coder.keys.now.file.shape.n }
         requires sizes { (j : ℕ) → j < length out.old
-            → length (slice_index_or out.old j []) ≡ self.now.file.profile.size }
-        requires opened { AreOpened (shaped_object self.now.master.0 self.now.file) stripe
-            (present_blocks self.now.file.profile.size present.now seen.now) marks.old out.old }
+            → length (slice_index_or out.old j []) ≡ self.now.coder.keys.now.file.profile.size }
+        requires opened { AreOpened (coder_object self.now.coder) self.now.coder.stripe (blocks_of self.now)
+            marks.old out.old }
         ensures sizes { (j : ℕ) → j < length out.new
-            → length (slice_index_or out.new j []) ≡ self.now.file.profile.size }
-        ensures opened { AreOpened (shaped_object self.now.master.0 self.now.file) stripe
-            (present_blocks self.now.file.profile.size present.now seen.now) marks.new out.new }
+            → length (slice_index_or out.new j []) ≡ self.now.coder.keys.now.file.profile.size }
+        ensures opened { AreOpened (coder_object self.now.coder) self.now.coder.stripe (blocks_of self.now)
+            marks.new out.new }
     {
         let mut count = 0;
         for j in 0..out.len() {
             let block = &mut out[j];
             marks[j] = self.look_present(
-                code,
-                stripe,
                 j,
-                seen,
-                present,
                 marks[j],
                 wanted[j] && count < most,
                 masks,
@@ -140,50 +135,49 @@ impl ObjectKeys {
         count
     }
 
-    /// Marks further blocks of some providers, until there are `most`, and fills `rows` with the symbols of
-    /// the stripe where enough are marked and agree on them, trying `more` guesses after the first. Where it
-    /// is false, nothing is said.
+    /// Marks further blocks, and fills `rows` with the symbols of the stripe where enough are marked and
+    /// agree on them. Where it is false, nothing is said.
     fn carry_marked(
         &self,
-        code: &AnyCode,
-        stripe: u32,
-        seen: &[Symbol],
-        present: &[bool],
-        wanted: &[bool; 16],
-        most: u8,
-        more: u8,
-        marks: &mut [bool; 16],
-        trust: &mut Trust,
-        masks: &mut MasksAtHand,
+        look: &mut Look,
+        at_hand: &mut AtHand,
         rows: &mut [Symbol],
         scratch: &mut [Block],
         work: &mut Work,
     ) -> bool
-        requires code { code_profile code.now ≡ self.now.file.profile }
-        requires seen { length seen.now ≡ self.now.file.shape.n * self.now.file.profile.size }
-        requires present { length present.now ≡ self.now.file.shape.n }
-        requires rows { length rows.old ≡ self.now.file.shape.l * self.now.file.profile.keep }
-        requires scratch { length scratch.old ≡ self.now.file.shape.n }
+        requires rows { length rows.old
+            ≡ self.now.coder.keys.now.file.shape.l * self.now.coder.keys.now.file.profile.keep }
+        requires scratch { length scratch.old ≡ self.now.coder.keys.now.file.shape.n }
         requires sizes { (j : ℕ) → j < length scratch.old
-            → length (slice_index_or scratch.old j []) ≡ self.now.file.profile.size }
-        requires opened { AreOpened (shaped_object self.now.master.0 self.now.file) stripe
-            (present_blocks self.now.file.profile.size present.now seen.now) marks.old scratch.old }
+            → length (slice_index_or scratch.old j []) ≡ self.now.coder.keys.now.file.profile.size }
+        requires opened { AreOpened (coder_object self.now.coder) self.now.coder.stripe (blocks_of self.now)
+            look.old.marks scratch.old }
         requires room { 16 ≤ work.old.size }
-        ensures given { OnTrue result (GivesSymbols (shaped_object self.now.master.0 self.now.file) stripe
-            (present_blocks self.now.file.profile.size present.now seen.now) rows.new) }
+        ensures given { OnTrue result (GivesSymbols (coder_object self.now.coder) self.now.coder.stripe
+            (blocks_of self.now) rows.new) }
         ensures sizes { (j : ℕ) → j < length scratch.new
-            → length (slice_index_or scratch.new j []) ≡ self.now.file.profile.size }
-        ensures opened { AreOpened (shaped_object self.now.master.0 self.now.file) stripe
-            (present_blocks self.now.file.profile.size present.now seen.now) marks.new scratch.new }
+            → length (slice_index_or scratch.new j []) ≡ self.now.coder.keys.now.file.profile.size }
+        ensures opened { AreOpened (coder_object self.now.coder) self.now.coder.stripe (blocks_of self.now)
+            look.new.marks scratch.new }
         ensures room { work.new.size ≡ work.old.size }
     {
+        let keys = self.coder.keys;
         let count = self.mark_clean(
-            code, stripe, seen, present, wanted, most, marks, masks, scratch,
+            &look.wanted,
+            look.most,
+            &mut look.marks,
+            at_hand.masks,
+            scratch,
         );
-        if count < self.file.shape.n - self.file.shape.b {
+        if count < keys.file.shape.n - keys.file.shape.b {
             return false;
         }
-        self.carry(marks, scratch, more, trust, rows, work)
+        let opened = Opened {
+            keys,
+            marks: &look.marks,
+            blocks: scratch,
+        };
+        opened.carry(look.more, at_hand.trust, rows, work)
     }
 
     /// Fills `rows` with the symbols of a stripe where enough blocks are codewords as they were seen and
@@ -191,43 +185,40 @@ impl ObjectKeys {
     /// others only where these are too few or don't agree.
     pub(crate) fn carry_clean(
         &self,
-        code: &AnyCode,
-        stripe: u32,
-        seen: &[Symbol],
-        present: &[bool],
-        trust: &mut Trust,
-        masks: &mut MasksAtHand,
+        at_hand: &mut AtHand,
         rows: &mut [Symbol],
         scratch: &mut [Block],
         work: &mut Work,
     ) -> bool
-        requires code { code_profile code.now ≡ self.now.file.profile }
-        requires seen { length seen.now ≡ self.now.file.shape.n * self.now.file.profile.size }
-        requires present { length present.now ≡ self.now.file.shape.n }
-        requires rows { length rows.old ≡ self.now.file.shape.l * self.now.file.profile.keep }
-        requires scratch { length scratch.old ≡ self.now.file.shape.n }
+        requires rows { length rows.old
+            ≡ self.now.coder.keys.now.file.shape.l * self.now.coder.keys.now.file.profile.keep }
+        requires scratch { length scratch.old ≡ self.now.coder.keys.now.file.shape.n }
         requires sizes { (j : ℕ) → j < length scratch.old
-            → length (slice_index_or scratch.old j []) ≡ self.now.file.profile.size }
+            → length (slice_index_or scratch.old j []) ≡ self.now.coder.keys.now.file.profile.size }
         requires room { 16 ≤ work.old.size }
-        ensures given { OnTrue result (GivesSymbols (shaped_object self.now.master.0 self.now.file) stripe
-            (present_blocks self.now.file.profile.size present.now seen.now) rows.new) }
+        ensures given { OnTrue result (GivesSymbols (coder_object self.now.coder) self.now.coder.stripe
+            (blocks_of self.now) rows.new) }
         ensures sizes { (j : ℕ) → j < length scratch.new
-            → length (slice_index_or scratch.new j []) ≡ self.now.file.profile.size }
+            → length (slice_index_or scratch.new j []) ≡ self.now.coder.keys.now.file.profile.size }
         ensures room { work.new.size ≡ work.old.size }
     {
-        let shape = self.file.shape;
-        let (enough, first) = (shape.n - shape.b, *trust.trusted());
-        let mut marks = [false; 16];
-        if self.carry_marked(
-            code, stripe, seen, present, &first, enough, 0, &mut marks, trust, masks, rows,
-            scratch, work,
-        ) {
+        let shape = self.coder.keys.file.shape;
+        let (enough, first) = (shape.n - shape.b, *at_hand.trust.trusted());
+        let mut look = Look {
+            marks: [false; 16],
+            wanted: first,
+            most: enough,
+            more: 0,
+        };
+        if self.carry_marked(&mut look, at_hand, rows, scratch, work) {
             return true;
         }
-        let left = not_looked_at(&first, &marks, enough);
-        self.carry_marked(
-            code, stripe, seen, present, &left, shape.n, shape.b, &mut marks, trust, masks, rows,
-            scratch, work,
-        )
+        let mut look = Look {
+            marks: look.marks,
+            wanted: not_looked_at(&first, &look.marks, enough),
+            most: shape.n,
+            more: shape.b,
+        };
+        self.carry_marked(&mut look, at_hand, rows, scratch, work)
     }
 }

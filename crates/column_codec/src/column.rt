@@ -1,3 +1,4 @@
+use crate::coder::StripeCoder;
 use crate::gather::add_each;
 use crate::keys::ObjectKeys;
 use crate::masks::{MasksAtHand, ROWS};
@@ -63,54 +64,6 @@ impl ObjectKeys {
         }
     }
 
-    /// The block of a primary provider: the codeword of the symbols that it keeps.
-    fn primary_column(
-        &self,
-        code: &AnyCode,
-        stripe: u32,
-        symbols: &[Symbol],
-        provider: usize,
-        out: &mut [Symbol],
-    )
-        requires provider { provider < self.now.file.shape.l }
-        requires symbols { length symbols.now ≡ self.now.file.shape.l * self.now.file.profile.keep }
-        requires code { code_profile code.now ≡ self.now.file.profile }
-        requires out { length out.old ≡ self.now.file.profile.size }
-        ensures { out.new ≡ column_of_symbols (shaped_object self.now.master.0 self.now.file) symbols.now
-            provider stripe }
-    {
-        let _ = stripe;
-        let keep = self.file.profile.keep as usize;
-        let start = provider * keep;
-        code.encode_into(&symbols[start..start + keep], out);
-    }
-
-    /// The block of a secondary provider: the codeword of its kept rows, with its masks.
-    fn secondary_column(
-        &self,
-        code: &AnyCode,
-        stripe: u32,
-        symbols: &[Symbol],
-        provider: usize,
-        masks: &mut MasksAtHand,
-        out: &mut [Symbol],
-    )
-        requires secondary { self.now.file.shape.l ≤ provider }
-        requires provider { provider < self.now.file.shape.n }
-        requires symbols { length symbols.now ≡ self.now.file.shape.l * self.now.file.profile.keep }
-        requires code { code_profile code.now ≡ self.now.file.profile }
-        requires out { length out.old ≡ self.now.file.profile.size }
-        ensures { out.new ≡ column_of_symbols (shaped_object self.now.master.0 self.now.file) symbols.now
-            provider stripe }
-    {
-        let keep = self.file.profile.keep as usize;
-        let mut buffer = [Symbol::ZERO; 96];
-        let kept = &mut buffer[..keep];
-        self.kept_into(symbols, provider, kept);
-        code.encode_into(kept, out);
-        self.add_masks(stripe, provider, masks, out);
-    }
-
     /// Fills `out` with one provider's block of a stripe with these symbols, which lie in layout order.
     pub fn column_into(
         &self,
@@ -128,10 +81,77 @@ impl ObjectKeys {
         ensures { out.new ≡ column_of_symbols (shaped_object self.now.master.0 self.now.file) symbols.now
             provider stripe }
     {
-        if provider < usize::from(self.file.shape.l) {
-            self.primary_column(code, stripe, symbols, provider, out);
+        let coder = StripeCoder {
+            keys: self,
+            code,
+            stripe,
+        };
+        coder.column_into(symbols, provider, masks, out);
+    }
+}
+
+impl<'a> StripeCoder<'a> {
+    ghost use Rattle.std.specs.Prelude.{◌≡◌, ◌≤◌, ◌<◌, ◌*◌, length};
+    ghost use Rattle.column_defs.specs.Columns.{column_of_symbols};
+    ghost use Rattle.column_codec.specs.Views.{coder_object};
+
+    /// The block of a primary provider: the codeword of the symbols that it keeps.
+    fn primary_column(&self, symbols: &[Symbol], provider: usize, out: &mut [Symbol])
+        requires provider { provider < self.now.keys.now.file.shape.l }
+        requires symbols { length symbols.now
+            ≡ self.now.keys.now.file.shape.l * self.now.keys.now.file.profile.keep }
+        requires out { length out.old ≡ self.now.keys.now.file.profile.size }
+        ensures { out.new ≡ column_of_symbols (coder_object self.now) symbols.now
+            provider self.now.stripe }
+    {
+        let keep = self.keys.file.profile.keep as usize;
+        let start = provider * keep;
+        self.code.encode_into(&symbols[start..start + keep], out);
+    }
+
+    /// The block of a secondary provider: the codeword of its kept rows, with its masks.
+    fn secondary_column(
+        &self,
+        symbols: &[Symbol],
+        provider: usize,
+        masks: &mut MasksAtHand,
+        out: &mut [Symbol],
+    )
+        requires secondary { self.now.keys.now.file.shape.l ≤ provider }
+        requires provider { provider < self.now.keys.now.file.shape.n }
+        requires symbols { length symbols.now
+            ≡ self.now.keys.now.file.shape.l * self.now.keys.now.file.profile.keep }
+        requires out { length out.old ≡ self.now.keys.now.file.profile.size }
+        ensures { out.new ≡ column_of_symbols (coder_object self.now) symbols.now
+            provider self.now.stripe }
+    {
+        let keep = self.keys.file.profile.keep as usize;
+        let mut buffer = [Symbol::ZERO; 96];
+        let kept = &mut buffer[..keep];
+        self.keys.kept_into(symbols, provider, kept);
+        self.code.encode_into(kept, out);
+        self.keys.add_masks(self.stripe, provider, masks, out);
+    }
+
+    /// Fills `out` with one provider's block of a stripe with these symbols, which lie in layout order.
+    pub fn column_into(
+        &self,
+        symbols: &[Symbol],
+        provider: usize,
+        masks: &mut MasksAtHand,
+        out: &mut [Symbol],
+    )
+        requires provider { provider < self.now.keys.now.file.shape.n }
+        requires symbols { length symbols.now
+            ≡ self.now.keys.now.file.shape.l * self.now.keys.now.file.profile.keep }
+        requires out { length out.old ≡ self.now.keys.now.file.profile.size }
+        ensures { out.new ≡ column_of_symbols (coder_object self.now) symbols.now
+            provider self.now.stripe }
+    {
+        if provider < usize::from(self.keys.file.shape.l) {
+            self.primary_column(symbols, provider, out);
         } else {
-            self.secondary_column(code, stripe, symbols, provider, masks, out);
+            self.secondary_column(symbols, provider, masks, out);
         }
     }
 }

@@ -4,8 +4,10 @@ ghost use Rattle.column_defs.specs.Objects.{symbols_in};
 ghost use Rattle.column_defs.specs.Columns.{columns, column_of_symbols};
 ghost use Rattle.file_layout.specs.Files.{shaped_object};
 ghost use Rattle.server_code.specs.Any.{code_profile};
+ghost use Rattle.column_codec.specs.Views.{coder_object};
 
 use crate::block::Block;
+use crate::coder::StripeCoder;
 use crate::gather::stripe_symbols_into;
 use crate::keys::ObjectKeys;
 use crate::masks::MasksAtHand;
@@ -29,108 +31,11 @@ impl ObjectKeys {
         stripe_symbols_into(&self.file, stripe, bytes, rows);
     }
 
-    /// Fills each provider's block of a stripe with these symbols.
-    fn columns_into(
-        &self,
-        code: &AnyCode,
-        stripe: u32,
-        symbols: &[Symbol],
-        masks: &mut MasksAtHand,
-        out: &mut [Block],
-    )
-        requires symbols { length symbols.now ≡ self.now.file.shape.l * self.now.file.profile.keep }
-        requires code { code_profile code.now ≡ self.now.file.profile }
-        requires out { length out.old ≡ self.now.file.shape.n }
-        requires blocks { All (λ block. length block ≡ self.now.file.profile.size) out.old }
-        ensures { out.new ≡ map (λ j. column_of_symbols (shaped_object self.now.master.0 self.now.file)
-            symbols.now j stripe)
-            (upto self.now.file.shape.n) }
-    {
-        for j in 0..out.len() {
-            let block = &mut out[j];
-            self.column_into(code, stripe, symbols, j, masks, &mut block.symbols);
-        }
-    }
-
-    /// Fills the blocks of a stripe, whose symbols are made in `symbols`.
-    #[tactic(auto, using(crate::proofs::Places::stripe_small, crate::proofs::RowLemmas::profile_small))]
-    fn encode_within(
-        &self,
-        code: &AnyCode,
-        stripe: u32,
-        bytes: &[u8],
-        symbols: &mut [Symbol],
-        masks: &mut MasksAtHand,
-        out: &mut [Block],
-    )
-        requires code { code_profile code.now ≡ self.now.file.profile }
-        requires symbols { length symbols.old ≡ self.now.file.shape.l * self.now.file.profile.keep }
-        requires out { length out.old ≡ self.now.file.shape.n }
-        requires blocks { All (λ block. length block ≡ self.now.file.profile.size) out.old }
-        ensures blocks { out.new ≡ map (λ j. columns (shaped_object self.now.master.0 self.now.file)
-            bytes.now j stripe)
-            (upto self.now.file.shape.n) }
-        ensures sizes { All (λ block. length block ≡ self.now.file.profile.size) out.new }
-    {
-        self.symbols_into(stripe, bytes, symbols);
-        self.columns_into(code, stripe, symbols, masks, out);
-    }
-
-    /// The same with room for the symbols of a short stripe, which costs less to clear than that for a long
-    /// one.
-    fn encode_short(
-        &self,
-        code: &AnyCode,
-        stripe: u32,
-        bytes: &[u8],
-        masks: &mut MasksAtHand,
-        out: &mut [Block],
-    )
-        requires short { self.now.file.shape.l * self.now.file.profile.keep ≤ SHORT }
-        requires code { code_profile code.now ≡ self.now.file.profile }
-        requires out { length out.old ≡ self.now.file.shape.n }
-        requires blocks { All (λ block. length block ≡ self.now.file.profile.size) out.old }
-        ensures blocks { out.new ≡ map (λ j. columns (shaped_object self.now.master.0 self.now.file)
-            bytes.now j stripe)
-            (upto self.now.file.shape.n) }
-        ensures sizes { All (λ block. length block ≡ self.now.file.profile.size) out.new }
-    {
-        let count = usize::from(self.file.shape.l) * self.file.profile.keep as usize;
-        let mut buffer = [Symbol::ZERO; SHORT];
-        let symbols = &mut buffer[..count];
-        self.encode_within(code, stripe, bytes, symbols, masks, out);
-    }
-
-    /// The same with room for the symbols of any stripe.
-    #[tactic(auto, using(crate::proofs::Places::stripe_small, crate::proofs::RowLemmas::profile_small))]
-    fn encode_long(
-        &self,
-        code: &AnyCode,
-        stripe: u32,
-        bytes: &[u8],
-        masks: &mut MasksAtHand,
-        out: &mut [Block],
-    )
-        requires code { code_profile code.now ≡ self.now.file.profile }
-        requires out { length out.old ≡ self.now.file.shape.n }
-        requires blocks { All (λ block. length block ≡ self.now.file.profile.size) out.old }
-        ensures blocks { out.new ≡ map (λ j. columns (shaped_object self.now.master.0 self.now.file)
-            bytes.now j stripe)
-            (upto self.now.file.shape.n) }
-        ensures sizes { All (λ block. length block ≡ self.now.file.profile.size) out.new }
-    {
-        let count = usize::from(self.file.shape.l) * self.file.profile.keep as usize;
-        let mut buffer = [Symbol::ZERO; 1248];
-        let symbols = &mut buffer[..count];
-        self.encode_within(code, stripe, bytes, symbols, masks, out);
-    }
-
     /// Fills the blocks that the providers are to hold of a stripe of a file of these bytes (HAIL, 2009): n
     /// blocks of as many symbols as the profile has, in the order of providers, with masks on the secondary
     /// ones. Bytes past the file's end count as zeros. It takes no memory and refuses nothing. Blocks keep
     /// their sizes, so the next stripe can be made in them; `masks` spares making masks again, and decides
     /// nothing.
-    #[tactic(auto, using(crate::proofs::Places::stripe_small, crate::proofs::RowLemmas::profile_small))]
     pub fn encode_stripe(
         &self,
         code: &AnyCode,
@@ -147,11 +52,106 @@ impl ObjectKeys {
             (upto self.now.file.shape.n) }
         ensures sizes { All (λ block. length block ≡ self.now.file.profile.size) out.new }
     {
-        let count = usize::from(self.file.shape.l) * self.file.profile.keep as usize;
+        let coder = StripeCoder {
+            keys: self,
+            code,
+            stripe,
+        };
+        coder.encode(bytes, masks, out);
+    }
+}
+
+impl<'a> StripeCoder<'a> {
+    /// Fills each provider's block of a stripe with these symbols.
+    fn columns_into(&self, symbols: &[Symbol], masks: &mut MasksAtHand, out: &mut [Block])
+        requires symbols { length symbols.now
+            ≡ self.now.keys.now.file.shape.l * self.now.keys.now.file.profile.keep }
+        requires out { length out.old ≡ self.now.keys.now.file.shape.n }
+        requires blocks { All (λ block. length block ≡ self.now.keys.now.file.profile.size) out.old }
+        ensures { out.new ≡ map (λ j. column_of_symbols (coder_object self.now)
+            symbols.now j self.now.stripe)
+            (upto self.now.keys.now.file.shape.n) }
+    {
+        for j in 0..out.len() {
+            let block = &mut out[j];
+            self.column_into(symbols, j, masks, &mut block.symbols);
+        }
+    }
+
+    /// Fills the blocks of a stripe, whose symbols are made in `symbols`.
+    #[tactic(auto, using(crate::proofs::Places::stripe_small, crate::proofs::RowLemmas::profile_small))]
+    fn encode_within(
+        &self,
+        bytes: &[u8],
+        symbols: &mut [Symbol],
+        masks: &mut MasksAtHand,
+        out: &mut [Block],
+    )
+        requires symbols { length symbols.old
+            ≡ self.now.keys.now.file.shape.l * self.now.keys.now.file.profile.keep }
+        requires out { length out.old ≡ self.now.keys.now.file.shape.n }
+        requires blocks { All (λ block. length block ≡ self.now.keys.now.file.profile.size) out.old }
+        ensures blocks { out.new ≡ map (λ j. columns (coder_object self.now)
+            bytes.now j self.now.stripe)
+            (upto self.now.keys.now.file.shape.n) }
+        ensures sizes { All (λ block. length block ≡ self.now.keys.now.file.profile.size) out.new }
+    {
+        self.keys.symbols_into(self.stripe, bytes, symbols);
+        self.columns_into(symbols, masks, out);
+    }
+
+    /// The same with room for the symbols of a short stripe, which costs less to clear than that for a long
+    /// one.
+    fn encode_short(&self, bytes: &[u8], masks: &mut MasksAtHand, out: &mut [Block])
+        requires short { self.now.keys.now.file.shape.l * self.now.keys.now.file.profile.keep ≤ SHORT }
+        requires out { length out.old ≡ self.now.keys.now.file.shape.n }
+        requires blocks { All (λ block. length block ≡ self.now.keys.now.file.profile.size) out.old }
+        ensures blocks { out.new ≡ map (λ j. columns (coder_object self.now)
+            bytes.now j self.now.stripe)
+            (upto self.now.keys.now.file.shape.n) }
+        ensures sizes { All (λ block. length block ≡ self.now.keys.now.file.profile.size) out.new }
+    {
+        let count = usize::from(self.keys.file.shape.l) * self.keys.file.profile.keep as usize;
+        let mut buffer = [Symbol::ZERO; SHORT];
+        let symbols = &mut buffer[..count];
+        self.encode_within(bytes, symbols, masks, out);
+    }
+
+    /// The same with room for the symbols of any stripe.
+    #[tactic(auto, using(crate::proofs::Places::stripe_small, crate::proofs::RowLemmas::profile_small))]
+    fn encode_long(&self, bytes: &[u8], masks: &mut MasksAtHand, out: &mut [Block])
+        requires out { length out.old ≡ self.now.keys.now.file.shape.n }
+        requires blocks { All (λ block. length block ≡ self.now.keys.now.file.profile.size) out.old }
+        ensures blocks { out.new ≡ map (λ j. columns (coder_object self.now)
+            bytes.now j self.now.stripe)
+            (upto self.now.keys.now.file.shape.n) }
+        ensures sizes { All (λ block. length block ≡ self.now.keys.now.file.profile.size) out.new }
+    {
+        let count = usize::from(self.keys.file.shape.l) * self.keys.file.profile.keep as usize;
+        let mut buffer = [Symbol::ZERO; 1248];
+        let symbols = &mut buffer[..count];
+        self.encode_within(bytes, symbols, masks, out);
+    }
+
+    /// Fills the blocks that the providers are to hold of a stripe of a file of these bytes (HAIL, 2009): n
+    /// blocks of as many symbols as the profile has, in the order of providers, with masks on the secondary
+    /// ones. Bytes past the file's end count as zeros. It takes no memory and refuses nothing. Blocks keep
+    /// their sizes, so the next stripe can be made in them; `masks` spares making masks again, and decides
+    /// nothing.
+    #[tactic(auto, using(crate::proofs::Places::stripe_small, crate::proofs::RowLemmas::profile_small))]
+    pub fn encode(&self, bytes: &[u8], masks: &mut MasksAtHand, out: &mut [Block])
+        requires out { length out.old ≡ self.now.keys.now.file.shape.n }
+        requires blocks { All (λ block. length block ≡ self.now.keys.now.file.profile.size) out.old }
+        ensures blocks { out.new ≡ map (λ j. columns (coder_object self.now)
+            bytes.now j self.now.stripe)
+            (upto self.now.keys.now.file.shape.n) }
+        ensures sizes { All (λ block. length block ≡ self.now.keys.now.file.profile.size) out.new }
+    {
+        let count = usize::from(self.keys.file.shape.l) * self.keys.file.profile.keep as usize;
         if count <= SHORT {
-            self.encode_short(code, stripe, bytes, masks, out);
+            self.encode_short(bytes, masks, out);
         } else {
-            self.encode_long(code, stripe, bytes, masks, out);
+            self.encode_long(bytes, masks, out);
         }
     }
 }

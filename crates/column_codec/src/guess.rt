@@ -2,9 +2,9 @@
 //! counted afterwards.
 ghost use Rattle.std.specs.Prelude.{◌≡◌, ◌≤◌, ◌<◌, IfSome, length};
 
-use crate::block::Block;
 use crate::gather::add_each;
 use crate::keys::ObjectKeys;
+use crate::opened::Opened;
 use hail_field::Symbol;
 
 /// How many primary providers may be lacking: there are at most 16, and as many others take their places.
@@ -51,7 +51,7 @@ fn add_multiples(factor: Symbol, from: &[Symbol], out: &mut [Symbol])
 }
 
 impl ObjectKeys {
-    ghost use Rattle.std.specs.Prelude.{◌≡◌, ◌≤◌, ◌<◌, ◌*◌, ℕ, [], length, slice_index_or};
+    ghost use Rattle.std.specs.Prelude.{◌≡◌, ◌≤◌, ◌<◌, ◌*◌, length};
 
     /// The weight at a primary provider's point of one of the trusted providers before an end.
     fn share(&self, trusted: &[bool; 16], end: usize, provider: usize, primary: usize) -> Symbol
@@ -68,51 +68,6 @@ impl ObjectKeys {
             }
         }
         above.mul(below.inv().unwrap_or(Symbol::ZERO))
-    }
-
-    /// The symbols at the kept places of a provider's block.
-    fn kept_of<'a>(&self, blocks: &'a [Block], provider: usize) -> &'a [Symbol]
-        requires provider { provider < length blocks.now }
-        requires sizes { (j : ℕ) → j < length blocks.now
-            → length (slice_index_or blocks.now j []) ≡ self.now.file.profile.size }
-        ensures { length result.now ≡ self.now.file.profile.keep }
-    {
-        let keep = self.file.profile.keep as usize;
-        &blocks[provider].symbols()[..keep]
-    }
-
-    /// Copies what trusted primary providers hold of the kept rows, and leaves zeros for the others.
-    fn copy_trusted(&self, trusted: &[bool; 16], blocks: &[Block], rows: &mut [Symbol])
-        requires blocks { length blocks.now ≡ self.now.file.shape.n }
-        requires sizes { (j : ℕ) → j < length blocks.now
-            → length (slice_index_or blocks.now j []) ≡ self.now.file.profile.size }
-        requires rows { length rows.old ≡ self.now.file.shape.l * self.now.file.profile.keep }
-    {
-        let keep = self.file.profile.keep as usize;
-        for j in 0..usize::from(self.file.shape.l) {
-            let row = &mut rows[j * keep..j * keep + keep];
-            if trusted[j] {
-                row.copy_from_slice(self.kept_of(blocks, j));
-            } else {
-                row.fill(Symbol::ZERO);
-            }
-        }
-    }
-
-    /// What a secondary provider holds of the kept rows beyond their values by `rows` at its point.
-    #[tactic(auto, using(crate::proofs::RowLemmas::profile_small))]
-    fn residue(&self, blocks: &[Block], provider: usize, rows: &[Symbol], out: &mut [Symbol; 96])
-        requires blocks { length blocks.now ≡ self.now.file.shape.n }
-        requires sizes { (j : ℕ) → j < length blocks.now
-            → length (slice_index_or blocks.now j []) ≡ self.now.file.profile.size }
-        requires secondary { self.now.file.shape.l ≤ provider }
-        requires provider { provider < self.now.file.shape.n }
-        requires rows { length rows.now ≡ self.now.file.shape.l * self.now.file.profile.keep }
-    {
-        let keep = self.file.profile.keep as usize;
-        let out = &mut out[..keep];
-        self.kept_into(rows, provider, out);
-        add_each(out, self.kept_of(blocks, provider));
     }
 
     /// Adds to the symbols of a primary provider those residues, of the first trusted secondary ones, by
@@ -161,50 +116,84 @@ impl ObjectKeys {
             }
         }
     }
+}
+
+impl<'a> Opened<'a> {
+    ghost use Rattle.std.specs.Prelude.{◌≡◌, ◌≤◌, ◌<◌, ◌*◌, length};
+
+    /// The symbols at the kept places of a provider's block.
+    fn kept_of(&self, provider: usize) -> &[Symbol]
+        requires provider { provider < self.now.keys.now.file.shape.n }
+        ensures { length result.now ≡ self.now.keys.now.file.profile.keep }
+    {
+        let keep = self.keys.file.profile.keep as usize;
+        let blocks = self.blocks;
+        &blocks[provider].symbols()[..keep]
+    }
+
+    /// Copies what trusted primary providers hold of the kept rows, and leaves zeros for the others.
+    fn copy_trusted(&self, trusted: &[bool; 16], rows: &mut [Symbol])
+        requires rows { length rows.old
+            ≡ self.now.keys.now.file.shape.l * self.now.keys.now.file.profile.keep }
+    {
+        let keep = self.keys.file.profile.keep as usize;
+        for j in 0..usize::from(self.keys.file.shape.l) {
+            let row = &mut rows[j * keep..j * keep + keep];
+            if trusted[j] {
+                row.copy_from_slice(self.kept_of(j));
+            } else {
+                row.fill(Symbol::ZERO);
+            }
+        }
+    }
+
+    /// What a secondary provider holds of the kept rows beyond their values by `rows` at its point.
+    #[tactic(auto, using(crate::proofs::RowLemmas::profile_small))]
+    fn residue(&self, provider: usize, rows: &[Symbol], out: &mut [Symbol; 96])
+        requires secondary { self.now.keys.now.file.shape.l ≤ provider }
+        requires provider { provider < self.now.keys.now.file.shape.n }
+        requires rows { length rows.now
+            ≡ self.now.keys.now.file.shape.l * self.now.keys.now.file.profile.keep }
+    {
+        let keep = self.keys.file.profile.keep as usize;
+        let out = &mut out[..keep];
+        self.keys.kept_into(rows, provider, out);
+        add_each(out, self.kept_of(provider));
+    }
 
     /// Fills in the symbols of lacking primary providers, from the residues of as many secondary ones.
-    fn replace_lacking(
-        &self,
-        trusted: &[bool; 16],
-        blocks: &[Block],
-        lacking: usize,
-        end: usize,
-        rows: &mut [Symbol],
-    )
+    fn replace_lacking(&self, trusted: &[bool; 16], lacking: usize, end: usize, rows: &mut [Symbol])
         requires lacking { lacking ≤ 8 }
         requires end { end ≤ 16 }
-        requires blocks { length blocks.now ≡ self.now.file.shape.n }
-        requires sizes { (j : ℕ) → j < length blocks.now
-            → length (slice_index_or blocks.now j []) ≡ self.now.file.profile.size }
-        requires rows { length rows.old ≡ self.now.file.shape.l * self.now.file.profile.keep }
+        requires rows { length rows.old
+            ≡ self.now.keys.now.file.shape.l * self.now.keys.now.file.profile.keep }
     {
         let (l, n) = (
-            usize::from(self.file.shape.l),
-            usize::from(self.file.shape.n),
+            usize::from(self.keys.file.shape.l),
+            usize::from(self.keys.file.shape.n),
         );
         let mut residues = [[Symbol::ZERO; 96]; MOST_LACKING];
         for i in 0..lacking {
             if let Some(helper) = pick(trusted, true, l, n, i) {
-                self.residue(blocks, helper, rows, &mut residues[i]);
+                self.residue(helper, rows, &mut residues[i]);
             }
         }
-        self.fill_lacking(trusted, end, &residues[..lacking], rows);
+        self.keys
+            .fill_lacking(trusted, end, &residues[..lacking], rows);
     }
 
     /// Fills `rows` with a guess at the symbols of a stripe by the trusted providers: what the primary ones
     /// hold, and in the place of those that are not trusted what follows from as many trusted secondary ones.
     /// False where these are too few.
-    pub(crate) fn guess(&self, trusted: &[bool; 16], blocks: &[Block], rows: &mut [Symbol]) -> bool
-        requires blocks { length blocks.now ≡ self.now.file.shape.n }
-        requires sizes { (j : ℕ) → j < length blocks.now
-            → length (slice_index_or blocks.now j []) ≡ self.now.file.profile.size }
-        requires rows { length rows.old ≡ self.now.file.shape.l * self.now.file.profile.keep }
+    pub(crate) fn guess(&self, trusted: &[bool; 16], rows: &mut [Symbol]) -> bool
+        requires rows { length rows.old
+            ≡ self.now.keys.now.file.shape.l * self.now.keys.now.file.profile.keep }
     {
         let (l, n) = (
-            usize::from(self.file.shape.l),
-            usize::from(self.file.shape.n),
+            usize::from(self.keys.file.shape.l),
+            usize::from(self.keys.file.shape.n),
         );
-        self.copy_trusted(trusted, blocks, rows);
+        self.copy_trusted(trusted, rows);
         let lacking = lacking(trusted, l);
         if lacking == 0 {
             return true;
@@ -214,7 +203,7 @@ impl ObjectKeys {
         }
         match pick(trusted, true, l, n, lacking - 1) {
             Some(last) => {
-                self.replace_lacking(trusted, blocks, lacking, last + 1, rows);
+                self.replace_lacking(trusted, lacking, last + 1, rows);
                 true
             }
             None => false,

@@ -1,16 +1,14 @@
 use crate::Block;
+use crate::coder::StripeCoder;
 use crate::keys::ObjectKeys;
 use crate::masks::MasksAtHand;
 use hail_field::Symbol;
 use hail_poly::Work;
-use server_code::AnyCode;
 
 impl ObjectKeys {
-    ghost use Rattle.std.specs.Prelude.{◌≡◌, ◌≤◌, ◌<◌, ◌*◌, Some, None, length};
-    ghost use Rattle.std.specs.Bool.{OnTrue, OnFalse};
-    ghost use Rattle.column_defs.specs.Opened.{bare, OpensTo};
+    ghost use Rattle.std.specs.Prelude.{◌≡◌, ◌<◌, length};
+    ghost use Rattle.column_defs.specs.Opened.{bare};
     ghost use Rattle.file_layout.specs.Files.{shaped_object};
-    ghost use Rattle.server_code.specs.Any.{code_profile};
 
     /// Takes a provider's masks off a block of a stripe, which a primary one has none of.
     pub(crate) fn take_masks_off(
@@ -28,32 +26,36 @@ impl ObjectKeys {
             self.add_masks(stripe, provider, masks, block);
         }
     }
+}
+
+impl<'a> StripeCoder<'a> {
+    ghost use Rattle.std.specs.Prelude.{◌≡◌, ◌≤◌, ◌<◌, Some, None, length};
+    ghost use Rattle.std.specs.Bool.{OnTrue, OnFalse};
+    ghost use Rattle.column_defs.specs.Opened.{OpensTo};
+    ghost use Rattle.column_codec.specs.Views.{coder_object};
 
     /// Opens a block of the right size into `out`, and answers whether it opened to a codeword.
     pub(crate) fn open_whole(
         &self,
-        code: &AnyCode,
-        stripe: u32,
         provider: usize,
         seen: &[Symbol],
         masks: &mut MasksAtHand,
         out: &mut [Symbol],
         work: &mut Work,
     ) -> bool
-        requires provider { provider < self.now.file.shape.n }
-        requires code { code_profile code.now ≡ self.now.file.profile }
-        requires seen { length seen.now ≡ self.now.file.profile.size }
-        requires out { length out.old ≡ self.now.file.profile.size }
+        requires provider { provider < self.now.keys.now.file.shape.n }
+        requires seen { length seen.now ≡ self.now.keys.now.file.profile.size }
+        requires out { length out.old ≡ self.now.keys.now.file.profile.size }
         requires room { 128 ≤ work.old.size }
-        ensures yes { OnTrue result (OpensTo (shaped_object self.now.master.0 self.now.file) provider stripe
+        ensures yes { OnTrue result (OpensTo (coder_object self.now) provider self.now.stripe
             (Some seen.now) (Some out.new)) }
-        ensures no { OnFalse result (OpensTo (shaped_object self.now.master.0 self.now.file) provider stripe
+        ensures no { OnFalse result (OpensTo (coder_object self.now) provider self.now.stripe
             (Some seen.now) None) }
         ensures room { work.new.size ≡ work.old.size }
     {
         out.copy_from_slice(seen);
-        self.take_masks_off(stripe, provider, masks, out);
-        match code.decode_in(out, work) {
+        self.keys.take_masks_off(self.stripe, provider, masks, out);
+        match self.code.decode_in(out, work) {
             Some(_) => true,
             None => false,
         }
@@ -62,62 +64,48 @@ impl ObjectKeys {
     /// Opens a seen block of any size into `out`.
     fn open_sized(
         &self,
-        code: &AnyCode,
-        stripe: u32,
         provider: usize,
         seen: &[Symbol],
         masks: &mut MasksAtHand,
         out: &mut [Symbol],
         work: &mut Work,
     ) -> bool
-        requires provider { provider < self.now.file.shape.n }
-        requires code { code_profile code.now ≡ self.now.file.profile }
-        requires out { length out.old ≡ self.now.file.profile.size }
+        requires provider { provider < self.now.keys.now.file.shape.n }
+        requires out { length out.old ≡ self.now.keys.now.file.profile.size }
         requires room { 128 ≤ work.old.size }
-        ensures yes { OnTrue result (OpensTo (shaped_object self.now.master.0 self.now.file) provider stripe
+        ensures yes { OnTrue result (OpensTo (coder_object self.now) provider self.now.stripe
             (Some seen.now) (Some out.new)) }
-        ensures no { OnFalse result (OpensTo (shaped_object self.now.master.0 self.now.file) provider stripe
+        ensures no { OnFalse result (OpensTo (coder_object self.now) provider self.now.stripe
             (Some seen.now) None) }
         ensures room { work.new.size ≡ work.old.size }
     {
         if seen.len() == out.len() {
-            self.open_whole(code, stripe, provider, seen, masks, out, work)
+            self.open_whole(provider, seen, masks, out, work)
         } else {
             false
         }
     }
 
     /// Opens a seen block of a provider into `out`, and answers whether it opened to a codeword.
-    pub fn open_block(
+    pub(crate) fn open_block(
         &self,
-        code: &AnyCode,
-        stripe: u32,
         provider: usize,
         seen: &Option<Block>,
         masks: &mut MasksAtHand,
         out: &mut [Symbol],
         work: &mut Work,
     ) -> bool
-        requires provider { provider < self.now.file.shape.n }
-        requires code { code_profile code.now ≡ self.now.file.profile }
-        requires out { length out.old ≡ self.now.file.profile.size }
+        requires provider { provider < self.now.keys.now.file.shape.n }
+        requires out { length out.old ≡ self.now.keys.now.file.profile.size }
         requires room { 128 ≤ work.old.size }
-        ensures yes { OnTrue result (OpensTo (shaped_object self.now.master.0 self.now.file) provider stripe
+        ensures yes { OnTrue result (OpensTo (coder_object self.now) provider self.now.stripe
             seen.now (Some out.new)) }
-        ensures no { OnFalse result (OpensTo (shaped_object self.now.master.0 self.now.file) provider stripe
+        ensures no { OnFalse result (OpensTo (coder_object self.now) provider self.now.stripe
             seen.now None) }
         ensures room { work.new.size ≡ work.old.size }
     {
         match seen {
-            Some(block) => self.open_sized(
-                code,
-                stripe,
-                provider,
-                block.symbols(),
-                masks,
-                out,
-                work,
-            ),
+            Some(block) => self.open_sized(provider, block.symbols(), masks, out, work),
             None => false,
         }
     }

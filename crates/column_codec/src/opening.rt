@@ -6,10 +6,13 @@ ghost use Rattle.column_defs.specs.Opened.{AllOpen, AcceptsRow, AcceptsNoRow, Gi
 ghost use Rattle.file_layout.specs.Files.{shaped_object};
 ghost use Rattle.server_code.specs.Any.{code_profile};
 ghost use Rattle.column_codec.specs.OpenedBlocks.{opened_at, opened_of, HasRow, LosesPlace};
+ghost use Rattle.column_codec.specs.Views.{coder_object, opened_object, opened_blocks};
 
 use crate::block::Block;
+use crate::coder::StripeCoder;
 use crate::keys::ObjectKeys;
 use crate::masks::MasksAtHand;
+use crate::opened::Opened;
 use crate::trust::{Trust, without};
 use dispersal_code::open_row;
 use file_layout::FileShape;
@@ -73,36 +76,35 @@ pub struct RowLost {
     pub row: u64,
 }
 
-impl ObjectKeys {
+impl<'a> StripeCoder<'a> {
     /// Opens the seen blocks of all providers into `out`, and marks those that opened to a codeword.
     fn open_blocks(
         &self,
-        code: &AnyCode,
-        stripe: u32,
         seen: &[Option<Block>],
         masks: &mut MasksAtHand,
         out: &mut [Block],
         work: &mut Work,
     ) -> [bool; 16]
-        requires code { code_profile code.now ≡ self.now.file.profile }
-        requires seen { length seen.now ≡ self.now.file.shape.n }
-        requires out { length out.old ≡ self.now.file.shape.n }
-        requires blocks { All (λ block. length block ≡ self.now.file.profile.size) out.old }
+        requires seen { length seen.now ≡ self.now.keys.now.file.shape.n }
+        requires out { length out.old ≡ self.now.keys.now.file.shape.n }
+        requires blocks { All (λ block. length block ≡ self.now.keys.now.file.profile.size) out.old }
         requires room { 128 ≤ work.old.size }
-        ensures opens { AllOpen (shaped_object self.now.master.0 self.now.file) stripe 0 seen.now
-            (opened_of result out.new self.now.file.shape.n) }
+        ensures opens { AllOpen (coder_object self.now) self.now.stripe 0 seen.now
+            (opened_of result out.new self.now.keys.now.file.shape.n) }
         ensures sizes { (j : ℕ) → j < length out.new
-            → length (slice_index_or out.new j []) ≡ self.now.file.profile.size }
+            → length (slice_index_or out.new j []) ≡ self.now.keys.now.file.profile.size }
         ensures room { work.new.size ≡ work.old.size }
     {
         let mut marks = [false; 16];
         for j in 0..out.len() {
             let block = &mut out[j];
-            marks[j] = self.open_block(code, stripe, j, &seen[j], masks, &mut block.symbols, work);
+            marks[j] = self.open_block(j, &seen[j], masks, &mut block.symbols, work);
         }
         marks
     }
+}
 
+impl ObjectKeys {
     /// Looks for the polynomial that a row is accepted with, which is then the rest of `work`.
     fn open_place(
         &self,
@@ -155,37 +157,34 @@ impl ObjectKeys {
         }
         true
     }
+}
 
+impl<'a> Opened<'a> {
     /// Looks whether all rows at kept places are accepted, and fills `rows` with their values: guesses them
     /// by the providers that opened, and again, at most so many times more, without those that do not agree
     /// with a row that a guess missed, which are then no longer trusted. Where it is false, nothing is said.
     pub(crate) fn carry(
         &self,
-        marks: &[bool; 16],
-        blocks: &[Block],
         more: u8,
         trust: &mut Trust,
         rows: &mut [Symbol],
         work: &mut Work,
     ) -> bool
-        requires blocks { length blocks.now ≡ self.now.file.shape.n }
-        requires sizes { (j : ℕ) → j < length blocks.now
-            → length (slice_index_or blocks.now j []) ≡ self.now.file.profile.size }
-        requires rows { length rows.old ≡ self.now.file.shape.l * self.now.file.profile.keep }
+        requires rows { length rows.old
+            ≡ self.now.keys.now.file.shape.l * self.now.keys.now.file.profile.keep }
         requires room { 16 ≤ work.old.size }
-        ensures carried { OnTrue result ((place : ℕ) → place < self.now.file.profile.keep →
-            HasRow (shaped_object self.now.master.0 self.now.file)
-            (opened_of marks.now blocks.now self.now.file.shape.n) place rows.new) }
+        ensures carried { OnTrue result ((place : ℕ) → place < self.now.keys.now.file.profile.keep →
+            HasRow (opened_object self.now) (opened_blocks self.now) place rows.new) }
         ensures room { work.new.size ≡ work.old.size }
     {
         let mut liars = [false; 16];
         for left in (0..=more).rev() {
-            if !self.guess(&without(marks, &liars), blocks, rows) {
+            if !self.guess(&without(self.marks, &liars), rows) {
                 return false;
             }
-            match self.uncarried(marks, blocks, rows) {
+            match self.uncarried(rows) {
                 None => {
-                    trust.lose(&liars, self.file.shape.b);
+                    trust.lose(&liars, self.keys.file.shape.b);
                     return true;
                 }
                 Some(place) => {
@@ -193,7 +192,10 @@ impl ObjectKeys {
                         return false;
                     }
                     trust.count_rows(1);
-                    if !self.learn(marks, blocks, place, &mut liars, work) {
+                    if !self
+                        .keys
+                        .learn(self.marks, self.blocks, place, &mut liars, work)
+                    {
                         return false;
                     }
                 }
@@ -206,32 +208,27 @@ impl ObjectKeys {
     fn open_each_row(
         &self,
         stripe: u32,
-        marks: &[bool; 16],
-        blocks: &[Block],
         trust: &mut Trust,
         rows: &mut [Symbol],
         work: &mut Work,
     ) -> Result<(), RowLost>
-        requires blocks { length blocks.now ≡ self.now.file.shape.n }
-        requires sizes { (j : ℕ) → j < length blocks.now
-            → length (slice_index_or blocks.now j []) ≡ self.now.file.profile.size }
-        requires rows { length rows.old ≡ self.now.file.shape.l * self.now.file.profile.keep }
+        requires rows { length rows.old
+            ≡ self.now.keys.now.file.shape.l * self.now.keys.now.file.profile.keep }
         requires room { 16 ≤ work.old.size }
-        ensures ok { OnOk result ((place : ℕ) → place < self.now.file.profile.keep →
-            HasRow (shaped_object self.now.master.0 self.now.file)
-            (opened_of marks.now blocks.now self.now.file.shape.n) place rows.new) }
-        ensures err { IfErr result (λ lost. LosesPlace (shaped_object self.now.master.0 self.now.file)
-            (opened_of marks.now blocks.now self.now.file.shape.n) stripe lost.row) }
+        ensures ok { OnOk result ((place : ℕ) → place < self.now.keys.now.file.profile.keep →
+            HasRow (opened_object self.now) (opened_blocks self.now) place rows.new) }
+        ensures err { IfErr result (λ lost. LosesPlace (opened_object self.now) (opened_blocks self.now)
+            stripe lost.row) }
         ensures zeros { OnErr result (rows.new ≡ replicate (length rows.old) 0) }
         ensures room { work.new.size ≡ work.old.size }
     {
-        let keep = self.file.profile.keep as usize;
-        let l = usize::from(self.file.shape.l);
+        let keep = self.keys.file.profile.keep as usize;
+        let l = usize::from(self.keys.file.shape.l);
         for place in 0..keep {
             trust.count_rows(1);
-            if !self.open_place(marks, blocks, place, work) {
+            if !self.keys.open_place(self.marks, self.blocks, place, work) {
                 clear(rows);
-                let row = u64::from(stripe) * u64::from(self.file.profile.size) + place as u64;
+                let row = u64::from(stripe) * u64::from(self.keys.file.profile.size) + place as u64;
                 return Err(RowLost { row });
             }
             put_row(work, keep, place, l, rows);
@@ -243,32 +240,29 @@ impl ObjectKeys {
     pub(crate) fn open_rows(
         &self,
         stripe: u32,
-        marks: &[bool; 16],
-        blocks: &[Block],
         trust: &mut Trust,
         rows: &mut [Symbol],
         work: &mut Work,
     ) -> Result<(), RowLost>
-        requires blocks { length blocks.now ≡ self.now.file.shape.n }
-        requires sizes { (j : ℕ) → j < length blocks.now
-            → length (slice_index_or blocks.now j []) ≡ self.now.file.profile.size }
-        requires rows { length rows.old ≡ self.now.file.shape.l * self.now.file.profile.keep }
+        requires rows { length rows.old
+            ≡ self.now.keys.now.file.shape.l * self.now.keys.now.file.profile.keep }
         requires room { 16 ≤ work.old.size }
-        ensures ok { OnOk result ((place : ℕ) → place < self.now.file.profile.keep →
-            HasRow (shaped_object self.now.master.0 self.now.file)
-            (opened_of marks.now blocks.now self.now.file.shape.n) place rows.new) }
-        ensures err { IfErr result (λ lost. LosesPlace (shaped_object self.now.master.0 self.now.file)
-            (opened_of marks.now blocks.now self.now.file.shape.n) stripe lost.row) }
+        ensures ok { OnOk result ((place : ℕ) → place < self.now.keys.now.file.profile.keep →
+            HasRow (opened_object self.now) (opened_blocks self.now) place rows.new) }
+        ensures err { IfErr result (λ lost. LosesPlace (opened_object self.now) (opened_blocks self.now)
+            stripe lost.row) }
         ensures zeros { OnErr result (rows.new ≡ replicate (length rows.old) 0) }
         ensures room { work.new.size ≡ work.old.size }
     {
-        if self.carry(marks, blocks, self.file.shape.b, trust, rows, work) {
+        if self.carry(self.keys.file.shape.b, trust, rows, work) {
             Ok(())
         } else {
-            self.open_each_row(stripe, marks, blocks, trust, rows, work)
+            self.open_each_row(stripe, trust, rows, work)
         }
     }
+}
 
+impl ObjectKeys {
     /// Opens the seen blocks of a stripe, and fills `rows` with its symbols in layout order. `RowLost` names
     /// the lowest row at a kept place that is not accepted; `rows` is then all zero.
     pub fn open_stripe(
@@ -294,8 +288,18 @@ impl ObjectKeys {
         ensures blocks { All (λ block. length block ≡ self.now.file.profile.size) scratch.new }
         ensures room { work.new.size ≡ work.old.size }
     {
-        let marks = self.open_blocks(code, stripe, seen, &mut MasksAtHand::new(), scratch, work);
-        self.open_rows(stripe, &marks, scratch, &mut Trust::new(), rows, work)
+        let coder = StripeCoder {
+            keys: self,
+            code,
+            stripe,
+        };
+        let marks = coder.open_blocks(seen, &mut MasksAtHand::new(), scratch, work);
+        let opened = Opened {
+            keys: self,
+            marks: &marks,
+            blocks: scratch,
+        };
+        opened.open_rows(stripe, &mut Trust::new(), rows, work)
     }
 }
 

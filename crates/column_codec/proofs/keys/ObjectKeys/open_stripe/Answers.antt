@@ -27,10 +27,6 @@ returns-clause-lost c =
     (λ lost. loses o c.args.stripe lost.row c.args.seen.now opened c.open_blocks-marks.ensures.opens)
     c.open_rows.ensures.err
 
--- each block keeps its size
-pub open_rows-requires-clause-sizes : goal.open_rows-requires-clause-sizes
-open_rows-requires-clause-sizes c = c.open_blocks-marks.ensures.sizes
-
 pub returns-clause-blocks : goal.returns-clause-blocks
 returns-clause-blocks c =
     all-blocks c.open_blocks-marks.new.out c.args.self.now.file.profile.size c.open_blocks-marks.ensures.sizes

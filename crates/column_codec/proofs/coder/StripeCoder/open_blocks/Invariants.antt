@@ -1,0 +1,16 @@
+use Rattle.std.proofs.Common.{◌≡◌, ◌<◌, ℕ, [], None, length, get_or}
+use Rattle.column_defs.specs.Opened.{OpensTo}
+use Rattle.file_layout.specs.Files.{shaped_object}
+use Rattle.column_codec.specs.OpenedBlocks.{opened_at}
+use Rattle.column_codec.proofs.coder.StripeCoder.open_blocks.Given as goal
+
+-- the blocks before this one are opened, and all have their size
+abbrev pub invariant-loop-j : goal.invariant-loop-j
+invariant-loop-j l = record {
+  each : (k : ℕ) → k < l.j →
+      OpensTo (shaped_object l.self.keys.now.master.0 l.self.keys.now.file) k l.self.stripe (get_or l.seen k None)
+      (opened_at l.marks l.out k);
+  sizes : (k : ℕ) → k < length l.out → length (get_or l.out k []) ≡ l.self.keys.now.file.profile.size;
+  many : length l.marks ≡ 16;
+  room : l.work.size ≡ l.initial.work.size;
+}
