@@ -27,7 +27,7 @@ use Rattle.vault.specs.declared.packing.PackJob.{PackJob}
 use Rattle.vault.specs.declared.vault.Vault.{Vault}
 use Rattle.vault.specs.AtHand.{AreAtHand}
 use Rattle.vault.specs.Desks.{DeskStands, IsAtWork, IsShaped, IsFlight}
-use Rattle.vault.specs.Packing.{IsTextOf, IsPackOf, StandsPacking, plain}
+use Rattle.vault.specs.Packing.{IsPackText, IsPackOf, StandsPacking, plain}
 use Rattle.vault.specs.Running.{IsSameDesk}
 use Rattle.vault.specs.Seen.{held_by, IsUnchanged}
 use Rattle.vault.specs.Streams.{wants_of, IsStreamless, KeepsStreamless}
@@ -46,7 +46,8 @@ same-client a b vault alone number = λ i. record {
   vault = vault i;
   alone = alone i;
   next_job = number i;
-  at_work = is_prop→PathP (λ j. ∥ client.IsAtWork (vault j) (alone j) ∥₁) (λ j. ∥∥₁_prop) a.at_work b.at_work i;
+  at_work = is_prop→PathP (λ j. ∥ client.IsAloneAtWork (vault j) (alone j) ∥₁) (λ j. ∥∥₁_prop)
+      a.at_work b.at_work i;
   streamless = is_prop→PathP (λ j. ∥ IfSome (vault j) IsStreamless ∥₁) (λ j. ∥∥₁_prop) a.streamless b.streamless i;
 }
 
@@ -100,7 +101,7 @@ same-beside v next job same is = record {
 }
 
 -- and beside a pack
-same-text : (v next : Desk) (p : Pack) → IsSameDesk v next → IsTextOf v p → IsTextOf next p
+same-text : (v next : Desk) (p : Pack) → IsSameDesk v next → IsPackText v p → IsPackText next p
 same-text v next p same T = record {
   writes = λ area base. subst (λ (c : CoreView). WritesText (other_area area) (packed_table c.table) p)
       (sym same.core) (T.writes area (sym same.base ∙ base));
@@ -194,7 +195,7 @@ held-at v (alone.Pack job) is = ap is_some is.held
 -- a client is at work as before a begin
 pub begun-works : {T : Type 0} (v next : Vault) (o : Option Alone) (result : Result T BeginFault) →
     (is_some (held_by v) ≡ true → result ≡ Err fault.Busy) → OnErr result (IsUnchanged v next) →
-    client.IsAtWork (Some v) o → client.IsAtWork (Some next) o
+    client.IsAloneAtWork (Some v) o → client.IsAloneAtWork (Some next) o
 begun-works v next None result busy unchanged at = tt
 begun-works {T} v next (Some x) result busy unchanged at =
     same-beside-alone v next x
@@ -203,10 +204,10 @@ begun-works {T} v next (Some x) result busy unchanged at =
 -- the same of a client whose vault this is
 pub begun-at : {T : Type 0} (v next : Vault) (o : Option Vault) (s : Option Alone) (result : Result T BeginFault) →
     o ≡ Some v → (is_some (held_by v) ≡ true → result ≡ Err fault.Busy) → OnErr result (IsUnchanged v next) →
-    ∥ client.IsAtWork o s ∥₁ → ∥ client.IsAtWork (Some next) s ∥₁
+    ∥ client.IsAloneAtWork o s ∥₁ → ∥ client.IsAloneAtWork (Some next) s ∥₁
 begun-at v next o s result is busy unchanged at =
     ∥∥₁_map at (λ x. begun-works v next s result busy unchanged
-    (subst (λ (p : Option Vault). client.IsAtWork p s) is x))
+    (subst (λ (p : Option Vault). client.IsAloneAtWork p s) is x))
 
 -- no stream of a client is open, as before
 pub streamless-on : (v next : Vault) (o : Option Vault) → o ≡ Some v → KeepsStreamless v next →
@@ -222,15 +223,15 @@ none-wait v o job is waits none =
     (∥∥₁_elim (streamless-on v v o is (λ x. x) none) (Bool-set _ _) (λ x. ap is_some (waits x)))
 
 -- a client with a vault open and nothing alone is at work
-pub free-works : (v : Vault) (o : Option Alone) → o ≡ None → ∥ client.IsAtWork (Some v) o ∥₁
-free-works v o none = subst (λ (s : Option Alone). ∥ client.IsAtWork (Some v) s ∥₁) (sym none) ∣ tt ∣₁
+pub free-works : (v : Vault) (o : Option Alone) → o ≡ None → ∥ client.IsAloneAtWork (Some v) o ∥₁
+free-works v o none = subst (λ (s : Option Alone). ∥ client.IsAloneAtWork (Some v) s ∥₁) (sym none) ∣ tt ∣₁
 
 -- what a client has alone runs beside its vault
 pub beside-at : (o : Option Vault) (s : Option Alone) (v : Vault) (x : Alone) → o ≡ Some v → s ≡ Some x →
-    ∥ client.IsAtWork o s ∥₁ → ∥ client.IsBeside v x ∥₁
+    ∥ client.IsAloneAtWork o s ∥₁ → ∥ client.IsBeside v x ∥₁
 beside-at o s v x is some at =
-    ∥∥₁_map at (λ y. subst (λ (q : Option Alone). client.IsAtWork (Some v) q) some
-    (subst (λ (p : Option Vault). client.IsAtWork p s) is y))
+    ∥∥₁_map at (λ y. subst (λ (q : Option Alone). client.IsAloneAtWork (Some v) q) some
+    (subst (λ (p : Option Vault). client.IsAloneAtWork p s) is y))
 
 -- ---- what is taken out of a client
 

@@ -39,7 +39,7 @@ use Rattle.vault.specs.Stands.{StandsBeside}
 use Rattle.hail_client.specs.declared.alone.Alone.TheVariants as alone
 use Rattle.hail_client.specs.declared.client.Client.{Client}
 use Rattle.vault_open.specs.Devices.{devices, AreDevices}
-use Rattle.hail_client.specs.Examples.{closed_client, fresh, hidden, stored, stored_state, stored_open, stored_scrub, scrubbed_state, notes, raised_records, raised, raised_open, packing_state}
+use Rattle.hail_client.specs.Examples.{closed_client, fresh, hidden, stored_devices, stored_state, stored_open, stored_scrub, scrubbed_state, notes, raised_records, raised_devices, raised_open, packing_state}
 use Rattle.hail_client.specs.Start.{start_of, TellAll}
 use Rattle.hail_client.specs.Stands.{ClientStands, IsReached}
 use Rattle.hail_client.proofs.Fresh.{is-start, are-devices, untold-start, each-at}
@@ -119,12 +119,12 @@ text-stands : StandsActive (text one_file) A one_file
 text-stands = text-active one_file refl
 
 -- a closed client over a disk with one file stands for the state at rest over its journal
-pub stored-stands : ClientStands closed_client stored stored_state
+pub stored-stands : ClientStands closed_client stored_devices stored_state
 stored-stands = record {
   devices = record {
     images = bytes-shown (text one_file) stored_state (inl (inl text-stands));
     faults = refl;
-    providers = record { count = refl; each = each-at stored.providers };
+    providers = record { count = refl; each = each-at stored_devices.providers };
   };
   sound = rest-sound 8 stored_state stored-rests;
   closed = refl;
@@ -181,16 +181,18 @@ pub scrub-begins : Happens 8 0 stored_open BeginScrub (Begun 1) scrubbed_state
 scrub-begins = hold_begins stored_open 0 8 refl refl
 
 -- it runs alone behind its begin
-pub scrub-stands : ScrubStands stored_scrub stored.providers scrubbed_state (new_scrub stored_open 0)
-scrub-stands = held_stands stored_open 0 stored_scrub stored.providers
-    (record { count = refl; each = each-at stored.providers }) scrub-is
+pub scrub-stands : ScrubStands stored_scrub stored_devices.providers scrubbed_state (new_scrub stored_open 0)
+scrub-stands = held_stands stored_open 0 stored_scrub stored_devices.providers
+    (record { count = refl; each = each-at stored_devices.providers }) scrub-is
 
 -- a client that has begun it stands for that state
 pub scrubbing-stands : (c : Client) (v : Vault) → c.vault ≡ Some v →
     c.alone ≡ Some (alone.Scrub (record { number = 1; scrub = stored_scrub })) →
-    StandsBeside v stored (record stored_open { next_job = 2 }) 1 → ClientStands c stored scrubbed_state
+    StandsBeside v stored_devices (record stored_open { next_job = 2 }) 1 →
+    ClientStands c stored_devices scrubbed_state
 scrubbing-stands c v is some S =
-    stands-of c (Some v) (Some (alone.Scrub (record { number = 1; scrub = stored_scrub }))) c.next_job is some refl stored
+    stands-of c (Some v) (Some (alone.Scrub (record { number = 1; scrub = stored_scrub }))) c.next_job is some
+    refl stored_devices
     scrubbed_state
     (record {
       scrub = new_scrub stored_open 0;
@@ -230,11 +232,11 @@ packing-sound = events-sound 8 0 raised_open (rest-sound 8 raised_open raised-re
     BeginPack (Begun 1) packing_state tt pack-begins
 
 -- the devices are those of the state behind its begin
-pub packing-devices : AreDevices raised packing_state
+pub packing-devices : AreDevices raised_devices packing_state
 packing-devices = record {
   images = bytes-shown (text raised_records) packing_state (inl (inl raised-stands));
   faults = refl;
-  providers = record { count = refl; each = each-at raised.providers };
+  providers = record { count = refl; each = each-at raised_devices.providers };
 }
 
 -- the disk is as it is before the first move
@@ -245,10 +247,10 @@ raised-firm = read-firm (text raised_records) A raised_records raised-stands
 pub packing-stands : (c : Client) (v : Vault) (job : PackJob) → c.vault ≡ Some v → c.alone ≡ Some (alone.Pack job) →
     pack_number job ≡ 1 → job.before ≡ text_length A raised_records → moves_of job.pack ≡ 0 →
     IsPackOf v job → WritesText B (packed raised_records) job.pack →
-    StandsBeside v (devices None 0 raised.providers) (record raised_open { next_job = 2 }) 1 →
-    ClientStands c raised packing_state
+    StandsBeside v (devices None 0 raised_devices.providers) (record raised_open { next_job = 2 }) 1 →
+    ClientStands c raised_devices packing_state
 packing-stands c v job is some number before moves is_of writes S =
-    stands-of c (Some v) (Some (alone.Pack job)) c.next_job is some refl raised packing_state
+    stands-of c (Some v) (Some (alone.Pack job)) c.next_job is some refl raised_devices packing_state
     (record {
       pack = new_pack raised_open;
       alone = refl;
@@ -258,7 +260,8 @@ packing-stands c v job is some number before moves is_of writes S =
       is_of = is_of;
       sound = packing-sound;
       devices = packing-devices;
-      beside = subst (StandsBeside v (devices None 0 raised.providers) (record raised_open { next_job = 2 }))
+      beside = subst
+          (StandsBeside v (devices None 0 raised_devices.providers) (record raised_open { next_job = 2 }))
           (sym number) S;
       on_way = λ going. record {
         writes = writes;

@@ -108,14 +108,3 @@ untold-start d rs none first = (
     providers = record { count = refl; each = each-at d.providers };
   },
 )
-
--- a disk that reads nothing
-pub started : (d : Devices) (cells : Cells) → d.holds ≡ Some cells → cells ≡ [] →
-    (w : State) × IsStart w × AreDevices d w
-started d cells told e = (start_of d [], is-start d cells [] told none, are-devices d cells [] told none)
-  where
-    none : IsFresh cells []
-    none = record {
-      firm = ap (λ (c : Cells). loose_from 0 c) e;
-      stands = inl (ap (λ (c : Cells). reads c) e, refl);
-    }

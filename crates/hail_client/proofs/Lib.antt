@@ -15,5 +15,4 @@ pub mod Held
 pub mod Anew
 pub mod Kept
 pub mod Examples
-pub mod NoJob
 pub mod Packed

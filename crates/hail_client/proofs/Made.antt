@@ -2,15 +2,10 @@
 use Rattle.std.proofs.Common.{◌≡◌, ℕ, ◌<◌, ◌^◌, ◌||◌, true, false, List, Option, Some, None, Result, Err, refl, ap, sym, subst, ◌∙◌, inl}
 use Rattle.std.specs.Prelude.{IfSome, OnErr, is_some}
 use Rattle.std.specs.List.{list_any}
-use Rattle.std.specs.Option.{option_map}
 use Rattle.machine_defs.specs.Begins.{BeginsAt, refusal_of_begin}
-use Rattle.machine_defs.specs.Events.{Begin, Names, Closed, Ended, IsSpelledKind}
-use Rattle.machine_defs.specs.Answers as answers
-use Rattle.machine_defs.specs.Steps.{Steps}
-use Rattle.journal_core.proofs.BeyondLemmas.{goes_still}
+use Rattle.machine_defs.specs.Events.{Begin, Closed, IsSpelledKind}
 use Rattle.machine_defs.specs.Jobs.{Kind, PutJob, aim_of, job_of}
 use Rattle.machine_defs.specs.Heard.{heard_by}
-use Rattle.machine_defs.specs.Machine.{Lists}
 use Rattle.machine_defs.specs.Refusals as refusal
 use Rattle.machine_defs.specs.Sights.{sight_of, is_busy, is_upgrade, aims_of, are_jobs_in_the_way}
 use Rattle.machine_defs.specs.States as states
@@ -18,22 +13,21 @@ use Rattle.machine_defs.specs.States.{State}
 use Rattle.machine_defs.proofs.JobLists.{cond_true, cond_false}
 use Rattle.vault_core.specs.declared.wish.BeginFault.{BeginFault}
 use Rattle.vault_core.specs.declared.wish.BeginFault.TheVariants as fault
-use Rattle.vault_table.specs.Values.{Kept}
 use Rattle.vault.specs.declared.turn.Turn.{Turn}
 use Rattle.vault.specs.declared.vault.Vault.{Vault}
 use Rattle.vault_open.specs.Devices.{Devices}
 use Rattle.vault.specs.Outcomes.{IfEnded, begin_outcome}
-use Rattle.vault.specs.Seen.{table_of, held_by, IsUnchanged}
+use Rattle.vault.specs.Seen.{held_by, IsUnchanged}
 use Rattle.vault.specs.Stands.{Stands, MakesBegin}
 use Rattle.vault.specs.Stands as vault
 use Rattle.hail_client.specs.declared.alone.Alone.{Alone}
 use Rattle.hail_client.specs.declared.client.Client.{Client}
 use Rattle.hail_client.specs.declared.turn.ClientTurn.TheVariants as client_turn
 use Rattle.hail_client.specs.Begins.{put_event}
-use Rattle.hail_client.specs.Outcomes.{client_begin_outcome, names_outcome}
+use Rattle.hail_client.specs.Outcomes.{client_begin_outcome}
 use Rattle.hail_client.specs.Stands.{StandsBy, ClientStands, MakesEvent, ClientMakesStep}
 use Rattle.hail_client.proofs.Beside.{beside-of, same-alone}
-use Rattle.hail_client.proofs.Standing.{stands-of, parts-of, open-of, lists-of}
+use Rattle.hail_client.proofs.Standing.{stands-of, parts-of, open-of}
 
 -- beside what runs alone no job begins
 busy-alone : (w : State) (a : states.Alone) (kind : Kind) (own : Option ℕ) → w.is_barred ≡ false →
@@ -160,30 +154,3 @@ put-closed c new (Some profile) name bytes none vault scrub number fits spelled 
   happens = (closed-by c w d none S, refl);
   stands = stands-of new c.vault c.alone c.next_job vault scrub number d w S;
 }
-
--- a step of a client with no vault is one of the machine that changes nothing
-pub step-closed : (c : Client) (number : ℕ) (d : Devices) → c.vault ≡ None → number < 2 ^ 32 →
-    (w : State) (moment : ℕ) → ClientStands c d w → ClientMakesStep w moment number None c d d
-step-closed c number d none spelled w moment S = record {
-  makes = record {
-    state = w;
-    spelled = spelled;
-    happens = subst (λ b. Steps w number b Closed w) (sym (closed-by c w d none S)) refl;
-    stands = S;
-  };
-  beyond = λ ended. goes_still _ d.holds d.holds refl;
-  torn = λ ended. absurd (let e : Closed ≡ Ended answers.DiskFault = ended in cc);
-}
-
--- the files that a client lists are those of the machine
-pub names : (w : State) (moment : ℕ) (c : Client) (d : Devices) (tables : Option Kept) →
-    tables ≡ option_map table_of c.vault → ClientStands c d w →
-    MakesEvent w moment Names (names_outcome tables) c d
-names w moment c d tables is S =
-    record {
-      state = w;
-      spelled = tt;
-      happens = subst (λ (t : Option Kept). Lists w w.is_open (names_outcome t) w) (sym is)
-          (lists-of c.vault c.alone c.next_job d w S);
-      stands = S;
-    }

@@ -1,6 +1,6 @@
 -- A pack that runs alone beside a client's vault: its begin and its steps, as events of the machine.
 use mathlib.Core.Bool.{Bool-set}
-use Rattle.std.proofs.Common.{◌≡◌, ℕ, zero, suc, ◌==◌, ◌<◌, ◌≤◌, ◌^◌, true, false, List, [], ◌∷◌, length, Option, None, Some, Result, Ok, Err, refl, ap, sym, subst, ◌∙◌, inl, inr, ◌⊎◌, arith}
+use Rattle.std.proofs.Common.{◌≡◌, ℕ, zero, suc, ◌==◌, ◌<◌, ◌≤◌, ◌^◌, true, false, List, [], ◌∷◌, length, Option, None, Some, Result, Err, refl, ap, sym, subst, ◌∙◌, inl, inr, ◌⊎◌, arith}
 use Rattle.std.specs.Prelude.{is_some}
 use Rattle.std.proofs.Math.Logic.{∥∥₁_elim}
 use Rattle.std.proofs.Math.Nat.{ℕ_set}
@@ -11,7 +11,7 @@ use Rattle.device_defs.specs.Cells.{Cells}
 use Rattle.device_defs.specs.Providers.{Provider}
 use Rattle.journal_pack.specs.Packs.{moves_of}
 use Rattle.machine_defs.specs.Alone.{is_too_long, pack_refusal, BeginsPack}
-use Rattle.machine_defs.specs.Events.{BeginPack, Step, Begun, Refused, More, Ended}
+use Rattle.machine_defs.specs.Events.{BeginPack, Step, Refused, More, Ended}
 use Rattle.machine_defs.specs.Machine.{Happens}
 use Rattle.machine_defs.specs.Refusals as refusal
 use Rattle.machine_defs.specs.States as states
@@ -27,7 +27,7 @@ use Rattle.vault.specs.declared.packing.PackAnswer.{PackAnswer}
 use Rattle.vault.specs.declared.packing.PackJob.{PackJob}
 use Rattle.vault.specs.declared.packing.PackTurn.TheVariants as turn
 use Rattle.vault.specs.declared.vault.Vault.{Vault}
-use Rattle.vault.specs.Packing.{IsPackOf, StandsPacking, pack_answer, pack_begun, PacksOver, MakesPackStep}
+use Rattle.vault.specs.Packing.{IsPackOf, StandsPacking, pack_answer, PacksOver, MakesPackStep}
 use Rattle.vault.specs.Seen.{held_by, IsUnchanged}
 use Rattle.vault.specs.Stands.{Stands}
 use Rattle.hail_client.specs.Client.{client_coming, coming_by, pack_coming}
@@ -113,29 +113,6 @@ pack-refused c new v next why is new_is alone_is number packs busy unchanged w d
           ),
           same-alone v next x d w unchanged S,
         ))
-
--- a begin of a vault is one of the machine
-pub pack-begun : (c new : Client) (v next : Vault) (job : PackJob) → c.vault ≡ Some v →
-    new.vault ≡ Some next → new.alone ≡ Some (alone.Pack job) →
-    ((w : State) (d : Devices) → Stands v d w → PacksOver w d (Ok job) next) →
-    (is_some (held_by v) ≡ true → IsBusy (Ok job)) →
-    (w : State) (d : Devices) (moment : ℕ) → ClientStands c d w →
-    MakesEvent w moment BeginPack (client_begin_outcome (Some (Ok job.number))) new d
-pack-begun c new v next job is new_is alone_is packs busy w d moment C =
-    (let h = by c.alone (parts-of c (Some v) c.alone is refl d w C) in
-    record {
-      state = pack_begun w;
-      spelled = tt;
-      happens = h.0;
-      stands = stands-of new (Some next) (Some (alone.Pack job)) new.next_job new_is alone_is refl d
-          (pack_begun w) h.1;
-    })
-  where
-    by : (o : Option Alone) → StandsBy (Some v) o c.next_job d w →
-        BeginsPack w (Begun job.number) (pack_begun w) × StandsPacking next job d (pack_begun w)
-    by None S = (let h = packs w d S in ((S.desk.core.is_open, h.0, h.1, refl), h.2))
-    by (Some x) S =
-        absurd (let e : IsBusy (Ok job) = busy (ap is_some (beside-of v x d w S).held) in cc)
 
 -- ---- steps
 

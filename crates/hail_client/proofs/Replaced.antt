@@ -19,8 +19,9 @@ use Rattle.vault.specs.Packing.{StandsPacking, plain}
 use Rattle.opening_defs.specs.Opened.{AreHanded}
 use Rattle.vault_open.specs.Devices.{devices}
 use Rattle.hail_scrub.specs.Stands.{ScrubIs}
+use Rattle.hail_scrub.proofs.Machine.{setup_same}
 use Rattle.vault.proofs.Replaced.{vault_replaced, held_replaced}
-use Rattle.vault.proofs.Ways.{handed_on, setup_same}
+use Rattle.vault.proofs.Ways.{handed_on}
 use Rattle.hail_client.specs.declared.alone.Alone.{Alone}
 use Rattle.hail_client.specs.declared.alone.Alone.TheVariants as alone
 use Rattle.hail_client.specs.declared.alone.ScrubJob.{ScrubJob}

@@ -15,11 +15,11 @@ use Rattle.hail_client.specs.declared.client.Client.{Client}
 use Rattle.hail_client.specs.declared.turn.ClientTurn.{ClientTurn}
 use Rattle.hail_client.specs.declared.turn.ClientTurn.TheVariants as client_turn
 use Rattle.hail_client.specs.declared.turn.PackStep.TheVariants as pack_step
-use Rattle.hail_client.specs.Outcomes.{step_outcome, is_more, HeardIs}
+use Rattle.hail_client.specs.Outcomes.{step_outcome, job_goes_on, HeardIs}
 use Rattle.hail_client.specs.Stands.{MakesEvent, IsReached, RunsJobOn}
 
 -- a step that goes on is told as one
-pub told-more : (t : Option ClientTurn) → is_more t ≡ true → step_outcome t ≡ More
+pub told-more : (t : Option ClientTurn) → job_goes_on t ≡ true → step_outcome t ≡ More
 told-more (Some (client_turn.Job turn.More)) e = refl
 told-more (Some (client_turn.Job (turn.Waiting holder))) e = absurd (false≢true e)
 told-more (Some (client_turn.Job (turn.Done ended))) e = absurd (false≢true e)
@@ -32,7 +32,7 @@ told-more (Some (client_turn.Pack (pack_step.Done answer))) e = absurd (false≢
 told-more None e = absurd (false≢true e)
 
 -- and only such a step is
-pub is-more : (t : Option ClientTurn) → step_outcome t ≡ More → is_more t ≡ true
+pub is-more : (t : Option ClientTurn) → step_outcome t ≡ More → job_goes_on t ≡ true
 is-more (Some (client_turn.Job turn.More)) e = refl
 is-more (Some (client_turn.Job (turn.Waiting holder))) e = absurd cc
 is-more (Some (client_turn.Job (turn.Done ended))) e = absurd cc
@@ -68,7 +68,7 @@ module _ (start : State) (ms : List Moment) (job : ℕ) where
     }
 
     -- with a step that goes on, the job is on its way still
-    pub one-more : (t : Option ClientTurn) → is_more t ≡ true →
+    pub one-more : (t : Option ClientTurn) → job_goes_on t ≡ true →
         MakesEvent here (length (way.steps ++ ms)) (Step job) (step_outcome t) next new →
         IsOnWay start ms job next new
     one-more t goes M = one-step
@@ -76,7 +76,7 @@ module _ (start : State) (ms : List Moment) (job : ℕ) where
         (told-more t goes) M)
 
     -- with a step that does not go on, the job has run to its end, and what it heard is told
-    pub at-end : (t : Option ClientTurn) → is_more t ≡ false →
+    pub at-end : (t : Option ClientTurn) → job_goes_on t ≡ false →
         MakesEvent here (length (way.steps ++ ms)) (Step job) (step_outcome t) next new →
         IfSome t (λ turn. HeardIs turn (heard_by (job_of here.jobs job))) →
         RunsJobOn start ms job t next new

@@ -1,12 +1,13 @@
 -- How a client begins a scrub.
-use Rattle.std.proofs.Common.{◌≡◌, ℕ, ◌+◌, ◌<◌, ◌≤◌, ◌||◌, Bool, true, false, List, [], Option, Some, None, Result, Ok, Err, refl, ap, sym, subst, ◌∙◌, inl, inr, arith}
+use Rattle.std.proofs.Common.{◌≡◌, ℕ, ◌+◌, ◌<◌, ◌≤◌, ◌||◌, true, false, List, [], Option, Some, None, Result, Ok, Err, refl, ap, sym, subst, ◌∙◌, inl, inr, arith}
 use Rattle.std.specs.Prelude.{is_some, nat_lt, length}
 use Rattle.std.proofs.Math.Logic.{∥∥₁_prop}
+use Rattle.std.proofs.Math.Bool.{or-true}
 use Rattle.machine_defs.specs.Alone.{alone_refusal, new_scrub, BeginsScrub}
 use Rattle.machine_defs.specs.Events.{BeginScrub, Begun, Refused, Closed}
 use Rattle.machine_defs.specs.Machine.{Happens}
 use Rattle.machine_defs.specs.Refusals as refusal
-use Rattle.machine_defs.specs.Refusals.{Refusal, Cause}
+use Rattle.machine_defs.specs.Refusals.{Cause}
 use Rattle.machine_defs.specs.States as states
 use Rattle.machine_defs.specs.States.{State, setup_in}
 use Rattle.machine_defs.proofs.JobLists.{cond_true, cond_false}
@@ -25,7 +26,7 @@ use Rattle.vault.specs.declared.vault.Vault.{Vault}
 use Rattle.vault.specs.Seen.{held_by, provider_count, IsUnchanged}
 use Rattle.vault.specs.Stands.{Stands, StandsBeside, HoldsOver}
 use Rattle.vault.proofs.AtWork.{by_work}
-use Rattle.hail_client.specs.AtWork.{IsAtWork}
+use Rattle.hail_client.specs.AtWork.{IsAloneAtWork}
 use Rattle.hail_client.specs.declared.alone.Alone.{Alone}
 use Rattle.hail_client.specs.declared.alone.Alone.TheVariants as alone
 use Rattle.hail_client.specs.declared.alone.ScrubJob.{ScrubJob}
@@ -34,10 +35,6 @@ use Rattle.hail_client.specs.Outcomes.{client_begin_outcome}
 use Rattle.hail_client.specs.Stands.{StandsBy, StandsHeld, ClientStands, MakesEvent}
 use Rattle.hail_client.proofs.Beside.{beside-of, same-alone}
 use Rattle.hail_client.proofs.Standing.{stands-of, parts-of, open-of}
-
-or-true : (b : Bool) → (b || true) ≡ true
-or-true true = refl
-or-true false = refl
 
 -- a begin or a hold is refused as busy
 abbrev pub IsBusy : Result ℕ BeginFault → Type 0
@@ -164,7 +161,7 @@ module _ (v next : Vault) (number : ℕ) (scrub : ScrubView)
 
   -- and the scrub runs beside the vault
   pub scrub-works : held_by next ≡ Some number → 0 < scrub_left scrub → scrub.providers ≤ provider_count v →
-      ∥ IsAtWork (Some next) (Some (alone.Scrub job)) ∥₁
+      ∥ IsAloneAtWork (Some next) (Some (alone.Scrub job)) ∥₁
   scrub-works held_is going fits =
       by_work ∥∥₁_prop v.desk (λ w faults ps desk.
       let d = devices None faults ps in

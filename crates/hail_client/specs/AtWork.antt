@@ -1,10 +1,10 @@
 -- What a client is at work on, whatever devices it was lent.
 --
---   alone_number x        == the job number of what runs alone
---   IsScrub v             == a scrub is one of the machine
---   IsBesideVault v job   == a scrub runs beside this vault, which is held under its number
---   IsBeside v x          == what runs alone runs beside this vault: such a scrub, or a pack of this vault
---   IsAtWork vault alone  == something runs alone only beside an open vault, and runs there
+--   alone_number x            == the job number of what runs alone
+--   IsScrub v                 == a scrub is one of the machine
+--   IsBesideVault v job       == a scrub runs beside this vault, which is held under its number
+--   IsBeside v x              == what runs alone runs beside this vault: such a scrub, or a pack of it
+--   IsAloneAtWork vault alone == something runs alone only beside an open vault, and runs there
 use Rattle.std.specs.Prelude.{◌≡◌, ℕ, ◌<◌, ◌≤◌, Option, None, Some}
 use Rattle.machine_defs.specs.States.{State, Scrub, setup_in}
 use Rattle.hail_scrub.specs.Stands.{ScrubIs}
@@ -40,7 +40,7 @@ IsBeside v (alone.Scrub job) = IsBesideVault v job
 IsBeside v (alone.Pack job) = IsPackOf v job
 
 -- something runs alone only beside an open vault
-abbrev pub IsAtWork : Option Vault → Option Alone → Type 0
-IsAtWork vault None = Unit {0}
-IsAtWork None (Some x) = ⊥
-IsAtWork (Some v) (Some x) = IsBeside v x
+abbrev pub IsAloneAtWork : Option Vault → Option Alone → Type 0
+IsAloneAtWork vault None = Unit {0}
+IsAloneAtWork None (Some x) = ⊥
+IsAloneAtWork (Some v) (Some x) = IsBeside v x

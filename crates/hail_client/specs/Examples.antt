@@ -3,7 +3,7 @@
 --   closed_client  == a client with no vault open, whose next job is the first
 --   fresh          == a disk that reads nothing, and four providers that hold nothing
 --   hidden         == a disk and four providers of no known state
---   stored         == a disk that reads a journal with one file of 100 bytes, and six providers that hold
+--   stored_devices == a disk that reads a journal with one file of 100 bytes, and six providers that hold
 --                     nothing
 --   notes          == that file
 --   stored_state   == the state at rest over that journal, with no vault open
@@ -11,7 +11,7 @@
 --   stored_scrub   == a scrub of that file that has done nothing yet
 --   scrubbed_state == the state behind the begin of that scrub
 --   raised_records == a setup of four providers, and the second version of the journal
---   raised         == a disk that reads their text, and four providers that hold nothing
+--   raised_devices == a disk that reads their text, and four providers that hold nothing
 --   raised_open    == the state at rest over that journal, with a vault open
 --   packing_state  == the state behind the begin of a pack of it
 use Rattle.std.specs.Prelude.{true, false, List, [], ◌∷◌, ◌++◌, map, replicate, codes, Some, None}
@@ -51,8 +51,8 @@ abbrev pub hidden : Devices
 hidden = devices None 0 (replicate 4 hidden_provider)
 
 -- a disk that reads a journal with one file, and six providers that hold nothing
-abbrev pub stored : Devices
-stored = devices (Some (firm (text one_file))) 0 (replicate 6 empty_provider)
+abbrev pub stored_devices : Devices
+stored_devices = devices (Some (firm (text one_file))) 0 (replicate 6 empty_provider)
 
 -- the file of that journal
 abbrev pub notes : File
@@ -62,7 +62,7 @@ notes = record { name = codes "notes.txt"; id = 1; size = 100; profile = 1 }
 abbrev pub stored_state : State
 stored_state =
     record (opened one_file
-    hundred) { providers = provider_or_empty stored.providers; handed = 6; is_open = false }
+    hundred) { providers = provider_or_empty stored_devices.providers; handed = 6; is_open = false }
 
 -- the same with a vault open
 abbrev pub stored_open : State
@@ -89,12 +89,15 @@ abbrev pub raised_records : List Record
 raised_records = Version ∷ four_set_up
 
 -- a disk that reads their text, and four providers that hold nothing
-abbrev pub raised : Devices
-raised = devices (Some (firm (text raised_records))) 0 (replicate 4 empty_provider)
+abbrev pub raised_devices : Devices
+raised_devices = devices (Some (firm (text raised_records))) 0 (replicate 4 empty_provider)
 
 -- the state at rest over that journal, with a vault open
 abbrev pub raised_open : State
-raised_open = record (opened raised_records []) { providers = provider_or_empty raised.providers; handed = 4 }
+raised_open = record (opened raised_records []) {
+  providers = provider_or_empty raised_devices.providers;
+  handed = 4;
+}
 
 -- the state behind the begin of a pack of it
 abbrev pub packing_state : State

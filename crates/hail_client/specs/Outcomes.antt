@@ -3,7 +3,7 @@
 --   client_begin_outcome result == of a begin
 --   UnlessBegun result P        == P holds unless the begin was accepted
 --   step_outcome result         == of a step
---   is_more result              == the job of a step, or its scrub or pack, goes on
+--   job_goes_on result          == the job of a step, or its scrub or pack, goes on
 --   IfJob result P              == P holds of the turn, where the step was one of a job of the vault
 --   HeardIs turn entries        == the end of a job tells that it heard these; a scrub and a pack hear nothing
 --   UnlessPack result P         == P holds, where the step was none of a pack
@@ -58,11 +58,11 @@ step_outcome (Some (client_turn.Scrub n t)) = scrub_outcome n t
 step_outcome (Some (client_turn.Pack t)) = pack_step_outcome t
 
 -- the job of a step goes on
-abbrev pub is_more : Option ClientTurn → Bool
-is_more (Some (client_turn.Job turn.More)) = true
-is_more (Some (client_turn.Scrub n scrub_turn.More)) = true
-is_more (Some (client_turn.Pack pack_step.More)) = true
-is_more result = false
+abbrev pub job_goes_on : Option ClientTurn → Bool
+job_goes_on (Some (client_turn.Job turn.More)) = true
+job_goes_on (Some (client_turn.Scrub n scrub_turn.More)) = true
+job_goes_on (Some (client_turn.Pack pack_step.More)) = true
+job_goes_on result = false
 
 -- a fact of the turn, where the step was one of a job of the vault
 abbrev pub IfJob : Option ClientTurn → (Turn → Type 0) → Type 0

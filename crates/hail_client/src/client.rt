@@ -1,6 +1,6 @@
 ghost use Rattle.std.specs.Prelude.{IfSome};
 ghost use Rattle.vault.specs.Streams.{IsStreamless};
-ghost use Rattle.hail_client.specs.AtWork.{IsAtWork};
+ghost use Rattle.hail_client.specs.AtWork.{IsAloneAtWork};
 
 use crate::alone::Alone;
 use vault::Vault;
@@ -16,7 +16,7 @@ pub struct Client {
     pub(crate) vault: Option<Vault>,
     pub(crate) alone: Option<Alone>,
     pub(crate) next_job: u32,
-    ghost at_work: { ∥ IsAtWork vault alone ∥₁ },
+    ghost at_work: { ∥ IsAloneAtWork vault alone ∥₁ },
     ghost streamless: { ∥ IfSome vault IsStreamless ∥₁ },
 }
 

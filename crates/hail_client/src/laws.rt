@@ -26,7 +26,7 @@ ghost use Rattle.vault_open.specs.Devices.{Devices, devices, AreDevices};
 ghost use Rattle.hail_client.specs.declared.alone.Alone.TheVariants as alone;
 ghost use Rattle.hail_client.specs.declared.client.Client.{Client};
 ghost use Rattle.hail_client.specs.Client.{client_next_job, uses};
-ghost use Rattle.hail_client.specs.Examples.{closed_client, fresh, hidden, stored, stored_state, stored_open, stored_scrub, scrubbed_state, notes, raised_records, raised, raised_open, packing_state};
+ghost use Rattle.hail_client.specs.Examples.{closed_client, fresh, hidden, stored_devices, stored_state, stored_open, stored_scrub, scrubbed_state, notes, raised_records, raised_devices, raised_open, packing_state};
 ghost use Rattle.hail_client.specs.Start.{start_of, TellAll};
 ghost use Rattle.hail_client.specs.Stands.{ClientStands, MakesEvent, IsReached, ImageHasFile, moment_of};
 
@@ -131,20 +131,21 @@ pub fn a_fresh_disk_has_a_start()
 /// A client with no vault open over a disk that reads a journal with one file stands for a state in which the
 /// file is kept, so each image of the disk has it.
 pub fn a_stored_file_is_kept()
-    ensures stands { ClientStands closed_client stored stored_state }
-    ensures devices { AreDevices stored stored_state × IsSound 8 stored_state }
+    ensures stands { ClientStands closed_client stored_devices stored_state }
+    ensures devices { AreDevices stored_devices stored_state × IsSound 8 stored_state }
     ensures kept { IsKept stored_state (codes "notes.txt") notes }
-    ensures images { EachImage stored.holds (ImageHasFile (codes "notes.txt") notes) }
+    ensures images { EachImage stored_devices.holds (ImageHasFile (codes "notes.txt") notes) }
 {}
 
 /// Over these devices a scrub of the file begins, and a client that has begun it stands for the machine's state
 /// behind the begin: its vault is held under the number that was drawn, and stands for the open state.
 pub fn a_scrub_of_a_stored_file_begins()
     ensures begins { Happens 8 0 stored_open BeginScrub (Begun 1) scrubbed_state }
-    ensures scrub { ScrubStands stored_scrub stored.providers scrubbed_state (new_scrub stored_open 0) }
+    ensures scrub { ScrubStands stored_scrub stored_devices.providers scrubbed_state (new_scrub stored_open 0) }
     ensures stands { (c : Client) (v : Vault) → c.vault ≡ Some v
         → c.alone ≡ Some (alone.Scrub (record { number = 1; scrub = stored_scrub }))
-        → StandsBeside v stored (record stored_open { next_job = 2 }) 1 → ClientStands c stored scrubbed_state }
+        → StandsBeside v stored_devices (record stored_open { next_job = 2 }) 1
+        → ClientStands c stored_devices scrubbed_state }
 {}
 
 /// Over a journal of the second version a pack begins, and a client that has begun it stands for the machine's
@@ -152,11 +153,11 @@ pub fn a_scrub_of_a_stored_file_begins()
 /// made, writes the packed records into the second area.
 pub fn a_pack_begins()
     ensures begins { Happens 8 0 raised_open BeginPack (Begun 1) packing_state }
-    ensures devices { AreDevices raised packing_state × IsSound 8 packing_state }
+    ensures devices { AreDevices raised_devices packing_state × IsSound 8 packing_state }
     ensures stands { (c : Client) (v : Vault) (job : PackJob) → c.vault ≡ Some v
         → c.alone ≡ Some (alone.Pack job) → pack_number job ≡ 1
         → job.before ≡ text_length A raised_records → moves_of job.pack ≡ 0 → IsPackOf v job
         → WritesText B (packed raised_records) job.pack
-        → StandsBeside v (devices None 0 raised.providers) (record raised_open { next_job = 2 }) 1
-        → ClientStands c raised packing_state }
+        → StandsBeside v (devices None 0 raised_devices.providers) (record raised_open { next_job = 2 }) 1
+        → ClientStands c raised_devices packing_state }
 {}

@@ -5,7 +5,7 @@ ghost use Rattle.vault_open.specs.Devices.{devices};
 ghost use Rattle.vault.specs.Devices.{devices_seen};
 ghost use Rattle.vault.specs.Outcomes.{IfEnded, HasPaddedCounts};
 ghost use Rattle.hail_client.specs.Client.{is_open};
-ghost use Rattle.hail_client.specs.Outcomes.{is_more, IfJob};
+ghost use Rattle.hail_client.specs.Outcomes.{job_goes_on, IfJob};
 ghost use Rattle.hail_client.specs.Stands.{IsStanding, IsReached, RunsJobOn};
 
 use crate::client::Client;
@@ -17,7 +17,7 @@ use vault::Turn;
 
 /// Whether a job, a scrub or a pack goes on after a step.
 fn goes_on(answer: &Option<ClientTurn>) -> bool
-    ensures { result ≡ is_more answer.now }
+    ensures { result ≡ job_goes_on answer.now }
 {
     match answer {
         Some(ClientTurn::Job(turn)) => matches!(turn, Turn::More),
@@ -43,7 +43,7 @@ impl Client {
             → IsReached start ms self.old (devices_seen D.Disk P.Provider disk.old providers.old)
             → RunsJobOn start ms job result self.new
             (devices_seen D.Disk P.Provider disk.new providers.new) }
-        ensures over { is_more result ≡ false }
+        ensures over { job_goes_on result ≡ false }
         ensures count { length providers.new ≡ length providers.old }
         ensures tells { is_some (D.holds disk.new) ≡ is_some (D.holds disk.old) }
         ensures padded { IfJob result (λ turn. IfEnded turn (λ ended. HasPaddedCounts ended.answer)) }

@@ -9,7 +9,7 @@ ghost use Rattle.vault.specs.declared.turn.Turn.TheVariants as turn;
 ghost use Rattle.vault.specs.Calls.{moves_before_next, MovesCells};
 ghost use Rattle.stripe_bench.specs.Calls.{CalledOnce};
 ghost use Rattle.hail_client.specs.declared.turn.ClientTurn.TheVariants as client_turn;
-ghost use Rattle.hail_client.specs.Outcomes.{is_more, IfJob, HeardIs};
+ghost use Rattle.hail_client.specs.Outcomes.{job_goes_on, IfJob, HeardIs};
 ghost use Rattle.vault.specs.Devices.{devices_seen};
 ghost use Rattle.vault.specs.Outcomes.{IfEnded, IsNoAction, HasPaddedCounts};
 ghost use Rattle.vault_core.specs.Coming.{IsNoJob, calls_disk, called_provider};
@@ -46,7 +46,7 @@ impl Client {
             → ClientStands self.old (devices_seen D.Disk P.Provider disk.old providers.old) w
             → IfSome result (λ turn. HeardIs turn (heard_by (job_of w.jobs job))) }
         ensures tells { is_some (D.holds disk.new) ≡ is_some (D.holds disk.old) }
-        ensures left { is_more result ≡ true → client_left self.new job < client_left self.old job }
+        ensures left { job_goes_on result ≡ true → client_left self.new job < client_left self.old job }
         ensures padded { IfJob result (λ turn. IfEnded turn (λ ended. HasPaddedCounts ended.answer)) }
         ensures stays_open { is_open self.new ≡ is_open self.old }
         ensures count { length providers.new ≡ length providers.old }

@@ -31,7 +31,7 @@ use Rattle.stripe_bench.specs.Gifts.{fetched_gifts}
 use Rattle.column_codec.specs.PresentBlocks.{present_blocks}
 use Rattle.machine_defs.specs.Jobs.{Given}
 use Rattle.hail_scrub.specs.Begun.{file_providers, file_actions, IsFileAmong, AreItems}
-use Rattle.hail_scrub.specs.Begins.{HaveOneCount, AreApart, IsFileOf, AreFilesOf, IsBegun}
+use Rattle.hail_scrub.specs.Begins.{HaveOneCount, AreApart, IsFileOf, AreFilesOf, IsNewScrub}
 use Rattle.hail_scrub.proofs.Rests.{all_get, all_map}
 
 -- ---- files that are taken in
@@ -127,7 +127,7 @@ profile_first other (q ∷ ps) (suc k) p there first =
     ∙ profile_first other ps k p there
     (λ i r at same. let e : suc i ≡ suc k = first (suc i) r at same in omega (arith, e))
 
-module _ (s : Setup) (master : List ℕ) (files : List FileShape) (m : Scrub) (B : IsBegun s master files m)
+module _ (s : Setup) (master : List ℕ) (files : List FileShape) (m : Scrub) (B : IsNewScrub s master files m)
     (apart : AreApart files) where
   -- the object of each file is the machine's
   pub object_begun : (k : ℕ) (f : FileShape) → slice_get files k ≡ Some f →
@@ -169,7 +169,7 @@ count_first s master f fs (p ∷ ps) are = ap (λ (o : Object). o.shape.n) are.0
 
 -- a scrub has to do what the machine's has
 pub todo_begun : (s : Setup) (master : List ℕ) (files : List FileShape) (m : Scrub) →
-    IsBegun s master files m → (items : List Item) (kinds : List Object) →
+    IsNewScrub s master files m → (items : List Item) (kinds : List Object) →
     AreItems (file_providers files) master kinds files files items →
     m.todo ≡ items_on (file_providers files) items
 todo_begun s master [] m B items kinds are =
@@ -244,7 +244,7 @@ module _ (p : Progress) (few : p.providers ≤ 16) (few_items : length p.items.i
 
   -- and it is the machine's scrub as that begins
   pub new_scrub_is : (s : Setup) (files : List FileShape) (m : Scrub) (kinds : List Object) →
-      IsBegun s p.master.0 files m → AreApart files →
+      IsNewScrub s p.master.0 files m → AreApart files →
       AreItems (file_providers files) p.master.0 kinds files files p.items.items →
       p.providers ≡ file_providers files → ScrubIs (scrub_view p) s m
   new_scrub_is s files m kinds B apart are count = record {

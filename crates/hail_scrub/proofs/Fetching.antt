@@ -2,7 +2,7 @@
 use Rattle.std.proofs.Common.{◌≡◌, ℕ, ◌+◌, ◌*◌, ◌<◌, ◌≤◌, Bool, List, [], ◌∷◌, ◌++◌, length, Some, refl, ap, sym, subst, ◌∙◌, arith, length-append, vec_len, vec_capacity}
 use Rattle.std.specs.Prelude.{slice_get, slice_set}
 use Rattle.std.proofs.Math.Nat.{mul-le-mul_left}
-use Rattle.code_defs.proofs.Profiles.{size-bound, size_is, some_kept}
+use Rattle.code_defs.proofs.Profiles.{size-bound, size_is}
 use Rattle.code_points.specs.declared.profile.Profile.{Profile}
 use Rattle.column_defs.specs.Opened.{SeenBlock}
 use Rattle.column_codec.specs.PresentBlocks.{present_blocks}
@@ -19,10 +19,10 @@ use Rattle.hail_scrub.specs.declared.cursor.Cursor.{Cursor}
 use Rattle.hail_scrub.specs.declared.cursor.Cursor.TheVariants as cursor
 use Rattle.hail_scrub.specs.declared.progress.Progress.{Progress}
 use Rattle.hail_scrub.specs.declared.turn.ScrubTurn.TheVariants as turn
-use Rattle.hail_scrub.specs.Views.{Stage, ScrubView, most_steps}
+use Rattle.hail_scrub.specs.Views.{most_steps}
 use Rattle.hail_scrub.specs.Views as views
 use Rattle.hail_scrub.specs.Todo.{fetches_from, past_stripe, todo_at}
-use Rattle.hail_scrub.specs.Progress.{item_object, fetched_at, size_in, phase_at, scrub_view, IsSpot, IsPlaced, IsAmid, IsProgress}
+use Rattle.hail_scrub.specs.Progress.{item_object, fetched_at, size_in, phase_at, scrub_view, IsSpot, IsCursor, IsAmid, IsProgress}
 use Rattle.hail_scrub.specs.Steps.{MakesNext}
 use Rattle.hail_scrub.proofs.Lefts.{left-cons}
 use Rattle.hail_scrub.proofs.Rests.{fetches_here}
@@ -32,15 +32,9 @@ use Rattle.hail_scrub.proofs.Placed.{one_is, phase_amid, size_amid}
 pub size_few : (profile : Profile) → profile.size ≤ 128
 size_few profile = subst (λ (k : ℕ). k ≤ 128) (sym profile.size_is) (size-bound profile.number)
 
--- it is not 0
-pub size_some : (profile : Profile) → 1 ≤ profile.size
-size_some profile =
-    let e = profile.size_is in let f = size_is profile.number in let g = some_kept profile.number in
-    omega (arith, e, f, g)
-
 module _ (p : Progress) (W : IsProgress p) (spot : Spot) (j : ℕ) (here : p.cursor ≡ cursor.Fetching spot j) where
-  at_place : IsPlaced p.providers p.items.items p.off (cursor.Fetching spot j)
-  at_place = subst (IsPlaced p.providers p.items.items p.off) here W.placed
+  at_place : IsCursor p.providers p.items.items p.off (cursor.Fetching spot j)
+  at_place = subst (IsCursor p.providers p.items.items p.off) here W.placed
 
   -- the stripe is one of a file
   pub fetch_spot : IsSpot p.items.items spot
@@ -98,7 +92,7 @@ module _ (p : Progress) (W : IsProgress p) (spot : Spot) (j : ℕ) (here : p.cur
       (present : b.present ≡ p.blocks.present) (symbols : b.symbols ≡ p.blocks.symbols)
       (size : b.size ≡ spot.item.file.profile.size) (grows : Grows b b' found block)
       (todo : todo_at p.providers p.items.items p.off c ≡ rest)
-      (placed : IsPlaced p.providers p.items.items p.off c)
+      (placed : IsCursor p.providers p.items.items p.off c)
       (count : fetched_at p.providers c ≡ j + 1) (amid : IsAmid spot c) (falls : left + 1 ≡ p.left) where
     abbrev new : Progress
     new = record p { blocks = b'; cursor = c; left = left }

@@ -1,7 +1,8 @@
 -- A step of a scrub is one of the machine's scrub.
-use Rattle.std.proofs.Common.{◌≡◌, ℕ, zero, suc, ◌+◌, ◌<◌, ◌≤◌, ◌==◌, Bool, true, false, List, [], ◌∷◌, ◌++◌, length, take, Option, Some, None, refl, sym, ap, subst, ◌∙◌, arith, inl, inr, length-set}
+use Rattle.std.proofs.Common.{◌≡◌, ℕ, ◌+◌, ◌<◌, ◌≤◌, ◌==◌, Bool, true, false, List, [], ◌∷◌, ◌++◌, length, take, Option, Some, None, refl, sym, ap, subst, ◌∙◌, arith, inl, inr, length-set}
 use Rattle.std.specs.Prelude.{slice_get, slice_set, if◌then◌else◌}
 use Rattle.std.proofs.lemmas.Bool.{eq-eqb, ne_eqb, cases_eq}
+use Rattle.std.proofs.lemmas.Option.{slice_get_within}
 use Rattle.algebra_laws.proofs.Lists.{get-set_same, get-set_other}
 use Rattle.column_defs.specs.Objects.{Object}
 use Rattle.column_defs.specs.Columns.{column_of_symbols}
@@ -14,7 +15,7 @@ use Rattle.machine_defs.specs.Actions.{Action, Store, Fetch, Work, End}
 use Rattle.machine_defs.specs.Alone.{differs, scrubbed_object, off_by, scrub_stores, opened_scrub, block_to_scrub, Scrubs, StepsScrub}
 use Rattle.machine_defs.specs.Events.{Outcome, Step, More, Ended}
 use Rattle.machine_defs.specs.Given.{blocks_given}
-use Rattle.machine_defs.specs.Jobs.{Given, Worked}
+use Rattle.machine_defs.specs.Jobs.{Worked}
 use Rattle.machine_defs.specs.Jobs as jobs
 use Rattle.machine_defs.specs.Machine.{Happens}
 use Rattle.machine_defs.specs.Setups.{setup_or_none}
@@ -53,17 +54,12 @@ happens_alone w new m outcome alone steps limit moment opened unbarred =
 
 -- ---- providers
 
--- what stands at a place of a list stands within it
-pub get_below : {X : Type 0} (xs : List X) (k : ℕ) (x : X) → slice_get xs k ≡ Some x → k < length xs
-get_below [] k x h = absurd (let e : None ≡ Some x = h in cc)
-get_below (y ∷ ys) zero x h = omega arith
-get_below (y ∷ ys) (suc k) x h = let l = get_below ys k x h in omega (arith, l)
-
 module _ (ps : List Provider) (w : State) (are : AreHanded ps w) (j : ℕ) (p : Provider)
     (there : slice_get ps j ≡ Some p) where
   -- the provider that is called is that of the state
   before_is : p ≡ w.providers j
-  before_is = (let e : Some p ≡ Some (w.providers j) = sym there ∙ are.each j (get_below ps j p there) in cc)
+  before_is =
+      (let e : Some p ≡ Some (w.providers j) = sym there ∙ are.each j (slice_get_within ps j p there) in cc)
 
   -- and after the call those handed in are those of the state with this one in its place
   handed_after : (q : Provider) (new : State) → new.handed ≡ w.handed
@@ -71,7 +67,8 @@ module _ (ps : List Provider) (w : State) (are : AreHanded ps w) (j : ℕ) (p : 
   handed_after q new handed providers = record {
     count = handed ∙ are.count ∙ sym (length-set ps j q);
     each = λ k below. elim (cases_eq k j) [
-      | inl same ↦ ap (slice_get (slice_set ps j q)) same ∙ get-set_same ps j q (get_below ps j p there)
+      | inl same ↦ ap (slice_get (slice_set ps j q)) same
+          ∙ get-set_same ps j q (slice_get_within ps j p there)
           ∙ ap Some (sym (providers k ∙ cond_true (k == j) q (w.providers k) (eq-eqb k j same)))
       | inr other ↦ get-set_other ps j k q other
           ∙ are.each k (subst (λ (n : ℕ). k < n) (length-set ps j q) below)

@@ -1,5 +1,6 @@
 -- An opening of a scrub.
 use Rattle.std.proofs.Common.{◌≡◌, ℕ, ◌+◌, ◌*◌, ◌<◌, ◌≤◌, ◌==◌, ◌^◌, Bool, true, false, List, [], ◌∷◌, ◌++◌, length, map, Vec, Global, Some, refl, ap, sym, subst, ◌∙◌, arith, vec_capacity}
+use Rattle.std.proofs.lemmas.Option.{slice_get_within}
 use Rattle.std.specs.Prelude.{slice_get, slice_set, slice_index, if◌then◌else◌}
 use Rattle.std.specs.List.{All, flat_map}
 use Rattle.algebra_laws.proofs.Lists.{get-set_same}
@@ -23,10 +24,9 @@ use Rattle.hail_scrub.specs.declared.turn.ScrubTurn.TheVariants as turn
 use Rattle.hail_scrub.specs.Views.{ScrubView, most_steps}
 use Rattle.hail_scrub.specs.Todo.{store_of, stores_from, past_stripe, todo_at}
 use Rattle.hail_scrub.specs.Compared.{HasBlocks, IsSurveyed}
-use Rattle.hail_scrub.specs.Progress.{item_object, rows_of, fetched_at, size_in, phase_at, scrub_view, IsItem, IsSpot, IsPlaced, CursorIsAt, IsBehind, HasAdded, IsProgress}
+use Rattle.hail_scrub.specs.Progress.{item_object, rows_of, fetched_at, size_in, phase_at, scrub_view, IsItem, IsSpot, IsCursor, CursorIsAt, StoresOnlyAt, HasAdded, IsProgress}
 use Rattle.hail_scrub.specs.Steps.{off_in, stores_in, MakesNext}
 use Rattle.hail_scrub.proofs.Given.{flat_map-below}
-use Rattle.hail_scrub.proofs.Machine.{get_below}
 use Rattle.hail_scrub.proofs.Lefts.{left-append, left-work, left-stores}
 use Rattle.hail_scrub.proofs.Rests.{numbers_all}
 use Rattle.hail_scrub.proofs.Placed.{kinds_stay, turned_is, item_is, one_is, bench_serves, phase_behind}
@@ -49,7 +49,7 @@ one_at_most false = omega arith
 module _ (p : Progress) (W : IsProgress p) (spot : Spot) (here : p.cursor ≡ cursor.Opening spot) where
   -- the stripe is one of a file
   pub open_spot : IsSpot p.items.items spot
-  open_spot = subst (IsPlaced p.providers p.items.items p.off) here W.placed
+  open_spot = subst (IsCursor p.providers p.items.items p.off) here W.placed
 
   present_is : length p.blocks.present.items ≡ p.providers
   present_is = W.present ∙ ap (fetched_at p.providers) here
@@ -181,7 +181,7 @@ module _ (p : Progress) (W : IsProgress p) (spot : Spot) (here : p.cursor ≡ cu
         (at : CursorIsAt p.providers p.items.items off q.cursor
         (stores_from p.providers 0 off spot.item.file.id spot.stripe
         ++ past_stripe p.providers p.items.items spot))
-        (behind : IsBehind spot q.cursor)
+        (behind : StoresOnlyAt spot q.cursor)
         (left : q.left + (p.providers + 1)
         ≡ p.left + length (stores_from p.providers 0 off spot.item.file.id spot.stripe))
         (falls : q.left < p.left) (emptied : HasEmptied b q.blocks) (added : HasAdded p.found off q.found)
@@ -283,7 +283,7 @@ module _ (p : Progress) (W : IsProgress p) (spot : Spot) (here : p.cursor ≡ cu
                   behind = phase_behind after spot q.cursor b1.rows.items behind none_left
                       (ap rows_of (ap (λ (l : List Bench). slice_get l spot.item.bench) benches
                       ∙ get-set_same p.benches.items spot.item.bench b1
-                      (get_below p.benches.items spot.item.bench b0 there)));
+                      (slice_get_within p.benches.items spot.item.bench b0 there)));
                   stripes_are = added.stripes_are;
                   symbols_are = λ j below. added.symbols_are j
                       ∙ ap (λ (k : ℕ). slice_index p.found.symbols j + k) (off_are j below);

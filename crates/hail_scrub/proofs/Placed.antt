@@ -2,9 +2,8 @@
 use Rattle.std.proofs.Common.{◌≡◌, ℕ, zero, suc, ◌<◌, Bool, List, [], ◌∷◌, length, map, Some, refl, ap, sym, subst, ◌∙◌, arith}
 use Rattle.std.specs.Prelude.{slice_get, slice_set}
 use Rattle.std.specs.Option.{option_map}
-use Rattle.std.specs.List.{All}
 use Rattle.std.proofs.lemmas.List.{length-map}
-use Rattle.std.proofs.lemmas.Option.{slice_get-map}
+use Rattle.std.proofs.lemmas.Option.{slice_get-map, slice_get_within}
 use Rattle.column_defs.specs.Objects.{Object}
 use Rattle.column_codec.specs.PresentBlocks.{present_blocks}
 use Rattle.stripe_bench.specs.Bench.{turned, bench_kind, file_kind}
@@ -14,12 +13,11 @@ use Rattle.hail_scrub.specs.declared.cursor.Spot.{Spot}
 use Rattle.hail_scrub.specs.declared.cursor.Cursor.{Cursor}
 use Rattle.hail_scrub.specs.declared.cursor.Cursor.TheVariants as cursor
 use Rattle.hail_scrub.specs.declared.progress.Progress.{Progress}
-use Rattle.hail_scrub.specs.Views.{Stage, scrub_left}
+use Rattle.hail_scrub.specs.Views.{scrub_left}
 use Rattle.hail_scrub.specs.Views as views
-use Rattle.hail_scrub.specs.Progress.{item_object, bench_rows, size_in, phase_at, scrub_view, IsItem, CanRun, IsSpot, IsBehind, IsAmid, IsProgress}
+use Rattle.hail_scrub.specs.Progress.{item_object, bench_rows, size_in, phase_at, scrub_view, IsItem, IsSpot, StoresOnlyAt, IsAmid, IsProgress}
 use Rattle.hail_scrub.specs.Steps.{IsOne, GoesPast}
-use Rattle.hail_scrub.proofs.Rests.{all_get, all_map}
-use Rattle.hail_scrub.proofs.Machine.{get_below}
+use Rattle.hail_scrub.proofs.Rests.{all_get}
 
 -- ---- benches
 
@@ -63,7 +61,8 @@ module _ (p : Progress) (W : IsProgress p) (spot : Spot) (is : IsSpot p.items.it
   -- its bench is there
   pub bench_there : spot.item.bench < length p.benches.items
   bench_there =
-      let l = get_below (map bench_kind p.benches.items) spot.item.bench (file_kind p.master.0 spot.item.file)
+      let l = slice_get_within (map bench_kind p.benches.items) spot.item.bench
+      (file_kind p.master.0 spot.item.file)
       item_is.bench in
       omega (arith, l, length-map p.benches.items bench_kind)
 
@@ -76,11 +75,6 @@ module _ (p : Progress) (W : IsProgress p) (spot : Spot) (is : IsSpot p.items.it
       ∙ item_is.bench in
       cc
 
--- all files of a scrub can run
-pub all_run : (p : Progress) → IsProgress p → All (CanRun p.providers) p.items.items
-all_run p W = all_map (IsItem p.providers p.master.0 (map bench_kind p.benches.items)) (CanRun p.providers)
-    p.items.items (λ item is. record { providers = is.some_providers; some = is.some }) W.items
-
 -- ---- phases
 
 -- no blocks
@@ -90,7 +84,7 @@ none_present size [] symbols e = refl
 none_present size (f ∷ flags) symbols e = absurd (omega (arith, e))
 
 -- where a scrub is behind an action on a stripe
-pub phase_behind : (p : Progress) (spot : Spot) (c : Cursor) (rows : List ℕ) → IsBehind spot c →
+pub phase_behind : (p : Progress) (spot : Spot) (c : Cursor) (rows : List ℕ) → StoresOnlyAt spot c →
     length p.blocks.present.items ≡ 0 → bench_rows p.benches.items spot.item.bench ≡ rows →
     GoesPast spot.item.file.id spot.stripe rows (phase_at p c)
 phase_behind p spot (cursor.Fetching other j) rows behind none is =

@@ -3,6 +3,7 @@ use Rattle.std.proofs.Common.{◌≡◌, ℕ, zero, suc, ◌+◌, ◌-◌, ◌<�
 use Rattle.std.specs.Prelude.{slice_get, slice_index, if◌then◌else◌}
 use Rattle.std.specs.List.{All, flat_map, range_with_len}
 use Rattle.std.proofs.lemmas.List.Elements.{All-head, All-tail}
+use Rattle.std.proofs.lemmas.List.{drop_all}
 use Rattle.algebra_laws.proofs.Lists.{drop-get}
 use Rattle.code_defs.specs.Points.{upto}
 use Rattle.machine_defs.specs.Actions.{Action, Store, Fetch, Work, End}
@@ -43,10 +44,6 @@ stores_skip n j off o t l is =
     ap (flat_map (store_of off o t)) (numbers_here j n l)
     ∙ ap (λ (b : Bool). (if b then [] else Store j o t ∷ []) ++ stores_from n (j + 1) off o t) is
 
--- there are no stores behind the last provider
-pub stores_none : (n j : ℕ) (off : List ℕ) (o t : ℕ) → n ≤ j → stores_from n j off o t ≡ []
-stores_none n j off o t l = ap (flat_map (store_of off o t)) (numbers_none j n l)
-
 stripes_here : (n o a b : ℕ) → a < b → stripes_from n o a b ≡ opening_of n o a ++ stripes_from n o (a + 1) b
 stripes_here n o a b l = ap (flat_map (opening_of n o)) (numbers_here a b l)
 
@@ -78,16 +75,10 @@ file_here n items off place item there some = sym (
     (items_on n (drop (place + 1) items))
     )
 
-drop_past : {X : Type 0} (xs : List X) (i : ℕ) → slice_get xs i ≡ None → drop i xs ≡ []
-drop_past [] zero e = refl
-drop_past [] (suc i) e = refl
-drop_past (y ∷ ys) zero e = let f : Some y ≡ None = e in cc
-drop_past (y ∷ ys) (suc i) e = drop_past ys i e
-
 -- behind all files
-pub files_over : (n : ℕ) (items : List Item) (place : ℕ) → slice_get items place ≡ None →
+pub files_over : (n : ℕ) (items : List Item) (place : ℕ) → length items ≤ place →
     End ∷ [] ≡ items_on n (drop place items)
-files_over n items place none = sym (ap (items_on n) (drop_past items place none))
+files_over n items place over = sym (ap (items_on n) (drop_all place items over))
 
 -- at the next stripe
 pub stripe_here : (n : ℕ) (items : List Item) (off : List ℕ) (spot : Spot) →
@@ -125,19 +116,6 @@ all_map P Q xs f h = λ k d l. f (get_or xs k d) (h k d l)
 
 -- ---- cursors
 
--- a read within a list finds the element
-pub get_here : {X : Type 0} (xs : List X) (i : ℕ) (x : X) → i < length xs → x ≡ get_or xs i x →
-    slice_get xs i ≡ Some x
-get_here [] i x l h = absurd (omega (arith, l))
-get_here (y ∷ ys) zero x l h = ap Some (sym h)
-get_here (y ∷ ys) (suc i) x l h = get_here ys i x (omega (arith, l)) h
-
--- a read beyond a list finds nothing
-pub get_past : {X : Type 0} (xs : List X) (i : ℕ) → length xs ≤ i → slice_get xs i ≡ None
-get_past [] i l = refl
-get_past (y ∷ ys) zero l = absurd (omega (arith, l))
-get_past (y ∷ ys) (suc i) l = get_past ys i (omega (arith, l))
-
 -- the cursor at a file that is there
 pub file_found : (n : ℕ) (items : List Item) (off : List ℕ) (place : ℕ) (item : Item) → All (CanRun n) items →
     slice_get items place ≡ Some item →
@@ -152,10 +130,10 @@ file_found n items off place item run there =
     }
 
 -- the cursor behind the last file
-pub files_end : (n : ℕ) (items : List Item) (off : List ℕ) (place : ℕ) → slice_get items place ≡ None →
+pub files_end : (n : ℕ) (items : List Item) (off : List ℕ) (place : ℕ) → length items ≤ place →
     CursorIsAt n items off cursor.Ending (items_on n (drop place items))
-files_end n items off place none =
-    record { todo_is = files_over n items place none; placed = tt; fresh = refl }
+files_end n items off place over =
+    record { todo_is = files_over n items place over; placed = tt; fresh = refl }
 
 -- the cursor at the next stripe of a file
 pub stripe_found : (n : ℕ) (items : List Item) (off : List ℕ) (spot : Spot) → All (CanRun n) items →

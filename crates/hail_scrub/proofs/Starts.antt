@@ -12,7 +12,7 @@ use Rattle.machine_defs.specs.States.{State, Scrub, setup_in}
 use Rattle.opening_defs.specs.Opened.{AreHanded}
 use Rattle.hail_scrub.specs.declared.turn.ScrubTurn.{ScrubTurn}
 use Rattle.hail_scrub.specs.Views.{ScrubView}
-use Rattle.hail_scrub.specs.Begins.{AreFilesOf, IsBegun, held}
+use Rattle.hail_scrub.specs.Begins.{AreFilesOf, IsNewScrub, held}
 use Rattle.hail_scrub.specs.Stands.{ScrubIs, ScrubStands, MakesScrubStep}
 use Rattle.hail_scrub.proofs.Machine.{setup_same, handed_same}
 
@@ -25,7 +25,7 @@ module _ (w : State) (moment : ℕ) where
   -- over the files in effect, `Scrub::new` gives the machine's scrub
   pub new_begun : (master : List ℕ) (files : List FileShape) → (setup_in w).n ≤ 16 →
       AreFilesOf (setup_in w) master files (pin_all w (files_of w.records)) →
-      IsBegun (setup_in w) master files (new_scrub w moment)
+      IsNewScrub (setup_in w) master files (new_scrub w moment)
   new_begun master files few are = record {
     few = few;
     files_are = are;

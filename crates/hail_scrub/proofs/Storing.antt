@@ -1,5 +1,6 @@
 -- A store of a scrub.
-use Rattle.std.proofs.Common.{◌≡◌, ℕ, ◌+◌, ◌*◌, ◌<◌, List, [], ◌∷◌, ◌++◌, length, map, Vec, Global, Some, Result, Ok, Err, refl, ap, sym, subst, ◌∙◌, arith}
+use Rattle.std.proofs.Common.{◌≡◌, ℕ, ◌+◌, ◌*◌, ◌<◌, List, [], ◌∷◌, ◌++◌, length, map, Vec, Global, Some, refl, ap, sym, subst, ◌∙◌, arith}
+use Rattle.std.proofs.lemmas.Option.{slice_get_within}
 use Rattle.std.specs.Prelude.{slice_get, slice_set}
 use Rattle.std.specs.List.{All}
 use Rattle.algebra_laws.proofs.Lists.{get-set_same}
@@ -8,9 +9,6 @@ use Rattle.column_defs.specs.Columns.{column_of_symbols}
 use Rattle.device_defs.specs.Providers.{Provider}
 use Rattle.device_defs.specs.ProviderCalls.{Stores, FailsToStore, FindsNoMemory}
 use Rattle.machine_defs.specs.Actions.{Action, Store}
-use Rattle.provider_model.specs.Seen.{StoresAs}
-use Rattle.provider_model.specs.declared.fault.StoreFault.{StoreFault}
-use Rattle.provider_model.specs.declared.fault.StoreFault.TheVariants as store_fault
 use Rattle.stripe_bench.specs.Bench.{bench_object, turned, bench_kind, file_kind}
 use Rattle.stripe_bench.specs.declared.bench.Bench.{Bench}
 use Rattle.hail_scrub.specs.declared.cursor.Spot.{Spot}
@@ -19,19 +17,18 @@ use Rattle.hail_scrub.specs.declared.cursor.Cursor.TheVariants as cursor
 use Rattle.hail_scrub.specs.declared.progress.Progress.{Progress}
 use Rattle.hail_scrub.specs.declared.turn.ScrubAnswer.TheVariants as answer
 use Rattle.hail_scrub.specs.declared.turn.ScrubTurn.TheVariants as turn
-use Rattle.hail_scrub.specs.Views.{Stage, ScrubView, most_steps}
+use Rattle.hail_scrub.specs.Views.{ScrubView, most_steps}
 use Rattle.hail_scrub.specs.Views as views
 use Rattle.hail_scrub.specs.Todo.{stores_from, past_stripe, todo_at}
-use Rattle.hail_scrub.specs.Progress.{item_object, rows_of, fetched_at, size_in, phase_at, scrub_view, IsItem, IsSpot, IsPlaced, CursorIsAt, IsBehind, IsProgress}
+use Rattle.hail_scrub.specs.Progress.{item_object, rows_of, fetched_at, size_in, phase_at, scrub_view, IsItem, IsSpot, IsCursor, CursorIsAt, StoresOnlyAt, IsProgress}
 use Rattle.hail_scrub.specs.Steps.{MakesNext}
 use Rattle.hail_scrub.proofs.Lefts.{left-cons}
-use Rattle.hail_scrub.proofs.Machine.{get_below}
 use Rattle.hail_scrub.proofs.Rests.{stores_take}
 use Rattle.hail_scrub.proofs.Placed.{kinds_stay, turned_is, item_is, one_is, bench_serves, phase_behind}
 
 module _ (p : Progress) (W : IsProgress p) (spot : Spot) (j : ℕ) (here : p.cursor ≡ cursor.Storing spot j) where
-  at_place : IsPlaced p.providers p.items.items p.off (cursor.Storing spot j)
-  at_place = subst (IsPlaced p.providers p.items.items p.off) here W.placed
+  at_place : IsCursor p.providers p.items.items p.off (cursor.Storing spot j)
+  at_place = subst (IsCursor p.providers p.items.items p.off) here W.placed
 
   -- the stripe is one of a file
   pub store_spot : IsSpot p.items.items spot
@@ -110,7 +107,7 @@ module _ (p : Progress) (W : IsProgress p) (spot : Spot) (j : ℕ) (here : p.cur
       }
 
       module _ (c : Cursor) (left : ℕ) (at : CursorIsAt p.providers p.items.items p.off c rest)
-          (behind : IsBehind spot c) (falls : left + 1 ≡ p.left) where
+          (behind : StoresOnlyAt spot c) (falls : left + 1 ≡ p.left) where
         abbrev after : Progress
         after = record p { benches = bs; cursor = c; left = left }
 
@@ -169,7 +166,7 @@ module _ (p : Progress) (W : IsProgress p) (spot : Spot) (j : ℕ) (here : p.cur
             behind = phase_behind after spot c b0.rows.items behind none_present
                 (ap rows_of (ap (λ (l : List Bench). slice_get l spot.item.bench) benches
                 ∙ get-set_same p.benches.items spot.item.bench b1
-                (get_below p.benches.items spot.item.bench b0 there))
+                (slice_get_within p.benches.items spot.item.bench b0 there))
                 ∙ ap (λ v. v.items) rows);
           };
           over = tt;
@@ -202,24 +199,3 @@ module _ (p : Progress) (W : IsProgress p) (spot : Spot) (j : ℕ) (here : p.cur
       acts = record { before = before; after = after; there = at_j; others = others; called = called };
       over = over;
     }
-
--- ---- what a store came to
-
--- a store whose answer is that it was made was made
-pub was_stored : (o t : ℕ) (block : List ℕ) (r : Result Unit StoreFault) (x : Unit) (p q : Provider) →
-    r ≡ Ok x → StoresAs o t block r p q → Stores o t block p q
-was_stored o t block r x p q is made = subst (λ (y : Result Unit StoreFault). StoresAs o t block y p q) is
-    made
-
--- a store whose answer is a failure failed at the provider
-pub was_failed : (o t : ℕ) (block : List ℕ) (r : Result Unit StoreFault) (f : StoreFault) (p q : Provider) →
-    r ≡ Err f → f ≡ store_fault.Failed → StoresAs o t block r p q → FailsToStore p q
-was_failed o t block r f p q is fault made = subst (λ (y : Result Unit StoreFault). StoresAs o t block y p q)
-    (is ∙ ap (λ (y : StoreFault). Err y) fault) made
-
--- a store whose answer is that memory ran out found none at the provider
-pub found_no_memory : (o t : ℕ) (block : List ℕ) (r : Result Unit StoreFault) (f : StoreFault)
-    (p q : Provider) → r ≡ Err f → f ≡ store_fault.Memory → StoresAs o t block r p q → FindsNoMemory p q
-found_no_memory o t block r f p q is fault made = subst
-    (λ (y : Result Unit StoreFault). StoresAs o t block y p q) (is ∙ ap (λ (y : StoreFault). Err y) fault)
-    made

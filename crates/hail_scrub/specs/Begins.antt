@@ -1,11 +1,11 @@
 -- How a scrub begins.
 --
---   HaveOneCount files        == the files have all the same number of providers
---   AreApart files            == no two of them have one object number
---   IsFileOf s master f p     == a file of these numbers is a file that the machine works on
---   AreFilesOf s master fs ps == so are these, in order
---   IsBegun s master files m  == a scrub of the machine that has done nothing yet, over these files
---   held w moment             == the state behind the begin of a scrub: it runs alone, its number is drawn
+--   HaveOneCount files          == the files have all the same number of providers
+--   AreApart files              == no two of them have one object number
+--   IsFileOf s master f p       == a file of these numbers is a file that the machine works on
+--   AreFilesOf s master fs ps   == so are these, in order
+--   IsNewScrub s master files m == a scrub of the machine that has done nothing yet, over these files
+--   held w moment               == the state behind the begin of a scrub: it runs alone, its number is drawn
 use Rattle.std.specs.Prelude.{◌≡◌, ℕ, ◌+◌, ◌≤◌, List, [], ◌∷◌, length, Some, slice_get}
 use Rattle.file_layout.specs.Files.{shaped_object}
 use Rattle.file_layout.specs.declared.file.FileShape.{FileShape}
@@ -41,7 +41,7 @@ AreFilesOf s master [] (p ∷ ps) = ⊥
 AreFilesOf s master (f ∷ fs) [] = ⊥
 
 -- a scrub of the machine that has done nothing yet, over these files
-pub record IsBegun (s : Setup) (master : List ℕ) (files : List FileShape) (m : Scrub) : Type 0 where
+pub record IsNewScrub (s : Setup) (master : List ℕ) (files : List FileShape) (m : Scrub) : Type 0 where
   pub few : s.n ≤ 16
   pub files_are : AreFilesOf s master files m.files
   pub todo_is : m.todo ≡ scrub_actions s m.files

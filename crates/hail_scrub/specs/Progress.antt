@@ -7,10 +7,10 @@
 --   scrub_view p                        == what is seen of it
 --   IsItem n master kinds i             == a file has n providers, a stripe, and a bench that serves it
 --   IsSpot items spot                   == a stripe of one of the files
---   IsPlaced n items off c              == a cursor is at one of the stripes, and a provider
+--   IsCursor n items off c              == a cursor is at one of the stripes, and a provider
 --   CanRun n item                       == a file has a stripe, and there are providers
 --   CursorIsAt n items off c todo       == a cursor stands for these actions, and no stripe of it is begun
---   IsBehind spot c                     == a cursor that stores is still at this stripe
+--   StoresOnlyAt spot c                 == a cursor that stores is still at this stripe
 --   IsAmid spot c                       == a cursor fetches or opens this stripe
 --   IsAtFirst c                         == a cursor is at the first fetch of a stripe, or at the end
 --   HasAdded old off new                == what was found, with a stripe more whose blocks are off by so many
@@ -95,12 +95,12 @@ pub record IsSpot (items : List Item) (spot : Spot) : Type 0 where
   pub within : spot.stripe < spot.item.stripes
 
 -- a cursor is at one of the stripes, and a provider
-abbrev pub IsPlaced : ℕ → List Item → List ℕ → Cursor → Type 0
-IsPlaced n items off (cursor.Fetching spot j) = IsSpot items spot × (j < n)
-IsPlaced n items off (cursor.Opening spot) = IsSpot items spot
-IsPlaced n items off (cursor.Storing spot j) = IsSpot items spot × (j < n) ×
+abbrev pub IsCursor : ℕ → List Item → List ℕ → Cursor → Type 0
+IsCursor n items off (cursor.Fetching spot j) = IsSpot items spot × (j < n)
+IsCursor n items off (cursor.Opening spot) = IsSpot items spot
+IsCursor n items off (cursor.Storing spot j) = IsSpot items spot × (j < n) ×
     ((slice_index off j == 0) ≡ false)
-IsPlaced n items off c = Unit {0}
+IsCursor n items off c = Unit {0}
 
 -- a file has a stripe, and there are providers
 pub record CanRun (n : ℕ) (item : Item) : Type 0 where
@@ -110,13 +110,13 @@ pub record CanRun (n : ℕ) (item : Item) : Type 0 where
 -- a cursor stands for these actions, and no stripe of it is begun
 pub record CursorIsAt (n : ℕ) (items : List Item) (off : List ℕ) (c : Cursor) (todo : List Action) : Type 0 where
   pub todo_is : todo_at n items off c ≡ todo
-  pub placed : IsPlaced n items off c
+  pub placed : IsCursor n items off c
   pub fresh : fetched_at n c ≡ 0
 
 -- a cursor that stores is still at this stripe
-abbrev pub IsBehind : Spot → Cursor → Type 0
-IsBehind spot (cursor.Storing other j) = other ≡ spot
-IsBehind spot c = Unit {0}
+abbrev pub StoresOnlyAt : Spot → Cursor → Type 0
+StoresOnlyAt spot (cursor.Storing other j) = other ≡ spot
+StoresOnlyAt spot c = Unit {0}
 
 -- a cursor fetches or opens this stripe
 abbrev pub IsAmid : Spot → Cursor → Type 0
@@ -144,7 +144,7 @@ pub record IsProgress (p : Progress) : Type 0 where
   pub few : p.providers ≤ 16
   pub few_items : length p.items.items ≤ 1024
   pub items : All (IsItem p.providers p.master.0 (map bench_kind p.benches.items)) p.items.items
-  pub placed : IsPlaced p.providers p.items.items p.off p.cursor
+  pub placed : IsCursor p.providers p.items.items p.off p.cursor
   pub present : length p.blocks.present.items ≡ fetched_at p.providers p.cursor
   pub symbols : length p.blocks.symbols.items ≡ fetched_at p.providers p.cursor * size_in p.cursor
   pub room_present : p.providers ≤ vec_capacity p.blocks.present

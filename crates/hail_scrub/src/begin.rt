@@ -7,7 +7,7 @@ ghost use Rattle.file_layout.specs.declared.file.FileShape.{FileShape as FileVal
 ghost use Rattle.hail_scrub.specs.declared.cursor.Item.{Item as ItemValue};
 ghost use Rattle.hail_scrub.specs.Views.{scrub_left};
 ghost use Rattle.hail_scrub.specs.Begun.{file_providers, AreItems};
-ghost use Rattle.hail_scrub.specs.Begins.{HaveOneCount, AreApart, IsBegun};
+ghost use Rattle.hail_scrub.specs.Begins.{HaveOneCount, AreApart, IsNewScrub};
 ghost use Rattle.hail_scrub.specs.Stands.{ScrubIs};
 
 use crate::cursor::Item;
@@ -106,7 +106,7 @@ impl Scrub {
         requires few { length files.items ≤ 1024 }
         requires one_count { HaveOneCount files.items }
         requires apart { AreApart files.items }
-        ensures begun { (s : Setup) (m : MachineScrub) → IsBegun s master.now.0 files.items m
+        ensures begun { (s : Setup) (m : MachineScrub) → IsNewScrub s master.now.0 files.items m
             → IfOk result (λ scrub. ScrubIs scrub s m) }
         ensures providers { IfOk result (λ scrub. scrub.providers ≡ file_providers files.items) }
         ensures going { IfOk result (λ scrub. 0 < scrub_left scrub) }

@@ -10,7 +10,7 @@ ghost use Rattle.opening_defs.specs.Opened.{AreHanded};
 ghost use Rattle.record_defs.specs.Table.{files_of};
 ghost use Rattle.machine_defs.specs.Begins.{pin_all};
 ghost use Rattle.hail_scrub.specs.declared.turn.ScrubTurn.{ScrubTurn};
-ghost use Rattle.hail_scrub.specs.Begins.{AreFilesOf, IsBegun, held};
+ghost use Rattle.hail_scrub.specs.Begins.{AreFilesOf, IsNewScrub, held};
 ghost use Rattle.hail_scrub.specs.Stands.{ScrubIs, ScrubStands, MakesScrubStep};
 ghost use Rattle.hail_scrub.specs.Views.{ScrubView};
 
@@ -21,7 +21,7 @@ pub fn scrubs_begin()
         → Happens limit moment w BeginScrub (Begun w.next_job) (held w moment) }
     ensures begun { (w : State) (moment : ℕ) (master : List ℕ) (files : List FileShape) → (setup_in w).n ≤ 16
         → AreFilesOf (setup_in w) master files (pin_all w (files_of w.records))
-        → IsBegun (setup_in w) master files (new_scrub w moment) }
+        → IsNewScrub (setup_in w) master files (new_scrub w moment) }
     ensures stands { (w : State) (moment : ℕ) (v : ScrubView) (ps : List Provider) → AreHanded ps w
         → ScrubIs v (setup_in w) (new_scrub w moment) → ScrubStands v ps (held w moment) (new_scrub w moment) }
     ensures beside { (w : State) (moment : ℕ) → w.alone ≡ None

@@ -4,7 +4,7 @@ ghost use Rattle.machine_defs.specs.Actions.{Work};
 ghost use Rattle.hail_scrub.specs.declared.cursor.Item.{Item as ItemValue};
 ghost use Rattle.hail_scrub.specs.declared.cursor.Spot.{Spot as SpotValue};
 ghost use Rattle.hail_scrub.specs.Todo.{stores_from, fetches_from, items_on, past_stripe, todo_at};
-ghost use Rattle.hail_scrub.specs.Progress.{CanRun, IsSpot, CursorIsAt, IsBehind, IsAmid, IsAtFirst, IsPlaced, fetched_at, size_in};
+ghost use Rattle.hail_scrub.specs.Progress.{CanRun, IsSpot, CursorIsAt, StoresOnlyAt, IsAmid, IsAtFirst, IsCursor, fetched_at, size_in};
 
 use crate::cursor::{Cursor, Item, Spot};
 
@@ -31,7 +31,7 @@ pub fn file_at(items: &[Item], providers: u32, place: usize) -> Cursor
     requires { All (CanRun providers) items.now }
     ensures at { (off : List ℕ) → CursorIsAt providers items.now off result
         (items_on providers (drop place items.now)) }
-    ensures behind { (spot : SpotValue) → IsBehind spot result }
+    ensures behind { (spot : SpotValue) → StoresOnlyAt spot result }
     ensures first { IsAtFirst result }
 {
     match items.get(place) {
@@ -53,7 +53,7 @@ fn stripe_after(items: &[Item], providers: u32, spot: Spot) -> Cursor
     requires items { All (CanRun providers) items.now }
     requires spot { IsSpot items.now spot }
     ensures at { (off : List ℕ) → CursorIsAt providers items.now off result (past_stripe providers items.now spot) }
-    ensures behind { (other : SpotValue) → IsBehind other result }
+    ensures behind { (other : SpotValue) → StoresOnlyAt other result }
 {
     if spot.stripe + 1 < spot.item.stripes {
         return Cursor::Fetching {
@@ -81,7 +81,7 @@ pub fn stores_after(
     requires spot { IsSpot items.now spot }
     ensures at { CursorIsAt providers items.now off.now result
         (stores_from providers from off.now spot.item.file.id spot.stripe ++ past_stripe providers items.now spot) }
-    ensures behind { IsBehind spot result }
+    ensures behind { StoresOnlyAt spot result }
 {
     match off_from(off, from, providers) {
         Some(provider) => Cursor::Storing { spot, provider },
@@ -96,7 +96,7 @@ pub fn fetch_after(providers: u32, spot: Spot, provider: u32) -> Cursor
         ≡ fetches_from providers (provider + 1) spot.item.file.id spot.stripe
         ++ (Work spot.item.file.id spot.stripe ∷ past_stripe providers items spot) }
     ensures placed { (items : List ItemValue) (off : List ℕ) → IsSpot items spot
-        → IsPlaced providers items off result }
+        → IsCursor providers items off result }
     ensures count { fetched_at providers result ≡ provider + 1 }
     ensures amid { IsAmid spot result }
 {

@@ -8,7 +8,7 @@ ghost use Rattle.hail_scrub.specs.Views.{scrub_left, next_to_do, called_by};
 ghost use Rattle.stripe_bench.specs.Calls.{CalledOnce};
 ghost use Rattle.stripe_bench.specs.Blocks.{HasEmptied};
 ghost use Rattle.hail_scrub.specs.Todo.{stores_from, past_stripe};
-ghost use Rattle.hail_scrub.specs.Progress.{scrub_view, CanRun, IsSpot, CursorIsAt, IsBehind, HasAdded, IsProgress};
+ghost use Rattle.hail_scrub.specs.Progress.{scrub_view, CanRun, IsSpot, CursorIsAt, StoresOnlyAt, HasAdded, IsProgress};
 ghost use Rattle.hail_scrub.specs.Steps.{MakesNext};
 
 use crate::compare::{count_off, survey};
@@ -113,7 +113,7 @@ impl Progress {
         ensures at { CursorIsAt self.old.providers self.old.items.items off self.new.cursor
             (stores_from self.old.providers 0 off spot.item.file.id spot.stripe
             ++ past_stripe self.old.providers self.old.items.items spot) }
-        ensures behind { IsBehind spot self.new.cursor }
+        ensures behind { StoresOnlyAt spot self.new.cursor }
         ensures left { (o t : ℕ) → self.new.left + (self.old.providers + 1)
             ≡ self.old.left + length (stores_from self.old.providers 0 off o t) }
         ensures falls { self.new.left < self.old.left }

@@ -1,5 +1,6 @@
--- What fetches and stores show of providers holds of the same providers with no content told.
-use Rattle.std.proofs.Common.{◌≡◌, ℕ, ◌<◌, Bool, true, false, List, length, get_or, Option, None, Some, refl, ap, sym, ◌∙◌, inl, inr}
+-- What fetches and stores show of providers holds of the same providers with no content told; what a store's
+-- answer says of its provider.
+use Rattle.std.proofs.Common.{◌≡◌, ℕ, ◌<◌, Bool, true, false, List, length, get_or, Option, None, Some, Result, Ok, Err, refl, ap, sym, subst, ◌∙◌, inl, inr}
 use Rattle.std.specs.Prelude.{IfSome, slice_set}
 use Rattle.std.specs.Option.{option_map}
 use Rattle.std.proofs.lemmas.Option.{slice_get-get_or}
@@ -9,6 +10,9 @@ use Rattle.device_defs.specs.Providers.{Provider}
 use Rattle.device_defs.specs.ProviderCalls.{StoreCounts, Stores, FindsNoMemory, FailsToStore, Fetches, IsBlock}
 use Rattle.stripe_bench.specs.Blocks.{given_of}
 use Rattle.stripe_bench.specs.Calls.{CalledOnce, provider_by}
+use Rattle.provider_model.specs.Seen.{StoresAs}
+use Rattle.provider_model.specs.declared.fault.StoreFault.{StoreFault}
+use Rattle.provider_model.specs.declared.fault.StoreFault.TheVariants as store_fault
 
 store_counts : (p q : Provider) → StoreCounts p q
     → StoreCounts (record p { held = None }) (record q { held = None })
@@ -62,3 +66,24 @@ pub called_at : {X : Type 0} (calls : X → ℕ) (xs : List X) (k : ℕ) (d y : 
 called_at calls xs k d y within made =
     ap (option_map calls) (get-set_same xs k y within) ∙ ap Some made
     ∙ sym (ap (option_map (λ p. one_more (calls p))) (slice_get-get_or xs k d within))
+
+-- ---- what a store came to
+
+-- a store whose answer is that it was made was made
+pub was_stored : (o t : ℕ) (block : List ℕ) (r : Result Unit StoreFault) (x : Unit) (p q : Provider) →
+    r ≡ Ok x → StoresAs o t block r p q → Stores o t block p q
+was_stored o t block r x p q is made = subst (λ (y : Result Unit StoreFault). StoresAs o t block y p q) is
+    made
+
+-- a store whose answer is a failure failed at the provider
+pub was_failed : (o t : ℕ) (block : List ℕ) (r : Result Unit StoreFault) (f : StoreFault) (p q : Provider) →
+    r ≡ Err f → f ≡ store_fault.Failed → StoresAs o t block r p q → FailsToStore p q
+was_failed o t block r f p q is fault made = subst (λ (y : Result Unit StoreFault). StoresAs o t block y p q)
+    (is ∙ ap (λ (y : StoreFault). Err y) fault) made
+
+-- a store whose answer is that memory ran out found none at the provider
+pub found_no_memory : (o t : ℕ) (block : List ℕ) (r : Result Unit StoreFault) (f : StoreFault)
+    (p q : Provider) → r ≡ Err f → f ≡ store_fault.Memory → StoresAs o t block r p q → FindsNoMemory p q
+found_no_memory o t block r f p q is fault made = subst
+    (λ (y : Result Unit StoreFault). StoresAs o t block y p q) (is ∙ ap (λ (y : StoreFault). Err y) fault)
+    made

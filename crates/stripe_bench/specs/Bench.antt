@@ -6,7 +6,7 @@
 --   file_kind master file             == the same of a file's object
 --   IsBench s profile bench           == the bench is that of an object of the setup at the profile
 --   OpensAs o stripe seen result rows == seen blocks opened to these rows, or lost one
---   HasLast bench b                   == there are a block for each provider of an object, of its size
+--   HasAllBlocks bench b              == there are a block for each provider of an object, of its size
 use Rattle.std.specs.Prelude.{◌≡◌, ℕ, ◌*◌, ◌≤◌, List, length, Result, Ok, Err}
 use Rattle.column_defs.specs.Objects.{Object}
 use Rattle.column_defs.specs.Opened.{SeenBlock, GivesSymbols, LosesRow}
@@ -44,7 +44,7 @@ OpensAs o stripe seen (Ok done) rows = GivesSymbols o stripe seen rows
 OpensAs o stripe seen (Err lost) rows = LosesRow o stripe seen lost.row
 
 -- there is a block for each provider of an object, of its size
-pub record HasLast (bench : Bench) (b : Blocks) : Type 0 where
+pub record HasAllBlocks (bench : Bench) (b : Blocks) : Type 0 where
   pub size : b.size ≡ bench.keys.file.profile.size
   pub present : bench.keys.file.shape.n ≤ length b.present.items
   pub symbols : bench.keys.file.shape.n * b.size ≤ length b.symbols.items

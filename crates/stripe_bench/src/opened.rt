@@ -5,12 +5,12 @@ use column_codec::RowLost;
 
 impl Blocks {
     ghost use Rattle.std.specs.Prelude.{◌≡◌};
-    ghost use Rattle.stripe_bench.specs.Bench.{bench_object, OpensAs, HasLast};
+    ghost use Rattle.stripe_bench.specs.Bench.{bench_object, OpensAs, HasAllBlocks};
     ghost use Rattle.stripe_bench.specs.Blocks.{last_blocks, HasEmptied};
 
     /// Opens the stripe of the last blocks, one of each provider.
     pub fn open(&self, bench: &mut Bench, codec: &mut Codec, stripe: u32) -> Result<(), RowLost>
-        requires { HasLast bench.old self.now }
+        requires { HasAllBlocks bench.old self.now }
         ensures opened { OpensAs (bench_object bench.old) stripe
             (last_blocks bench.old.keys.file.shape.n self.now) result bench.new.rows.items }
         ensures keys { bench.new.keys ≡ bench.old.keys }

@@ -7,7 +7,7 @@ use Rattle.std.proofs.lemmas.Bool.{cases_Bool, false≢true, lt-ltb}
 use Rattle.machine_defs.specs.Alone.{alone_refusal, pack_refusal}
 use Rattle.machine_defs.specs.Jobs.{Job}
 use Rattle.machine_defs.specs.Refusals as refusal
-use Rattle.machine_defs.specs.Refusals.{Refusal, Cause, first_refusal}
+use Rattle.machine_defs.specs.Refusals.{Cause, first_refusal}
 use Rattle.machine_defs.specs.Sights.{aims_of, sight_of, is_shut, is_upgrade}
 use Rattle.machine_defs.specs.States.{State, Append, Alone, setup_in}
 use Rattle.state_laws.specs.Orders.{AreNumbered}
@@ -23,9 +23,10 @@ use Rattle.vault.specs.Tasks.{AreRunning}
 use Rattle.vault.specs.declared.tasks.Running.{Running}
 use Rattle.vault.proofs.AtWork.{beside_sound}
 use Rattle.vault.proofs.Free.{none_run}
-use Rattle.vault.proofs.Ways.{setup_same, handed_same, stands_on}
+use Rattle.vault.proofs.Ways.{stands_on}
 use Rattle.vault.specs.AtHand.{AreAtHand}
 use Rattle.machine_defs.proofs.JobLists.{found_none}
+use Rattle.hail_scrub.proofs.Machine.{setup_same, handed_same}
 
 -- ---- why nothing may run alone
 

@@ -1,5 +1,6 @@
 -- The moves of an append are steps of the machine.
 use Rattle.std.proofs.Common.{◌≡◌, ℕ, ◌+◌, ◌<◌, ◌≤◌, ◌==◌, true, false, List, ◌∷◌, length, Option, Some, None, refl, sym, ap, subst, ◌∙◌, inl, inr, arith}
+use Rattle.std.proofs.lemmas.Option.{none-some}
 use Rattle.std.specs.Prelude.{IfSome, is_some}
 use Rattle.device_defs.specs.Cells.{Cells}
 use Rattle.device_defs.specs.Faults.{HasCause, Rose}
@@ -40,7 +41,7 @@ use Rattle.vault.specs.declared.turn.Turn.TheVariants as turn
 use Rattle.vault.specs.declared.desk.Desk.{Desk}
 use Rattle.vault_open.specs.Devices.{devices}
 use Rattle.vault.specs.Devices.{records_in_flight, IsSamePast}
-use Rattle.vault.specs.Flights.{HasFailed, MakesMove, GoesOn, EndsAppend, GivesUp}
+use Rattle.vault.specs.Flights.{HasFailed, MakesMove, GoesOn, EndsAppend, FailsAppend}
 use Rattle.vault.specs.Running.{KeepsAll, IsFed, IsStopped}
 use Rattle.vault.specs.Movers.{IsUnbegun, IsMover}
 use Rattle.vault.specs.Desks.{DeskStands, Comes, IsFlight, DeskMakesStep}
@@ -48,7 +49,8 @@ use Rattle.vault_open.proofs.Images.{shown-again, firm-shown}
 use Rattle.vault_core.proofs.Standing.{entry_machine}
 use Rattle.vault_core.proofs.Steps.{none_flies}
 use Rattle.vault.proofs.MoveStep.{moves_on, moves_end, beyond_of, all_images, doubted_images, subject_kept}
-use Rattle.vault.proofs.Ways.{setup_same, handed_same, entry_kept}
+use Rattle.vault.proofs.Ways.{entry_kept}
+use Rattle.hail_scrub.proofs.Machine.{setup_same, handed_same}
 
 true_false : true ≡ false → ⊥
 true_false e = cc
@@ -58,9 +60,6 @@ false_true e = cc
 
 one_of : (a b : Append) → Some a ≡ Some b → a ≡ b
 one_of a b e = cc
-
-none_some : (a : Append) → None ≡ Some a → ⊥
-none_some a e = cc
 
 -- the record of the last move is in doubt
 in_doubt : (a : Append) (doubt : Option Doubt) → a.moves ≡ 3 → IsDoubtOf (Some a) doubt →
@@ -81,10 +80,7 @@ no_flight : (o : Option Flight) (a : Append) (area : Area) (rs : List Record) (t
     o ≡ None →
     IsFlight o (Some a) area rs told → ⊥
 no_flight None a area rs told is flight = flight
-no_flight (Some f) a area rs told is flight = (let e : Some f ≡ None = is in some_none e)
-  where
-    some_none : Some f ≡ None → ⊥
-    some_none e = cc
+no_flight (Some f) a area rs told is flight = none-some f (sym is)
 
 -- the disk has the area's text, with a closed gate, where none is in flight
 pub closed_of : (f : Option Flight) (area : Area) (rs : List Record) (told : Option Cells) →
@@ -168,7 +164,7 @@ module _ (v : Desk) (w : State) (holds : Option Cells) (faults number : ℕ) (ps
         entry = first.entry;
         given = first.given;
         writing = entry_now;
-        in_flight = λ a is. absurd (none_some a (sym alone ∙ is));
+        in_flight = λ a is. absurd (none-some a (sym alone ∙ is));
         appends = record {
           records = stands.core.sound.journal.spelled;
           entry = first.spelled;
@@ -297,7 +293,8 @@ module _ (v : Desk) (w : State) (holds holds' : Option Cells) (faults faults' mo
       → DeskMakesStep w moment number result v2 (devices holds faults ps) (devices holds' faults' ps)
   append_failed WriteBody comes move m v1 v2 result made beyond cause core jobs keeps stopped =
       let next = comes.machine w stands.core in
-      let up : GivesUp f.append w.area w.journal m.entry holds' = made w.area w.journal m.entry m.appends in
+      let up : FailsAppend f.append w.area w.journal m.entry holds' =
+      made w.area w.journal m.entry m.appends in
       let new : State = record (barred (ended w next.job)) { disk_faults = faults' } in
       moves_end v v1 v2 w new holds holds' faults faults' moment number ps WriteBody reply.Failed
       answer.DiskFault result stands next
@@ -316,7 +313,8 @@ module _ (v : Desk) (w : State) (holds holds' : Option Cells) (faults faults' mo
   append_failed SyncBody comes move m v1 v2 result made beyond cause core jobs keeps stopped =
       let next = comes.machine w stands.core in
       let a = flies SyncBody comes (omega arith) m in
-      let up : GivesUp f.append w.area w.journal m.entry holds' = made w.area w.journal m.entry m.appends in
+      let up : FailsAppend f.append w.area w.journal m.entry holds' =
+      made w.area w.journal m.entry m.appends in
       let new : State = record (barred (ended w next.job)) { disk_faults = faults' } in
       moves_end v v1 v2 w new holds holds' faults faults' moment number ps SyncBody reply.Failed
       answer.DiskFault result stands next
@@ -336,7 +334,7 @@ module _ (v : Desk) (w : State) (holds holds' : Option Cells) (faults faults' mo
   append_failed WriteGate comes move m v1 v2 result made beyond cause core jobs keeps stopped =
       let next = comes.machine w stands.core in
       let a = flies WriteGate comes (omega arith) m in
-      let up : GivesUp f.append w.area w.journal a.0.entry holds' = made w.area w.journal a.0.entry a.4 in
+      let up : FailsAppend f.append w.area w.journal a.0.entry holds' = made w.area w.journal a.0.entry a.4 in
       let new : State = record (doubted (barred (ended w next.job)) a.0 next.job) { disk_faults = faults' } in
       moves_end v v1 v2 w new holds holds' faults faults' moment number ps WriteGate reply.Failed
       answer.DiskFault result stands next
@@ -356,7 +354,7 @@ module _ (v : Desk) (w : State) (holds holds' : Option Cells) (faults faults' mo
   append_failed SyncGate comes move m v1 v2 result made beyond cause core jobs keeps stopped =
       let next = comes.machine w stands.core in
       let a = flies SyncGate comes (omega arith) m in
-      let up : GivesUp f.append w.area w.journal a.0.entry holds' = made w.area w.journal a.0.entry a.4 in
+      let up : FailsAppend f.append w.area w.journal a.0.entry holds' = made w.area w.journal a.0.entry a.4 in
       let new : State = record (barred (ended w next.job)) { disk_faults = faults' } in
       let doubt = in_doubt a.0 w.doubt a.2.1
       (subst (λ (o : Option Append). IsDoubtOf o w.doubt) a.1
@@ -524,7 +522,7 @@ module _ (v : Desk) (w : State) (holds holds' : Option Cells) (faults faults' mo
         flight = λ free. subst (λ (x : Option Flight). IsFlight x None new.area new.journal holds')
             (sym flight) done.ready;
       })
-      (λ x so mine. absurd (none_some x so))
+      (λ x so mine. absurd (none-some x so))
       (beyond_of w.area w.journal a.0.entry f.append holds holds' a.4 beyond)
       keeps fed comes.wants
   append_done WriteBody comes move m v' made beyond cause flight jobs keeps fed =

@@ -63,9 +63,10 @@ use Rattle.vault.proofs.Fetched.{after}
 use Rattle.vault.proofs.Limits.{setup-picks}
 use Rattle.vault.proofs.Pins.{pin_by_id, among_is, pins_found, profile_found, core_job}
 use Rattle.vault.proofs.JobPlaces.{place_is, put_back}
-use Rattle.vault.proofs.Ways.{happens_by, setup_same, actions_same, handed_on, stands_on, entry_kept, same_beyond, at_place, working, hands_goes}
+use Rattle.vault.proofs.Ways.{happens_by, actions_same, handed_on, stands_on, entry_kept, same_beyond, at_place, working, hands_goes}
 use Rattle.vault.specs.AtHand.{AreAtHand, hand_of}
 use Rattle.vault.proofs.CoreJobs.{shown_subject, shown_pins, audit_untold}
+use Rattle.hail_scrub.proofs.Machine.{setup_same}
 
 -- ---- numbers
 

@@ -16,11 +16,11 @@ use Rattle.state_laws.proofs.Packs.{journal-same}
 use Rattle.vault_core.specs.declared.wish.BeginFault.{BeginFault}
 use Rattle.vault_open.specs.Devices.{Devices, devices}
 use Rattle.vault.specs.declared.desk.Desk.{Desk}
-use Rattle.vault.specs.Desks.{DeskStands, IsAtWork, DeskMakesBegin, Comes, EndsIn, HasEnds, DeskMakesStep}
+use Rattle.vault.specs.Desks.{DeskStands, IsAtWork, DeskMakesBegin, Comes, PutEndsIn, HasEnds, DeskMakesStep}
 use Rattle.vault.specs.Running.{place_in, IsSameDesk}
 use Rattle.vault.specs.Tasks.{AreRunning}
 use Rattle.vault.proofs.JobPlaces.{place_is}
-use Rattle.vault.proofs.Ways.{setup_same, working}
+use Rattle.vault.proofs.Ways.{working}
 use Rattle.machine_defs.specs.Begins.{BeginsAt, beginning}
 use Rattle.machine_defs.specs.Events.{Outcome, Step}
 use Rattle.machine_defs.specs.Machine.{Happens}
@@ -34,6 +34,7 @@ use Rattle.vault.specs.declared.turn.Turn.{Turn}
 use Rattle.vault.specs.AtHand.{AreAtHand, KeepsStreams}
 use Rattle.vault.specs.Outcomes.{begin_outcome, outcome_of}
 use Rattle.vault.proofs.Hands.{keeps_same, told_same, told_below}
+use Rattle.hail_scrub.proofs.Machine.{setup_same}
 
 -- ---- from one state that a desk stands for
 
@@ -65,10 +66,11 @@ ends_kept v v' w new rest core core' keeps from ends number stripes job told run
     elim (from number job runs) [
       | inl next ↦ absurd (let l = told_below v.core w number stripes core before in omega (arith, l, next))
       | inr there ↦
-          subst (λ (s : Setup). EndsIn (stripes * stripe_size s job.profile) (rest number) job.kind) same
-          (subst (λ (p : ℕ). EndsIn (stripes * stripe_size (setup_in w) p) (rest number) job.kind)
+          subst (λ (s : Setup). PutEndsIn (stripes * stripe_size s job.profile) (rest number) job.kind) same
+          (subst (λ (p : ℕ). PutEndsIn (stripes * stripe_size (setup_in w) p) (rest number) job.kind)
           (sym there.3)
-          (subst (EndsIn (stripes * stripe_size (setup_in w) (there.0).profile) (rest number)) (sym there.2)
+          (subst (PutEndsIn (stripes * stripe_size (setup_in w) (there.0).profile) (rest number))
+          (sym there.2)
           (ends number stripes there.0 before there.1)))
     ]
 
@@ -216,7 +218,7 @@ over_stands v w old faults older ps enough S =
 ends_over : (v : Desk) (w : State) (faults : ℕ) (ps : List Provider) (rest : ℕ → List ℕ) → HasEnds v w rest
     → HasEnds v (over w faults ps) rest
 ends_over v w faults ps rest ends number stripes job told runs =
-    subst (λ (s : Setup). EndsIn (stripes * stripe_size s job.profile) (rest number) job.kind)
+    subst (λ (s : Setup). PutEndsIn (stripes * stripe_size s job.profile) (rest number) job.kind)
     (sym (setup_same w (over w faults ps) refl)) (ends number stripes job told runs)
 
 -- a step leaves each job what it is for

@@ -12,7 +12,7 @@ use Rattle.machine_defs.specs.States.{State, setup_in}
 use Rattle.machine_defs.proofs.Sights.{length-aims}
 use Rattle.vault_core.specs.declared.wish.BeginFault.{BeginFault}
 use Rattle.vault_core.specs.declared.wish.BeginFault.TheVariants as fault
-use Rattle.vault_core.specs.Carried.{CoreIs, refusal_of, begun}
+use Rattle.vault_core.specs.Carried.{CoreIs, refusal_of, job_begun}
 use Rattle.vault.specs.declared.desk.Desk.{Desk}
 use Rattle.vault.specs.declared.tasks.Running.{Running}
 use Rattle.vault.specs.declared.tasks.Task.{Task}
@@ -20,10 +20,11 @@ use Rattle.vault_open.specs.Devices.{Devices}
 use Rattle.vault.specs.Running.{KeepsAll}
 use Rattle.vault.specs.Desks.{DeskStands, DeskMakesBegin}
 use Rattle.vault.specs.Tasks.{IsTask, IsRunning, AreRunning}
-use Rattle.vault.proofs.Ways.{stands_on, handed_same}
+use Rattle.vault.proofs.Ways.{stands_on}
 use Rattle.vault_core.specs.View.{CoreView, told_in}
 use Rattle.vault.specs.AtHand.{hand_of, HasAtHand, AreAtHand}
 use Rattle.vault.proofs.Hands.{told_below, hands_more}
+use Rattle.hail_scrub.proofs.Machine.{handed_same}
 
 -- the causes of a get or a drop behind that of its name
 abbrev pub causes_of_name : State → Kind → List ℕ → List Cause
@@ -71,7 +72,7 @@ untold-next c w is = by_value (told_in c.jobs w.next_job) refl
 module _ (old new : Desk) (d : Devices) (w : State) (moment : ℕ) (kind : Kind) (own : Option ℕ)
     (stands : DeskStands old d w) where
   -- a begin that is accepted
-  pub admitted : (number : ℕ) (task : Task) → CoreIs new.core (begun w moment kind own) →
+  pub admitted : (number : ℕ) (task : Task) → CoreIs new.core (job_begun w moment kind own) →
       refusal_of_begin 8 w kind own ≡ None → number ≡ old.core.next_job
       → IsTask (setup_in w) (beginning w moment kind own)
       (actions_left (setup_in w) (beginning w moment kind own)) task
@@ -83,12 +84,13 @@ module _ (old new : Desk) (d : Devices) (w : State) (moment : ℕ) (kind : Kind)
   admitted number task core accepted number_is is others told told_is hand jobs keeps flight =
       let next : number ≡ w.next_job = number_is ∙ stands.core.next_job in
       record {
-        state = begun w moment kind own;
+        state = job_begun w moment kind own;
         begins = (stands.core.is_open, accepted, next, refl);
-        stands = stands_on old new w (begun w moment kind own) d.holds d.faults d.providers
+        stands = stands_on old new w (job_begun w moment kind own) d.holds d.faults d.providers
             d.providers stands
             (record { records = refl; journal = refl; area = refl; switching = refl; doubt = refl; append = refl; faults = refl; barred = refl })
-            (handed_same d.providers w (begun w moment kind own) stands.devices.providers refl (λ j. refl))
+            (handed_same d.providers w (job_begun w moment kind own) stands.devices.providers refl
+            (λ j. refl))
             core
             keeps flight
             (subst (λ (items : List Running). AreRunning (setup_in w) items

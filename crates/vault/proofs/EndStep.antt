@@ -22,7 +22,7 @@ use Rattle.machine_defs.proofs.JobLists.{number_of, cond_false}
 use Rattle.record_codec.specs.declared.counts.Counts.{Counts}
 use Rattle.record_codec.specs.Entries.{counted}
 use Rattle.vault_core.specs.declared.pinned.Pinned.{Pinned as PinnedFile}
-use Rattle.vault_core.specs.Carried.{ComesNext, IsJobOf, is_audit}
+use Rattle.vault_core.specs.Carried.{ComesNext, IsJobOf, is_audit_kind}
 use Rattle.vault_core.specs.Coming.{asks_next}
 use Rattle.vault_core.specs.View.{CoreJob, job_in}
 use Rattle.vault_core.specs.Replies.{Tells}
@@ -42,7 +42,8 @@ use Rattle.vault.specs.Tasks.{IsTask}
 use Rattle.vault.proofs.CoreJobs.{CoreOf, core_of, shown_subject}
 use Rattle.vault.proofs.RemoveStep.{set_same}
 use Rattle.vault.proofs.Stops.{ends_by}
-use Rattle.vault.proofs.Ways.{at_place, handed_same}
+use Rattle.vault.proofs.Ways.{at_place}
+use Rattle.hail_scrub.proofs.Machine.{handed_same}
 
 -- ---- what is left at an end
 
@@ -87,7 +88,7 @@ module _ (w : State) (job : Job) (next : next_action w job ≡ Some End) where
   sums_are : (c : CoreJob) → IsJobOf (setup_in w) c job → job.kind ≡ AuditJob →
       HasSums (setup_in w) job c.sums
   sums_are c of is = of.judged
-      (λ i. is_audit (is i) && (not (past is i) && not (asks_next (listed AuditJob is refl i))))
+      (λ i. is_audit_kind (is i) && (not (past is i) && not (asks_next (listed AuditJob is refl i))))
 
   -- the number that it answers is the job's
   drawn_is : (c : CoreJob) → IsJobOf (setup_in w) c job → (subject : ℕ) → c.plan.subject ≡ subject →

@@ -32,7 +32,7 @@ use Rattle.vault.specs.Desks.{DeskStands, Comes, DeskMakesStep}
 use Rattle.vault.specs.Asking.{pin_in, profile_or}
 use Rattle.vault.specs.Benches.{TakesUp, Turns, TurnsTo}
 use Rattle.vault.specs.Orders.{Phase, Between, Fetching, Opened, GoesOn}
-use Rattle.vault.specs.Tasks.{fetched_in, AreOfSetup, Serves, IsAtHand, IsRepair, IsTask, IsRunning}
+use Rattle.vault.specs.Tasks.{fetched_in, AreOfSetup, HasBenchFor, IsAtHand, IsRepair, IsTask, IsRunning}
 use Rattle.vault.proofs.OwnObjects.{worked-own}
 use Rattle.vault.proofs.Kits.{turned_is, bench_size, by_size, served, own_swapped, serves_swapped}
 use Rattle.vault.proofs.Allowed.{IsAllowed, next_allowed}
@@ -74,9 +74,10 @@ module _ (w : State) (job : Job) (k o s : ℕ) (next : next_action w job ≡ Som
   ]
 
   taken_serves : (profile p : ℕ) (t u : RepairTask) → TakesUp profile t u →
-      Serves (setup_in w) p (t.bench ∷ t.others.items) → Serves (setup_in w) p (u.bench ∷ u.others.items)
+      HasBenchFor (setup_in w) p (t.bench ∷ t.others.items) →
+      HasBenchFor (setup_in w) p (u.bench ∷ u.others.items)
   taken_serves profile p t u takes serve = elim takes.taken.swapped [
-    | inl same ↦ subst (Serves (setup_in w) p) (λ i. (sym same.0) i ∷ (sym same.1) i) serve
+    | inl same ↦ subst (HasBenchFor (setup_in w) p) (λ i. (sym same.0) i ∷ (sym same.1) i) serve
     | inr swapped ↦ serves_swapped (setup_in w) p t.bench t.others.items u.bench u.others.items swapped serve
   ]
 

@@ -1,14 +1,16 @@
 -- A stream is given its next piece.
-use Rattle.std.proofs.Common.{◌≡◌, ◌⊎◌, ℕ, zero, suc, ◌+◌, ◌-◌, ◌*◌, ◌/◌, ◌<◌, ◌≤◌, ◌==◌, Bool, true, false, cond, List, [], ◌∷◌, ◌++◌, length, take, Option, Some, None, refl, sym, ap, subst, ◌∙◌, inl, inr, arith, length-append, append_assoc}
+use Rattle.std.proofs.Common.{◌≡◌, ◌⊎◌, ℕ, ◌+◌, ◌-◌, ◌*◌, ◌/◌, ◌<◌, ◌≤◌, ◌==◌, Bool, true, false, cond, List, [], ◌∷◌, ◌++◌, length, take, Option, Some, None, refl, sym, ap, subst, ◌∙◌, inl, inr, arith, length-append, append_assoc}
 use Rattle.std.specs.Prelude.{slice_get, slice_set, ◌&&◌}
 use Rattle.std.proofs.lemmas.Bool.{cases_Bool, cases_eq, eq-eqb, ne_eqb}
 use Rattle.std.proofs.lemmas.List.Folds.{list_all-append}
 use Rattle.std.proofs.Math.Logic.{∥∥₁_map}
 use Rattle.std.proofs.Math.Nat.{div-lt_iff_lt-mul}
 use Rattle.std.proofs.Math.Seq.{take-append-add}
-use Rattle.std.proofs.lemmas.List.{append-nil}
+use Rattle.std.proofs.lemmas.List.{append-nil, take_all}
+use Rattle.std.proofs.lemmas.Option.{none-some}
 use Rattle.algebra_laws.proofs.Lists.{get-set_there}
 use Rattle.code_defs.specs.Profiles.{profile_of}
+use Rattle.code_defs.proofs.Profiles.{some_kept}
 use Rattle.column_defs.specs.Objects.{Object, stripe_symbols, symbols_in}
 use Rattle.device_defs.specs.Providers.{Provider}
 use Rattle.record_defs.specs.Records.{Setup, is_byte, largest_file}
@@ -28,7 +30,7 @@ use Rattle.vault.specs.declared.tasks.StreamTask.{StreamTask}
 use Rattle.vault.specs.declared.tasks.Task.{Task}
 use Rattle.vault.specs.declared.tasks.Task.TheVariants as task
 use Rattle.vault.specs.AtHand.{task_of, hand_of, HasLast, HasAtHand, AreAtHand, IsStreaming, piece_size, TakesPiece}
-use Rattle.vault.specs.Desks.{DeskStands, EndsIn, HasEnds, IsAtWork}
+use Rattle.vault.specs.Desks.{DeskStands, PutEndsIn, HasEnds, IsAtWork}
 use Rattle.vault.specs.Running.{place_in, KeepsAll}
 use Rattle.vault.specs.Streams.{stripe_by, IsPiece, HasPieceAt, FitsKind, FitsPiece}
 use Rattle.vault.specs.Tasks.{IsStream, IsTask, IsRunning, AreRunning}
@@ -38,19 +40,10 @@ use Rattle.vault.proofs.JobPlaces.{at_number, at_set, found, place_is, put_back}
 use Rattle.vault.proofs.Kits.{bench_after}
 use Rattle.vault.proofs.Pieces.{symbols_of_piece}
 use Rattle.vault.proofs.StoredStripes.{more_times}
-use Rattle.vault.proofs.Ways.{handed_same, stands_on}
-
-none_some : {X Y : Type 0} (x : X) → None ≡ Some x → Y
-none_some x e = absurd (let f : ⊥ = cc in f)
+use Rattle.vault.proofs.Ways.{stands_on}
+use Rattle.hail_scrub.proofs.Machine.{handed_same}
 
 -- ---- the size of a stripe
-
-some_kept : (p : ℕ) → 1 ≤ (profile_of p).keep
-some_kept zero = omega arith
-some_kept (suc zero) = omega arith
-some_kept (suc (suc zero)) = omega arith
-some_kept (suc (suc (suc zero))) = omega arith
-some_kept (suc (suc (suc (suc p)))) = omega arith
 
 -- a stripe has a byte at least
 pub some_bytes : (v : Desk) (d : Devices) (w : State) (profile : ℕ) → DeskStands v d w
@@ -82,7 +75,7 @@ pub record Waiting (v : Desk) (w : State) (number stripe : ℕ) (job : Job) : Ty
 
 wanted_told : (s : Setup) (place stripe : ℕ) (told : Option ℕ) → wanted_at s place told ≡ Some stripe
     → (told ≡ Some stripe) × (place ≡ 4 + stripe * s.n)
-wanted_told s place stripe None wants = none_some stripe wants
+wanted_told s place stripe None wants = absurd (none-some stripe wants)
 wanted_told s place stripe (Some stripes) wants = elim (cases_eq place (4 + stripes * s.n)) [
   | inl e ↦ (
       let here = eq-eqb place (4 + stripes * s.n) e in
@@ -90,9 +83,8 @@ wanted_told s place stripe (Some stripes) wants = elim (cases_eq place (4 + stri
       (let f : Some stripes ≡ Some stripe =
       sym (cond_true (place == 4 + stripes * s.n) (Some stripes) None here) ∙ wants in cc) in
       (ap (λ (x : ℕ). Some x) same, e ∙ ap (λ (x : ℕ). 4 + x * s.n) same))
-  | inr n ↦ none_some stripe
-      (sym (cond_false (place == 4 + stripes * s.n) (Some stripes) None
-      (ne_eqb place (4 + stripes * s.n) n)) ∙ wants)
+  | inr n ↦ absurd (none-some stripe (sym (cond_false (place == 4 + stripes * s.n) (Some stripes) None
+      (ne_eqb place (4 + stripes * s.n) n)) ∙ wants))
 ]
 
 pub waiting : (v : Desk) (d : Devices) (w : State) (number stripe : ℕ) (job : Job) → DeskStands v d w
@@ -116,7 +108,7 @@ waits_runs v d w number stripe S wants = by_job (job_in v.core.jobs number) refl
   where
     by_job : (o : Option CoreJob) → job_in v.core.jobs number ≡ o → wanted_by v.core.setup o ≡ Some stripe
         → (job : Job) × (job_of w.jobs number ≡ Some job)
-    by_job None is e = none_some stripe e
+    by_job None is e = absurd (none-some stripe e)
     by_job (Some c) is e =
         let p = Rattle.vault_core.proofs.Pairs.pair_some v.core.setup v.core.jobs w.jobs number c S.core.jobs is
         in (p.job, p.runs)
@@ -125,12 +117,12 @@ waits_runs v d w number stripe S wants = by_job (job_in v.core.jobs number) refl
 pub streaming : (s : Setup) (told : Option ℕ) (stripe : ℕ) (t : Task) (job : Job) → told ≡ Some stripe
     → HasAtHand s told (hand_of t) job → IsStreaming t
 streaming s told stripe (task.Stream t) job is has = tt
-streaming s told stripe (task.Put t) job is has = none_some stripe (sym has ∙ is)
-streaming s told stripe (task.Get t) job is has = none_some stripe (sym has ∙ is)
-streaming s told stripe task.Drop job is has = none_some stripe (sym has ∙ is)
-streaming s told stripe (task.Audit t) job is has = none_some stripe (sym has ∙ is)
-streaming s told stripe (task.Repair t) job is has = none_some stripe (sym has ∙ is)
-streaming s told stripe task.Upgrade job is has = none_some stripe (sym has ∙ is)
+streaming s told stripe (task.Put t) job is has = absurd (none-some stripe (sym has ∙ is))
+streaming s told stripe (task.Get t) job is has = absurd (none-some stripe (sym has ∙ is))
+streaming s told stripe task.Drop job is has = absurd (none-some stripe (sym has ∙ is))
+streaming s told stripe (task.Audit t) job is has = absurd (none-some stripe (sym has ∙ is))
+streaming s told stripe (task.Repair t) job is has = absurd (none-some stripe (sym has ∙ is))
+streaming s told stripe task.Upgrade job is has = absurd (none-some stripe (sym has ∙ is))
 
 -- and its bench has stripes of the size that the core knows
 pub bench_bytes : (s : Setup) (job : Job) (t : Task) → IsStreaming t → IsTask s job (actions_left s job) t
@@ -409,15 +401,9 @@ record Split (size stripe : ℕ) (piece rest : List ℕ) (last : Bool) (kind : K
   at : HasPieceAt (stripe * size) piece last bytes
   behind : last ≡ false → at.rest ≡ take (largest_file - (stripe + 1) * size) rest
 
-take_all : (n : ℕ) (xs : List ℕ) → length xs ≤ n → take n xs ≡ xs
-take_all zero [] few = refl
-take_all zero (x ∷ xs) few = absurd (omega (arith, few))
-take_all (suc n) [] few = refl
-take_all (suc n) (x ∷ xs) few = ap (λ (l : List ℕ). x ∷ l) (take_all n xs (omega (arith, few)))
-
 split : (size stripe : ℕ) (piece rest : List ℕ) (last : Bool) (kind : Kind)
     → IsPiece size (Some stripe) (length piece) last
-    → EndsIn (stripe * size) (next_rest piece rest last) kind → Split size stripe piece rest last kind
+    → PutEndsIn (stripe * size) (next_rest piece rest last) kind → Split size stripe piece rest last kind
 split size stripe piece rest false (PutJob name bytes) is (before, parts, place) =
     let count = is.0 in
     let most = is.1 in
@@ -466,21 +452,17 @@ split size stripe piece rest last UpgradeJob is ends = absurd ends
 -- and so it ends behind the piece
 ends_behind : (size stripe : ℕ) (piece rest : List ℕ) (kind : Kind)
     → IsPiece size (Some stripe) (length piece) false → Split size stripe piece rest false kind
-    → EndsIn ((stripe + 1) * size) rest kind
+    → PutEndsIn ((stripe + 1) * size) rest kind
 ends_behind size stripe piece rest kind is x =
     let count = is.0 in
     let place = x.at.place_is in
     let long = length-append x.at.before piece in
-    subst (EndsIn ((stripe + 1) * size) rest) (sym x.kind_is) (
+    subst (PutEndsIn ((stripe + 1) * size) rest) (sym x.kind_is) (
       x.at.before ++ piece,
       x.at.parts ∙ ap (λ (l : List ℕ). x.at.before ++ (piece ++ l)) (x.behind refl)
           ∙ sym (append_assoc x.at.before piece (take (largest_file - (stripe + 1) * size) rest)),
       (let e : length (x.at.before ++ piece) ≡ (stripe + 1) * size = omega (arith, count, place, long) in e),
     )
-
--- bytes behind bytes
-pub bytes_behind : (xs ys : List ℕ) → AreBytes xs → AreBytes ys → AreBytes (xs ++ ys)
-bytes_behind xs ys a b = list_all-append is_byte xs ys ∙ (λ i. a i && b i)
 
 -- what all streams still get, with the piece before what that of this number gets
 abbrev rest_with : ℕ → List ℕ → Bool → (ℕ → List ℕ) → ℕ → List ℕ
@@ -505,7 +487,7 @@ rest_bytes number m piece last rest is all = elim (cases_eq m number) [
 ]
   where
     by : (b : Bool) → AreBytes (next_rest piece (rest number) b)
-    by false = bytes_behind piece (rest number) is (all number)
+    by false = list_all-append is_byte piece (rest number) ∙ (λ i. is i && all number i)
     by true = is
 
 module _ (v v' : Desk) (number stripe : ℕ) (piece : List ℕ) (last : Bool)
@@ -521,17 +503,18 @@ module _ (v v' : Desk) (number stripe : ℕ) (piece : List ℕ) (last : Bool)
       let size = stripe_size (setup_in w) job.profile in
       let is_piece = subst (λ (x : ℕ). IsPiece x (Some stripe) (length piece) last) wait.size g.is_piece in
       let x = split size stripe piece (rest number) last job.kind is_piece
-      (subst (λ (l : List ℕ). EndsIn (stripe * size) l job.kind) (rest_here number piece last rest)
+      (subst (λ (l : List ℕ). PutEndsIn (stripe * size) l job.kind) (rest_here number piece last rest)
       (ends number stripe job wait.told runs.1)) in (
         given_stands v v' number stripe piece last g w d job S runs.1
             (record { name = x.name; bytes = x.bytes; kind = x.kind_is; at = x.at }),
         λ m stripes j told jobs. elim (cases_eq m number) [
           | inl e ↦ (
               let same : job ≡ j = same_value _ job j runs.1 (ap (job_of w.jobs) (sym e) ∙ jobs) in
-              subst (λ (y : Job). EndsIn (stripes * stripe_size (setup_in w) y.profile) (rest m) y.kind) same
-              (subst (λ (k : ℕ). EndsIn (stripes * size) (rest k) job.kind) (sym e)
+              subst (λ (y : Job). PutEndsIn (stripes * stripe_size (setup_in w) y.profile) (rest m) y.kind)
+              same
+              (subst (λ (k : ℕ). PutEndsIn (stripes * size) (rest k) job.kind) (sym e)
               (mine w job stripes last refl is_piece x (ap (told_in v'.core.jobs) (sym e) ∙ told))))
-          | inr n ↦ subst (λ (l : List ℕ). EndsIn (stripes * stripe_size (setup_in w) j.profile) l j.kind)
+          | inr n ↦ subst (λ (l : List ℕ). PutEndsIn (stripes * stripe_size (setup_in w) j.profile) l j.kind)
               (rest_other number m piece last rest n)
               (ends m stripes j (sym (g.others m n) ∙ told) jobs)
         ],
@@ -541,16 +524,16 @@ module _ (v v' : Desk) (number stripe : ℕ) (piece : List ℕ) (last : Bool)
           → IsPiece (stripe_size (setup_in w) job.profile) (Some stripe) (length piece) last
           → Split (stripe_size (setup_in w) job.profile) stripe piece (rest number) last job.kind
           → told_in v'.core.jobs number ≡ Some stripes
-          → EndsIn (stripes * stripe_size (setup_in w) job.profile) (rest number) job.kind
+          → PutEndsIn (stripes * stripe_size (setup_in w) job.profile) (rest number) job.kind
       mine w job stripes false is is_piece x told =
           let same : stripe + 1 ≡ stripes =
           (let e : Some (stripe + 1) ≡ Some stripes = sym (g.more is) ∙ told in cc) in
-          subst (λ (k : ℕ). EndsIn (k * stripe_size (setup_in w) job.profile) (rest number) job.kind) same
+          subst (λ (k : ℕ). PutEndsIn (k * stripe_size (setup_in w) job.profile) (rest number) job.kind) same
           (ends_behind (stripe_size (setup_in w) job.profile) stripe piece (rest number) job.kind
           (subst (IsPiece (stripe_size (setup_in w) job.profile) (Some stripe) (length piece)) is is_piece)
           (subst (λ (b : Bool). Split (stripe_size (setup_in w) job.profile) stripe piece (rest number) b
           job.kind) is x))
-      mine w job stripes true is is_piece x told = none_some stripes (sym (g.closed is) ∙ told)
+      mine w job stripes true is is_piece x told = absurd (none-some stripes (sym (g.closed is) ∙ told))
 
 -- so the desk is at work
 pub given_works : (v v' : Desk) (number stripe : ℕ) (piece : List ℕ) (last : Bool)

@@ -4,6 +4,7 @@ use Rattle.std.specs.Prelude.{slice_get, slice_set, nat_lt}
 use Rattle.std.specs.List.{remove}
 use Rattle.std.specs.Option.{option_map}
 use Rattle.std.proofs.lemmas.Bool.{cases_Bool, eqb-true, eq-eqb, ne_eqb, ltb-true, ltb-false}
+use Rattle.std.proofs.lemmas.Option.{none-some}
 use Rattle.algebra_laws.proofs.Lists.{get-set_there}
 use Rattle.record_defs.specs.Records.{Setup}
 use Rattle.machine_defs.specs.Actions.{Action}
@@ -26,13 +27,10 @@ use Rattle.vault.proofs.JobPlaces.{at_number, before, found}
 
 -- ---- tasks by their numbers
 
-none_some : {X Y : Type 0} (x : X) → None ≡ Some x → Y
-none_some x e = absurd (let f : ⊥ = cc in f)
-
 -- the job at the place of a number has the number
 pub number_at : (rs : List Running) (k p : ℕ) (r : Running) → at_number rs k ≡ Some p
     → slice_get rs p ≡ Some r → r.number ≡ k
-number_at [] k p r at there = none_some p at
+number_at [] k p r at there = absurd (none-some p at)
 number_at (x ∷ rs) k p r at there = elim (cases_Bool (x.number == k)) [
   | inl t ↦ (
       let here : 0 ≡ p = same_value _ 0 p
@@ -48,7 +46,7 @@ number_at (x ∷ rs) k p r at there = elim (cases_Bool (x.number == k)) [
 -- and what it works with is that of the number
 pub task_at : (rs : List Running) (k p : ℕ) (r : Running) → at_number rs k ≡ Some p
     → slice_get rs p ≡ Some r → task_of rs k ≡ Some r.task
-task_at [] k p r at there = none_some p at
+task_at [] k p r at there = absurd (none-some p at)
 task_at (x ∷ rs) k p r at there = elim (cases_Bool (x.number == k)) [
   | inl t ↦ (
       let here : 0 ≡ p = same_value _ 0 p
@@ -78,7 +76,7 @@ task_set (x ∷ rs) (suc p) m r r' there same other =
 -- and where one is removed
 task_removed : (rs : List Running) (p m : ℕ) (r : Running) → slice_get rs p ≡ Some r
     → (r.number ≡ m → ⊥) → task_of (remove rs p) m ≡ task_of rs m
-task_removed [] p m r there other = none_some r there
+task_removed [] p m r there other = absurd (none-some r there)
 task_removed (x ∷ rs) zero m r there other =
     let one : x ≡ r = (let e : Some x ≡ Some r = there in cc) in
     sym (cond_false (x.number == m) (Some x.task) (task_of rs m)
@@ -91,7 +89,7 @@ task_pushed : (rs : List Running) (r : Running) (m : ℕ) (t : Task) → task_of
     → (task_of rs m ≡ Some t) ⊎ ((task_of rs m ≡ None) × (t ≡ r.task))
 task_pushed [] r m t is = elim (cases_Bool (r.number == m)) [
   | inl y ↦ inr (refl, same_value _ t r.task is (cond_true (r.number == m) (Some r.task) None y))
-  | inr n ↦ none_some t (sym (cond_false (r.number == m) (Some r.task) None n) ∙ is)
+  | inr n ↦ absurd (none-some t (sym (cond_false (r.number == m) (Some r.task) None n) ∙ is))
 ]
 task_pushed (x ∷ rs) r m t is = elim (cases_Bool (x.number == m)) [
   | inl y ↦ inl (cond_true (x.number == m) (Some x.task) (task_of rs m) y
@@ -108,11 +106,11 @@ task_there : (s : Setup) (rs : List Running) (js : List Job) (k : ℕ) (j : Job)
     → job_of js k ≡ Some j → task_of rs k ≡ None → ⊥
 task_there s rs js k j are runs none =
     let f = found s rs js k j are runs in
-    none_some f.running.task (sym none ∙ task_at rs k f.place f.running f.at f.there)
+    absurd (none-some f.running.task (sym none ∙ task_at rs k f.place f.running f.at f.there))
 
 task_none : (s : Setup) (rs : List Running) (js : List Job) (k : ℕ) (t : Task) → AreRunning s rs js
     → task_of rs k ≡ Some t → (j : Job) × (job_of js k ≡ Some j)
-task_none s [] [] k t are is = none_some t is
+task_none s [] [] k t are is = absurd (none-some t is)
 task_none s [] (j ∷ js) k t are is = absurd are
 task_none s (r ∷ rs) [] k t are is = absurd are
 task_none s (r ∷ rs) (j ∷ js) k t are is = elim (cases_Bool (r.number == k)) [
@@ -159,7 +157,7 @@ told_runs c w k stripes is told = by_job (job_in c.jobs k) refl told
   where
     by_job : (o : Option CoreJob) → job_in c.jobs k ≡ o → told_by o ≡ Some stripes
         → (j : Job) × (job_of w.jobs k ≡ Some j)
-    by_job None found_is told = none_some stripes told
+    by_job None found_is told = absurd (none-some stripes told)
     by_job (Some j) found_is told =
         let p = pair_some c.setup c.jobs w.jobs k j is.jobs found_is in (p.job, p.runs)
 
@@ -182,9 +180,9 @@ before_wait s stripes hand job wants is = elim (cases_Bool (nat_lt job.place (4 
       let most = ltb-false job.place (4 + stripes * s.n) f in
       let least = is.within in
       let same : job.place ≡ 4 + stripes * s.n = omega (arith, most, least) in
-      none_some stripes (sym wants
+      absurd (none-some stripes (sym wants
       ∙ cond_true (job.place == 4 + stripes * s.n) (Some stripes) None
-      (eq-eqb job.place (4 + stripes * s.n) same)))
+      (eq-eqb job.place (4 + stripes * s.n) same))))
 ]
 
 -- a stream that does not wait goes on with what it has at hand

@@ -6,7 +6,10 @@ use Rattle.std.proofs.lemmas.Bool.{cases_Bool, eq-eqb, eqb-true}
 use Rattle.std.proofs.lemmas.Iterator.Adapters.{position_from-zero}
 use Rattle.std.proofs.lemmas.List.Folds.{list_any-append}
 use Rattle.std.proofs.lemmas.List.Quantifiers.{position-Some}
+use Rattle.std.proofs.lemmas.Option.{none-some, same_Some}
+use Rattle.std.proofs.Math.Bool.{or-true}
 use Rattle.algebra_laws.specs.Lists.{Each}
+use Rattle.algebra_laws.proofs.Each.{each_get}
 use Rattle.code_defs.specs.Profiles.{Profile, profile_of}
 use Rattle.column_defs.specs.Objects.{Object}
 use Rattle.record_defs.specs.Records.{Setup}
@@ -19,7 +22,7 @@ use Rattle.stripe_bench.specs.Bench.{bench_object, turned, IsBench}
 use Rattle.vault.specs.declared.desk.Desk.{Desk}
 use Rattle.vault.specs.Benches.{is_sized, is_served, IsOfDesk, AreOfDesk, AreServed, IsSwapped}
 use Rattle.vault.specs.Orders.{Phase, Between, Fetching, Opened}
-use Rattle.vault.specs.Tasks.{AreOfSetup, OneHas, Serves, IsAtHand}
+use Rattle.vault.specs.Tasks.{AreOfSetup, OneHas, HasBenchFor, IsAtHand}
 
 -- ---- a bench
 
@@ -96,8 +99,8 @@ pub own_after : (s : Setup) (b b' : Bench) (bs : List Bench) (o : ℕ) → AreOf
 own_after s b b' bs o are turned_to = ((are.0.0, bench_after s are.0.0 b b' o are.0.1 turned_to), are.1)
 
 -- and serves what it served
-pub serves_after : (s : Setup) (p : ℕ) (b b' : Bench) (bs : List Bench) (o : ℕ) → Serves s p (b ∷ bs) →
-    bench_object b' ≡ turned b o → Serves s p (b' ∷ bs)
+pub serves_after : (s : Setup) (p : ℕ) (b b' : Bench) (bs : List Bench) (o : ℕ) → HasBenchFor s p (b ∷ bs) →
+    bench_object b' ≡ turned b o → HasBenchFor s p (b' ∷ bs)
 serves_after s p b b' bs o (inl h) turned_to = inl (bench_after s p b b' o h turned_to)
 serves_after s p b b' bs o (inr r) turned_to = inr r
 
@@ -108,22 +111,18 @@ at_hand_after s pinned Between b b' o at turned_to = tt
 at_hand_after s pinned (Fetching p t c) b b' o at turned_to = bench_after s _ b b' o at turned_to
 at_hand_after s pinned (Opened p t) b b' o at turned_to = bench_after s _ b b' o at turned_to
 
-or_true : (x : Bool) → (x || true) ≡ true
-or_true true = refl
-or_true false = refl
-
 -- a profile that is served is found by the size of its blocks
-pub served : (s : Setup) (p : ℕ) (benches : List Bench) → Serves s p benches → is_served p benches ≡ true
+pub served : (s : Setup) (p : ℕ) (benches : List Bench) → HasBenchFor s p benches → is_served p benches ≡ true
 served s p [] h = absurd h
 served s p (b ∷ bs) (inl h) =
     ap (λ (t : Bool). t || list_any (is_sized (profile_of p).size) bs) (eq-eqb _ _ (bench_size s p b h))
 served s p (b ∷ bs) (inr r) =
     ap (λ (t : Bool). is_sized (profile_of p).size b || t) (served s p bs r)
-    ∙ or_true (is_sized (profile_of p).size b)
+    ∙ or-true (is_sized (profile_of p).size b)
 
 -- and the other way round
 pub serves : (s : Setup) (p : ℕ) (benches : List Bench) → AreOfSetup s benches → is_served p benches ≡ true →
-    Serves s p benches
+    HasBenchFor s p benches
 serves s p [] are h = absurd (let e : false ≡ true = h in cc)
 serves s p (b ∷ bs) are h = elim (cases_Bool (is_sized (profile_of p).size b)) [
   | inl t ↦ inl (by_size s p are.0.0 b are.0.1 (eqb-true _ _ t))
@@ -133,18 +132,6 @@ serves s p (b ∷ bs) are h = elim (cases_Bool (is_sized (profile_of p).size b))
 
 -- ---- one of them taken up
 
-none_some : {X : Type 0} (x : X) → None ≡ Some x → ⊥
-none_some x e = cc
-
-some_one : {X : Type 0} (x y : X) → Some x ≡ Some y → x ≡ y
-some_one x y e = cc
-
-get_each : {X : Type 0} (P : X → Type 0) (xs : List X) (k : ℕ) (x : X) → Each P xs → slice_get xs k ≡ Some x →
-    P x
-get_each P [] k x all there = absurd (none_some x there)
-get_each P (y ∷ xs) zero x all there = subst P (some_one y x there) all.0
-get_each P (y ∷ xs) (suc k) x all there = get_each P xs k x all.1 there
-
 set_each : {X : Type 0} (P : X → Type 0) (xs : List X) (k : ℕ) (x : X) → Each P xs → P x →
     Each P (slice_set xs k x)
 set_each P [] k x all is = tt
@@ -153,14 +140,14 @@ set_each P (y ∷ xs) (suc k) x all is = (all.0, set_each P xs k x all.1 is)
 
 set_one : {X : Type 0} (P : X → Type 0) (xs : List X) (k : ℕ) (x y : X) → slice_get xs k ≡ Some x → P y →
     OneHas P (slice_set xs k y)
-set_one P [] k x y there h = absurd (none_some x there)
+set_one P [] k x y there h = absurd (none-some x there)
 set_one P (z ∷ xs) zero x y there h = inl h
 set_one P (z ∷ xs) (suc k) x y there h = inr (set_one P xs k x y there h)
 
 others_have : {X : Type 0} (P : X → Type 0) (xs : List X) (k : ℕ) (x y : X) → slice_get xs k ≡ Some x →
     OneHas P xs → P x ⊎ OneHas P (slice_set xs k y)
 others_have P [] k x y there h = absurd h
-others_have P (z ∷ xs) zero x y there (inl h) = inl (subst P (some_one z x there) h)
+others_have P (z ∷ xs) zero x y there (inl h) = inl (subst P (same_Some z x there) h)
 others_have P (z ∷ xs) zero x y there (inr r) = inr (inr r)
 others_have P (z ∷ xs) (suc k) x y there (inl h) = inr (inl h)
 others_have P (z ∷ xs) (suc k) x y there (inr r) = elim (others_have P xs k x y there r) [
@@ -172,20 +159,20 @@ others_have P (z ∷ xs) (suc k) x y there (inr r) = elim (others_have P xs k x 
 pub own_swapped : (s : Setup) (b : Bench) (bs : List Bench) (b' : Bench) (bs' : List Bench) →
     IsSwapped b bs b' bs' → AreOfSetup s (b ∷ bs) → AreOfSetup s (b' ∷ bs')
 own_swapped s b bs b' bs' swapped are = (
-  get_each (λ (x : Bench). (p : ℕ) × IsBench s p x) bs swapped.place b' are.1 swapped.there,
+  each_get (λ (x : Bench). (p : ℕ) × IsBench s p x) bs swapped.place b' are.1 swapped.there,
   subst (AreOfSetup s) (sym swapped.left_is)
       (set_each (λ (x : Bench). (p : ℕ) × IsBench s p x) bs swapped.place b are.1 are.0),
 )
 
 -- and serve what they served
 pub serves_swapped : (s : Setup) (p : ℕ) (b : Bench) (bs : List Bench) (b' : Bench) (bs' : List Bench) →
-    IsSwapped b bs b' bs' → Serves s p (b ∷ bs) → Serves s p (b' ∷ bs')
-serves_swapped s p b bs b' bs' swapped (inl h) = inr (subst (Serves s p) (sym swapped.left_is)
+    IsSwapped b bs b' bs' → HasBenchFor s p (b ∷ bs) → HasBenchFor s p (b' ∷ bs')
+serves_swapped s p b bs b' bs' swapped (inl h) = inr (subst (HasBenchFor s p) (sym swapped.left_is)
     (set_one (λ (x : Bench). IsBench s p x) bs swapped.place b' b swapped.there h))
 serves_swapped s p b bs b' bs' swapped (inr r) =
     elim (others_have (λ (x : Bench). IsBench s p x) bs swapped.place b' b swapped.there r) [
       | inl h ↦ inl h
-      | inr h ↦ inr (subst (Serves s p) (sym swapped.left_is) h)
+      | inr h ↦ inr (subst (HasBenchFor s p) (sym swapped.left_is) h)
     ]
 
 -- ---- the place of one
@@ -231,7 +218,7 @@ pub served_last : (p : ℕ) (own : Bench) (bs : List Bench) (b : Bench) →
 served_last p own bs b size =
     list_any-append (is_sized (profile_of p).size) (own ∷ bs) (b ∷ [])
     ∙ ap (λ (t : Bool). list_any (is_sized (profile_of p).size) (own ∷ bs) || t) last
-    ∙ or_true (list_any (is_sized (profile_of p).size) (own ∷ bs))
+    ∙ or-true (list_any (is_sized (profile_of p).size) (own ∷ bs))
   where
     last : list_any (is_sized (profile_of p).size) (b ∷ []) ≡ true
     last = ap (λ (t : Bool). t || list_any (is_sized (profile_of p).size) []) (eq-eqb _ _ size)
@@ -259,9 +246,9 @@ all_served_more (f ∷ fs) old new more all = (more f.profile all.0, all_served_
 pub one_served_more : (files : List File) (k : ℕ) (f : File) (benches : List Bench) →
     Some f ≡ slice_get files k → is_served f.profile benches ≡ true → AreServed (drop (suc k) files) benches →
     AreServed (drop k files) benches
-one_served_more [] k f benches there own all = absurd (none_some f (sym there))
+one_served_more [] k f benches there own all = absurd (none-some f (sym there))
 one_served_more (g ∷ fs) zero f benches there own all = (
-  subst (λ (x : File). is_served x.profile benches ≡ true) (some_one f g there) own,
+  subst (λ (x : File). is_served x.profile benches ≡ true) (same_Some f g there) own,
   all,
 )
 one_served_more (g ∷ fs) (suc k) f benches there own all = one_served_more fs k f benches there own all

@@ -9,10 +9,6 @@ use Rattle.record_defs.specs.Records.{Setup, SetUp, is_setup, is_in_grammar}
 pub setup-shape : (s : Setup) → IsTrue (is_setup s) → IsShape s.n s.l s.b
 setup-shape s is = grind (arith, nat_tests, is)
 
--- its profile is one of the five
-pub setup-profile : (s : Setup) → IsTrue (is_setup s) → s.profile ≤ 4
-setup-profile s is = grind (arith, nat_tests, is)
-
 some-picks : (s : Setup) → IsTrue (is_in_grammar (SetUp s)) → 1 ≤ s.picks
 some-picks s is = grind (arith, nat_tests, is)
 

@@ -2,6 +2,7 @@
 use Rattle.std.proofs.Common.{◌≡◌, ℕ, zero, suc, ◌+◌, ◌≤◌, false, List, [], ◌∷◌, ◌++◌, length, Option, Some, None, refl, sym, ap, subst, ◌∙◌, inl, inr, arith, length-append}
 use Rattle.std.specs.Prelude.{◌≢◌, slice_get, slice_set, nat_lt}
 use Rattle.std.proofs.lemmas.Bool.{cases_Bool}
+use Rattle.std.proofs.lemmas.Option.{none-some}
 use Rattle.device_defs.specs.Cells.{Cells}
 use Rattle.device_defs.specs.Providers.{Provider}
 use Rattle.device_defs.specs.Told.{Goes}
@@ -166,7 +167,7 @@ moves_end v v1 v2 w new holds holds' faults faults' moment number ps action repl
     let core = gone.fed.step w new (Ended (machine_answer answer)) moment stands.core happens
     (record {
       tells = tells;
-      entry = λ a is mine. (let e : None ≡ Some a = sym none ∙ is in absurd (none_some a e));
+      entry = λ a is mine. absurd (none-some a (sym none ∙ is));
     }) in
     let are : AreRunning (setup_in w) v2.jobs.items new.jobs =
     subst (λ (js : List Job). AreRunning (setup_in w) v2.jobs.items js) (sym jobs) gone.jobs in
@@ -189,9 +190,6 @@ moves_end v v1 v2 w new holds holds' faults faults' moment number ps action repl
       beyond = beyond;
       torn = torn;
     })
-  where
-    none_some : (a : Append) → None ≡ Some a → ⊥
-    none_some a e = cc
 
 -- ---- texts
 

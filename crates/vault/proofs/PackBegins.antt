@@ -44,7 +44,7 @@ use Rattle.vault.proofs.AtWork.{by_work}
 use Rattle.vault.proofs.Free.{none_run}
 use Rattle.vault.proofs.PackSteps.{lies}
 use Rattle.vault.proofs.Switching.{no-job, idle, unbarred, clear}
-use Rattle.vault.proofs.Ways.{handed_same}
+use Rattle.hail_scrub.proofs.Machine.{handed_same}
 
 -- ---- records in the grammar, in one way
 

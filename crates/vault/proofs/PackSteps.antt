@@ -11,7 +11,7 @@ use Rattle.record_defs.specs.Records.{Record}
 use Rattle.record_defs.specs.Areas.{Area, other_area, text_length}
 use Rattle.record_defs.specs.Packed.{packed}
 use Rattle.machine_defs.specs.Alone as machine
-use Rattle.machine_defs.specs.Alone.{is_too_long, pack_refusal, new_pack, packing, switching, switched, unalone, barred_pack}
+use Rattle.machine_defs.specs.Alone.{packing, switching, switched, unalone, barred_pack}
 use Rattle.machine_defs.specs.Answers as answers
 use Rattle.machine_defs.specs.Events.{Outcome, Step, More, Ended}
 use Rattle.machine_defs.specs.Machine.{Happens}
@@ -41,8 +41,8 @@ use Rattle.vault.specs.Devices.{cells_by}
 use Rattle.vault.specs.Packing.{plain, IsQuiet, IsPackOf, StandsPacking, MakesPackStep}
 use Rattle.vault.proofs.Aside.{aside, unalone-is, plain-sound, again, none-flies}
 use Rattle.vault.proofs.Switching.{idle, clear}
-use Rattle.vault.proofs.Ways.{handed_same}
 use Rattle.machine_defs.proofs.JobLists.{found_none}
+use Rattle.hail_scrub.proofs.Machine.{handed_same}
 
 -- ---- the moves
 

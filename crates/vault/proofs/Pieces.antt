@@ -1,10 +1,10 @@
 -- The symbols of a stripe, out of its own bytes alone.
-use Rattle.std.proofs.Common.{◌≡◌, ◌⊎◌, ℕ, zero, suc, ◌+◌, ◌*◌, ◌<◌, ◌≤◌, List, [], ◌∷◌, ◌++◌, length, map, drop, refl, sym, ap, ◌∙◌, inl, inr, arith}
+use Rattle.std.proofs.Common.{◌≡◌, ◌⊎◌, ℕ, ◌+◌, ◌*◌, ◌<◌, ◌≤◌, List, [], ◌++◌, length, drop, sym, ap, ◌∙◌, inl, inr, arith}
 use Rattle.std.specs.Int.{w128, from_le_bytes}
-use Rattle.std.specs.List.{range_with_len}
 use Rattle.std.proofs.Math.Seq.{drop-append-add}
 use Rattle.std.proofs.lemmas.List.{append-nil, get_or-drop, get_or_append_left}
 use Rattle.algebra_laws.proofs.Numbers.{from_le_bytes-same}
+use Rattle.algebra_laws.proofs.Lists.{map-range_same}
 use Rattle.column_defs.specs.Objects.{Object, stripe_symbols, symbol_of, symbols_in}
 
 -- a symbol behind other bytes
@@ -25,19 +25,13 @@ symbol_before bytes more i room =
     ∙ get_or_append_left bytes more 0 (16 * i + k) (omega (arith, room, less))
     ∙ sym (get_or-drop (16 * i) bytes k 0))
 
-map_same : (f g : ℕ → ℕ) (a n : ℕ) → ((i : ℕ) → i < a + n → f i ≡ g i)
-    → map f (range_with_len a n) ≡ map g (range_with_len a n)
-map_same f g a zero same = refl
-map_same f g a (suc n) same = λ i. same a (omega arith) i
-    ∷ map_same f g (a + 1) n (λ k less. same k (omega (arith, less))) i
-
 -- the symbols of a stripe are those of the first stripe of its piece, which is whole or the last
 pub symbols_of_piece : (o : Object) (before piece rest : List ℕ) (stripe : ℕ)
     → length before ≡ stripe * (16 * stripe_symbols o)
     → (16 * stripe_symbols o ≤ length piece) ⊎ (rest ≡ [])
     → symbols_in o (before ++ (piece ++ rest)) stripe ≡ symbols_in o piece 0
 symbols_of_piece o before piece rest stripe place whole =
-    map_same (λ i. symbol_of (before ++ (piece ++ rest)) (stripe * stripe_symbols o + i))
+    map-range_same (λ i. symbol_of (before ++ (piece ++ rest)) (stripe * stripe_symbols o + i))
     (λ i. symbol_of piece (0 * stripe_symbols o + i)) 0 (stripe_symbols o)
     (λ i less. symbol_behind before (piece ++ rest) (stripe * stripe_symbols o + i) i (at i)
     ∙ own i (omega (arith, less)) ∙ ap (symbol_of piece) (first i))

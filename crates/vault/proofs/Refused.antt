@@ -15,7 +15,8 @@ use Rattle.vault.specs.AtHand.{AreAtHand}
 use Rattle.vault.specs.Running.{KeepsAll}
 use Rattle.vault.specs.Desks.{DeskStands, DeskMakesBegin}
 use Rattle.vault.specs.Tasks.{AreRunning}
-use Rattle.vault.proofs.Ways.{stands_on, handed_same}
+use Rattle.vault.proofs.Ways.{stands_on}
+use Rattle.hail_scrub.proofs.Machine.{handed_same}
 
 -- a begin is refused for a cause, or found no memory
 pub cause : (w : State) (kind : Kind) (own : Option ℕ) (why : BeginFault)

@@ -11,7 +11,8 @@ use Rattle.vault.specs.declared.desk.Desk.{Desk}
 use Rattle.vault.specs.declared.vault.Vault.{Vault}
 use Rattle.vault.specs.Desks.{DeskStands}
 use Rattle.vault.specs.Stands.{Stands, StandsBeside}
-use Rattle.vault.proofs.Ways.{setup_same, stands_on}
+use Rattle.vault.proofs.Ways.{stands_on}
+use Rattle.hail_scrub.proofs.Machine.{setup_same}
 
 module _ (d : Devices) (w : State) (ps : List Provider) (providers : ℕ → Provider) where
   -- the state with these providers

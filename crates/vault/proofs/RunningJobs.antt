@@ -3,6 +3,7 @@ use Rattle.std.proofs.Common.{◌≡◌, ℕ, Bool, true, false, cond, Option, N
 use Rattle.std.specs.Prelude.{is_some}
 use Rattle.std.specs.Option.{option_map}
 use Rattle.std.proofs.lemmas.Bool.{false≢true}
+use Rattle.std.proofs.lemmas.Option.{none-some}
 use Rattle.machine_defs.specs.Actions.{Action}
 use Rattle.vault_core.specs.View.{CoreJob, CoreView, job_in}
 use Rattle.vault_core.specs.Coming.{Acts, IsNoJob, IsBarred, next_of, next_in}
@@ -27,17 +28,14 @@ by_barred false c o a e = by_found c o a e
 pub runs_next : (c : CoreView) (number : ℕ) (a : Action) → next_in c number ≡ Acts a → RunsIn c number
 runs_next c number a e = by_barred c.barred c (job_in c.jobs number) a e
 
-some_none : {X : Type 0} (x : X) → Some x ≡ None → ⊥
-some_none x e = cc
-
 -- what is read off a job that runs is there
 pub read_there : {X : Type 0} (f : CoreJob → X) (o : Option CoreJob) → is_some o ≡ true →
     option_map f o ≡ None → ⊥
 read_there f None there none = false≢true there
-read_there f (Some j) there none = some_none (f j) none
+read_there f (Some j) there none = none-some (f j) (sym none)
 
 -- and so is what is made of it
 pub made_there : {Y Z : Type 0} (g : Y → Z) (r : Option Y) (f : CoreJob → Z) (o : Option CoreJob) →
     is_some o ≡ true → option_map g r ≡ option_map f o → r ≡ None → ⊥
 made_there g None f o there e none = read_there f o there (sym e)
-made_there g (Some y) f o there e none = some_none y none
+made_there g (Some y) f o there e none = none-some y (sym none)

@@ -1,8 +1,8 @@
 -- The files of a scrub of all files in effect.
-use Rattle.std.proofs.Common.{◌≡◌, ℕ, zero, suc, ◌+◌, ◌≤◌, ◌^◌, List, [], ◌∷◌, ◌++◌, length, map, inl, inr, None, Some, Result, Ok, Err, refl, ap, sym, subst, ◌∙◌, arith}
+use Rattle.std.proofs.Common.{◌≡◌, ℕ, zero, suc, ◌+◌, ◌≤◌, ◌^◌, List, [], ◌∷◌, length, map, inl, inr, None, Some, refl, ap, sym, subst, ◌∙◌, arith}
 use Rattle.std.proofs.Math.Nat.{ℕ_set}
 use Rattle.std.proofs.Props.{props}
-use Rattle.std.specs.Prelude.{slice_get, IfOk}
+use Rattle.std.specs.Prelude.{slice_get}
 use Rattle.std.specs.List.{AllZip}
 use Rattle.algebra_laws.specs.Lists.{In}
 use Rattle.algebra_laws.proofs.Each.{in_contains}
@@ -39,14 +39,6 @@ all_shaped v (p ∷ ps) (x ∷ fs) are zero f is =
     (let e : Some x ≡ Some f = is in let same : x ≡ f = cc in
     subst (λ (y : FileShape). y.shape ≡ v.shape) same are.0.shape_is)
 all_shaped v (p ∷ ps) (x ∷ fs) are (suc k) f is = all_shaped v ps fs are.1 k f is
-
--- one more
-pub zip_push : {A B : Type 0} (R : A → B → Type 0) (xs : List A) (ys : List B) (x : A) (y : B)
-    → AllZip R xs ys → R x y → AllZip R (xs ++ x ∷ []) (ys ++ y ∷ [])
-zip_push R [] [] x y are is = (is, tt)
-zip_push R [] (b ∷ ys) x y are is = absurd are
-zip_push R (a ∷ xs) [] x y are is = absurd are
-zip_push R (a ∷ xs) (b ∷ ys) x y are is = (are.0, zip_push R xs ys x y are.1 is)
 
 module _ (v : Desk) (s : Setup) (shaped : IsShaped v) (setup : s ≡ with_master v.setup v.master.0) where
   -- a file of such a shape is one of the machine
@@ -181,8 +173,3 @@ module _ (v : Desk) (fs : List FileShape) (are : AreShaped v fs) where
       by : (l : List FileShape) → AreShaped v l → v.shape.n ≡ v.setup.n → file_providers l ≤ v.setup.n
       by [] all n = omega arith
       by (f ∷ l) all n = (let e = ap (λ (x : Shape). x.n) (all 0 f refl) in omega (arith, e, n))
-
--- what holds of a result holds of it by what follows
-pub on_ok : {X E : Type 0} (P Q : X → Type 0) → ((x : X) → P x → Q x) → (r : Result X E) → IfOk r P → IfOk r Q
-on_ok P Q f (Ok x) p = f x p
-on_ok P Q f (Err e) p = tt

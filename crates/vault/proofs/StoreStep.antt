@@ -1,5 +1,5 @@
 -- A store is a step of the machine.
-use Rattle.std.proofs.Common.{◌≡◌, ℕ, ◌+◌, ◌*◌, ◌<◌, ◌≤◌, Vec, Global, vec_capacity, List, ◌∷◌, length, drop, Option, Some, None, Result, Ok, Err, refl, sym, ap, subst, ◌∙◌}
+use Rattle.std.proofs.Common.{◌≡◌, ℕ, ◌+◌, ◌*◌, ◌<◌, ◌≤◌, Vec, Global, vec_capacity, List, ◌∷◌, length, drop, Option, Some, None, refl, sym, ap, subst, ◌∙◌}
 use Rattle.std.specs.Prelude.{slice_get, slice_set}
 use Rattle.column_defs.specs.Columns.{column_of_symbols}
 use Rattle.column_defs.specs.Objects.{Object, symbols_in}
@@ -13,8 +13,6 @@ use Rattle.machine_defs.specs.Jobs.{Kind, PutJob, GetJob, DropJob, AuditJob, Rep
 use Rattle.machine_defs.specs.States.{State, setup_in, going_on, ended, with_provider}
 use Rattle.machine_defs.specs.Steps.{next_action, block_to_store}
 use Rattle.machine_defs.proofs.JobLists.{number_of}
-use Rattle.provider_model.specs.declared.fault.StoreFault.{StoreFault}
-use Rattle.provider_model.specs.declared.fault.StoreFault.TheVariants as store_fault
 use Rattle.state_laws.proofs.Orders.{next-left}
 use Rattle.vault_core.specs.Carried.{ComesNext}
 use Rattle.vault_core.specs.declared.reply.Reply.TheVariants as reply
@@ -34,9 +32,8 @@ use Rattle.vault.specs.Orders.{Phase, Between, Fetching, Opened, GoesOn}
 use Rattle.vault.specs.Running.{place_in, heard_of, KeepsAll, IsFed, IsStopped}
 use Rattle.vault.specs.Desks.{DeskStands, Comes, DeskMakesStep}
 use Rattle.vault.specs.Storing.{stored_block, KeepsTask, IsStorer}
-use Rattle.provider_model.specs.Seen.{StoresAs}
 use Rattle.stripe_bench.specs.Bench.{IsBench, turned}
-use Rattle.vault.specs.Tasks.{fetched_in, AreOfSetup, Serves, IsAtHand, IsInWork, IsRepair, IsTask, IsRunning}
+use Rattle.vault.specs.Tasks.{fetched_in, AreOfSetup, HasBenchFor, IsAtHand, IsInWork, IsRepair, IsTask, IsRunning}
 use Rattle.vault.proofs.Kits.{turned_is, bench_after, bench_count, first_count, own_after, serves_after, at_hand_after}
 use Rattle.vault.proofs.Allowed.{IsAllowed, next_allowed}
 use Rattle.vault.proofs.Stops.{IsAside, ends_by}
@@ -176,7 +173,7 @@ module _ (w : State) (job : Job) (k o s : ℕ) (next : next_action w job ≡ Som
             benches = subst (λ (l : Vec Bench Global). AreOfSetup (setup_in w) (u.bench ∷ l.items))
                 (sym keeps.3)
                 (own_after (setup_in w) t.bench u.bench t.others.items o is.benches keeps.2);
-            each = λ q. subst (λ (l : Vec Bench Global). Serves (setup_in w)
+            each = λ q. subst (λ (l : Vec Bench Global). HasBenchFor (setup_in w)
                 (pinned_profile (setup_in w).profile job.pinned q) (u.bench ∷ l.items)) (sym keeps.3)
                 (serves_after (setup_in w) (pinned_profile (setup_in w).profile job.pinned q) t.bench u.bench
                 t.others.items o (is.each q) keeps.2);
@@ -334,22 +331,3 @@ module _ (v : Desk) (w : State) (holds : Option Cells) (faults moment number k o
             (record { records = refl; journal = refl; area = refl; switching = refl; doubt = refl; append = refl; faults = refl; barred = refl })
             (ap (without_job w.jobs) (number_of w.jobs number coming.job coming.runs))
             at there aside flight stopped tt handed (λ e. cc)
-
--- ---- what came of the call
-
--- a store whose answer is Ok stored its block
-pub was_stored : (o s : ℕ) (block : List ℕ) (r : Result Unit StoreFault) (x : Unit) (p q : Provider) →
-    r ≡ Ok x → StoresAs o s block r p q → Stores o s block p q
-was_stored o s block r x p q is as_ = subst (λ (y : Result Unit StoreFault). StoresAs o s block y p q) is as_
-
--- a store whose answer is a failure failed at the provider
-pub was_failed : (o s : ℕ) (block : List ℕ) (r : Result Unit StoreFault) (f : StoreFault) (p q : Provider) →
-    r ≡ Err f → f ≡ store_fault.Failed → StoresAs o s block r p q → FailsToStore p q
-was_failed o s block r f p q is fault as_ = subst (λ (y : Result Unit StoreFault). StoresAs o s block y p q)
-    (is ∙ ap (λ (y : StoreFault). Err y) fault) as_
-
--- a store whose answer is that memory ran out found none at the provider
-pub found_no_memory : (o s : ℕ) (block : List ℕ) (r : Result Unit StoreFault) (f : StoreFault)
-    (p q : Provider) → r ≡ Err f → f ≡ store_fault.Memory → StoresAs o s block r p q → FindsNoMemory p q
-found_no_memory o s block r f p q is fault as_ = subst
-    (λ (y : Result Unit StoreFault). StoresAs o s block y p q) (is ∙ ap (λ (y : StoreFault). Err y) fault) as_

@@ -1,12 +1,15 @@
 -- Streams of a vault: which wait, how they begin, and how they are given up.
 use mathlib.Core.Bool.{Bool-set}
-use Rattle.std.proofs.Common.{◌≡◌, ℕ, zero, suc, ◌+◌, ◌*◌, ◌≤◌, ◌==◌, Bool, true, false, List, [], ◌∷◌, length, take, Option, Some, None, Result, Ok, Err, refl, sym, ap, subst, ◌∙◌, inl, inr, arith}
-use Rattle.std.specs.Prelude.{◌&&◌, IsSome, is_some, slice_get, IfOk, OnErr}
-use Rattle.std.specs.List.{All, list_all, remove}
+use Rattle.std.proofs.Common.{◌≡◌, ℕ, ◌+◌, ◌*◌, ◌≤◌, ◌==◌, true, false, List, [], ◌∷◌, length, take, Option, Some, None, Result, Ok, Err, refl, sym, ap, subst, ◌∙◌, inl, inr, arith}
+use Rattle.std.specs.Prelude.{IsSome, is_some, slice_get, IfOk, OnErr}
+use Rattle.std.specs.List.{All, remove}
 use Rattle.std.proofs.lemmas.Bool.{cases_Bool, cases_eq, false≢true}
-use Rattle.std.proofs.lemmas.List.Elements.{All-head, All-tail}
+use Rattle.std.proofs.lemmas.List.Elements.{All-head, All-tail, All-take}
 use Rattle.std.proofs.Math.Logic.{∥∥₁_map}
 use Rattle.std.proofs.Math.Nat.{ℕ_set}
+use Rattle.std.proofs.lemmas.Option.{none-some}
+use Rattle.std.proofs.lemmas.List.Sums.{AllPass-from_list_all, list_all-from_AllPass}
+use Rattle.std.proofs.lemmas.List.{length-take}
 use Rattle.device_defs.specs.Providers.{Provider}
 use Rattle.record_codec.specs.Entries.{with_master}
 use Rattle.record_defs.specs.Records.{Setup, is_byte, largest_file}
@@ -28,7 +31,7 @@ use Rattle.vault.specs.declared.tasks.Running.{Running}
 use Rattle.vault.specs.declared.tasks.StreamTask.{StreamTask}
 use Rattle.vault.specs.AtHand.{IsStreaming, piece_size}
 use Rattle.vault.specs.Benches.{IsBenchFor}
-use Rattle.vault.specs.Desks.{DeskStands, DeskMakesBegin, EndsIn, HasEnds, IsAtWork}
+use Rattle.vault.specs.Desks.{DeskStands, DeskMakesBegin, PutEndsIn, HasEnds, IsAtWork}
 use Rattle.vault.specs.Outcomes.{begin_outcome}
 use Rattle.vault.specs.Running.{place_in, IsSameDesk, KeepsAll}
 use Rattle.vault.specs.Streams.{stripe_by}
@@ -39,10 +42,8 @@ use Rattle.vault.proofs.GivenStripes.{waits_runs, waiting, streaming, bench_byte
 use Rattle.vault.proofs.Hands.{hands_without, task_at}
 use Rattle.vault.proofs.JobPlaces.{found, place_is, taken_out}
 use Rattle.vault.proofs.Props.{streaming_prop}
-use Rattle.vault.proofs.Ways.{handed_same, setup_same, stands_on}
-
-none_some : {X Y : Type 0} (x : X) → None ≡ Some x → Y
-none_some x e = absurd (let f : ⊥ = cc in f)
+use Rattle.vault.proofs.Ways.{stands_on}
+use Rattle.hail_scrub.proofs.Machine.{setup_same, handed_same}
 
 -- ---- which wait
 
@@ -71,24 +72,8 @@ stream-task v d w moment name bytes own t size profile stands bench is none = re
   bench = subst (λ (p : ℕ). IsBench (setup_in w) p t.bench)
       (is v.master.0 ∙ ap (λ (s : Setup). chosen s own) (sym stands.setup))
       (bench-is v (setup_in w) 0 size profile t.bench stands.shaped stands.setup bench);
-  rows = λ x hand. none_some x (sym none ∙ hand);
+  rows = λ x hand. absurd (none-some x (sym none ∙ hand));
 }
-
-both : (a b c : Bool) → (a && b) ≡ true → (b ≡ true → c ≡ true) → (a && c) ≡ true
-both true b c is so = so is
-both false b c is so = absurd (false≢true is)
-
--- bytes that are cut off are bytes
-bytes_cut : (n : ℕ) (xs : List ℕ) → AreBytes xs → AreBytes (take n xs)
-bytes_cut zero xs is = refl
-bytes_cut (suc n) [] is = refl
-bytes_cut (suc n) (x ∷ xs) is =
-    both (is_byte x) (list_all is_byte xs) (list_all is_byte (take n xs)) is (λ rest. bytes_cut n xs rest)
-
-length_cut : (n : ℕ) (xs : List ℕ) → length (take n xs) ≤ n
-length_cut zero xs = omega arith
-length_cut (suc n) [] = omega arith
-length_cut (suc n) (x ∷ xs) = (let l = length_cut n xs in omega (arith, l))
 
 -- what a begin of a stream leaves
 pub record OpensStream (old new : Desk) (result : Result ℕ BeginFault) : Type 0 where
@@ -114,9 +99,9 @@ stream_ends old new (Ok job) name bytes own w state moment rest opens core core'
           (let e : Some 0 ≡ Some stripes =
           sym opens.opened ∙ ap (told_in new.core.jobs) (opens.number ∙ sym mine) ∙ told in cc) in
           let zero_is : 0 ≡ 0 * stripe_size (setup_in state) j.profile = omega arith in
-          subst (λ (x : Job). EndsIn (stripes * stripe_size (setup_in state) j.profile) (rest m) x.kind)
+          subst (λ (x : Job). PutEndsIn (stripes * stripe_size (setup_in state) j.profile) (rest m) x.kind)
           (sym h.1)
-          (subst (λ (k : ℕ). EndsIn k (rest m) (PutJob name bytes))
+          (subst (λ (k : ℕ). PutEndsIn k (rest m) (PutJob name bytes))
           (zero_is ∙ ap (λ (k : ℕ). k * stripe_size (setup_in state) j.profile) none) (
             [],
             is ∙ ap (λ (k : ℕ). take largest_file (rest k)) (sym mine),
@@ -126,12 +111,12 @@ stream_ends old new (Ok job) name bytes own w state moment rest opens core core'
           let below = numbered-below 0 w.jobs w.next_job m j core.sound.numbered h in
           let next = core.next_job in
           let other : m ≡ old.core.next_job → ⊥ = (λ e. omega (arith, below, next, e)) in
-          subst (λ (s : Setup). EndsIn (stripes * stripe_size s j.profile) (rest m) j.kind) same
+          subst (λ (s : Setup). PutEndsIn (stripes * stripe_size s j.profile) (rest m) j.kind) same
           (ends m stripes j (sym (opens.others m other) ∙ told) h))
     ]
 stream_ends old new (Err why) name bytes own w state moment rest opens core core' begins is ends m stripes j told runs =
     let same : setup_in w ≡ setup_in state = sym core.setup ∙ sym opens.setup ∙ core'.setup in
-    subst (λ (s : Setup). EndsIn (stripes * stripe_size s j.profile) (rest m) j.kind) same
+    subst (λ (s : Setup). PutEndsIn (stripes * stripe_size s j.profile) (rest m) j.kind) same
     (ends m stripes j (ap (λ (c : CoreView). told_in c.jobs m) (sym opens.unchanged.core) ∙ told)
     (ap (λ (x : State). job_of x.jobs m) (sym begins.2) ∙ runs))
 
@@ -145,8 +130,10 @@ stream_works old new name own result opens makes at = λ rest are.
     ∥∥₁_map (at rest are) (λ x.
     let bytes = take largest_file (rest old.core.next_job) in
     let m = makes x.0 (devices None x.1 x.2) 0 bytes x.3
-    (bytes_cut largest_file (rest old.core.next_job) (are old.core.next_job))
-    (length_cut largest_file (rest old.core.next_job)) in (
+    (list_all-from_AllPass is_byte bytes
+    (All-take (λ (b : ℕ). is_byte b ≡ true) largest_file (rest old.core.next_job)
+    (AllPass-from_list_all is_byte (rest old.core.next_job) (are old.core.next_job))))
+    (let l = length-take largest_file (rest old.core.next_job) in omega (arith, l)) in (
       m.state,
       x.1,
       x.2,
@@ -230,7 +217,7 @@ module _ (v v' : Desk) (number : ℕ) (g : IsAbandoned v v' number) where
   -- all other jobs run on as they were
   others_told : (m : ℕ) (j : CoreJob) → job_in v'.core.jobs m ≡ Some j → j.told ≡ told_in v.core.jobs m
   others_told m j is = elim (cases_eq m number) [
-    | inl e ↦ none_some j (sym (ap (job_in v'.core.jobs) e ∙ g.gone) ∙ is)
+    | inl e ↦ absurd (none-some j (sym (ap (job_in v'.core.jobs) e ∙ g.gone) ∙ is))
     | inr n ↦ ap told_by (sym is ∙ g.others m n)
   ]
 
@@ -271,7 +258,7 @@ module _ (v v' : Desk) (number : ℕ) (g : IsAbandoned v v' number) where
             let h = found_without x.0.jobs number m j
             (ap (λ (n : ℕ). job_of (without_job x.0.jobs n) m)
             (sym (number_of x.0.jobs number runs.0 runs.1)) ∙ jobs) in
-            subst (λ (s : Setup). EndsIn (stripes * stripe_size s j.profile) (rest m) j.kind)
+            subst (λ (s : Setup). PutEndsIn (stripes * stripe_size s j.profile) (rest m) j.kind)
             (sym (setup_same x.0 (ended x.0 runs.0) refl))
             (x.4 m stripes j (ap told_by (sym (g.others m h.0)) ∙ told) h.1),
       ))

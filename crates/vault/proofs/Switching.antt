@@ -25,7 +25,7 @@ use Rattle.vault_core.specs.View.{CoreJob}
 use Rattle.vault_open.specs.Devices.{Devices, devices, AreDevices}
 use Rattle.vault.specs.declared.desk.Desk.{Desk}
 use Rattle.vault.specs.Desks.{DeskStands, IsAtWork}
-use Rattle.vault.specs.Packing.{IsQuiet, IsTextOf}
+use Rattle.vault.specs.Packing.{IsQuiet, IsPackText}
 use Rattle.vault.proofs.Aside.{none-flies, none-doubted}
 use Rattle.vault.proofs.Free.{none_run}
 
@@ -81,7 +81,7 @@ module _ (v : Desk) (quiet : IsQuiet v) (w : State) (d : Devices) (S : DeskStand
   pub clear : w.append ≡ None
   clear = none-flies w idle S.core.sound
 
-  module _ (p : Pack) (text : IsTextOf v p) where
+  module _ (p : Pack) (text : IsPackText v p) where
     pub second : version_of w.records ≡ 2
     second = sym S.core.sound.journal.alike.version ∙ (sym S.core.table.version ∙ text.version)
 
@@ -118,7 +118,7 @@ module _ (v : Desk) (quiet : IsQuiet v) (w : State) (d : Devices) (S : DeskStand
         })
 
 -- so it goes on to be at work
-pub moved-works : (v v' : Desk) (p : Pack) → IsQuiet v → IsTextOf v p
+pub moved-works : (v v' : Desk) (p : Pack) → IsQuiet v → IsPackText v p
     → v' ≡ record v { base = to_of p; core = v'.core }
     → ((w : State) (d : Devices) → DeskStands v d w → CoreIs v'.core (switched w)) → IsAtWork v → IsAtWork v'
 moved-works v v' p quiet text is core at = λ rest bytes.

@@ -3,7 +3,7 @@ use Rattle.std.proofs.Common.{ℕ, ◌<◌, ◌^◌, Bool, true, false, List, Op
 use Rattle.std.specs.Prelude.{IfSome}
 use Rattle.device_defs.specs.Cells.{Cells}
 use Rattle.device_defs.specs.Providers.{Provider}
-use Rattle.device_defs.specs.ProviderCalls.{StoreCounts, OtherCounts, Stores, FindsNoMemory, FailsToStore, Fetches, IsBlock, Asks, Removes}
+use Rattle.device_defs.specs.ProviderCalls.{OtherCounts, IsBlock, Asks, Removes}
 use Rattle.device_defs.specs.Told.{Goes}
 use Rattle.journal_core.specs.declared.append.Append.{Append}
 use Rattle.vault.specs.declared.flight.Moved.{Moved}
@@ -16,60 +16,16 @@ use Rattle.vault.specs.Asking.{Asked, IsAuditing}
 use Rattle.stripe_bench.specs.Blocks.{given_of}
 use Rattle.vault.specs.Devices.{cells_by}
 use Rattle.stripe_bench.specs.Calls.{provider_by}
+use Rattle.stripe_bench.proofs.Sights.{if_given}
 use Rattle.vault.specs.Fetching.{TakesFetch, fetch_size}
 use Rattle.vault.specs.Flights.{MakesMove}
 
 -- ---- providers
 
-store_counts : (p q : Provider) → StoreCounts p q
-    → StoreCounts (record p { held = None }) (record q { held = None })
-store_counts p q h =
-    record { store_faults = h.store_faults; other_faults = h.other_faults; fetches = h.fetches }
-
 other_counts : (p q : Provider) → OtherCounts p q
     → OtherCounts (record p { held = None }) (record q { held = None })
 other_counts p q h =
     record { store_faults = h.store_faults; other_faults = h.other_faults; fetches = h.fetches }
-
--- a store that is done
-pub stores_by : (is_told : Bool) (o s : ℕ) (block : List ℕ) (p q : Provider) → Stores o s block p q
-    → Stores o s block (provider_by is_told p) (provider_by is_told q)
-stores_by true o s block p q h = h
-stores_by false o s block p q h = record { held = refl; counts = store_counts p q h.counts }
-
--- a store that found no memory
-pub no_memory_by : (is_told : Bool) (p q : Provider) → FindsNoMemory p q
-    → FindsNoMemory (provider_by is_told p) (provider_by is_told q)
-no_memory_by true p q h = h
-no_memory_by false p q h = record { held = refl; counts = store_counts p q h.counts; no_fault = h.no_fault }
-
--- a store that failed
-pub fails_by : (is_told : Bool) (p q : Provider) → FailsToStore p q
-    → FailsToStore (provider_by is_told p) (provider_by is_told q)
-fails_by true p q h = h
-fails_by false p q h = record { held = refl; counts = store_counts p q h.counts; cause = h.cause }
-
--- a fetch, of a block where it gave something
-pub fetches_by : (is_told : Bool) (size o s : ℕ) (p q : Provider) (given : Option (List ℕ))
-    → IfSome given (IsBlock size) → Fetches size o s p given q
-    → Fetches size o s (provider_by is_told p) given (provider_by is_told q)
-fetches_by true size o s p q given block h = h
-fetches_by false size o s p q given block h = record {
-  held = refl;
-  counts = record {
-    store_faults = h.counts.store_faults;
-    other_faults = h.counts.other_faults;
-    fetches = h.counts.fetches;
-  };
-  gives = elim h.gives [
-    | inl gives ↦ inl block
-    | inr fails ↦ inr fails
-  ];
-}
-
-if_given : (P : List ℕ → Type 0) (found : Bool) (block : List ℕ) → P block → IfSome (given_of found block) P
-if_given P true block h = h
-if_given P false block h = tt
 
 -- what a fetch left is a block
 pub taken : (t u : Task) (fetch : Fetch) (found : Bool) (block : List ℕ) → TakesFetch t u fetch found block

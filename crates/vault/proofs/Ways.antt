@@ -1,19 +1,17 @@
 -- What every step of a job has in common.
-use Rattle.std.proofs.Common.{◌≡◌, ℕ, zero, suc, ◌<◌, ◌≤◌, ◌==◌, Bool, true, List, [], ◌∷◌, length, Option, Some, None, refl, sym, ap, subst, ◌∙◌, inl, inr, arith, ◌+◌}
+use Rattle.std.proofs.Common.{◌≡◌, ℕ, ◌<◌, ◌≤◌, ◌==◌, Bool, true, List, length, Option, Some, None, refl, sym, ap, subst, ◌∙◌, inl, inr, arith, ◌+◌}
 use Rattle.std.specs.Prelude.{slice_get, slice_set}
 use Rattle.std.proofs.Common.{length-set}
 use Rattle.std.proofs.lemmas.Bool.{cases_eq, eq-eqb, ne_eqb}
-use Rattle.algebra_laws.proofs.Lists.{get-set_same}
+use Rattle.algebra_laws.proofs.Lists.{get-set_same, get-set_other}
 use Rattle.device_defs.specs.Cells.{Cells}
 use Rattle.device_defs.specs.Providers.{Provider}
 use Rattle.record_defs.specs.Records.{Setup, Record}
-use Rattle.record_defs.specs.Table.{setup_of}
 use Rattle.record_defs.specs.Areas.{Area, base_of, end_in}
 use Rattle.machine_defs.specs.Actions.{Action, actions_of, actions_by, actions_left}
 use Rattle.machine_defs.specs.Events.{Outcome, Step, More}
 use Rattle.machine_defs.specs.Jobs.{Kind, PutJob, GetJob, DropJob, AuditJob, RepairJob, UpgradeJob, Given, Job, with_job, job_of}
 use Rattle.machine_defs.specs.Machine.{Happens}
-use Rattle.machine_defs.specs.Setups.{setup_or_none}
 use Rattle.machine_defs.specs.States.{State, Append, Alone, setup_in, with_provider}
 use Rattle.machine_defs.specs.Steps.{Acts, ActsOrWaits, StepsOn, StepsJob, StepsOne, StepsOpen, Steps, next_action}
 use Rattle.machine_defs.proofs.JobLists.{cond_true, cond_false, number_of}
@@ -43,6 +41,7 @@ use Rattle.journal_core.proofs.BeyondLemmas.{goes_still}
 use Rattle.vault.specs.AtHand.{hand_of, HasAtHand, AreAtHand, KeepsStreams}
 use Rattle.vault.proofs.Allowed.{IsAllowed, next_allowed}
 use Rattle.vault.proofs.Hands.{waits_not, hand_on, no_hand, hands_with}
+use Rattle.hail_scrub.proofs.Machine.{setup_same}
 
 -- what comes of the next action of a job is a step of the machine
 pub happens_by : (w new : State) (moment number : ℕ) (action : Action) (outcome : Outcome) →
@@ -72,20 +71,7 @@ actions_same s j place given = by_kind j.kind
     by_kind RepairJob = refl
     by_kind UpgradeJob = refl
 
--- a state whose setup is the same
-pub setup_same : (w new : State) → new.records ≡ w.records → setup_in new ≡ setup_in w
-unfolding setup_in
-setup_same w new is = ap (λ (rs : List Record). setup_or_none (setup_of rs)) is
-
 -- ---- providers
-
-get_elsewhere : {X : Type 0} (xs : List X) (k j : ℕ) (x : X) → (j ≡ k → ⊥) →
-    slice_get (slice_set xs k x) j ≡ slice_get xs j
-get_elsewhere [] k j x other = refl
-get_elsewhere (y ∷ ys) zero zero x other = absurd (other refl)
-get_elsewhere (y ∷ ys) zero (suc j) x other = refl
-get_elsewhere (y ∷ ys) (suc k) zero x other = refl
-get_elsewhere (y ∷ ys) (suc k) (suc j) x other = get_elsewhere ys k j x (λ e. other (ap suc e))
 
 -- one of the providers handed in changed
 pub handed_on : (ps : List Provider) (w new : State) (k : ℕ) (p : Provider) → AreHanded ps w → k < length ps →
@@ -96,17 +82,11 @@ handed_on ps w new k p are less handed providers = record {
   each = λ j below. elim (cases_eq j k) [
     | inl same ↦ ap (slice_get (slice_set ps k p)) same ∙ get-set_same ps k p less
         ∙ ap Some (sym (providers j ∙ cond_true (j == k) p (w.providers j) (eq-eqb j k same)))
-    | inr other ↦ get_elsewhere ps k j p other
+    | inr other ↦ get-set_other ps k j p other
         ∙ are.each j (subst (λ (n : ℕ). j < n) (length-set ps k p) below)
         ∙ ap Some (sym (providers j ∙ cond_false (j == k) p (w.providers j) (ne_eqb j k other)))
   ];
 }
-
--- none of them did
-pub handed_same : (ps : List Provider) (w new : State) → AreHanded ps w → new.handed ≡ w.handed →
-    ((j : ℕ) → new.providers j ≡ w.providers j) → AreHanded ps new
-handed_same ps w new are handed providers =
-    record { count = handed ∙ are.count; each = λ j below. are.each j below ∙ ap Some (sym (providers j)) }
 
 -- ---- the state after
 

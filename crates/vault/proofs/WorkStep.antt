@@ -39,14 +39,15 @@ use Rattle.vault.specs.Running.{place_in, heard_of, KeepsAll, IsFed, IsStopped}
 use Rattle.vault.specs.Desks.{DeskStands, Comes, DeskMakesStep}
 use Rattle.stripe_bench.specs.declared.bench.Bench.{Bench}
 use Rattle.stripe_bench.specs.Bench.{bench_object, turned, IsBench}
-use Rattle.vault.specs.Tasks.{AreOfSetup, Serves, IsAtHand, IsGet, IsRepair, IsTask, IsRunning, HasFetched}
+use Rattle.vault.specs.Tasks.{AreOfSetup, HasBenchFor, IsAtHand, IsGet, IsRepair, IsTask, IsRunning, HasFetched}
 use Rattle.vault.proofs.OwnObjects.{worked-own}
 use Rattle.vault.proofs.Allowed.{IsAllowed, next_allowed}
 use Rattle.vault.proofs.Kits.{turned_is, bench_after, bench_count, first_count, own_after, serves_after}
 use Rattle.vault.proofs.Stops.{ends_by}
-use Rattle.vault.proofs.Ways.{actions_same, at_place, handed_same, goes_on, hands_alike}
+use Rattle.vault.proofs.Ways.{actions_same, at_place, goes_on, hands_alike}
 use Rattle.vault.proofs.Worked.{all_fetched, order_opened, enough_present, enough_symbols, last_is}
 use Rattle.stripe_bench.proofs.Gifts.{worked_is, worked_other}
+use Rattle.hail_scrub.proofs.Machine.{handed_same}
 
 -- ---- the bytes of a get
 
@@ -314,7 +315,7 @@ module _ (w : State) (job : Job) (o s : ℕ) (next : next_action w job ≡ Some 
           kind = is.kind;
           benches = subst (λ (l : Vec Bench Global). AreOfSetup st (u.bench ∷ l.items)) (sym takes.2)
               (own_after st t.bench u.bench t.others.items o is.benches takes.1);
-          each = λ q. subst (λ (l : Vec Bench Global). Serves st
+          each = λ q. subst (λ (l : Vec Bench Global). HasBenchFor st
               (pinned_profile st.profile job.pinned q) (u.bench ∷ l.items)) (sym takes.2)
               (serves_after st (pinned_profile st.profile job.pinned q) t.bench u.bench t.others.items o
               (is.each q) takes.1);

@@ -20,7 +20,7 @@ use Rattle.record_defs.specs.Records.{Setup}
 use Rattle.machine_defs.specs.Jobs.{Kind, PutJob, Job, job_of}
 use Rattle.machine_defs.specs.Setups.{put_stripes}
 use Rattle.stripe_bench.specs.Bench.{bench_object}
-use Rattle.vault_core.specs.View.{CoreJob, CoreView, job_in, told_in, IsStreamless}
+use Rattle.vault_core.specs.View.{CoreJob, CoreView, job_in, told_in, HasNoStream}
 use Rattle.vault.specs.declared.tasks.Running.{Running}
 use Rattle.vault.specs.declared.tasks.Task.{Task}
 use Rattle.vault.specs.declared.tasks.Task.TheVariants as task
@@ -82,5 +82,5 @@ TakesPiece t u piece stripe = ⊥
 -- no stream was opened, and each job was told what it was told before
 pub record KeepsStreams (old new : CoreView) : Type 0 where
   pub setup : new.setup ≡ old.setup
-  pub none : IsStreamless old → IsStreamless new
+  pub none : HasNoStream old → HasNoStream new
   pub told : (number : ℕ) (j : CoreJob) → job_in new.jobs number ≡ Some j → j.told ≡ told_in old.jobs number

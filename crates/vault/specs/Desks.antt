@@ -7,7 +7,7 @@
 --                                    far
 --   DeskStands v d w              == the desk and the devices stand for a state in which a vault is open, and
 --                                    nothing runs alone
---   EndsIn place rest kind        == the file of a put has these bytes behind its first ones, as far as it may
+--   PutEndsIn place rest kind     == the file of a put has these bytes behind its first ones, as far as may be
 --   HasEnds v w rest              == so does that of each open stream, behind the stripes given so far
 --   IsAtWork v                    == whatever its streams are still given, the desk stands for some state,
 --                                    over some devices of which the disk tells nothing: what its parts owe
@@ -74,17 +74,17 @@ pub record DeskStands (v : Desk) (d : Devices) (w : State) : Type 0 where
   pub flight : w.is_barred ≡ false → IsFlight v.flight w.append w.area w.journal d.holds
 
 -- the file of a put has these bytes behind its first ones, as far as it may
-abbrev pub EndsIn : ℕ → List ℕ → Kind → Type 0
-EndsIn place rest (PutJob name bytes) =
+abbrev pub PutEndsIn : ℕ → List ℕ → Kind → Type 0
+PutEndsIn place rest (PutJob name bytes) =
     (before : List ℕ) × (bytes ≡ before ++ take (largest_file - place) rest) × (length before ≡ place)
-EndsIn place rest kind = ⊥
+PutEndsIn place rest kind = ⊥
 
 -- so does the file of each open stream, behind the stripes given so far
 abbrev pub HasEnds : Desk → State → (ℕ → List ℕ) → Type 0
 HasEnds v w rest =
     (number stripes : ℕ) (job : Job) → told_in v.core.jobs number ≡ Some stripes
     → job_of w.jobs number ≡ Some job
-    → EndsIn (stripes * stripe_size (setup_in w) job.profile) (rest number) job.kind
+    → PutEndsIn (stripes * stripe_size (setup_in w) job.profile) (rest number) job.kind
 
 -- whatever its streams are still given, the desk stands for some state, over some devices of which the disk
 -- tells nothing

@@ -1,10 +1,10 @@
 -- What a move of an append does.
 --
---   HasFailed moved              == the disk failed
---   GoesOn, EndsAppend, GivesUp  == the disk after a move behind which others are left, after the last one,
---                                   after one that failed
---   MakesMove a old moved new    == by what came of it
---   ChangesCells a old moved new == the cells after a move, by what came of it
+--   HasFailed moved                 == the disk failed
+--   GoesOn, EndsAppend, FailsAppend == the disk after a move behind which others are left, after the last
+--                                      one, after one that failed
+--   MakesMove a old moved new       == by what came of it
+--   ChangesCells a old moved new    == the cells after a move, by what came of it
 use Rattle.std.specs.Prelude.{◌≡◌, ◌+◌, ◌<◌, List, ◌∷◌, Option, IfSome}
 use Rattle.std.specs.Option.{option_map}
 use Rattle.device_defs.specs.Cells.{Cells}
@@ -35,7 +35,7 @@ pub record EndsAppend (area : Area) (rs : List Record) (r : Record) (told : Opti
   pub ready : IfSome told (StandsFirm area (r ∷ rs))
 
 -- after a move that failed
-pub record GivesUp (a : Append) (area : Area) (rs : List Record) (r : Record) (told : Option Cells) :
+pub record FailsAppend (a : Append) (area : Area) (rs : List Record) (r : Record) (told : Option Cells) :
     Type 0 where
   pub before : moves_of a < 2 → AllStandIn area rs told
   pub between : MayStandWith area rs r told
@@ -50,7 +50,7 @@ MakesMove a old moved.Done new =
     (moves_of a ≡ 3)
     × ((area : Area) (rs : List Record) (r : Record) → Appends area rs r a old → EndsAppend area rs r new)
 MakesMove a old moved.Failed new =
-    (area : Area) (rs : List Record) (r : Record) → Appends area rs r a old → GivesUp a area rs r new
+    (area : Area) (rs : List Record) (r : Record) → Appends area rs r a old → FailsAppend a area rs r new
 MakesMove a old moved.Memory new =
     IsWrite (moves_of a) × (new ≡ old)
     × ((area : Area) (rs : List Record) (r : Record) → Appends area rs r a old

@@ -11,7 +11,7 @@ use Rattle.std.specs.Prelude.{◌≡◌, ℕ, ◌+◌, ◌*◌, ◌≤◌, List,
 use Rattle.column_defs.specs.Objects.{bytes_of_symbols, stripe_symbols}
 use Rattle.column_defs.specs.Opened.{SeenBlock, GivesSymbols, LosesRow}
 use Rattle.column_codec.specs.declared.opening.RowLost.{RowLost}
-use Rattle.stripe_bench.specs.Bench.{bench_object, turned, HasLast}
+use Rattle.stripe_bench.specs.Bench.{bench_object, turned, HasAllBlocks}
 use Rattle.stripe_bench.specs.Blocks.{last_blocks, HasEmptied}
 use Rattle.vault.specs.declared.tasks.Task.{Task}
 use Rattle.vault.specs.declared.tasks.Task.TheVariants as task
@@ -62,7 +62,7 @@ WorksAs old new object stripe (Err lost) = LosesWork old object stripe lost.row 
 -- a job has the blocks of a stripe, and room for its bytes
 abbrev pub CanWork : Task → Type 0
 CanWork (task.Get t) =
-    HasLast t.bench t.fetched.blocks
+    HasAllBlocks t.bench t.fetched.blocks
     × (vec_len t.bytes + 16 * stripe_symbols (bench_object t.bench) ≤ vec_capacity t.bytes)
-CanWork (task.Repair t) = HasLast t.bench t.blocks
+CanWork (task.Repair t) = HasAllBlocks t.bench t.blocks
 CanWork t = ⊥

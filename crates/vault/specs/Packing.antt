@@ -4,17 +4,20 @@
 --   pack_answer, pack_outcome  == the machine's answer and outcome
 --   plain w                    == the state without what runs alone, in which the switch byte is not in doubt
 --   IsQuiet v                  == a desk with no job and no append, of which no disk call failed
---   IsTextOf v pack            == the pack writes the packed records of the desk's table into the other area;
+--   IsPackText v pack          == the pack writes the packed records of the desk's table into the other area;
 --                                 the journal has its second version
 --   IsPackOf v job             == the pack is one of this vault, which is held under its number and has no
 --                                 job: until its fourth move it writes that text
 --   StandsPacking v job d w    == vault, pack and devices stand for a state in which this pack runs alone
+--   pack_begun w               == the state in which a pack has begun
 --   PacksOver w d result v     == what a begin comes to
+--   StandsBehind turn v d w    == vault, pack and devices stand for the state, where the pack goes on; where
+--                                 it ended, vault and devices do
 --   MakesPackStep w number turn v d
 --                              == a step is one of the machine's pack
 --   IfMore turn P              == P holds of the pack, where it goes on
---   IfDone turn P              == P holds, where it ended
---   IsDone turn                == the pack ended
+--   IfPackDone turn P          == P holds, where it ended
+--   IsPackDone turn            == the pack ended
 use Rattle.std.specs.Prelude.{◌≡◌, ◌⊎◌, ℕ, ◌+◌, ◌<◌, true, false, [], None, Some, Result, Ok, Err, IfSome}
 use Rattle.record_defs.specs.Areas.{Area, other_area, base_of}
 use Rattle.record_defs.specs.Packed.{packed}
@@ -68,7 +71,7 @@ pub record IsQuiet (v : Desk) : Type 0 where
   pub flight : v.flight ≡ None
 
 -- a pack writes the packed records of the desk's table, of the second version, into the other area
-pub record IsTextOf (v : Desk) (p : moves.Pack) : Type 0 where
+pub record IsPackText (v : Desk) (p : moves.Pack) : Type 0 where
   pub writes : (area : Area) → v.base ≡ base_of area
       → WritesText (other_area area) (packed_table v.core.table) p
   pub version : v.core.table.version ≡ 2
@@ -77,7 +80,7 @@ pub record IsTextOf (v : Desk) (p : moves.Pack) : Type 0 where
 pub record IsPackOf (v : Vault) (job : PackJob) : Type 0 where
   pub held : v.held ≡ Some job.number
   pub quiet : IsQuiet v.desk
-  pub text : moves_of job.pack < 4 → IsTextOf v.desk job.pack
+  pub text : moves_of job.pack < 4 → IsPackText v.desk job.pack
 
 -- vault, pack and devices stand for a state in which this pack runs alone
 pub record StandsPacking (v : Vault) (job : PackJob) (d : Devices) (w : State) : Type 0 where
@@ -123,11 +126,11 @@ IfMore (turn.More job) P = P job
 IfMore (turn.Done a) P = Unit {0}
 
 -- a fact, where it ended
-abbrev pub IfDone : PackTurn → Type 0 → Type 0
-IfDone (turn.More job) P = Unit {0}
-IfDone (turn.Done a) P = P
+abbrev pub IfPackDone : PackTurn → Type 0 → Type 0
+IfPackDone (turn.More job) P = Unit {0}
+IfPackDone (turn.Done a) P = P
 
 -- the pack ended
-abbrev pub IsDone : PackTurn → Type 0
-IsDone (turn.More job) = ⊥
-IsDone (turn.Done a) = Unit {0}
+abbrev pub IsPackDone : PackTurn → Type 0
+IsPackDone (turn.More job) = ⊥
+IsPackDone (turn.Done a) = Unit {0}

@@ -38,7 +38,7 @@ KeepsTold old new job =
 
 -- no stream is open
 abbrev pub IsStreamless : Vault → Type 0
-IsStreamless v = core.IsStreamless v.desk.core
+IsStreamless v = core.HasNoStream v.desk.core
 
 -- where none was open, none is
 abbrev pub KeepsStreamless : Vault → Vault → Type 0

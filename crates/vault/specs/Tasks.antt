@@ -7,7 +7,7 @@
 --                                         its symbols
 --   AreOfSetup s benches               == each bench is that of an object of the setup at some profile
 --   OneHas P xs                        == one of these has it
---   Serves s profile benches           == one of them is that of such an object at this profile
+--   HasBenchFor s profile benches      == one of them is that of such an object at this profile
 --   IsAtHand s pinned phase bench      == the bench is that of the object in work, by the profile of its file
 --   IsPutTask, IsStream, IsGet, IsDrop, IsAudit, IsRepair, IsUpgrade s task job rest
 --                                      == what a job of this kind works with
@@ -85,8 +85,8 @@ OneHas P [] = ⊥
 OneHas P (x ∷ xs) = P x ⊎ OneHas P xs
 
 -- one of these benches is that of an object of the setup at this profile
-abbrev pub Serves : Setup → ℕ → List Bench → Type 0
-Serves s profile benches = OneHas (λ b. IsBench s profile b) benches
+abbrev pub HasBenchFor : Setup → ℕ → List Bench → Type 0
+HasBenchFor s profile benches = OneHas (λ b. IsBench s profile b) benches
 
 -- the bench is that of the object in work
 abbrev pub IsAtHand : Setup → List Pinned → Phase → Bench → Type 0
@@ -189,7 +189,7 @@ pub record IsAudit (s : Setup) (t : AuditTask) (job : Job) (rest : List Action) 
 pub record IsRepair (s : Setup) (t : RepairTask) (job : Job) (rest : List Action) : Type 0 where
   pub kind : job.kind ≡ RepairJob
   pub benches : AreOfSetup s (t.bench ∷ t.others.items)
-  pub each : (o : ℕ) → Serves s (pinned_profile s.profile job.pinned o) (t.bench ∷ t.others.items)
+  pub each : (o : ℕ) → HasBenchFor s (pinned_profile s.profile job.pinned o) (t.bench ∷ t.others.items)
   pub size : t.blocks.size ≡ t.bench.keys.file.profile.size
   pub phase : Phase
   pub bench : IsAtHand s job.pinned phase t.bench

@@ -12,7 +12,7 @@ ghost use Rattle.vault_core.specs.Carried.{refusal_of};
 ghost use Rattle.vault_core.specs.declared.wish.BeginFault.TheVariants as fault;
 ghost use Rattle.vault_open.specs.Devices.{Devices, AreDevices};
 ghost use Rattle.vault.specs.Desks.{DeskStands, IsAtWork};
-ghost use Rattle.vault.specs.Packing.{IsQuiet, IsTextOf};
+ghost use Rattle.vault.specs.Packing.{IsQuiet, IsPackText};
 
 use crate::desk::Desk;
 use journal_core::{FIRST_BASE, SECOND_BASE};
@@ -88,7 +88,7 @@ impl Desk {
     pub fn switch(&mut self, pack: &Pack)
         requires at_work { IsAtWork self.old }
         requires quiet { IsQuiet self.old }
-        requires text { IsTextOf self.old pack.now }
+        requires text { IsPackText self.old pack.now }
         ensures stands { (w : State) (d e : Devices) → DeskStands self.old d w → AreDevices e (switched w)
             → IfSome e.holds (StandsFirm (other_area w.area) (packed w.journal))
             → DeskStands self.new e (switched w) }

@@ -10,7 +10,7 @@ ghost use Rattle.vault_open.specs.Devices.{Devices, devices};
 ghost use Rattle.vault.specs.declared.packing.PackAnswer.TheVariants as answer;
 ghost use Rattle.vault.specs.declared.packing.PackTurn.TheVariants as pack_turn;
 ghost use Rattle.vault.specs.Devices.{cells_by};
-ghost use Rattle.vault.specs.Packing.{IsPackOf, StandsPacking, PacksOver, MakesPackStep, IfMore, IfDone, IsDone};
+ghost use Rattle.vault.specs.Packing.{IsPackOf, StandsPacking, PacksOver, MakesPackStep, IfMore, IfPackDone, IsPackDone};
 ghost use Rattle.vault.specs.Seen.{held_by, next_job_of, IsUnchanged};
 ghost use Rattle.vault.specs.Stands.{Stands};
 ghost use Rattle.vault.specs.Streams.{KeepsStreamless};
@@ -69,9 +69,9 @@ impl Vault {
             (devices (cells_by is_told (D.holds disk.new)) (D.faults disk.new) providers) }
         ensures goes_on { IfMore result (λ next. IsPackOf self.new next × (next.number ≡ job.number)
             × (moves_of next.pack ≡ moves_of job.pack + 1)) }
-        ensures ends { moves_of job.pack ≡ 4 → IsDone result × (disk.new ≡ disk.old) }
+        ensures ends { moves_of job.pack ≡ 4 → IsPackDone result × (disk.new ≡ disk.old) }
         ensures called { moves_of job.pack < 4 → D.calls disk.new ≡ one_more (D.calls disk.old) }
-        ensures free { IfDone result (held_by self.new ≡ None) }
+        ensures free { IfPackDone result (held_by self.new ≡ None) }
         ensures next_job { next_job_of self.new ≡ next_job_of self.old }
         ensures tells { is_some (D.holds disk.new) ≡ is_some (D.holds disk.old) }
         ensures cause { HasCause (D.faults disk.old) (D.faults disk.new)

@@ -1,13 +1,14 @@
 -- A core with one more job: it is kept, and stands for the state after the begin.
 use Rattle.std.proofs.Common.{rules, ◌≡◌, ◌≢◌, ℕ, zero, suc, ◌+◌, ◌*◌, ◌^◌, ◌<◌, ◌≤◌, Bool, true, false, List, [], ◌∷◌, ◌++◌, Option, Some, None, Vec, Global, length, map, inl, inr, refl, ap, sym, subst, ◌∙◌, length-append, arith}
 use Rattle.std.specs.Prelude.{IsTrue, nat_lt, ◌==◌, ◌||◌, sum, sum_by, if◌then◌else◌, nat_le}
-use Rattle.std.specs.List.{All, AllZip}
+use Rattle.std.specs.List.{All}
 use Rattle.std.specs.Prelude.{Result, Ok, Err, OnOk, OnErr, IfOk}
 use Rattle.std.proofs.lemmas.Bool.{cases_Bool, leb-false, lt-ltb}
 use Rattle.std.proofs.lemmas.Bool.Decides.{nat_tests}
 use Rattle.std.proofs.lemmas.List.Elements.{All-push}
 use Rattle.std.proofs.lemmas.List.Sums.{sum_by_push}
 use Rattle.std.proofs.lemmas.List.{length-map}
+use Rattle.algebra_laws.specs.Lists.{Each}
 use Rattle.record_defs.specs.Records.{Setup, Record, is_setup, largest_journal, all_profiles}
 use Rattle.machine_defs.specs.Jobs.{Kind, PutJob, GetJob, DropJob, AuditJob, RepairJob, UpgradeJob, Aim, ToPut, ToGet, ToDrop, ToAudit, ToRepair, ToUpgrade, aim_of}
 use Rattle.machine_defs.specs.Space.{room_left}
@@ -15,42 +16,37 @@ use Rattle.machine_defs.specs.Events.{Begin, BeginAt, Begun, IsSpelledKind}
 use Rattle.machine_defs.specs.States.{State, Append, setup_in}
 use Rattle.machine_defs.specs.Begins.{refusal_of_begin, beginning, chosen}
 use Rattle.state_laws.specs.Sound.{IsSound}
+use Rattle.state_laws.proofs.Begun.{none-applies}
 use Rattle.state_laws.proofs.Events.{events-sound}
 use Rattle.vault_table.specs.Values.{Kept}
 use Rattle.vault_core.specs.declared.wish.Wish.{Wish}
 use Rattle.vault_core.specs.declared.wish.Wish.TheVariants as wish
 use Rattle.vault_core.specs.declared.wish.BeginFault.{BeginFault}
-use Rattle.vault_core.specs.declared.wish.BeginFault.TheVariants as fault
 use Rattle.vault_core.specs.declared.job.Job.{Job}
 use Rattle.vault_core.specs.declared.own.Core.TheInside.{Inside}
-use Rattle.vault_core.specs.View.{CoreJob, CoreView, appends_in, HasLoneUpgrade, AreRising, job_in, told_by, told_in, IsStreamless}
+use Rattle.vault_core.specs.View.{CoreJob, CoreView, appends_in, HasLoneUpgrade, AreRising, job_in, told_by, told_in, HasNoStream}
 use Rattle.vault_core.proofs.Lone.{lone_more}
 use Rattle.vault_core.proofs.Places.{any-map}
 use Rattle.vault_core.specs.Reserves.{sizes_of, reserved_of, starts_by, starts_of, Reserves}
 use Rattle.vault_core.specs.Coming.{written_as, written_of}
-use Rattle.vault_core.specs.Carried.{IsKindOf, IsAimOf, IsShortAim, IsJobOf, IsCoreFlight, CoreIs, begun}
+use Rattle.vault_core.specs.Carried.{IsKindOf, IsAimOf, IsShortAim, IsJobOf, IsCoreFlight, CoreIs, job_begun}
 use Rattle.vault_core.specs.Parts.{setup_kept, core_job, view_of, MayBegin, IsJobKept, IsCore}
 use Rattle.vault_core.specs.Streams.{stripe_size, IsLongest, IsToldAs, IsTold}
 use Rattle.vault_core.proofs.Told.{streamless_push, told_push, in_push, in_push_other}
 use Rattle.code_defs.specs.Profiles.{profile_of}
-use Rattle.machine_defs.specs.Sights.{is_upgrade, is_busy, is_crowded_for, is_shut, is_full, are_numbers_used_up, are_jobs_in_the_way}
+use Rattle.code_defs.proofs.Profiles.{some_kept}
+use Rattle.machine_defs.specs.Refusals.{Cause}
+use Rattle.machine_defs.specs.Sights.{is_upgrade, is_shut, are_numbers_used_up, are_jobs_in_the_way, causes}
 use Rattle.machine_defs.proofs.Refused.{left_false, right_false}
 use Rattle.vault_core.specs.Wished.{aim_of_wish, profile_named, IsShort}
-use Rattle.vault_core.specs.Refusing.{aims_in, sight_in, word_refusal_in, or_full, refusal_in}
+use Rattle.vault_core.specs.Refusing.{aims_in, sight_in, refusal_in}
 use Rattle.vault_core.specs.Making.{starts_for, appends_for, admitted, AreMore, IsMade}
 use Rattle.vault_core.proofs.Alike.{table-like}
 use Rattle.vault_core.proofs.Joins.{made-is}
 use Rattle.vault_core.proofs.Refusals.{way}
-use Rattle.vault_core.proofs.Kept.{rising_push}
+use Rattle.vault_core.proofs.Kept.{rising_push, zip_push}
 
 -- ---- lists
-
-zip-push : {X Y : Type 0} (R : X → Y → Type 0) (xs : List X) (ys : List Y) (x : X) (y : Y) → AllZip R xs ys →
-    R x y → AllZip R (xs ++ x ∷ []) (ys ++ y ∷ [])
-zip-push R [] [] x y h r = (r, tt)
-zip-push R [] (b ∷ ys) x y h r = absurd h
-zip-push R (a ∷ xs) [] x y h r = absurd h
-zip-push R (a ∷ xs) (b ∷ ys) x y h r = (h.0, zip-push R xs ys x y h.1 r)
 
 seen-push : (js : List Job) (j : Job) → map core_job (js ++ j ∷ []) ≡ map core_job js ++ core_job j ∷ []
 seen-push [] j = refl
@@ -71,71 +67,48 @@ made-room t s k v job made kept =
     ∙ (ap (λ (x : Wish). room_left t.version s (aim_of_wish x) (appends_for v)) made.wish
     ∙ whole-room t.version s v)
 
-none-by : (b u f : Bool) (o : Option BeginFault) →
-    None ≡ (if b then Some fault.MustReopen else (if u then Some fault.Busy else or_full o f)) →
-    (u ≡ false) × (f ≡ false)
-none-by true u f o h = cc
-none-by false true f o h = cc
-none-by false false true None h = cc
-none-by false false false None h = (refl, refl)
-none-by false false f (Some x) h = cc
+-- where no refusal applies, no cause does
+none-of : (c : CoreView) (v : Wish) → refusal_in c v ≡ None →
+    Each (λ (x : Cause). x.applies ≡ false) (causes 8 (sight_in c) (aim_of_wish v) (profile_named v))
+none-of c v h = none-applies (causes 8 (sight_in c) (aim_of_wish v) (profile_named v)) h
 
 -- a begin that is not refused finds a place and room
-pub room-left : (c : CoreView) (v : Wish) → Reserves c → None ≡ refusal_in c v →
+pub room-left : (c : CoreView) (v : Wish) → Reserves c → refusal_in c v ≡ None →
     c.end + sum_by (reserved_of c.table.version c.setup) c.jobs + sum (sizes_of c.table.version c.setup.n v) ≤
     largest_journal
-room-left c v res h =
-    by v (none-by c.barred (is_busy 8 (sight_in c) (aim_of_wish v)) (is_full (sight_in c) (aim_of_wish v))
-    (word_refusal_in (sight_in c) v) h).1
+room-left c v res = by v
   where
     within : (k : ℕ) (u : Bool) → (nat_lt largest_journal k || u) ≡ false → k ≤ largest_journal
     within k u e = grind (arith, nat_tests, e)
 
-    by : (x : Wish) → is_full (sight_in c) (aim_of_wish x) ≡ false →
+    by : (x : Wish) → refusal_in c x ≡ None →
         c.end + sum_by (reserved_of c.table.version c.setup) c.jobs +
         sum (sizes_of c.table.version c.setup.n x) ≤ largest_journal
-    by (wish.Put name size own) e = within _ (are_numbers_used_up (sight_in c) (ToPut name size)) e
-    by (wish.Get name) e =
+    by (wish.Put name size None) h = within _ (are_numbers_used_up (sight_in c) (ToPut name size))
+        (none-of c (wish.Put name size None) h).1.1.1.1.1.0
+    by (wish.Put name size (Some own)) h = within _ (are_numbers_used_up (sight_in c) (ToPut name size))
+        (none-of c (wish.Put name size (Some own)) h).1.1.1.1.1.1.1.0
+    by (wish.Get name) h =
         let r = res.room in let z : sum (sizes_of c.table.version c.setup.n (wish.Get name)) ≡ 0 = refl in
         omega (arith, r, z)
-    by (wish.Drop name) e = within _ false e
-    by wish.Audit e = within _ (are_numbers_used_up (sight_in c) ToAudit) e
-    by wish.Repair e = within _ false e
-    by wish.Upgrade e = within _ false e
-
-word-none : (b u f : Bool) (o : Option BeginFault) →
-    None ≡ (if b then Some fault.MustReopen else (if u then Some fault.Busy else or_full o f)) → o ≡ None
-word-none true u f o h = cc
-word-none false true f o h = cc
-word-none false false f None h = refl
-word-none false false f (Some x) h = cc
+    by (wish.Drop name) h = within _ false (none-of c (wish.Drop name) h).1.1.1.1.0
+    by wish.Audit h = within _ (are_numbers_used_up (sight_in c) ToAudit) (none-of c wish.Audit h).1.1.1.0
+    by wish.Repair h = within _ false (none-of c wish.Repair h).1.1.1.0
+    by wish.Upgrade h = within _ false (none-of c wish.Upgrade h).1.1.1.0
 
 setup_known : (s : Setup) → IsTrue (is_setup s) → IsTrue (nat_lt s.profile all_profiles)
 setup_known s h = search rules
 
 -- a begin that is not refused names no profile but one that there is
-pub own-left : (c : CoreView) (v : Wish) → None ≡ refusal_in c v → (p : ℕ) → profile_named v ≡ Some p → p < 5
-own-left c v h = by v (word-none c.barred (is_busy 8 (sight_in c) (aim_of_wish v))
-    (is_full (sight_in c) (aim_of_wish v)) (word_refusal_in (sight_in c) v) h)
-  where
-    within : (p : ℕ) (r : Option BeginFault) → (if nat_le 5 p then Some fault.BadProfile else r) ≡ None →
-        p < 5
-    within p r e = elim (cases_Bool (nat_le 5 p)) [
-      | inl t ↦ (let f : Some fault.BadProfile ≡ None =
-          sym (ap (λ (b : Bool). if b then Some fault.BadProfile else r) t) ∙ e in cc)
-      | inr f ↦ leb-false 5 p f
-    ]
-
-    by : (x : Wish) → word_refusal_in (sight_in c) x ≡ None → (p : ℕ) → profile_named x ≡ Some p → p < 5
-    by (wish.Put name size (Some own)) e p f =
-        let l = within own (if c.table.version == 1 then Some fault.OldVersion
-        else (if is_crowded_for (sight_in c) name then Some fault.TooManyFiles else None)) e in
-        let g : own ≡ p = cc in omega (arith, l, g)
-    by (wish.Put name size None) e p f = (let g : None ≡ Some p = f in cc)
-    by x e p f = (let g : None ≡ Some p = f in cc)
+pub own-left : (c : CoreView) (v : Wish) → refusal_in c v ≡ None → (p : ℕ) → profile_named v ≡ Some p → p < 5
+own-left c (wish.Put name size (Some own)) h p e =
+    let l = leb-false 5 own (none-of c (wish.Put name size (Some own)) h).1.1.1.0 in
+    let g : own ≡ p = cc in omega (arith, l, g)
+own-left c (wish.Put name size None) h p e = (let g : None ≡ Some p = e in cc)
+own-left c v h p e = (let g : None ≡ Some p = e in cc)
 
 -- so the profile of its job is one that there is
-pub own-known : (c : CoreView) (s : Setup) (v : Wish) → None ≡ refusal_in c v → IsTrue (is_setup s) →
+pub own-known : (c : CoreView) (s : Setup) (v : Wish) → refusal_in c v ≡ None → IsTrue (is_setup s) →
     IsTrue (nat_lt (chosen s (profile_named v)) all_profiles)
 own-known c s v h ok = by (profile_named v) refl
   where
@@ -144,10 +117,9 @@ own-known c s v h ok = by (profile_named v) refl
     by (Some p) e = lt-ltb p 5 (own-left c v h p e)
 
 -- where no refusal applies, fewer than eight jobs run
-pub few-left : (c : CoreView) (v : Wish) → None ≡ refusal_in c v → length c.jobs < 8
+pub few-left : (c : CoreView) (v : Wish) → refusal_in c v ≡ None → length c.jobs < 8
 few-left c v h =
-    let b = (none-by c.barred (is_busy 8 (sight_in c) (aim_of_wish v)) (is_full (sight_in c) (aim_of_wish v))
-    (word_refusal_in (sight_in c) v) h).0 in
+    let b = (none-of c v h).1.0 in
     let w = left_false (nat_le 8 (length (aims_in c.jobs))) _
     (sym (way (aims_in c.jobs) v)
     ∙ right_false (is_shut (sight_in c)) (are_jobs_in_the_way 8 (aims_in c.jobs) (aim_of_wish v)) b) in
@@ -156,11 +128,10 @@ few-left c v h =
     omega (arith, l, m)
 
 -- where no refusal applies, an upgrade begins alone, and nothing begins beside it
-pub lone-left : (c : CoreView) (v : Wish) (y : CoreJob) → y.plan.aim ≡ aim_of_wish v → None ≡ refusal_in c v →
+pub lone-left : (c : CoreView) (v : Wish) (y : CoreJob) → y.plan.aim ≡ aim_of_wish v → refusal_in c v ≡ None →
     HasLoneUpgrade (c.jobs ++ y ∷ [])
 lone-left c v y aim h =
-    let b = (none-by c.barred (is_busy 8 (sight_in c) (aim_of_wish v)) (is_full (sight_in c) (aim_of_wish v))
-    (word_refusal_in (sight_in c) v) h).0 in
+    let b = (none-of c v h).1.0 in
     let s = left_false (is_shut (sight_in c)) (are_jobs_in_the_way 8 (aims_in c.jobs) (aim_of_wish v)) b in
     let w = right_false (is_shut (sight_in c)) (are_jobs_in_the_way 8 (aims_in c.jobs) (aim_of_wish v)) b in
     lone_more c.jobs y (any-map (λ (j : CoreJob). j.plan.aim) is_upgrade c.jobs ∙ s)
@@ -288,20 +259,20 @@ put_kind (Some n) name size own UpgradeJob e = (let f : ToPut name size ≡ ToUp
 begin-sound : (w : State) (kind : Kind) (moment : ℕ) (told : Option ℕ) (v : Wish) → IsSound 8 w →
     w.is_open ≡ true → IsAimOf told v kind → IsSpelledKind kind →
     ((p : ℕ) → profile_named v ≡ Some p → p < 256) →
-    refusal_of_begin 8 w kind (profile_named v) ≡ None → IsSound 8 (begun w moment kind (profile_named v))
+    refusal_of_begin 8 w kind (profile_named v) ≡ None → IsSound 8 (job_begun w moment kind (profile_named v))
 begin-sound w kind moment told (wish.Put name size (Some own)) sound opened of spelled few allowed =
     let p = put_kind told name size (Some own) kind of in
     subst (λ (k : Kind). IsSpelledKind k → refusal_of_begin 8 w k (Some own) ≡ None →
-    IsSound 8 (begun w moment k (Some own))) (sym p.1.1)
+    IsSound 8 (job_begun w moment k (Some own))) (sym p.1.1)
     (λ spelt entered. events-sound 8 moment w sound (omega arith, omega arith)
-    (BeginAt own p.0 p.1.0) (Begun w.next_job) (begun w moment (PutJob p.0 p.1.0) (Some own))
+    (BeginAt own p.0 p.1.0) (Begun w.next_job) (job_begun w moment (PutJob p.0 p.1.0) (Some own))
     (few own refl, spelt) (opened, entered, refl, refl)) spelled allowed
 begin-sound w kind moment told (wish.Put name size None) sound opened of spelled few allowed =
     events-sound 8 moment w sound (omega arith, omega arith) (Begin kind) (Begun w.next_job)
-    (begun w moment kind None) spelled (opened, allowed, refl, refl)
+    (job_begun w moment kind None) spelled (opened, allowed, refl, refl)
 begin-sound w kind moment told v sound opened of spelled few allowed =
     events-sound 8 moment w sound (omega arith, omega arith) (Begin kind) (Begun w.next_job)
-    (begun w moment kind None) spelled (opened, allowed, refl, refl)
+    (job_begun w moment kind None) spelled (opened, allowed, refl, refl)
 
 -- with a new job, a core stands for the machine's state after the begin
 pub core-begun : (c : CoreView) (w : State) (kind : Kind) (moment : ℕ) (v : Wish) (job : Job) → CoreIs c w →
@@ -309,7 +280,7 @@ pub core-begun : (c : CoreView) (w : State) (kind : Kind) (moment : ℕ) (v : Wi
     ((p : ℕ) → profile_named v ≡ Some p → p < 256) →
     refusal_of_begin 8 w kind (profile_named v) ≡ None →
     c.setup.n ≤ 16 → IsMade c.table c.setup c.next_job v job →
-    CoreIs (admitted c v job) (begun w moment kind (profile_named v))
+    CoreIs (admitted c v job) (job_begun w moment kind (profile_named v))
 unfolding setup_in
 core-begun c w kind moment v job is of begins within spelled own allowed most made = record {
   sound = begin-sound w kind moment job.told v is.sound is.is_open of spelled own allowed;
@@ -327,7 +298,7 @@ core-begun c w kind moment v job is of begins within spelled own allowed most ma
   };
   setup = is.setup;
   end = is.end;
-  jobs = zip-push (IsJobOf c.setup) c.jobs w.jobs (core_job job)
+  jobs = zip_push (IsJobOf c.setup) c.jobs w.jobs (core_job job)
       (beginning w moment kind (profile_named v)) is.jobs
       (made-is c.table c.setup w moment v kind job
       (subst (λ (k : ℕ). IsMade c.table c.setup k v job) is.next_job made) most (table-like c w is)
@@ -349,20 +320,13 @@ short-aim wish.Audit k e l = subst IsShortAim e tt
 short-aim wish.Repair k e l = subst IsShortAim e tt
 short-aim wish.Upgrade k e l = subst IsShortAim e tt
 
-some-keep : (p : ℕ) → 1 ≤ (profile_of p).keep
-some-keep zero = omega arith
-some-keep (suc zero) = omega arith
-some-keep (suc (suc zero)) = omega arith
-some-keep (suc (suc (suc zero))) = omega arith
-some-keep (suc (suc (suc (suc p)))) = omega arith
-
 -- a setup within its limits has a primary provider
 pub primary : (s : Setup) → IsTrue (is_setup s) → 1 ≤ s.l
 primary s h = search rules
 
 -- a stripe has some bytes
 pub some-stripe : (s : Setup) (p : ℕ) → IsTrue (is_setup s) → 0 < stripe_size s p
-some-stripe s p h = let l = primary s h in let k = some-keep p in
+some-stripe s p h = let l = primary s h in let k = some_kept p in
     let m : 1 ≤ s.l * (profile_of p).keep = times s.l (profile_of p).keep l k in omega (arith, m)
   where
     times : (a b : ℕ) → 1 ≤ a → 1 ≤ b → 1 ≤ a * b
@@ -412,14 +376,14 @@ stream-others (Err why) c new h e other o = ap (λ (x : CoreView). told_in x.job
 -- what a begin leaves of open streams, of a job that is none
 pub begun-told : (r : Result ℕ BeginFault) (c new : CoreView) → OnOk r (AreMore None c new) →
     OnErr r (new ≡ c) →
-    (IsStreamless c → IsStreamless new) × ((number : ℕ) → told_in new.jobs number ≡ told_in c.jobs number)
+    (HasNoStream c → HasNoStream new) × ((number : ℕ) → told_in new.jobs number ≡ told_in c.jobs number)
 begun-told (Ok number) c new h e = (
   (λ none. subst (All (λ (j : CoreJob). j.told ≡ None)) (sym h.jobs)
       (streamless_push c.jobs h.job h.told none)),
   (λ n. ap (λ (js : List CoreJob). told_in js n) h.jobs ∙ told_push c.jobs h.job n h.told),
 )
 begun-told (Err why) c new h e = (
-  (λ none. subst IsStreamless (sym e) none),
+  (λ none. subst HasNoStream (sym e) none),
   (λ n. ap (λ (x : CoreView). told_in x.jobs n) e),
 )
 

@@ -28,7 +28,7 @@ use Rattle.vault_core.specs.Reserves.{reserved_of, starts_of, starts_by}
 use Rattle.vault_core.specs.Targets.{targets_of, stripes_in, turns_for, tasks_made}
 use Rattle.vault_core.specs.Coming.{most_of}
 use Rattle.vault_core.specs.Going.{listed_older}
-use Rattle.vault_core.specs.Parts.{plan_kept, core_job, is_caller, comes_to, IsWithin, IsSteady, IsJobKept}
+use Rattle.vault_core.specs.Parts.{plan_kept, core_job, is_caller, comes_to, IsWithin, IsSteadyJob, IsJobKept}
 use Rattle.vault_core.specs.Wished.{HasName, IsShort, aim_of_wish, profile_named}
 use Rattle.vault_core.proofs.Begun.{tasks-all}
 use Rattle.vault_core.proofs.Counts.{gates}
@@ -260,7 +260,7 @@ module _ (s : Setup) (job : Job) (kept : IsJobKept s job) (k size stripes : ℕ)
       let c = fewer-steps s.n k own_stripes longest_stripes fewer in
       omega (arith, a, b, c)
 
-  ended-steady : IsSteady s.n ended
+  ended-steady : IsSteadyJob s.n ended
   ended-steady = record {
     stays = record {
       tasks = subst (All (λ (t : Task). 0 < t.turns)) (sym made)

@@ -10,8 +10,8 @@ use Rattle.vault_core.specs.declared.own.Core.TheInside.{Inside}
 use Rattle.vault_core.specs.View.{CoreJob, CoreView}
 use Rattle.vault_core.specs.Rest.{rest_of}
 use Rattle.vault_core.specs.Going.{drawn_tasks}
-use Rattle.vault_core.specs.Parts.{setup_kept, core_job, view_of, is_over, IsSteady, IsJobKept, IsCore}
-use Rattle.vault_core.specs.Fed.{first_at, stepped, number_as, number_drawn, drawn}
+use Rattle.vault_core.specs.Parts.{setup_kept, core_job, view_of, is_over, IsSteadyJob, IsJobKept, IsCore}
+use Rattle.vault_core.specs.Fed.{first_at, stepped_job, number_as, number_drawn, drawn}
 use Rattle.vault_core.specs.Wished.{aim_of_wish}
 use Rattle.vault_core.proofs.Gates.{action_at, first_is, cursor_at, not_over}
 use Rattle.vault_core.proofs.Goes.{drawn_kept}
@@ -80,7 +80,7 @@ drawn_here a c place old index mid k v h e f first subject tasks same number =
 
 -- one action later it needs no more than before
 pub drawn_needs : (s : Setup) (old mid : Job) → IsJobKept s old → DrawnHere s mid →
-    mid ≡ record old { subject = mid.subject; tasks = mid.tasks } → (new : Job) → IsSteady s.n new →
+    mid ≡ record old { subject = mid.subject; tasks = mid.tasks } → (new : Job) → IsSteadyJob s.n new →
     rest_of s.n new ≡ drop 1 (rest_of s.n mid) →
     new ≡ record mid { cursor = new.cursor; place = mid.place + 1; left = mid.left - 1 } → WentOn s old new
 drawn_needs s old mid kept drawn_ same new steady rest moved =
@@ -95,7 +95,7 @@ pub seen_drawn : (old mid : Job) (k : ℕ) → mid.subject ≡ k →
     new ≡ record mid { cursor = new.cursor; place = mid.place + 1; left = mid.left - 1 } →
     core_job new ≡ drawn (core_job old) k
 seen_drawn old mid k subject same new moved =
-    ap core_job moved ∙ (ap (λ (x : Job). stepped (core_job x)) same ∙ ap (drawn (core_job old)) subject)
+    ap core_job moved ∙ (ap (λ (x : Job). stepped_job (core_job x)) same ∙ ap (drawn (core_job old)) subject)
 
 -- a core whose job began its append looks as the contract of that step says
 pub begun_view : (a : Inside) (c : CoreView) (v : Vec Job Global) (place k : ℕ) (old new index : Job) →

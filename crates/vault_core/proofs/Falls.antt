@@ -1,5 +1,5 @@
 -- How many steps a job may still make falls with each of its steps.
-use Rattle.std.proofs.Common.{◌≡◌, ℕ, zero, suc, ◌+◌, ◌<◌, ◌≤◌, Bool, true, List, [], ◌∷◌, Some, None, length, map, set, get_or, inl, inr, refl, ap, sym, subst, ◌∙◌, arith}
+use Rattle.std.proofs.Common.{◌≡◌, ℕ, zero, suc, ◌+◌, ◌<◌, Bool, true, List, [], ◌∷◌, Some, None, length, map, set, get_or, inl, inr, refl, ap, sym, subst, ◌∙◌, arith}
 use Rattle.std.specs.Prelude.{Option, ◌==◌, position, slice_get, remove, unwrap_or, if◌then◌else◌}
 use Rattle.std.specs.List.{All}
 use Rattle.std.specs.Option.{option_map}
@@ -21,11 +21,11 @@ use Rattle.vault_core.specs.declared.reply.Reply.TheVariants as reply
 use Rattle.record_codec.specs.declared.counts.Counts.{Counts}
 use Rattle.vault_core.specs.View.{CoreJob, CoreView, planned, rest_in, AreRising, job_in, wanted_by, wants_in}
 use Rattle.vault_core.specs.Rest.{rest_of}
-use Rattle.vault_core.specs.Parts.{sums_kept, core_job, view_of, setup_kept, comes_to, IsSteady, IsJobKept, IsCore}
+use Rattle.vault_core.specs.Parts.{sums_kept, core_job, view_of, setup_kept, comes_to, IsSteadyJob, IsJobKept, IsCore}
 use Rattle.vault_core.specs.Coming.{Coming, Acts, Waits, IsNoJob, IsBarred, seen_action, action_next, next_in, is_idle, most_of, core_left, written_as, HasReply, TakesReply}
-use Rattle.vault_core.specs.Fed.{first_of, first_at, goes_plainly, with_at, number_drawn, drawn}
+use Rattle.vault_core.specs.Fed.{first_action, first_at, goes_plainly, with_at, number_drawn, drawn}
 use Rattle.vault_core.specs.Wished.{aim_of_wish}
-use Rattle.vault_core.proofs.Kept.{rising_set, gone, seen_at}
+use Rattle.vault_core.proofs.Kept.{rising_set, gone, seen_at, behind}
 use Rattle.vault_core.proofs.Moving.{kept_at}
 use Rattle.vault_core.proofs.Places.{found_at, found_none, first_of_position}
 use Rattle.vault_core.proofs.Pairs.{IsFirst}
@@ -47,7 +47,7 @@ get_gate name (at.Closing m) h e = false≢true h
 get_gate name c h e = cc
 
 -- who is at the last move of an append writes a record
-pub gate_writes : (t : Kept) (n : ℕ) (job : Job) → IsSteady n job →
+pub gate_writes : (t : Kept) (n : ℕ) (job : Job) → IsSteadyJob n job →
     slice_get (rest_of n job) 0 ≡ Some SyncGate →
     None ≡ written_as t job.appends job.profile job.subject (sums_kept job) (aim_of_wish job.wish) → ⊥
 gate_writes t n job kept h e = by job.wish refl e
@@ -60,14 +60,6 @@ gate_writes t n job kept h e = by job.wish refl e
     by w v f = cc
 
 -- ---- the job of a number, among jobs whose numbers ascend
-
-behind : (low : ℕ) (js : List CoreJob) (next i : ℕ) (j : CoreJob) → AreRising low js next →
-    slice_get js i ≡ Some j → low ≤ j.number
-behind low [] next i j h e = let r : None ≡ Some j = e in cc
-behind low (x ∷ js) next zero j h e = let r : Some x ≡ Some j =
-    e in let s : x ≡ j = cc in let m = ap (λ (v : CoreJob). v.number) s in let a = h.0 in omega arith
-behind low (x ∷ js) next (suc i) j h e =
-    let a = h.0 in let b = behind (x.number + 1) js next i j h.1 e in omega arith
 
 -- a job at a place is the one that is found by its number, where the numbers ascend
 pub at_number : (low : ℕ) (js : List CoreJob) (next i : ℕ) (j : CoreJob) → AreRising low js next →
@@ -260,7 +252,7 @@ head_is s t j a e on = elim (cases_Bool (is_idle t j)) [
 -- a job whose next action is not its end has this action as the first that it has not yet made
 pub step_first : (c : CoreView) (k place : ℕ) (r : Reply) (a : Action) → StepHere c k place r a →
     (a ≡ End → ⊥) → first_at c place ≡ Some a
-step_first c k place r a s on = ap (first_of c.setup) s.here ∙ head_is c.setup c.table s.job a s.next on
+step_first c k place r a s on = ap (first_action c.setup) s.here ∙ head_is c.setup c.table s.job a s.next on
 
 -- where the next action goes plainly, so does the first that the job has not yet made
 pub step_plain : (c : CoreView) (k place : ℕ) (r : Reply) (a : Action) → StepHere c k place r a →

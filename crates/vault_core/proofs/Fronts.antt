@@ -11,6 +11,7 @@ use Rattle.std.proofs.lemmas.Nat.{le-div}
 use Rattle.algebra_laws.specs.Lists.{Each}
 use Rattle.algebra_laws.proofs.Each.{each_get, each_map, each_flat}
 use Rattle.code_defs.specs.Points.{upto}
+use Rattle.code_defs.proofs.Points.{range_with_len-append}
 use Rattle.record_defs.specs.Records.{Setup}
 use Rattle.machine_defs.specs.Setups.{profiled, stripes_of}
 use Rattle.machine_defs.specs.Jobs.{Kind, PutJob, GetJob, DropJob, AuditJob, RepairJob, UpgradeJob, aim_of, Job}
@@ -26,20 +27,6 @@ use Rattle.vault_core.proofs.Counts.{gates, gates-append, none_map, none_flat, r
 use Rattle.vault_core.proofs.Turns.{length-each}
 
 -- ---- lists
-
-range-split : (a k r : ℕ) → range_with_len a (k + r) ≡ range_with_len a k ++ range_with_len (a + k) r
-range-split a zero r = (λ i. range_with_len (here i) (there i))
-  where
-    here : a ≡ a + 0
-    here = omega arith
-
-    there : 0 + r ≡ r
-    there = omega arith
-range-split a (suc k) r =
-    ap (range_with_len a) (let e : suc k + r ≡ suc (k + r) = omega arith in e)
-    ∙ ap (λ (xs : List ℕ). a ∷ xs) (range-split (a + 1) k r
-    ∙ ap (λ (x : ℕ). range_with_len (a + 1) k ++ range_with_len x r)
-    (let e : a + 1 + k ≡ a + suc k = omega arith in e))
 
 -- what stands in the first of two lists is read there
 get-front : (xs ys : List Action) (p : ℕ) → p < length xs → slice_get (xs ++ ys) p ≡ slice_get xs p
@@ -87,7 +74,7 @@ module _ (s : Setup) (subject : ℕ) where
       let cut : flat_map stores (upto all)
       ≡ flat_map stores (upto k) ++ flat_map stores (range_with_len k (all - k)) =
       ap (λ (n : ℕ). flat_map stores (range_with_len 0 n)) (let e : all ≡ k + (all - k) = omega arith in e)
-      ∙ (ap (flat_map stores) (range-split 0 k (all - k)
+      ∙ (ap (flat_map stores) (range_with_len-append 0 k (all - k)
       ∙ ap (λ (n : ℕ). range_with_len 0 k ++ range_with_len n (all - k))
       (let e : 0 + k ≡ k = omega arith in e))
       ∙ flat_map-append stores (upto k) (range_with_len k (all - k))) in

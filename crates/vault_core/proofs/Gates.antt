@@ -20,7 +20,7 @@ use Rattle.record_defs.specs.Table.{File, find_file}
 use Rattle.vault_table.specs.Values.{Kept}
 use Rattle.vault_core.specs.Coming.{begins_append, is_last_ask, is_move, is_gone, is_idle}
 use Rattle.vault_core.specs.Going.{is_taker, removals_of}
-use Rattle.vault_core.specs.Parts.{comes_to, is_start, is_over, core_job, IsWithin, MayBeAt, IsSteady}
+use Rattle.vault_core.specs.Parts.{comes_to, is_start, is_over, core_job, IsWithin, MayBeAt, IsSteadyJob}
 use Rattle.vault_core.specs.Wished.{aim_of_wish}
 use Rattle.vault_core.proofs.Rests.{numbers_here, calls_here, rewrites_take, first_work, first_of_front, by_call}
 
@@ -55,19 +55,19 @@ first_at n job (at.Closing move.Body) h w = refl
 first_at n job c h w = refl
 
 -- the first action that a kept job has not yet made is the one that its cursor tells
-pub first_is : (n : ℕ) (job : Job) → IsSteady n job →
+pub first_is : (n : ℕ) (job : Job) → IsSteadyJob n job →
     slice_get (rest_of n job) 0 ≡ Some (action_at job.wish job.cursor)
 unfolding rest_of
 first_is n job kept = first_at n job job.cursor kept.comes kept.within
 
 -- so that a job whose first action is this one has its cursor there
-pub cursor_at : (n : ℕ) (job : Job) (a : Action) → IsSteady n job → slice_get (rest_of n job) 0 ≡ Some a →
+pub cursor_at : (n : ℕ) (job : Job) (a : Action) → IsSteadyJob n job → slice_get (rest_of n job) 0 ≡ Some a →
     action_at job.wish job.cursor ≡ a
 cursor_at n job a kept h = let s : Some (action_at job.wish job.cursor) ≡ Some a =
     sym (first_is n job kept) ∙ h in let r : action_at job.wish job.cursor ≡ a = cc in r
 
 -- a kept job has an action before it
-pub rest_some : (n : ℕ) (job : Job) → IsSteady n job → 0 < length (rest_of n job)
+pub rest_some : (n : ℕ) (job : Job) → IsSteadyJob n job → 0 < length (rest_of n job)
 rest_some n job kept =
     slice_get_within (rest_of n job) 0 (action_at job.wish job.cursor) (first_is n job kept)
 
@@ -106,7 +106,7 @@ asks_last n job c j o t e is =
     (sym (begins_is job.wish c))
 
 -- a kept job whose next action is not its end is not over
-pub not_over : (n : ℕ) (job : Job) (a : Action) → IsSteady n job → slice_get (rest_of n job) 0 ≡ Some a →
+pub not_over : (n : ℕ) (job : Job) (a : Action) → IsSteadyJob n job → slice_get (rest_of n job) 0 ≡ Some a →
     (a ≡ End → ⊥) → is_over job.cursor ≡ false
 not_over n job a kept e h = by job.cursor (cursor_at n job a kept e)
   where
@@ -122,8 +122,8 @@ not_over n job a kept e h = by job.cursor (cursor_at n job a kept e)
 -- ---- a job that has gone on
 
 -- a steady job stays so at a cursor where it may be, whatever was counted
-pub steady_at : (n : ℕ) (job : Job) (c : Cursor) (p l : ℕ) (xs : List Action) → IsSteady n job →
-    MayBeAt n job c xs → IsSteady n (record job { cursor = c; place = p; left = l })
+pub steady_at : (n : ℕ) (job : Job) (c : Cursor) (p l : ℕ) (xs : List Action) → IsSteadyJob n job →
+    MayBeAt n job c xs → IsSteadyJob n (record job { cursor = c; place = p; left = l })
 steady_at n job c p l xs kept is = record {
   stays = record {
     tasks = kept.stays.tasks;
@@ -140,8 +140,8 @@ steady_at n job c p l xs kept is = record {
 }
 
 -- so it does with another object to take away, and other appends
-pub steady_with : (n : ℕ) (job : Job) (older : Option ℕ) (k : ℕ) → IsSteady n job →
-    IsSteady n (record job { older = older; appends = k })
+pub steady_with : (n : ℕ) (job : Job) (older : Option ℕ) (k : ℕ) → IsSteadyJob n job →
+    IsSteadyJob n (record job { older = older; appends = k })
 steady_with n job older k kept = record {
   stays = record {
     tasks = kept.stays.tasks;
@@ -176,14 +176,14 @@ takes (wish.Drop name) h = refl
 takes w h = absurd (false≢true h)
 
 -- a job that has decided to remove an object is steady at the first removal
-pub decided : (n : ℕ) (job : Job) (object p l : ℕ) → 0 < n → IsSteady n job → is_taker job.wish ≡ true →
-    IsSteady n (record job { cursor = at.Removing object 0; place = p; left = l })
+pub decided : (n : ℕ) (job : Job) (object p l : ℕ) → 0 < n → IsSteadyJob n job → is_taker job.wish ≡ true →
+    IsSteadyJob n (record job { cursor = at.Removing object 0; place = p; left = l })
 decided n job object p l some kept t = steady_at n job (at.Removing object 0) p l _ kept
     (record { comes = takes job.wish t; within = some; rest = refl })
 
 -- a job that is put to its end is steady
-pub ended : (n : ℕ) (job : Job) (p l : ℕ) → IsSteady n job →
-    IsSteady n (record job { cursor = at.Ending; place = p; left = l })
+pub ended : (n : ℕ) (job : Job) (p l : ℕ) → IsSteadyJob n job →
+    IsSteadyJob n (record job { cursor = at.Ending; place = p; left = l })
 ended n job p l kept = steady_at n job at.Ending p l _ kept (record
     { comes = refl; within = tt; rest = refl })
 

@@ -31,9 +31,9 @@ use Rattle.vault_core.proofs.Lone.{lone_set, lone_sum, any_here}
 use Rattle.vault_core.specs.Rest.{rest_of}
 use Rattle.vault_core.specs.Coming.{is_move, written_as, written_by}
 use Rattle.vault_core.specs.Going.{decides_on, listed_older, removals_of, LeavesBehind}
-use Rattle.vault_core.specs.Parts.{setup_kept, sums_kept, core_job, view_of, IsCore, IsSteady, MayFinish, IsJobKept}
+use Rattle.vault_core.specs.Parts.{setup_kept, sums_kept, core_job, view_of, IsCore, IsSteadyJob, MayFinish, IsJobKept}
 use Rattle.vault_core.specs.Streams.{IsTold}
-use Rattle.vault_core.specs.Fed.{first_of, first_at, taken_as, taken_by, gated_by, gated, HasGated}
+use Rattle.vault_core.specs.Fed.{first_action, first_at, taken_as, taken_by, gated_by, gated, HasGated}
 use Rattle.vault_core.specs.Reserves.{sizes_of, room_behind, reserved_of, starts_by, starts_of}
 use Rattle.vault_core.specs.Wished.{aim_of_wish, is_opener, is_closer}
 use Rattle.vault_core.proofs.Counts.{MayHave, last_appends, one, two}
@@ -98,7 +98,7 @@ raises t profile subject sums wish.Upgrade k entry h =
     let s : Some Version ≡ Some entry = h in let r : Version ≡ entry = cc in ap is_version (sym r)
 
 -- a kept job counts once for each provider
-pub length_counted : (n : ℕ) (job : Job) → IsSteady n job → length (counted job.counts) ≡ n
+pub length_counted : (n : ℕ) (job : Job) → IsSteadyJob n job → length (counted job.counts) ≡ n
 length_counted n job kept = length-take-le job.counts.n job.counts.by
     (subst (λ (k : ℕ). job.counts.n ≤ k) (sym kept.stays.padded.room) kept.stays.padded.at_most)
     ∙ kept.stays.counts
@@ -295,7 +295,7 @@ action_here a c place job x v h e f =
       here,
       kept,
       ap (λ (xs : List Action). slice_get xs 0) kept.listed
-          ∙ (sym (ap (first_of (setup_kept a)) here) ∙ p),
+          ∙ (sym (ap (first_action (setup_kept a)) here) ∙ p),
     )
 
 -- so for a gate
@@ -324,7 +324,7 @@ older_none (Some object) h = cc
 
 -- the job behind it is kept
 pub gated_kept : (s : Setup) (job new : Job) (older : Option ℕ) (t : Kept) (jobs : List CoreJob) →
-    IsJobKept s job → slice_get (rest_of s.n job) 0 ≡ Some SyncGate → IsSteady s.n new →
+    IsJobKept s job → slice_get (rest_of s.n job) 0 ≡ Some SyncGate → IsSteadyJob s.n new →
     LeavesBehind s.n older (decides_on job) job new →
     new ≡ record job {
       older = older;
@@ -335,7 +335,7 @@ pub gated_kept : (s : Setup) (job new : Job) (older : Option ℕ) (t : Kept) (jo
     } → listed_older older ≡ taken_as t jobs job.appends (aim_of_wish job.wish) → IsJobKept s new
 gated_kept s job new older t jobs kept gate steady behind same takes =
     subst (IsJobKept s) (sym same)
-    (finished_kept s job kept gate older new.cursor new.left (subst (IsSteady s.n) same steady)
+    (finished_kept s job kept gate older new.cursor new.left (subst (IsSteadyJob s.n) same steady)
     (subst (LeavesBehind s.n older (decides_on job) job) same behind)
     (λ d. older_none older (takes ∙ undecided_none s job kept gate t jobs d)))
 
@@ -350,7 +350,7 @@ taken_alike s t jobs i j a b e =
 -- the job at a place behind the last move of its append is kept
 pub finished_here : (a : Inside) (c : CoreView) (place : ℕ) (old index new : Job) (older : Option ℕ) →
     view_of a ≡ c → IsCore a → old ≡ get_or a.jobs.items place old → index ≡ get_or a.jobs.items place index →
-    first_at c place ≡ Some SyncGate → IsSteady a.setup.n new →
+    first_at c place ≡ Some SyncGate → IsSteadyJob a.setup.n new →
     LeavesBehind a.setup.n older (decides_on old) old new →
     new ≡ record old {
       older = older;

@@ -27,7 +27,7 @@ use Rattle.vault_core.specs.Targets.{targets_of, stripes_in, turns_for, tasks_ma
 use Rattle.vault_core.specs.Coming.{most_of, is_move}
 use Rattle.vault_core.specs.Fed.{number_as, taken_as}
 use Rattle.vault_core.specs.Going.{aimed, is_taker, decides_on, drawn_tasks, listed_older, removals_of, LeavesBehind}
-use Rattle.vault_core.specs.Parts.{comes_to, is_caller, plan_kept, core_job, IsSteady, IsJobKept}
+use Rattle.vault_core.specs.Parts.{comes_to, is_caller, plan_kept, core_job, IsSteadyJob, IsJobKept}
 use Rattle.vault_core.specs.Making.{size_of_turn}
 use Rattle.vault_core.specs.Wished.{aim_of_wish, is_opener}
 use Rattle.vault_core.proofs.Rests.{rest_is, by_call}
@@ -100,7 +100,7 @@ module _ (s : Setup) (job : Job) (kept : IsJobKept s job) where
 
 -- a job goes on behind an action that is no gate
 pub moved_kept : (s : Setup) (job : Job) (c : Cursor) (a : Action) → IsJobKept s job →
-    IsSteady s.n (record job { cursor = c; place = job.place + 1; left = job.left - 1 }) →
+    IsSteadyJob s.n (record job { cursor = c; place = job.place + 1; left = job.left - 1 }) →
     rest_of s.n (record job { cursor = c; place = job.place + 1; left = job.left - 1 })
     ≡ drop 1 (rest_of s.n job) → slice_get (rest_of s.n job) 0 ≡ Some a → ends_append a ≡ false →
     IsJobKept s (record job { cursor = c; place = job.place + 1; left = job.left - 1 })
@@ -222,7 +222,7 @@ module _ (s : Setup) (job : Job) (k : ℕ) (v : Vec Task Global) (kept : IsJobKe
   tasks_taken = is ∙ (ap (drawn_tasks k job.wish) kept.tasks
       ∙ aimed_made s job.wish job.profile job.subject k job.pinned.items)
 
-  steady_taken : IsSteady s.n taken
+  steady_taken : IsSteadyJob s.n taken
   steady_taken = record {
     stays = record {
       tasks = subst (All (λ (t : Task). 0 < t.turns)) (sym is)
@@ -454,7 +454,7 @@ module _ (s : Setup) (job : Job) (kept : IsJobKept s job) (gate : slice_get (res
   few (Some object) = (let a = removals_length s.n object in omega (arith, a))
 
   -- one that has decided on what it takes away
-  decided_kept : decides_on job ≡ true → IsSteady s.n finished →
+  decided_kept : decides_on job ≡ true → IsSteadyJob s.n finished →
       (rest_of s.n finished ≡ removals_of s.n older) × (l ≡ length (removals_of s.n older)) →
       IsJobKept s finished
   unfolding planned_by
@@ -490,7 +490,7 @@ module _ (s : Setup) (job : Job) (kept : IsJobKept s job) (gate : slice_get (res
       extra_more true (job.appends - 1) job.appends s.n (omega (arith, k)) (omega (arith, k)))
 
   -- one that takes nothing away by it
-  undecided_kept : decides_on job ≡ false → older ≡ None → IsSteady s.n finished →
+  undecided_kept : decides_on job ≡ false → older ≡ None → IsSteadyJob s.n finished →
       (rest_of s.n finished ≡ drop 1 (rest_of s.n job)) × (l ≡ job.left - 1) → IsJobKept s finished
   unfolding planned_by
   undecided_kept d none steady h =
@@ -525,7 +525,7 @@ module _ (s : Setup) (job : Job) (kept : IsJobKept s job) (gate : slice_get (res
       }
 
   -- a job behind the last move of an append is kept
-  pub finished_kept : IsSteady s.n finished → LeavesBehind s.n older (decides_on job) job finished →
+  pub finished_kept : IsSteadyJob s.n finished → LeavesBehind s.n older (decides_on job) job finished →
       (decides_on job ≡ false → older ≡ None) → IsJobKept s finished
   finished_kept steady behind none = elim (cases_Bool (decides_on job)) [
     | inl d ↦ decided_kept d steady

@@ -23,7 +23,7 @@ use Rattle.vault_core.specs.declared.wish.Wish.TheVariants as wish
 use Rattle.vault_core.specs.declared.job.Job.{Job}
 use Rattle.vault_core.specs.View.{core_pins, plan_in, flag_at}
 use Rattle.vault_core.specs.Streams.{stripe_size, IsLongest, IsTold}
-use Rattle.vault_core.specs.Carried.{IsKindOf, IsAimOf, pin_of, seen_plan, no_sums, is_audit, longest, shown, IsPutFrom, HasTold, IsJobOf}
+use Rattle.vault_core.specs.Carried.{IsKindOf, IsAimOf, pin_of, seen_plan, sums_at_start, is_audit_kind, longest, shown, IsPutFrom, HasTold, IsJobOf}
 use Rattle.vault_core.specs.Coming.{asks_next}
 use Rattle.vault_core.specs.Going.{listed_older}
 use Rattle.vault_core.specs.Parts.{plan_kept, core_job, sums_kept, MayBegin}
@@ -153,7 +153,7 @@ module _ (t : Kept) (s : Setup) (w : State) (moment : ℕ) (v : Wish) (k : Kind)
   made-older : listed_older job.older ≡ []
   made-older = ap listed_older made.older
 
-  made-sums : sums_kept job ≡ no_sums s
+  made-sums : sums_kept job ≡ sums_at_start s
   made-sums = ap (λ (c : Counts). sums_of (counted c) job.undecided) made.counts
       ∙ (ap (λ (xs : List ℕ). sums_of xs job.undecided) (take-zeros s.n 16 most)
       ∙ ap (sums_of (replicate s.n 0)) made.undecided)
@@ -201,7 +201,7 @@ module _ (t : Kept) (s : Setup) (w : State) (moment : ℕ) (v : Wish) (k : Kind)
     within = within;
     place = made.place;
     unjudged = λ a l. made-sums;
-    judged = λ h. absurd (early (is_audit k) h);
+    judged = λ h. absurd (early (is_audit_kind k) h);
   }
     where
       early : (b : Bool) → (b && (false && not (asks_next

@@ -20,15 +20,15 @@ use Rattle.state_laws.proofs.Going.{onward, actions-onward}
 use Rattle.vault_table.specs.Values.{Kept}
 use Rattle.vault_core.specs.View.{CoreJob, rest_in, wanted_at}
 use Rattle.vault_core.specs.Coming.{asks_next, begins_append, is_last_ask}
-use Rattle.vault_core.specs.Carried.{seen_plan, is_audit, has_asked, IsJobOf}
-use Rattle.vault_core.specs.Fed.{goes_plainly, stepped, judged, number_drawn, drawn, gated}
+use Rattle.vault_core.specs.Carried.{seen_plan, is_audit_kind, has_asked, IsJobOf}
+use Rattle.vault_core.specs.Fed.{goes_plainly, stepped_job, judged, number_drawn, drawn, gated}
 use Rattle.vault_core.proofs.Alike.{IsLikeFoldOf}
 use Rattle.vault_core.proofs.Onward.{sums-same, no-sums, asks-none, ask-then, past-first, no-ask-first}
 use Rattle.vault_core.proofs.Told.{told_on}
 use Rattle.vault_core.proofs.Links.{left-here, number_same, taken_same, audit-closed, told-same, shown-subject, shown-older}
 use Rattle.vault_core.proofs.Gates.{second_of}
 
-audit_is : (k : Kind) → is_audit k ≡ true → k ≡ AuditJob
+audit_is : (k : Kind) → is_audit_kind k ≡ true → k ≡ AuditJob
 audit_is AuditJob h = refl
 audit_is k h = absurd (false≢true h)
 
@@ -41,7 +41,7 @@ pub record Asked (s : Setup) (m : Job) : Type 0 where
 -- an audit that has asked all is behind its first append, with no ask next
 asked_parts : (s : Setup) (m : Job) → has_asked s m ≡ true → Asked s m
 asked_parts s m h =
-    let a = and_parts (is_audit m.kind)
+    let a = and_parts (is_audit_kind m.kind)
     (not (is_first_append m) && not (asks_next (slice_get (actions_of s m) m.place))) h in
     let b = and_parts (not (is_first_append m)) (not (asks_next (slice_get (actions_of s m) m.place))) a.1 in
     record {
@@ -54,7 +54,7 @@ asked_parts s m h =
 pub asked_whole : (s : Setup) (m : Job) → m.kind ≡ AuditJob → 4 ≤ m.place →
     asks_next (slice_get (actions_of s m) m.place) ≡ false → has_asked s m ≡ true
 asked_whole s m a l h =
-    ap (λ (k : Kind). is_audit k && (not (is_first_append m)
+    ap (λ (k : Kind). is_audit_kind k && (not (is_first_append m)
     && not (asks_next (slice_get (actions_of s m) m.place)))) a
     ∙ (ap (λ (b : Bool). not b && not (asks_next (slice_get (actions_of s m) m.place))) (le-ltb m.place 4 l)
     ∙ ap not h)
@@ -72,12 +72,12 @@ module _ (w : State) (c : CoreJob) (m : Job) (a : Action) (is : IsJobOf (setup_i
   pub on-moved : (given : List Given) →
       (IsTrue (has_asked (setup_in w) (onward m m.subject given)) →
       HasSums (setup_in w) (onward m m.subject given) c.sums) →
-      IsJobOf (setup_in w) (stepped c) (onward m m.subject given)
+      IsJobOf (setup_in w) (stepped_job c) (onward m m.subject given)
   on-moved given sums = record {
     number = is.number;
     plan = is.plan;
     told = told-same (setup_in w) c.told m (onward m m.subject given) refl refl is.told;
-    within = told_on (setup_in w) c (stepped c) refl refl refl refl free is.within;
+    within = told_on (setup_in w) c (stepped_job c) refl refl refl refl free is.within;
     place = ap (λ (p : ℕ). p + 1) is.place;
     unjudged = λ k l. is.unjudged k (omega (arith, l));
     judged = sums;

@@ -2,7 +2,7 @@
 use Rattle.std.proofs.Common.{◌≡◌, ℕ, zero, suc, ◌+◌, ◌<◌, ◌≤◌, Bool, List, [], ◌∷◌, ◌++◌, Some, None, length, map, take, drop, set, get_or, refl, ap, sym, subst, ◌∙◌, arith, Global}
 use Rattle.std.specs.Option.{option_map, option_eq}
 use Rattle.std.specs.Prelude.{Option, if◌then◌else◌, eqb, slice_get, remove}
-use Rattle.std.specs.List.{All}
+use Rattle.std.specs.List.{All, AllZip}
 use Rattle.std.proofs.lemmas.Bool.{ne_eqb}
 use Rattle.std.proofs.lemmas.Option.{slice_get_within, slice_get-map, slice_get_read, get_or_from_slice_get}
 use Rattle.std.proofs.lemmas.List.{map-set, length-map, length-set}
@@ -99,6 +99,14 @@ rising_set low (x ∷ js) next zero j k e n h =
     ((let a = h.0 in omega (arith, m)), subst (λ (y : ℕ). AreRising (y + 1) js next) m h.1)
 rising_set low (x ∷ js) next (suc i) j k e n h = (h.0, rising_set (x.number + 1) js next i j k e n h.1)
 
+-- two lists in step stay so with one more of each
+pub zip_push : {X Y : Type 0} (R : X → Y → Type 0) (xs : List X) (ys : List Y) (x : X) (y : Y) →
+    AllZip R xs ys → R x y → AllZip R (xs ++ x ∷ []) (ys ++ y ∷ [])
+zip_push R [] [] x y are is = (is, tt)
+zip_push R [] (b ∷ ys) x y are is = absurd are
+zip_push R (a ∷ xs) [] x y are is = absurd are
+zip_push R (a ∷ xs) (b ∷ ys) x y are is = (are.0, zip_push R xs ys x y are.1 is)
+
 -- numbers ascend still with a job behind that has the next number
 pub rising_push : (low : ℕ) (js : List CoreJob) (next : ℕ) (k : CoreJob) → k.number ≡ next →
     AreRising low js next → AreRising low (js ++ k ∷ []) (next + 1)
@@ -110,6 +118,15 @@ above low [] next k h l = refl
 above low (j ∷ js) next k h l = rw (ne_eqb j.number k (λ e. absurd (let a = h.0 in omega arith)))
     (above (j.number + 1) js next k h.1 (let a = h.0 in omega arith))
 
+-- where numbers ascend from one on, each job has that number or a higher one
+pub behind : (low : ℕ) (js : List CoreJob) (next i : ℕ) (j : CoreJob) → AreRising low js next →
+    slice_get js i ≡ Some j → low ≤ j.number
+behind low [] next i j h e = let r : None ≡ Some j = e in cc
+behind low (x ∷ js) next zero j h e = let r : Some x ≡ Some j =
+    e in let s : x ≡ j = cc in let m = ap (λ (v : CoreJob). v.number) s in let a = h.0 in omega arith
+behind low (x ∷ js) next (suc i) j h e =
+    let a = h.0 in let b = behind (x.number + 1) js next i j h.1 e in omega arith
+
 -- a job that is taken out no longer runs
 pub gone : (low : ℕ) (js : List CoreJob) (next i : ℕ) (j : CoreJob) → AreRising low js next →
     slice_get js i ≡ Some j → job_in (remove js i) j.number ≡ None
@@ -120,15 +137,6 @@ gone low (x ∷ js) next (suc i) j h e =
     rw (ne_eqb x.number j.number
     (λ m. absurd (let b = behind (x.number + 1) js next i j h.1 e in omega arith)))
     (gone (x.number + 1) js next i j h.1 e)
-  where
-    behind : (low : ℕ) (ys : List CoreJob) (top k : ℕ) (y : CoreJob) → AreRising low ys top →
-        slice_get ys k ≡ Some y → low ≤ y.number
-    behind low [] top k y g f = (let r : None ≡ Some y = f in cc)
-    behind low (z ∷ ys) top zero y g f =
-        (let r : Some z ≡ Some y = f in let s : z ≡ y = cc in let m = ap (λ (v : CoreJob). v.number) s in
-        let a = g.0 in omega arith)
-    behind low (z ∷ ys) top (suc k) y g f =
-        (let a = g.0 in let b = behind (z.number + 1) ys top k y g.1 f in omega arith)
 
 -- ---- a core with a job less
 

@@ -27,7 +27,6 @@ pub mod Begun
 pub mod Joins
 pub mod Idle
 pub mod Admitted
-pub mod Replied
 pub mod Falls
 pub mod Steps
 pub mod InFlight

@@ -14,11 +14,11 @@ use Rattle.vault_core.specs.declared.job.Job.{Job}
 use Rattle.vault_core.specs.declared.own.Core.TheInside.{Inside}
 use Rattle.vault_core.specs.View.{CoreJob, CoreView}
 use Rattle.vault_core.specs.Rest.{rest_of}
-use Rattle.vault_core.specs.Parts.{setup_kept, core_job, view_of, is_over, IsSteady, IsJobKept, IsCore}
+use Rattle.vault_core.specs.Parts.{setup_kept, core_job, view_of, is_over, IsSteadyJob, IsJobKept, IsCore}
 use Rattle.vault_core.specs.Reserves.{reserved_of, starts_of}
 use Rattle.vault_core.specs.Wished.{aim_of_wish}
 use Rattle.vault_core.proofs.Goes.{moved_kept, judged_kept, judged_rest}
-use Rattle.vault_core.specs.Fed.{first_of, first_at, goes_plainly}
+use Rattle.vault_core.specs.Fed.{first_action, first_at, goes_plainly}
 use Rattle.vault_core.proofs.Gates.{not_over}
 use Rattle.vault_core.proofs.Kept.{seen_at, other_view, same_needs}
 
@@ -26,10 +26,10 @@ use Rattle.vault_core.proofs.Kept.{seen_at, other_view, same_needs}
 
 -- where a job has a next action, its place is one among the jobs
 pub within : (s : Setup) (js : List CoreJob) (place : ℕ) (a : Action) →
-    first_of s (slice_get js place) ≡ Some a → place < length js
+    first_action s (slice_get js place) ≡ Some a → place < length js
 within s js place a h = by (slice_get js place) refl h
   where
-    by : (o : Option CoreJob) → slice_get js place ≡ o → first_of s o ≡ Some a → place < length js
+    by : (o : Option CoreJob) → slice_get js place ≡ o → first_action s o ≡ Some a → place < length js
     by None e f = let g : None ≡ Some a = f in cc
     by (Some j) e f = slice_get_within js place j e
 
@@ -75,7 +75,7 @@ plain_here a c place job v h e plain =
     let kept = kept_at a place job h l e in
     let head : slice_get (rest_of a.setup.n job) 0 ≡ Some some.0 =
     ap (λ (xs : List Action). slice_get xs 0) kept.listed
-    ∙ (sym (ap (first_of (setup_kept a)) here) ∙ some.1) in
+    ∙ (sym (ap (first_action (setup_kept a)) here) ∙ some.1) in
     let r = plain_some_kind some.0 (sym (ap goes_plainly some.1) ∙ p) in
     record {
       here = here;
@@ -131,12 +131,12 @@ went_needs s old new before after w e =
 
 -- a job that made an action which ends no append
 pub went_on : (s : Setup) (old new : Job) (x : Action) → IsJobKept s old →
-    slice_get (rest_of s.n old) 0 ≡ Some x → ends_append x ≡ false → IsSteady s.n new →
+    slice_get (rest_of s.n old) 0 ≡ Some x → ends_append x ≡ false → IsSteadyJob s.n new →
     rest_of s.n new ≡ drop 1 (rest_of s.n old) →
     new ≡ record old { cursor = new.cursor; place = old.place + 1; left = old.left - 1 } → WentOn s old new
 went_on s old new x kept head plain steady rest same =
     went_needs s old new kept
-    (subst (IsJobKept s) (sym same) (moved_kept s old new.cursor x kept (subst (IsSteady s.n) same steady)
+    (subst (IsJobKept s) (sym same) (moved_kept s old new.cursor x kept (subst (IsSteadyJob s.n) same steady)
     (ap (rest_of s.n) (sym same) ∙ rest) head plain))
     (ap (λ (j : Job). j.wish) same) (ap (λ (j : Job). j.appends) same)
 
@@ -151,7 +151,7 @@ judged_here a c place job u cs v h e plain n padded =
 -- an audit that took its sums and made its last ask
 pub went_judged : (s : Setup) (old new : Job) (x : Action) (u : ℕ) (cs : Counts) → IsJobKept s old →
     slice_get (rest_of s.n old) 0 ≡ Some x → ends_append x ≡ false →
-    IsJobKept s (record old { undecided = u; counts = cs }) → IsSteady s.n new →
+    IsJobKept s (record old { undecided = u; counts = cs }) → IsSteadyJob s.n new →
     rest_of s.n new ≡ drop 1 (rest_of s.n (record old { undecided = u; counts = cs })) →
     new ≡ record old {
       undecided = u;

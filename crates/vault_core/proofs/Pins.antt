@@ -7,7 +7,7 @@ use Rattle.algebra_laws.proofs.Lists.{drop-get, get_or-zeros}
 use Rattle.record_defs.specs.Records.{Setup}
 use Rattle.record_defs.specs.Table.{File}
 use Rattle.code_defs.specs.Profiles.{profile_of}
-use Rattle.std.proofs.lemmas.List.{length-take-le}
+use Rattle.std.proofs.lemmas.List.{length-take-le, get_or_past}
 use Rattle.record_codec.specs.declared.counts.Counts.{Counts}
 use Rattle.record_codec.specs.Entries.{counted, IsPadded}
 use Rattle.vault_core.specs.declared.pinned.Pinned.{Pinned}
@@ -56,12 +56,6 @@ flag_past [] (suc j) l = refl
 flag_past (x ∷ fl) zero l = absurd (omega arith)
 flag_past (x ∷ fl) (suc j) l = flag_past fl j (omega arith)
 
-read_past : (xs : List ℕ) (j : ℕ) → length xs ≤ j → get_or xs j 0 ≡ 0
-read_past [] zero l = refl
-read_past [] (suc j) l = refl
-read_past (x ∷ xs) zero l = absurd (omega arith)
-read_past (x ∷ xs) (suc j) l = read_past xs j (omega arith)
-
 -- so is one that there is not
 pub flags_all : (counts : Counts) (tolerance : ℕ) (fl : List Bool) → IsPadded counts → length fl ≡ 16 →
     ((k : ℕ) → k < 16 → flag_at fl k ≡ nat_lt tolerance (get_or counts.by k 0)) → (j : ℕ) →
@@ -73,7 +67,7 @@ flags_all counts tolerance fl padded long h j = elim (cases_lt j 16) [
       (subst (λ (k : ℕ). counts.n ≤ k) (sym padded.room) padded.at_most) in let m = padded.at_most in
       omega (arith, e, m)) in
       flag_past fl j (omega (arith, long, l))
-      ∙ sym (ap (nat_lt tolerance) (read_past (counted counts) j (omega (arith, few, l)))
+      ∙ sym (ap (nat_lt tolerance) (get_or_past (counted counts) j 0 (omega (arith, few, l)))
       ∙ le-ltb tolerance 0 (omega arith)))
 ]
 
@@ -144,13 +138,6 @@ tasks_more f files i d old new l o e = e
     ∙ (sym (tasks-append f (take i files) (get_or files i d ∷ []))
     ∙ (ap (tasks_made f) (sym (take_next files i d l))
     ∙ ap (λ (k : ℕ). tasks_made f (take k files)) (let k : suc i ≡ i + 1 = omega arith in k))))
-
--- as many as a list has, or more, take it whole
-pub take_over : (xs : List Pinned) (i : ℕ) → length xs ≤ i → take i xs ≡ xs
-take_over [] zero l = refl
-take_over [] (suc i) l = refl
-take_over (x ∷ xs) zero l = absurd (omega arith)
-take_over (x ∷ xs) (suc i) l = ap (λ (ys : List Pinned). x ∷ ys) (take_over xs i (omega arith))
 
 -- all but a put work on the files that they pin
 pub targets_other : (w : Wish) (profile : ℕ) (pins : List Pinned) →

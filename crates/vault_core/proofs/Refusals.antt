@@ -10,33 +10,31 @@ use Rattle.std.proofs.Math.Bool.{or-false}
 use Rattle.std.proofs.lemmas.Bool.Decides.{nat_tests}
 use Rattle.std.proofs.lemmas.List.{length-map}
 use Rattle.std.proofs.lemmas.List.Sums.{sum_by-cons}
-use Rattle.record_defs.specs.Records.{Setup, largest_file, largest_journal, most_files, all_profiles}
+use Rattle.record_defs.specs.Records.{Setup, largest_file, largest_journal, most_files}
 use Rattle.record_defs.specs.Table.{File, is_same_name, find_file}
 use Rattle.machine_defs.specs.Jobs.{Kind, Aim, ToPut, ToGet, ToDrop, ToAudit, ToRepair, ToUpgrade, aim_of}
 use Rattle.machine_defs.specs.Jobs.{Job as MachineJob}
 use Rattle.machine_defs.specs.Refusals as refusal
-use Rattle.machine_defs.specs.Refusals.{Refusal, first_refusal}
+use Rattle.machine_defs.specs.Refusals.{Refusal}
 use Rattle.machine_defs.specs.States.{State, Alone, setup_in}
 use Rattle.machine_defs.specs.Actions.{appends_left}
 use Rattle.machine_defs.specs.Space.{append_sizes, room_left, reserved}
-use Rattle.machine_defs.specs.Sights.{Sight, sight_of, aims_of, room_used, is_put_or_check, is_check, is_upgrade, is_shut, are_jobs_in_the_way, is_busy, is_name_among, with_name, names_in, with_puts, is_crowded_for, is_stored, is_full, is_too_full, are_numbers_used_up, causes}
+use Rattle.machine_defs.specs.Sights.{Sight, sight_of, aims_of, room_used, is_put_or_check, is_check, is_upgrade, is_shut, are_jobs_in_the_way, is_busy, is_name_among, with_name, names_in, with_puts, is_crowded_for, is_full, is_too_full, are_numbers_used_up, causes}
 use Rattle.state_laws.proofs.NamesTaken.{listed-with_puts, listed-files, length-names_in}
 use Rattle.state_laws.proofs.NamesTaken.{puts_name as machine_puts}
 use Rattle.vault_core.specs.declared.wish.Wish.{Wish}
 use Rattle.vault_core.specs.declared.wish.Wish.TheVariants as wish
-use Rattle.vault_core.specs.declared.wish.BeginFault.{BeginFault}
-use Rattle.vault_core.specs.declared.wish.BeginFault.TheVariants as fault
 use Rattle.vault_core.specs.declared.job.Job.{Job}
 use Rattle.vault_core.specs.declared.own.Core.TheInside.{Inside}
 use Rattle.vault_core.specs.View.{CoreJob, CoreView}
 use Rattle.vault_core.proofs.Pairs.{pair_length}
 use Rattle.vault_core.proofs.Places.{any-map}
-use Rattle.vault_core.specs.Wished.{aim_of_wish, profile_named, HasName, IsShort}
+use Rattle.vault_core.specs.Wished.{aim_of_wish, profile_named}
 use Rattle.vault_core.specs.Parts.{setup_kept, core_job, view_of, IsJobKept, IsCore}
 use Rattle.vault_core.specs.Reserves.{sizes_of, room_behind, reserved_of}
-use Rattle.vault_core.specs.Carried.{longest, IsAimOf, IsShortAim, IsJobOf, CoreIs, refusal_of}
+use Rattle.vault_core.specs.Carried.{longest, IsAimOf, IsShortAim, IsJobOf, CoreIs}
 use Rattle.vault_core.proofs.Links.{appends-is, aim-alike}
-use Rattle.vault_core.specs.Refusing.{aims_in, sight_in, aims_kept, puts_name, taken_names, or_full, refusal_in}
+use Rattle.vault_core.specs.Refusing.{aims_in, sight_in, aims_kept, puts_name, taken_names}
 use Rattle.vault_core.proofs.Alike.{IsLikeFoldOf, table-like}
 
 -- ---- lists of jobs, as they are kept and as they are seen
@@ -437,71 +435,3 @@ early a c w v is = λ i. refused_early (bar i) (up i) (count i)
     count : length a.jobs.items ≡ length w.jobs
     count = sym (length-map a.jobs.items core_job)
         ∙ (ap (λ (x : CoreView). length x.jobs) v ∙ pair_length c.setup c.jobs w.jobs is.jobs)
-
--- ---- the causes of a refusal, in order
-
-order : (b u t f : Bool) (why : BeginFault) →
-    option_map refusal_of
-    (if b then Some fault.MustReopen
-    else (if u then Some fault.Busy else or_full (if t then Some why else None) f))
-    ≡ first_refusal (record { applies = b; refusal = refusal.MustReopen } ∷ record {
-      applies = u;
-      refusal = refusal.Busy;
-    } ∷ record { applies = t; refusal = refusal_of why } ∷ record {
-      applies = f;
-      refusal = refusal.JournalFull;
-    } ∷ [])
-order true u t f why = refl
-order false true t f why = refl
-order false false true f why = refl
-order false false false true why = refl
-order false false false false why = refl
-
--- a put that names a profile may be refused for it
-orders : (b u t o m f : Bool) →
-    option_map refusal_of
-    (if b then Some fault.MustReopen
-    else (if u then Some fault.Busy
-    else or_full (if t then Some fault.BadProfile
-    else (if o then Some fault.OldVersion else (if m then Some fault.TooManyFiles else None))) f))
-    ≡ first_refusal (record { applies = b; refusal = refusal.MustReopen } ∷ record {
-      applies = u;
-      refusal = refusal.Busy;
-    } ∷ record { applies = t; refusal = refusal.BadProfile } ∷ record {
-      applies = o;
-      refusal = refusal.OldVersion;
-    } ∷ record { applies = m; refusal = refusal.TooManyFiles } ∷ record {
-      applies = f;
-      refusal = refusal.JournalFull;
-    } ∷ [])
-orders true u t o m f = refl
-orders false true t o m f = refl
-orders false false true o m f = refl
-orders false false false true m f = refl
-orders false false false false true f = refl
-orders false false false false false true = refl
-orders false false false false false false = refl
-
--- the causes that a core looks at are those of the machine: a name is one, and a put is not too long
-pub refusal-sight : (c : CoreView) (w : Wish) → HasName w → IsShort w →
-    option_map refusal_of (refusal_in c w) ≡ first_refusal (causes 8 (sight_in c) (aim_of_wish w)
-    (profile_named w))
-refusal-sight c (wish.Put name size None) named short =
-    order c.barred (is_busy 8 (sight_in c) (ToPut name size)) (is_crowded_for (sight_in c) name)
-    (is_full (sight_in c) (ToPut name size)) fault.TooManyFiles ∙ rw (named, not_long size short) refl
-refusal-sight c (wish.Put name size (Some own)) named short =
-    orders c.barred (is_busy 8 (sight_in c) (ToPut name size)) (nat_le all_profiles own)
-    (c.table.version == 1)
-    (is_crowded_for (sight_in c) name) (is_full (sight_in c) (ToPut name size))
-    ∙ rw (named, not_long size short) refl
-refusal-sight c (wish.Get name) named short = order c.barred (is_busy 8 (sight_in c) (ToGet name))
-    (not (is_stored (sight_in c) name)) false fault.NoSuchName ∙ rw (named) refl
-refusal-sight c (wish.Drop name) named short = order c.barred (is_busy 8 (sight_in c) (ToDrop name))
-    (not (is_stored (sight_in c) name)) (is_full (sight_in c) (ToDrop name)) fault.NoSuchName
-    ∙ rw (named) refl
-refusal-sight c wish.Audit named short = order c.barred (is_busy 8 (sight_in c) ToAudit) (is_some c.table.due)
-    (is_full (sight_in c) ToAudit) fault.RepairDue
-refusal-sight c wish.Repair named short = order c.barred (is_busy 8 (sight_in c) ToRepair)
-    (not (is_some c.table.due)) (is_full (sight_in c) ToRepair) fault.NothingDue
-refusal-sight c wish.Upgrade named short = order c.barred (is_busy 8 (sight_in c) ToUpgrade)
-    (c.table.version == 2) (is_full (sight_in c) ToUpgrade) fault.NewVersion

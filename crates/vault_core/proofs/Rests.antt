@@ -2,8 +2,10 @@
 use Rattle.std.proofs.Common.{◌≡◌, ℕ, zero, suc, ◌+◌, ◌-◌, ◌<◌, ◌≤◌, Bool, true, false, List, [], ◌∷◌, ◌++◌, Some, length, map, take, drop, set, get_or, None, inl, inr, refl, ap, sym, subst, ◌∙◌, append_assoc, arith}
 use Rattle.std.specs.Prelude.{slice_get}
 use Rattle.std.proofs.lemmas.Bool.{cases_Bool}
-use Rattle.std.proofs.lemmas.List.Elements.{All-head, All-tail}
-use Rattle.std.specs.List.{All, flat_map, range_with_len}
+use Rattle.std.proofs.lemmas.List.Elements.{All-get_or}
+use Rattle.std.proofs.lemmas.List.{drop_all}
+use Rattle.std.proofs.lemmas.Option.{get_or_from_slice_get, slice_get_within}
+use Rattle.std.specs.List.{flat_map, range_with_len}
 use Rattle.algebra_laws.proofs.Lists.{drop-get}
 use Rattle.machine_defs.specs.Actions.{Action, Store, Work, Remove, End, Ask, Fetch}
 use Rattle.vault_core.specs.declared.wish.Wish.{Wish}
@@ -142,32 +144,6 @@ first_closing n job m x xs e h =
 
 -- ---- the cursors behind
 
--- a read within a list finds the element
-pub get_here : {X : Type 0} (xs ys : List X) (i : ℕ) (x : X) → ys ≡ xs → i < length ys → x ≡ get_or ys i x →
-    slice_get xs i ≡ Some x
-get_here xs ys i x e l h = subst (λ (zs : List _). slice_get zs i ≡ Some x) e (there ys i x l (sym h))
-  where
-    there : {X : Type 0} (zs : List X) (k : ℕ) (z : X) → k < length zs → get_or zs k z ≡ z →
-        slice_get zs k ≡ Some z
-    there [] k z m g = absurd (omega arith)
-    there (y ∷ zs) zero z m g = ap Some g
-    there (y ∷ zs) (suc k) z m g = there zs k z (omega arith) g
-
--- a read beyond a list finds nothing
-pub get_past : {X : Type 0} (xs ys : List X) (i : ℕ) → ys ≡ xs → length ys ≤ i → slice_get xs i ≡ None
-get_past xs ys i e l = subst (λ (zs : List _). slice_get zs i ≡ None) e (none ys i l)
-  where
-    none : {X : Type 0} (zs : List X) (k : ℕ) → length zs ≤ k → slice_get zs k ≡ None
-    none [] k m = refl
-    none (y ∷ zs) zero m = absurd (omega arith)
-    none (y ∷ zs) (suc k) m = none zs k (omega arith)
-
-drop_past : {X : Type 0} (xs : List X) (i : ℕ) → slice_get xs i ≡ None → drop i xs ≡ []
-drop_past [] zero e = refl
-drop_past [] (suc i) e = refl
-drop_past (y ∷ ys) zero e = let f : Some y ≡ None = e in cc
-drop_past (y ∷ ys) (suc i) e = drop_past ys i e
-
 -- those at one are its calls and its work
 pub turn_joined : (n : ℕ) (w : Wish) (fl : List Bool) (o t : ℕ) (more rest : List Action) →
     (turn_of n w fl o t ++ more) ++ rest ≡ calls_from 0 n w o t ++ (work_of n w fl o t ++ (more ++ rest))
@@ -194,11 +170,11 @@ task_here n job place t l w some e = record {
 }
 
 -- behind its last task, a job is where its closing actions start
-pub tasks_over : (n : ℕ) (job : Job) (place : ℕ) (c : Cursor) → slice_get job.tasks.items place ≡ None →
+pub tasks_over : (n : ℕ) (job : Job) (place : ℕ) (c : Cursor) → length job.tasks.items ≤ place →
     MayBeAt n job c (closing_of job.wish) →
     MayBeAt n job c (tasks_on n job (drop place job.tasks.items))
 tasks_over n job place c e h =
-    subst (MayBeAt n job c) (sym (ap (tasks_on n job) (drop_past job.tasks.items place e))) h
+    subst (MayBeAt n job c) (sym (ap (tasks_on n job) (drop_all place job.tasks.items e))) h
 
 -- a caller may be at the first call of the next turn of its task
 pub turn_here : (n : ℕ) (job : Job) (spot : Spot) → 0 < n → is_caller job.wish ≡ true →
@@ -223,13 +199,6 @@ turns_over n job spot c h is = subst (MayBeAt n job c)
     (sym (ap (λ (xs : List Action). xs ++ tasks_on n job (drop spot.behind job.tasks.items))
     (turns_none (spot.turn + 1) n job.wish job.flagged spot.object spot.turns h))) is
 
-all_get : {X : Type 0} (P : X → Type 0) (xs : List X) (i : ℕ) (x : X) → slice_get xs i ≡ Some x → All P xs →
-    P x
-all_get P [] i x e h = let f : None ≡ Some x = e in cc
-all_get P (y ∷ ys) zero x e h =
-    let f : Some y ≡ Some x = e in let g : y ≡ x = cc in subst P g (All-head P y ys h)
-all_get P (y ∷ ys) (suc i) x e h = all_get P ys i x e (All-tail P y ys h)
-
 -- a job may be at a cursor for any list that equals one for which it may
 pub at_along : (n : ℕ) (job : Job) (c : Cursor) (xs ys : List Action) → xs ≡ ys → MayBeAt n job c xs →
     MayBeAt n job c ys
@@ -241,7 +210,9 @@ pub task_found : (n : ℕ) (job : Job) (place : ℕ) (t : Task) → 0 < n → Is
     MayBeAt n job (at.Calling (record { object = t.object; turn = 0; turns = t.turns; behind = place + 1 }) 0)
     (tasks_on n job (drop place job.tasks.items))
 task_found n job place t l stays e = task_here n job place t l (calls job.tasks.items stays.idle e)
-    (all_get (λ (x : Task). 0 < x.turns) job.tasks.items place t e stays.tasks) e
+    (subst (λ (x : Task). 0 < x.turns) (get_or_from_slice_get job.tasks.items place t t e)
+    (All-get_or (λ (x : Task). 0 < x.turns) job.tasks.items place t
+    (slice_get_within job.tasks.items place t e) stays.tasks)) e
   where
     calls : (xs : List Task) → (is_caller job.wish ≡ false → xs ≡ []) → slice_get xs place ≡ Some t →
         is_caller job.wish ≡ true

@@ -39,7 +39,7 @@ use Rattle.vault_core.specs.declared.reply.Reply.{Reply}
 use Rattle.vault_core.specs.View.{CoreJob, CoreView, planned, rest_in, appends_in, job_in, wanted_at, wants_in}
 use Rattle.vault_core.specs.Coming.{Acts as ActsNext, seen_action, HasReply, is_last_ask_of, begins_append, action_next, is_move, asks_next, is_last_ask, written_as, written_by, written_of, written_in, entry_of_job, entry_of_found, entry_in}
 use Rattle.vault_core.specs.Carried.{IsJobOf, IsCoreFlight, CoreIs}
-use Rattle.vault_core.specs.Fed.{is_own, freed, stopped, barred_at, with_at, stepped, judged, goes_plainly, number_as, number_drawn, drawn, gated, HasGated}
+use Rattle.vault_core.specs.Fed.{is_own, freed, ended_at, barred_at, with_at, stepped_job, judged, goes_plainly, number_as, number_drawn, drawn, gated, HasGated}
 use Rattle.vault_core.specs.declared.reply.Reply.TheVariants as reply
 use Rattle.vault_core.specs.Replies.{IsEndAnswer, Tells}
 use Rattle.vault_core.proofs.Alike.{table-like}
@@ -232,6 +232,14 @@ pub flight-moves : (c : CoreView) (w : State) (m : Job) (a : Append) → CoreIs 
 flight-moves c w m a is runs e =
     let f = flight-stands c w m a is runs e in ap is_move f.1.0 ∙ after_move f.0 f.1.2
 
+-- with another job in the place of one that has no append in flight, the flight is that of the core still
+pub flight_beside : (c : CoreView) (k place : ℕ) → IsFirst c.jobs k place → (x : CoreJob) → x.number ≡ k →
+    (o : Option Append) → ((a : Append) → o ≡ Some a → a.job ≡ k → ⊥) → IsCoreFlight c o →
+    IsCoreFlight (with_at c place x) o
+flight_beside c k place first x n None other f = f
+flight_beside c k place first x n (Some a) other f =
+    (f.0, ap (written_of c.setup c.table) (in_set_other c.jobs k place a.job x first n (other a refl)) ∙ f.1)
+
 module _ (c : CoreView) (w : State) (k place : ℕ) (cj : CoreJob) (m : Job) (is : CoreIs c w)
     (first : IsFirst c.jobs k place) (here : slice_get c.jobs place ≡ Some cj)
     (called : cj.number ≡ k) (of : IsJobOf (setup_in w) cj m) (runs : job_of w.jobs k ≡ Some m) where
@@ -242,20 +250,13 @@ module _ (c : CoreView) (w : State) (k place : ℕ) (cj : CoreJob) (m : Job) (is
 
   flight_on : is_move (next_action w m) ≡ false → (x : CoreJob) → x.number ≡ k →
       IsCoreFlight (with_at c place x) w.append
-  flight_on still x n = by w.append refl is.append
-    where
-      by : (o : Option Append) → w.append ≡ o → IsCoreFlight c o → IsCoreFlight (with_at c place x) o
-      by None e f = f
-      by (Some a) e f = (
-        f.0,
-        ap (written_of c.setup c.table)
-            (in_set_other c.jobs k place a.job x first n (not_own a e still)) ∙ f.1,
-      )
+  flight_on still x n =
+      flight_beside c k place first x n w.append (λ a e. not_own a e still) is.append
 
-  flight_off : is_move (next_action w m) ≡ false → IsCoreFlight (stopped c place) w.append
+  flight_off : is_move (next_action w m) ≡ false → IsCoreFlight (ended_at c place) w.append
   flight_off still = by w.append refl is.append
     where
-      by : (o : Option Append) → w.append ≡ o → IsCoreFlight c o → IsCoreFlight (stopped c place) o
+      by : (o : Option Append) → w.append ≡ o → IsCoreFlight c o → IsCoreFlight (ended_at c place) o
       by None e f = ap (λ (x : Option ℕ). if is_own x (slice_get c.jobs place) then None else x) f
       by (Some a) e f =
           (let other = not_own a e still in (
@@ -289,7 +290,7 @@ module _ (c : CoreView) (w new : State) (k place : ℕ) (cj : CoreJob) (a : Acti
   still h = ap is_move o.next ∙ h
 
   off_arm : (p : ℕ → Provider) → is_move (Some a) ≡ false → new ≡ record (ended w o.job) { providers = p } →
-      CoreIs (stopped c place) new
+      CoreIs (ended_at c place) new
   off_arm p h e =
       remove_stands c w new k place (freed c place) c.barred o.stands o.sound o.first
       (record {
@@ -302,7 +303,7 @@ module _ (c : CoreView) (w new : State) (k place : ℕ) (cj : CoreJob) (a : Acti
       })
       (o.stands.barred ∙ sym (ap (λ (s : State). s.is_barred) e))
       (ap (λ (s : State). s.jobs) e ∙ ap (without_job w.jobs) o.number)
-      (subst (IsCoreFlight (stopped c place)) (sym (ap (λ (s : State). s.append) e))
+      (subst (IsCoreFlight (ended_at c place)) (sym (ap (λ (s : State). s.append) e))
       (flight_off c w k place cj o.job o.stands o.first o.here o.called o.is o.found (still h)))
 
   on_arm : (p : ℕ → Provider) (x : CoreJob) (m : Job) → x.number ≡ k → m.number ≡ k →
@@ -327,9 +328,9 @@ module _ (c : CoreView) (w new : State) (k place : ℕ) (cj : CoreJob) (a : Acti
       goes_plainly (Some a) ≡ true → is_last_ask (rest_in (setup_in w) cj) ≡ false →
       (given ≡ o.job.given) ⊎ (o.job.kind ≡ AuditJob → asks_next (Some a) ≡ true) →
       new ≡ record (going_on w (onward o.job o.job.subject given)) { providers = p } →
-      CoreIs (with_at c place (stepped cj)) new
+      CoreIs (with_at c place (stepped_job cj)) new
   plain_arm p given on h plain last gave e =
-      on_arm p (stepped cj) (onward o.job o.job.subject given) o.called o.number h e
+      on_arm p (stepped_job cj) (onward o.job o.job.subject given) o.called o.number h e
       (on-moved w cj o.job a o.is o.next on o.free given
       (sums-on w cj o.job a o.is o.next on o.free given plain last gave))
 
@@ -343,11 +344,11 @@ module _ (c : CoreView) (w new : State) (k place : ℕ) (cj : CoreJob) (a : Acti
 
   -- it ends for want of memory
   free_arm : (c.append ≡ None) ⊎ (c.append ≡ Some k) → Stays w new → new.is_barred ≡ w.is_barred →
-      new.jobs ≡ without_job w.jobs o.job.number → new.append ≡ None → CoreIs (stopped c place) new
+      new.jobs ≡ without_job w.jobs o.job.number → new.append ≡ None → CoreIs (ended_at c place) new
   free_arm own stays bar js none =
       remove_stands c w new k place (freed c place) c.barred o.stands o.sound o.first stays
       (o.stands.barred ∙ sym bar) (js ∙ ap (without_job w.jobs) o.number)
-      (subst (IsCoreFlight (stopped c place)) (sym none)
+      (subst (IsCoreFlight (ended_at c place)) (sym none)
       (none_off c w k place cj o.job o.stands o.first o.here o.called o.is o.found own))
 
 -- ---- the moves of an append
@@ -429,7 +430,8 @@ module _ (c : CoreView) (w new : State) (k place : ℕ) (cj : CoreJob) (a : Acti
       ∙ (subst (λ (n : ℕ). written_in c n ≡ Some y.entry) own f.1)
 
   -- an action that ends no append leaves as many of them
-  gateless : ends_append a ≡ false → (a ≡ End → ⊥) → appends_in c.setup (stepped cj) ≡ appends_in c.setup cj
+  gateless : ends_append a ≡ false → (a ≡ End → ⊥) →
+      appends_in c.setup (stepped_job cj) ≡ appends_in c.setup cj
   gateless g on =
       let e = subst (λ (s : Setup). slice_get (rest_in s cj) 0 ≡ Some a) (sym o.stands.setup)
       (head-here w cj o.job a o.is o.next on o.free) in
@@ -446,16 +448,16 @@ module _ (c : CoreView) (w new : State) (k place : ℕ) (cj : CoreJob) (a : Acti
       goes_plainly (Some a) ≡ true → is_last_ask (rest_in (setup_in w) cj) ≡ false → w.append ≡ Some y →
       y.job ≡ o.job.number → z.entry ≡ y.entry → z.job ≡ y.job → new.append ≡ Some z → new.jobs
       ≡ with_job w.jobs (onward o.job o.job.subject o.job.given) → new.is_barred ≡ w.is_barred → Stays w new →
-      (a ≡ WriteBody → ⊥) → CoreIs (with_at c place (stepped cj)) new
+      (a ≡ WriteBody → ⊥) → CoreIs (with_at c place (stepped_job cj)) new
   move_arm y z on g plain last e own entry same f js bar stays later =
       let job = on-moved w cj o.job a o.is o.next on o.free o.job.given
       (sums-on w cj o.job a o.is o.next on o.free o.job.given plain last (inl refl)) in
-      let writes : written_by c.setup c.table (stepped cj) ≡ written_by c.setup c.table cj =
+      let writes : written_by c.setup c.table (stepped_job cj) ≡ written_by c.setup c.table cj =
       ap (λ (n : ℕ). written_as c.table n cj.plan.profile cj.plan.subject cj.sums cj.plan.aim)
       (gateless g on) in
-      set_stands c w new k place (stepped cj) (onward o.job o.job.subject o.job.given) c.append o.stands
+      set_stands c w new k place (stepped_job cj) (onward o.job o.job.subject o.job.given) c.append o.stands
       o.sound o.first stays bar js o.number job
-      (flight_moved (stepped cj) z c.append f (same ∙ (own ∙ o.number))
+      (flight_moved (stepped_job cj) z c.append f (same ∙ (own ∙ o.number))
       (holds y e ∙ ap (λ (i : ℕ). Some i) (sym same)) o.called
       (writes ∙ (written_now y e (own ∙ o.number) ∙ ap (λ (r : Record). Some r) (sym entry))))
 
@@ -619,7 +621,7 @@ gates_done c cnew w new k place cj outcome o t gates = absurd t
 -- done: the end
 pub ends_done : (c : CoreView) (w new : State) (k place : ℕ) (cj : CoreJob) (outcome : Outcome)
     (o : OnMachine c w new k place cj End outcome) → Tells k reply.Done outcome new →
-    CoreIs (stopped c place) new
+    CoreIs (ended_at c place) new
 ends_done c w new k place cj More o t = (let h : Moves w o.job End w.append More new = o.acts in absurd h)
 ends_done c w new k place cj (Ended answer) o t =
     off_arm c w new k place cj End (Ended answer) o w.providers refl o.acts.1
@@ -628,14 +630,14 @@ ends_done c w new k place cj outcome o t = absurd t
 -- done: any other
 more_done : (c : CoreView) (w new : State) (k place : ℕ) (cj : CoreJob) (a : Action)
     (o : OnMachine c w new k place cj a More) → goes_plainly (Some a) ≡ true →
-    HasReply c k (ActsNext a) reply.Done → CoreIs (with_at c place (stepped cj)) new
+    HasReply c k (ActsNext a) reply.Done → CoreIs (with_at c place (stepped_job cj)) new
 more_done c w new k place cj WriteBody o p h = absurd (false≢true p)
 more_done c w new k place cj SyncGate o p h = absurd (false≢true p)
 more_done c w new k place cj End o p h = absurd (false≢true p)
 more_done c w new k place cj SyncBody o p h = by w.append refl o.acts
   where
     by : (f : Option Append) → w.append ≡ f → Moves w o.job SyncBody f More new →
-        CoreIs (with_at c place (stepped cj)) new
+        CoreIs (with_at c place (stepped_job cj)) new
     by None e g = absurd g
     by (Some y) e g = move_arm c w new k place cj SyncBody More o y (record y { moves = y.moves + 1 })
         (λ x. cc) refl refl
@@ -654,7 +656,7 @@ more_done c w new k place cj SyncBody o p h = by w.append refl o.acts
 more_done c w new k place cj WriteGate o p h = by w.append refl o.acts
   where
     by : (f : Option Append) → w.append ≡ f → Moves w o.job WriteGate f More new →
-        CoreIs (with_at c place (stepped cj)) new
+        CoreIs (with_at c place (stepped_job cj)) new
     by None e g = absurd g
     by (Some y) e g = move_arm c w new k place cj WriteGate More o y (record y { moves = y.moves + 1 })
         (λ x. cc) refl refl
@@ -704,7 +706,7 @@ more_done c w new k place cj (Ask j object round) o p h =
 pub plain_done : (c : CoreView) (w new : State) (k place : ℕ) (cj : CoreJob) (a : Action) (outcome : Outcome)
     (o : OnMachine c w new k place cj a outcome) → Tells k reply.Done outcome new →
     goes_plainly (Some a) ≡ true → HasReply c k (ActsNext a) reply.Done →
-    CoreIs (with_at c place (stepped cj)) new
+    CoreIs (with_at c place (stepped_job cj)) new
 plain_done c w new k place cj a More o t p h = more_done c w new k place cj a o p h
 plain_done c w new k place cj a (Ended answer) o t p h =
     absurd (goes_well w o.job a answer new
@@ -718,7 +720,7 @@ is_store action = false
 -- failed: a store
 store_fails : (c : CoreView) (w new : State) (k place : ℕ) (cj : CoreJob) (j object stripe : ℕ)
     (outcome : Outcome) (o : OnMachine c w new k place cj (Store j object stripe) outcome) →
-    Tells k reply.Failed outcome new → CoreIs (stopped c place) new
+    Tells k reply.Failed outcome new → CoreIs (ended_at c place) new
 store_fails c w new k place cj j object stripe (Ended (ProviderFault i)) o t =
     off_arm c w new k place cj (Store j object stripe) (Ended (ProviderFault i)) o
     (with_provider w.providers j o.acts.1.0) refl o.acts.1.2
@@ -729,7 +731,7 @@ store_fails c w new k place cj j object stripe outcome o t = absurd t
 -- a store that failed ends the job in the core as in the machine
 pub stops_failed : (c : CoreView) (w new : State) (k place : ℕ) (cj : CoreJob) (a : Action)
     (j object stripe : ℕ) (outcome : Outcome) (o : OnMachine c w new k place cj a outcome) →
-    a ≡ Store j object stripe → Tells k reply.Failed outcome new → CoreIs (stopped c place) new
+    a ≡ Store j object stripe → Tells k reply.Failed outcome new → CoreIs (ended_at c place) new
 stops_failed c w new k place cj a j object stripe outcome o e t =
     store_fails c w new k place cj j object stripe outcome
     (subst (λ (x : Action). OnMachine c w new k place cj x outcome) e o) t
@@ -824,7 +826,7 @@ bars_failed c w new k place cj a outcome o n r t = absurd t
 -- memory: a write, or a store; a sync takes none
 memory_ends : (c : CoreView) (w new : State) (k place : ℕ) (cj : CoreJob) (a : Action)
     (o : OnMachine c w new k place cj a (Ended Memory)) → HasReply c k (ActsNext a) reply.Memory →
-    CoreIs (stopped c place) new
+    CoreIs (ended_at c place) new
 memory_ends c w new k place cj WriteBody o r =
     (let h : Moves w o.job WriteBody w.append (Ended Memory) new = o.acts in
     let none = none_flies w.append o.holder in
@@ -842,7 +844,7 @@ memory_ends c w new k place cj WriteBody o r =
 memory_ends c w new k place cj WriteGate o r = by w.append refl o.acts
   where
     by : (f : Option Append) → w.append ≡ f → Moves w o.job WriteGate f (Ended Memory) new →
-        CoreIs (stopped c place) new
+        CoreIs (ended_at c place) new
     by None e h = absurd h
     by (Some y) e h = free_arm c w new k place cj WriteGate (Ended Memory) o
         (inr (holds c w new k place cj WriteGate (Ended Memory) o y e
@@ -862,12 +864,12 @@ memory_ends c w new k place cj (Store j object stripe) o r =
     (with_provider w.providers j o.acts.0) refl o.acts.2
 memory_ends c w new k place cj SyncBody o r = by w.append o.acts
   where
-    by : (f : Option Append) → Moves w o.job SyncBody f (Ended Memory) new → CoreIs (stopped c place) new
+    by : (f : Option Append) → Moves w o.job SyncBody f (Ended Memory) new → CoreIs (ended_at c place) new
     by None h = absurd h
     by (Some y) h = absurd h
 memory_ends c w new k place cj SyncGate o r = by w.append o.acts
   where
-    by : (f : Option Append) → Moves w o.job SyncGate f (Ended Memory) new → CoreIs (stopped c place) new
+    by : (f : Option Append) → Moves w o.job SyncGate f (Ended Memory) new → CoreIs (ended_at c place) new
     by None h = absurd h
     by (Some y) h = absurd h
 memory_ends c w new k place cj a o r = absurd r
@@ -876,14 +878,14 @@ memory_ends c w new k place cj a o r = absurd r
 pub stops_memory : (c : CoreView) (w new : State) (k place : ℕ) (cj : CoreJob) (a : Action)
     (outcome : Outcome) (o : OnMachine c w new k place cj a outcome) →
     HasReply c k (ActsNext a) reply.Memory → Tells k reply.Memory outcome new →
-    CoreIs (stopped c place) new
+    CoreIs (ended_at c place) new
 stops_memory c w new k place cj a (Ended Memory) o r t = memory_ends c w new k place cj a o r
 stops_memory c w new k place cj a outcome o r t = absurd t
 
 -- lost: work on a stripe
 lost_ends : (c : CoreView) (w new : State) (k place : ℕ) (cj : CoreJob) (a : Action) (row : ℕ)
     (stripe lost : ℕ) (o : OnMachine c w new k place cj a (Ended (Lost stripe lost))) →
-    HasReply c k (ActsNext a) (reply.Lost row) → CoreIs (stopped c place) new
+    HasReply c k (ActsNext a) (reply.Lost row) → CoreIs (ended_at c place) new
 lost_ends c w new k place cj (Work object s) row stripe lost o r =
     off_arm c w new k place cj (Work object s) (Ended (Lost stripe lost)) o w.providers refl o.acts.2
 lost_ends c w new k place cj a row stripe lost o r = absurd r
@@ -892,7 +894,7 @@ lost_ends c w new k place cj a row stripe lost o r = absurd r
 pub stops_lost : (c : CoreView) (w new : State) (k place : ℕ) (cj : CoreJob) (a : Action) (row : ℕ)
     (outcome : Outcome) (o : OnMachine c w new k place cj a outcome) →
     HasReply c k (ActsNext a) (reply.Lost row) →
-    Tells k (reply.Lost row) outcome new → CoreIs (stopped c place) new
+    Tells k (reply.Lost row) outcome new → CoreIs (ended_at c place) new
 stops_lost c w new k place cj a row (Ended (Lost stripe lost)) o r t =
     lost_ends c w new k place cj a row stripe lost o r
 stops_lost c w new k place cj a row outcome o r t = absurd t

@@ -4,27 +4,25 @@ use Rattle.std.specs.Prelude.{Option, if◌then◌else◌, ◌==◌, slice_get, 
 use Rattle.std.specs.List.{All}
 use Rattle.std.proofs.lemmas.Bool.{cases_Bool, cases_lt, eq-eqb, ne_eqb, eqb-true, false≢true}
 use Rattle.std.proofs.lemmas.List.Elements.{All-head, All-tail, All-set, All-push}
+use Rattle.std.proofs.lemmas.Option.{none-some}
 use Rattle.record_defs.specs.Records.{Setup}
 use Rattle.vault_core.specs.declared.job.Job.{Job}
 use Rattle.vault_core.specs.declared.own.Core.TheInside.{Inside}
 use Rattle.vault_core.specs.Streams.{stripe_size}
 use Rattle.vault_core.specs.Wished.{aim_of_wish}
-use Rattle.vault_core.specs.View.{CoreJob, CoreView, AreRising, job_in, wanted_at, wanted_by, told_by, told_in, IsStreamless}
+use Rattle.vault_core.specs.View.{CoreJob, CoreView, AreRising, job_in, wanted_at, wanted_by, told_by, told_in, HasNoStream}
 use Rattle.vault_core.specs.Parts.{core_job, setup_kept, view_of, IsCore}
 use Rattle.vault_core.specs.Streams.{IsLongest, IsToldAs, IsTold}
 use Rattle.vault_core.proofs.Kept.{All-remove, gone}
 
 -- ---- an open stream goes on
 
-some_none : {X : Type 0} (x : X) → Some x ≡ None → ⊥
-some_none x e = cc
-
 -- a place up to another, and not it, is below it
 pub below : (p q v : ℕ) → (if p == q then Some v else None) ≡ None → p ≤ q → p < q
 below p q v e l = elim (cases_lt p q) [
   | inl h ↦ h
-  | inr g ↦ absurd (some_none v
-      (sym (ap (λ (b : Bool). if b then Some v else None) (eq-eqb p q (omega (arith, l, g)))) ∙ e))
+  | inr g ↦ absurd (none-some v
+      (sym e ∙ ap (λ (b : Bool). if b then Some v else None) (eq-eqb p q (omega (arith, l, g)))))
 ]
 
 -- a job that is no open stream is told as it should be
@@ -49,7 +47,7 @@ told_on s j k told aim profile place free is = subst (IsToldAs s k) (sym told) (
 -- a job that runs is told as it should be
 pub told_get : (s : Setup) (js : List CoreJob) (k : ℕ) (j : CoreJob) → All (IsTold s) js →
     job_in js k ≡ Some j → IsTold s j
-told_get s [] k j h e = absurd (some_none j (sym e))
+told_get s [] k j h e = absurd (none-some j e)
 told_get s (x ∷ js) k j h e = elim (cases_Bool (x.number == k)) [
   | inl t ↦ (let f : Some x ≡ Some j = sym (ap (λ (b : Bool). if b then Some x else job_in js k) t) ∙ e in
       let g : x ≡ j = cc in subst (IsTold s) g (All-head (IsTold s) x js h))
@@ -60,7 +58,7 @@ told_get s (x ∷ js) k j h e = elim (cases_Bool (x.number == k)) [
 -- what each job has, the one at a place has
 pub all_at : (P : CoreJob → Type 0) (js : List CoreJob) (i : ℕ) (j : CoreJob) → All P js →
     slice_get js i ≡ Some j → P j
-all_at P [] i j h e = absurd (some_none j (sym e))
+all_at P [] i j h e = absurd (none-some j e)
 all_at P (x ∷ js) zero j h e =
     let f : Some x ≡ Some j = e in let g : x ≡ j = cc in subst P g (All-head P x js h)
 all_at P (x ∷ js) (suc i) j h e = all_at P js i j (All-tail P x js h) e
@@ -121,7 +119,7 @@ told_set (y ∷ js) (suc i) j x n e m t = elim (cases_Bool (y.number == n)) [
 
 in_remove : (js : List CoreJob) (i n : ℕ) (j : CoreJob) → slice_get js i ≡ Some j → (n ≡ j.number → ⊥) →
     job_in (remove js i) n ≡ job_in js n
-in_remove [] i n j e o = absurd (some_none j (sym e))
+in_remove [] i n j e o = absurd (none-some j e)
 in_remove (y ∷ js) zero n j e o =
     let f : Some y ≡ Some j = e in let g : y ≡ j = cc in
     sym (ap (λ (d : Bool). if d then Some y else job_in js n)
@@ -153,7 +151,7 @@ in_push_other (j ∷ js) m x o =
 
 -- what a contract sees of open streams stays: each has as many stripes as before, if it still runs
 pub record LeavesTold (c new : CoreView) : Type 0 where
-  pub streams : IsStreamless c → IsStreamless new
+  pub streams : HasNoStream c → HasNoStream new
   pub told : (number : ℕ) (j : CoreJob) → job_in new.jobs number ≡ Some j → j.told ≡ told_in c.jobs number
 
 -- it does where a job goes on
@@ -179,11 +177,10 @@ leaves_removed a c new place j v h here js = record {
     by : (n : ℕ) (k : CoreJob) → job_in new.jobs n ≡ Some k →
         told_in (remove c.jobs place) n ≡ told_in c.jobs n
     by n k e = elim (cases_Bool (n == j.number)) [
-      | inl t ↦ absurd (some_none k (sym e
-          ∙ (ap (λ (ys : List CoreJob). job_in ys n) js
+      | inl t ↦ absurd (none-some k (sym (ap (λ (ys : List CoreJob). job_in ys n) js
           ∙ (ap (job_in (remove c.jobs place)) (eqb-true n j.number t)
           ∙ gone 0 c.jobs a.next_job place j
-          (subst (λ (x : CoreView). AreRising 0 x.jobs a.next_job) v h.numbered) here))))
+          (subst (λ (x : CoreView). AreRising 0 x.jobs a.next_job) v h.numbered) here)) ∙ e))
       | inr f ↦ ap told_by (in_remove c.jobs place n j here
           (λ m. false≢true (sym f ∙ eq-eqb n j.number m)))
     ]

@@ -3,7 +3,7 @@ use Rattle.std.proofs.Common.{◌≡◌, ◌≢◌, ℕ, zero, suc, ◌+◌, ◌
 use Rattle.std.specs.Prelude.{Option, if◌then◌else◌, ◌==◌, is_some, position, slice_get, remove}
 use Rattle.std.specs.List.{AllZip}
 use Rattle.std.proofs.lemmas.Bool.{cases_Bool, false≢true, eqb-true, eq-eqb, ne_eqb}
-use Rattle.std.proofs.lemmas.Option.{slice_get_within}
+use Rattle.std.proofs.lemmas.Option.{slice_get_within, none-some}
 use Rattle.record_defs.specs.Records.{Setup}
 use Rattle.machine_defs.specs.Jobs.{Kind, PutJob, GetJob, DropJob, AuditJob, RepairJob, UpgradeJob, Aim, ToPut, aim_of, Job, job_of, without_job}
 use Rattle.machine_defs.specs.Actions.{Plan}
@@ -24,10 +24,9 @@ use Rattle.vault_core.specs.Coming.{written_of, core_left, most_of}
 use Rattle.vault_core.specs.Fed.{with_at}
 use Rattle.vault_core.specs.Cut.{of_length, cut_tasks, cursor_behind, steps_behind}
 use Rattle.vault_core.specs.Targets.{stripes_in}
-use Rattle.vault_core.specs.Reserves.{reserved_of, starts_of}
 use Rattle.machine_defs.specs.Sights.{is_upgrade}
 use Rattle.vault_core.proofs.Gating.{providers}
-use Rattle.vault_core.proofs.Moving.{kept_at}
+use Rattle.vault_core.proofs.Moving.{kept_at, WentOn}
 use Rattle.vault_core.proofs.Cut.{ended-kept, ended-left, ended-room, ended-starts, ended-aim}
 use Rattle.vault_core.specs.Rest.{rest_of}
 use Rattle.vault_core.specs.Parts.{core_job, plan_kept, setup_kept, view_of, IsJobKept, IsCore}
@@ -39,11 +38,8 @@ use Rattle.vault_core.proofs.Told.{all_at, told_get}
 use Rattle.vault_core.proofs.Links.{profile-is}
 use Rattle.vault_core.proofs.Fronts.{shared, shared-waits}
 use Rattle.vault_core.proofs.Standing.{same_job}
-use Rattle.vault_core.proofs.Steps.{flight-stands, remove_stands}
+use Rattle.vault_core.proofs.Steps.{flight-stands, remove_stands, flight_beside}
 use Rattle.vault_core.proofs.Falls.{in_number, left_job}
-
-some_none : {X : Type 0} (x : X) → None ≡ Some x → ⊥
-some_none x e = cc
 
 -- ---- the stream
 
@@ -82,7 +78,7 @@ waits c k h = by (job_in c.jobs k) refl
 pub waits_somewhere : (c : CoreView) (k : ℕ) → is_some (wants_in c k) ≡ true →
     None ≡ position (λ (j : CoreJob). j.number == k) c.jobs → ⊥
 waits_somewhere c k h e = let w = waits c k h in
-    some_none w.job (sym (found_none c.jobs k (sym e)) ∙ w.runs)
+    none-some w.job (sym (found_none c.jobs k (sym e)) ∙ w.runs)
 
 -- the place of that number is one among the jobs
 pub waits_within : (a : Inside) (c : CoreView) (k place : ℕ) → view_of a ≡ c →
@@ -110,7 +106,7 @@ pub waits_told : (a : Inside) (c : CoreView) (k place : ℕ) (index : JobKept) �
     index ≡ get_or a.jobs.items place index → None ≡ index.told → ⊥
 waits_told a c k place index v h e i t =
     let w = waits c k h in
-    some_none w.stripes (t ∙ (ap (λ (j : CoreJob). j.told) (waits_kept a c k place index v h e i) ∙ w.told))
+    none-some w.stripes (t ∙ (ap (λ (j : CoreJob). j.told) (waits_kept a c k place index v h e i) ∙ w.told))
 
 -- a stream at a place
 pub stream_at : (a : Inside) (c : CoreView) (k place stripes : ℕ) (index : JobKept) → view_of a ≡ c →
@@ -168,15 +164,7 @@ module _ (c : CoreView) (k place stripes : ℕ) (s : IsStreamAt c k place stripe
 
   flight-set : (w : State) → CoreIs c w → (x : CoreJob) → x.number ≡ k →
       IsCoreFlight (with_at c place x) w.append
-  flight-set w is x n = by w.append refl is.append
-    where
-      by : (o : Option Append) → w.append ≡ o → IsCoreFlight c o → IsCoreFlight (with_at c place x) o
-      by None e f = f
-      by (Some a) e f = (
-        f.0,
-        ap (written_of c.setup c.table)
-            (in_set_other c.jobs k place a.job x first n (not-flying w is a e)) ∙ f.1,
-      )
+  flight-set w is x n = flight_beside c k place first x n w.append (not-flying w is) is.append
 
   -- with another job in its place a core stands for the same states, where this job does for theirs
   pub set-stands : (w : State) → CoreIs c w → (x : CoreJob) → x.number ≡ k →
@@ -514,10 +502,8 @@ of_kept a c place job P v here f =
 
 -- a stream that was told the length of its file
 pub record ClosedHere (s : Setup) (old new : JobKept) (length : ℕ) : Type 0 where
-  pub kept : IsJobKept s new
+  pub went : WentOn s old new
   pub seen : core_job new ≡ closed length (core_job old)
-  pub room : (i : ℕ) → reserved_of i s (core_job new) ≤ reserved_of i s (core_job old)
-  pub starts : starts_of s (core_job new) ≤ starts_of s (core_job old)
   pub upgrade : is_upgrade (aim_of_wish new.wish) ≡ is_upgrade (aim_of_wish old.wish)
   pub left : most_of s (closed length (core_job old)) ≤ most_of s (core_job old)
 
@@ -562,12 +548,8 @@ closed_here a c place old new given size stripes v h here may all cut same =
     let upgrade = ended-aim s old here.kept given size stripes new.tasks some within m.at m.least
     m.most all cut in
     record {
-      kept = subst (IsJobKept s) (sym same) kept;
+      went = subst (WentOn s old) (sym same) (record { kept = kept; room = room; starts = starts });
       seen = seen;
-      room = subst (λ (j : JobKept). (i : ℕ) → reserved_of i s (core_job j) ≤ reserved_of i s (core_job old))
-          (sym same) room;
-      starts = subst (λ (j : JobKept). starts_of s (core_job j) ≤ starts_of s (core_job old)) (sym
-          same) starts;
       upgrade = subst (λ (j : JobKept). is_upgrade (aim_of_wish j.wish) ≡ is_upgrade (aim_of_wish old.wish))
           (sym same) upgrade;
       left = subst (λ (j : CoreJob). most_of s j ≤ most_of s (core_job old))

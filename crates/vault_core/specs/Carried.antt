@@ -1,23 +1,23 @@
 -- A core and the states of the machine that it stands for.
 --
---   IsKindOf wish kind      == the machine's kind of a wish: a put's bytes are as many as it says
---   pin_of f                == a pinned file, without its bytes
---   seen_plan j             == the plan of a job of the machine, without bytes
---   has_asked s j           == an audit that has asked all that it asks
---   shown told plan         == a plan as a core sees it: that of an open stream is of the longest file
---   HasTold s told job      == a put has at least the bytes of so many stripes
---   IsAimOf told wish kind  == the machine's kind of a wish; of a stream, a put of this name of any file
---   IsJobOf s c j           == a job of a core stands for a job of the machine; an open stream for each put
---                              with at least the stripes given so far
---   IsShortAim aim          == a put of this aim has at most 2^22 bytes
---   IsCoreFlight c append   == the append in flight is that of the same job, and its record is the one that
---                              this job writes
---   CoreIs c w              == a core stands for a state of the machine: its vault is open, nothing runs
---                              alone, and its table is that of the journal that the disk holds
---   refusal_of fault        == the machine's refusal
---   begun w moment kind own == the state after a begin, of a put also with a profile of its own
---   IsNextOf w number next  == what comes next for a job in a state of the machine
---   IsEntryOf w number e    == the record that the append of a job writes in a state of the machine
+--   IsKindOf wish kind          == the machine's kind of a wish: a put's bytes are as many as it says
+--   pin_of f                    == a pinned file, without its bytes
+--   seen_plan j                 == the plan of a job of the machine, without bytes
+--   has_asked s j               == an audit that has asked all that it asks
+--   shown told plan             == a plan as a core sees it: that of an open stream is of the longest file
+--   HasTold s told job          == a put has at least the bytes of so many stripes
+--   IsAimOf told wish kind      == the machine's kind of a wish; of a stream, a put of this name of any file
+--   IsJobOf s c j               == a job of a core stands for a job of the machine; an open stream for each
+--                                  put with at least the stripes given so far
+--   IsShortAim aim              == a put of this aim has at most 2^22 bytes
+--   IsCoreFlight c append       == the append in flight is that of the same job, and its record is the one
+--                                  that this job writes
+--   CoreIs c w                  == a core stands for a state of the machine: its vault is open, nothing runs
+--                                  alone, and its table is that of the journal that the disk holds
+--   refusal_of fault            == the machine's refusal
+--   job_begun w moment kind own == the state after a begin, of a put also with a profile of its own
+--   IsNextOf w number next      == what comes next for a job in a state of the machine
+--   IsEntryOf w number e        == the record that the append of a job writes in a state of the machine
 use Rattle.std.specs.Prelude.{◌≡◌, ℕ, ◌+◌, ◌*◌, ◌^◌, ◌<◌, ◌≤◌, ◌&&◌, Bool, true, false, not, IsTrue, [], ◌∷◌, ◌++◌, length, map, replicate, slice_get, Option, None, Some}
 use Rattle.std.specs.List.{AllZip}
 use Rattle.column_defs.specs.Verdicts.{Sums}
@@ -65,18 +65,18 @@ seen_plan j = record {
 }
 
 -- no provider was counted yet, and no round was undecided
-abbrev pub no_sums : Setup → Sums
-no_sums s = record { counts = replicate s.n 0; undecided = 0 }
+abbrev pub sums_at_start : Setup → Sums
+sums_at_start s = record { counts = replicate s.n 0; undecided = 0 }
 
 -- an audit
-abbrev pub is_audit : Kind → Bool
-is_audit AuditJob = true
-is_audit kind = false
+abbrev pub is_audit_kind : Kind → Bool
+is_audit_kind AuditJob = true
+is_audit_kind kind = false
 
 -- an audit that has asked all that it asks
 abbrev pub has_asked : Setup → Job → Bool
 has_asked s j =
-    is_audit j.kind
+    is_audit_kind j.kind
     && (not (is_first_append j) && not (asks_next (slice_get (actions_of s j) j.place)))
 
 -- a put of the longest file
@@ -116,7 +116,7 @@ pub record IsJobOf (s : Setup) (c : CoreJob) (j : Job) : Type 0 where
   pub told : HasTold s c.told j
   pub within : IsTold s c
   pub place : c.place ≡ j.place
-  pub unjudged : j.kind ≡ AuditJob → j.place < 4 → c.sums ≡ no_sums s
+  pub unjudged : j.kind ≡ AuditJob → j.place < 4 → c.sums ≡ sums_at_start s
   pub judged : IsTrue (has_asked s j) → HasSums s j c.sums
 
 -- the append in flight is that of the same job, and its record is the one that this job writes
@@ -155,8 +155,8 @@ refusal_of fault.PackTooLong = refusal.PackTooLong
 refusal_of fault.Memory = refusal.Memory
 
 -- the state after a begin, of a put also with a profile of its own
-abbrev pub begun : State → ℕ → Kind → Option ℕ → State
-begun w moment kind own =
+abbrev pub job_begun : State → ℕ → Kind → Option ℕ → State
+job_begun w moment kind own =
     record w { jobs = w.jobs ++ beginning w moment kind own ∷ []; next_job = w.next_job + 1 }
 
 -- a job runs and has this next action, which has to wait for this job, if for any

@@ -2,10 +2,10 @@
 --
 --   first_at c place     == the next of the actions that the job has not yet made
 --   freed c place        == the append in flight, unless it is the job's
---   stopped c place      == the core in which the job has ended
+--   ended_at c place     == the core in which the job has ended
 --   barred_at c place    == the core in which the job has ended by a disk call that failed
 --   goes_plainly action  == the action neither begins an append nor ends one, and is not the end
---   stepped j            == a job that has made its next action
+--   stepped_job j        == a job that has made its next action
 --   with_at c place j    == the core with this job at that place
 --   judged j sums        == an audit that has made its last ask, with these sums
 --   number_drawn s t j   == the number that the job's append draws, or has drawn
@@ -26,13 +26,13 @@ use Rattle.vault_core.specs.declared.pinned.Pinned.{Pinned}
 use Rattle.vault_core.specs.View.{CoreJob, CoreView, rest_in, appends_in}
 
 -- the next of the actions that a job has not yet made
-abbrev pub first_of : Setup → Option CoreJob → Option Action
-first_of s None = None
-first_of s (Some j) = slice_get (rest_in s j) 0
+abbrev pub first_action : Setup → Option CoreJob → Option Action
+first_action s None = None
+first_action s (Some j) = slice_get (rest_in s j) 0
 
 -- the same of the job at a place
 abbrev pub first_at : CoreView → ℕ → Option Action
-first_at c place = first_of c.setup (slice_get c.jobs place)
+first_at c place = first_action c.setup (slice_get c.jobs place)
 
 -- an append is that of a job
 abbrev pub is_own : Option ℕ → Option CoreJob → Bool
@@ -44,8 +44,8 @@ abbrev pub freed : CoreView → ℕ → Option ℕ
 freed c place = if is_own c.append (slice_get c.jobs place) then None else c.append
 
 -- the job at a place has ended
-abbrev pub stopped : CoreView → ℕ → CoreView
-stopped c place = record c { jobs = remove c.jobs place; append = freed c place }
+abbrev pub ended_at : CoreView → ℕ → CoreView
+ended_at c place = record c { jobs = remove c.jobs place; append = freed c place }
 
 -- it has ended by a disk call that failed
 abbrev pub barred_at : CoreView → ℕ → CoreView
@@ -60,8 +60,8 @@ goes_plainly (Some End) = false
 goes_plainly (Some action) = true
 
 -- a job has made its next action
-abbrev pub stepped : CoreJob → CoreJob
-stepped j = record j { place = j.place + 1 }
+abbrev pub stepped_job : CoreJob → CoreJob
+stepped_job j = record j { place = j.place + 1 }
 
 -- a core with this job at a place
 abbrev pub with_at : CoreView → ℕ → CoreJob → CoreView

@@ -8,7 +8,7 @@
 --   IsSet n job               == what stays of a job as it is kept while it goes on
 --   MayBeAt n job c xs        == a job may be at a cursor, and then these are the actions that it has not yet
 --                                made
---   IsSteady n job            == a job as it is kept, for n providers, whatever its plan
+--   IsSteadyJob n job         == a job as it is kept, for n providers, whatever its plan
 --   MayFinish n job           == a job is at the last move of an append
 --   IsJobKept s job           == a job as it is kept: from its cursor on stand the actions of its plan
 --   MayBegin told wish        == a job of this wish may begin, or a stream of the longest file that was given
@@ -148,14 +148,14 @@ pub record MayBeAt (n : ℕ) (job : Job) (cursor : Cursor) (actions : List Actio
   pub rest : rest_at n job cursor ≡ actions
 
 -- a job as it is kept, for n providers, whatever its plan
-pub record IsSteady (n : ℕ) (job : Job) : Type 0 where
+pub record IsSteadyJob (n : ℕ) (job : Job) : Type 0 where
   pub stays : IsSet n job
   pub comes : comes_to job.wish job.cursor ≡ true
   pub within : IsWithin n job.flagged job.cursor
 
 -- a job is at the last move of an append
 pub record MayFinish (n : ℕ) (job : Job) : Type 0 where
-  pub steady : IsSteady n job
+  pub steady : IsSteadyJob n job
   pub going : is_over job.cursor ≡ false
   pub appends : 0 < job.appends
   pub left : 0 < job.left
@@ -166,7 +166,7 @@ pub record MayFinish (n : ℕ) (job : Job) : Type 0 where
 -- tasks, its appends and the steps that it may still make are those of its plan. Until its last append is
 -- done it takes nothing away.
 pub record IsJobKept (s : Setup) (job : Job) : Type 0 where
-  pub steady : IsSteady s.n job
+  pub steady : IsSteadyJob s.n job
   pub tasks : job.tasks.items
       ≡ tasks_made (turns_for s job.wish) (targets_of job.wish job.profile job.subject job.pinned.items)
   pub listed : rest_of s.n job ≡ rest_in s (core_job job)

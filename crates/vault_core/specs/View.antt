@@ -22,7 +22,7 @@
 --   told_in jobs number     == how many stripes the open stream of a number was given; None for every other
 --                              job
 --   is_open_stream job      == a job is a stream whose last piece was not given
---   IsStreamless c          == no stream is open
+--   HasNoStream c           == no stream is open
 --
 -- A stream is a put that is told the length of its file only with its last piece. While it is open its plan
 -- is that of the longest file.
@@ -150,5 +150,5 @@ is_open_stream None = false
 is_open_stream (Some j) = is_some j.told
 
 -- no stream is open
-abbrev pub IsStreamless : CoreView → Type 0
-IsStreamless c = All (λ (j : CoreJob). j.told ≡ None) c.jobs
+abbrev pub HasNoStream : CoreView → Type 0
+HasNoStream c = All (λ (j : CoreJob). j.told ≡ None) c.jobs

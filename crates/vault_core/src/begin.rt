@@ -4,12 +4,12 @@ ghost use Rattle.machine_defs.specs.Events.{IsSpelledKind};
 ghost use Rattle.machine_defs.specs.States.{State};
 ghost use Rattle.machine_defs.specs.Begins.{refusal_of_begin};
 ghost use Rattle.vault_core.specs.declared.wish.BeginFault.TheVariants as fault;
-ghost use Rattle.vault_core.specs.Carried.{CoreIs, IsKindOf, IsAimOf, IsShortAim, refusal_of, begun};
+ghost use Rattle.vault_core.specs.Carried.{CoreIs, IsKindOf, IsAimOf, IsShortAim, refusal_of, job_begun};
 ghost use Rattle.record_defs.specs.Records.{largest_journal};
 ghost use Rattle.vault_core.specs.Parts.{core_job, IsJobKept, MayBegin};
 ghost use Rattle.vault_core.specs.Streams.{IsTold};
 ghost use Rattle.vault_core.specs.Reserves.{reserved_of};
-ghost use Rattle.vault_core.specs.View.{HasLoneUpgrade, told_in, IsStreamless};
+ghost use Rattle.vault_core.specs.View.{HasLoneUpgrade, told_in, HasNoStream};
 ghost use Rattle.vault_core.specs.Wished.{profile_named, IsShort};
 ghost use Rattle.vault_core.specs.Making.{starts_for, admitted, AreMore};
 
@@ -28,7 +28,7 @@ impl Core {
         requires size { IsShort wish }
         ensures begun { (w : State) (kind : Kind) (moment : ℕ) → CoreIs self.old w → IsKindOf wish kind
             → IsSpelledKind kind →
-            OnOk result (CoreIs self.new (begun w moment kind (profile_named wish))) }
+            OnOk result (CoreIs self.new (job_begun w moment kind (profile_named wish))) }
         ensures accepted { (w : State) (kind : Kind) → CoreIs self.old w → IsKindOf wish kind
             → OnOk result (refusal_of_begin 8 w kind (profile_named wish) ≡ None) }
         ensures number { IfOk result (λ job. job ≡ self.old.next_job) }
@@ -37,7 +37,7 @@ impl Core {
             → refusal_of_begin 8 w kind (profile_named wish) ≡ Some (refusal_of why)) }
         ensures unchanged { OnErr result (self.new ≡ self.old) }
         ensures setup { self.new.setup ≡ self.old.setup }
-        ensures streams { IsStreamless self.old → IsStreamless self.new }
+        ensures streams { HasNoStream self.old → HasNoStream self.new }
         ensures told { (number : ℕ) → told_in self.new.jobs number ≡ told_in self.old.jobs number }
     {
         self.start_job(wish, None)
@@ -50,7 +50,7 @@ impl Core {
         requires told { MayBegin told wish }
         ensures begun { (w : State) (kind : Kind) (moment : ℕ) → CoreIs self.old w → IsAimOf told wish kind
             → IsShortAim (aim_of kind) → IsSpelledKind kind →
-            OnOk result (CoreIs self.new (begun w moment kind (profile_named wish))) }
+            OnOk result (CoreIs self.new (job_begun w moment kind (profile_named wish))) }
         ensures accepted { (w : State) (kind : Kind) → CoreIs self.old w → IsAimOf told wish kind
             → IsShortAim (aim_of kind) →
             OnOk result (refusal_of_begin 8 w kind (profile_named wish) ≡ None) }

@@ -11,11 +11,11 @@ ghost use Rattle.machine_defs.specs.States.{State};
 ghost use Rattle.machine_defs.specs.Machine.{Happens};
 ghost use Rattle.record_codec.specs.Entries.{counted, IsPadded};
 ghost use Rattle.vault_table.specs.Values.{file_of_entry, IsFoldOf};
-ghost use Rattle.vault_core.specs.View.{CoreJob, job_in, told_in, wanted_by, wants_in, IsStreamless};
+ghost use Rattle.vault_core.specs.View.{CoreJob, job_in, told_in, wanted_by, wants_in, HasNoStream};
 ghost use Rattle.vault_core.specs.Coming.{TakesReply, core_left, written_by};
 ghost use Rattle.vault_core.specs.Wished.{aim_of_wish};
 ghost use Rattle.vault_core.specs.Going.{listed_older};
-ghost use Rattle.vault_core.specs.Fed.{first_at, goes_plainly, stopped, barred_at, stepped, with_at, judged, number_as, number_drawn, drawn, is_pinned_in, removable_in, taken_as, HasGated};
+ghost use Rattle.vault_core.specs.Fed.{first_at, goes_plainly, ended_at, barred_at, stepped_job, with_at, judged, number_as, number_drawn, drawn, is_pinned_in, removable_in, taken_as, HasGated};
 ghost use Rattle.vault_core.specs.Carried.{CoreIs};
 ghost use Rattle.vault_core.specs.Replies.{IsReplyTo};
 
@@ -53,7 +53,7 @@ impl Core {
             IsReplyTo self.old job reply outcome new → CoreIs self.new new }
         ensures falls { core_left self.new job < core_left self.old job }
         ensures setup { self.new.setup ≡ self.old.setup }
-        ensures streams { IsStreamless self.old → IsStreamless self.new }
+        ensures streams { HasNoStream self.old → HasNoStream self.new }
         ensures told { (number : ℕ) (j : CoreJob) → job_in self.new.jobs number ≡ Some j
             → j.told ≡ told_in self.old.jobs number }
     {
@@ -88,7 +88,7 @@ impl Core {
     /// Ends the job at a place. Its append, if it is in one, is given up.
     fn stop(&mut self, place: usize)
         requires { place < length self.old.jobs }
-        ensures { self.new ≡ stopped self.old place }
+        ensures { self.new ≡ ended_at self.old place }
     {
         let job = self.jobs.remove(place);
         if self.append == Some(job.number) {
@@ -111,7 +111,7 @@ impl Core {
         requires plain { goes_plainly (first_at self.old place) ≡ true }
         requires given { wanted_by self.old.setup (slice_get self.old.jobs place) ≡ None }
         ensures moved { (j : CoreJob) → slice_get self.old.jobs place ≡ Some j
-            → self.new ≡ with_at self.old place (stepped j) }
+            → self.new ≡ with_at self.old place (stepped_job j) }
         ensures falls { (j : CoreJob) → slice_get self.old.jobs place ≡ Some j
             → core_left self.new j.number < core_left self.old j.number }
     {
@@ -215,7 +215,7 @@ impl Core {
             written_by self.old.setup self.old.table j ≡ Some entry → IsFoldOf rs self.old.table
             → refused rs entry ≡ None →
             HasGated self.old place j entry rs self.new }
-        ensures streams { IsStreamless self.old → IsStreamless self.new }
+        ensures streams { HasNoStream self.old → HasNoStream self.new }
         ensures told { (number : ℕ) (j : CoreJob) → job_in self.new.jobs number ≡ Some j
             → j.told ≡ told_in self.old.jobs number }
         ensures falls { (j : CoreJob) → slice_get self.old.jobs place ≡ Some j

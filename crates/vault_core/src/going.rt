@@ -3,7 +3,7 @@ ghost use Rattle.std.specs.Prelude.{◌≡◌, ◌<◌, ◌≤◌, ◌+◌, ◌-
 ghost use Rattle.vault_core.specs.View.{flag_at};
 ghost use Rattle.vault_core.specs.Coming.{is_last_ask};
 ghost use Rattle.vault_core.specs.Rest.{rest_of, closing_of, tasks_on, beyond, calls_from, work_of, rewrites_from};
-ghost use Rattle.vault_core.specs.Parts.{IsSet, MayBeAt, IsSteady, is_over, is_rewriter, is_worker, is_caller};
+ghost use Rattle.vault_core.specs.Parts.{IsSet, MayBeAt, IsSteadyJob, is_over, is_rewriter, is_worker, is_caller};
 ghost use Rattle.vault_core.specs.Going.{aimed, is_taker, decides, decides_on, drawn_tasks, removals_of, LeavesBehind};
 ghost use Rattle.vault_core.specs.Parts.{MayFinish};
 
@@ -159,7 +159,7 @@ impl Job {
     fn after(&self, providers: u32) -> Cursor
         requires few { providers ≤ 16 }
         requires some { 0 < providers }
-        requires kept { IsSteady providers self.now }
+        requires kept { IsSteadyJob providers self.now }
         requires going { is_over self.now.cursor ≡ false }
         ensures { MayBeAt providers self.now result (drop 1 (rest_of providers self.now)) }
     {
@@ -195,7 +195,7 @@ impl Job {
     pub fn is_last_ask(&self, providers: u32) -> bool
         requires few { providers ≤ 16 }
         requires some { 0 < providers }
-        requires kept { IsSteady providers self.now }
+        requires kept { IsSteadyJob providers self.now }
         ensures { result ≡ is_last_ask (rest_of providers self.now) }
     {
         match self.action() {
@@ -208,11 +208,11 @@ impl Job {
     pub fn advance(&mut self, providers: u32)
         requires few { providers ≤ 16 }
         requires some { 0 < providers }
-        requires kept { IsSteady providers self.old }
+        requires kept { IsSteadyJob providers self.old }
         requires going { is_over self.old.cursor ≡ false }
         requires left { 0 < self.old.left }
         requires fits { self.old.place + self.old.left < 2 ^ 64 }
-        ensures kept { IsSteady providers self.new }
+        ensures kept { IsSteadyJob providers self.new }
         ensures rest { rest_of providers self.new ≡ drop 1 (rest_of providers self.old) }
         ensures same { self.new ≡ record self.old {
           cursor = self.new.cursor;
@@ -247,11 +247,11 @@ impl Job {
     /// Makes the action that decides on the removal of an older object.
     fn decide(&mut self, older: Option<u64>, providers: u32)
         requires some { 0 < providers }
-        requires kept { IsSteady providers self.old }
+        requires kept { IsSteadyJob providers self.old }
         requires taker { is_taker self.old.wish ≡ true }
         requires left { self.old.left ≡ 2 + providers }
         requires fits { self.old.place + self.old.left < 2 ^ 64 }
-        ensures kept { IsSteady providers self.new }
+        ensures kept { IsSteadyJob providers self.new }
         ensures rest { rest_of providers self.new ≡ removals_of providers older }
         ensures left { self.new.left ≡ length (removals_of providers older) }
         ensures same { self.new ≡ record self.old {
@@ -282,7 +282,7 @@ impl Job {
         requires few { providers ≤ 16 }
         requires some { 0 < providers }
         requires ready { MayFinish providers self.old }
-        ensures kept { IsSteady providers self.new }
+        ensures kept { IsSteadyJob providers self.new }
         ensures behind { LeavesBehind providers older (decides_on self.old) self.old self.new }
         ensures same { self.new ≡ record self.old {
           older = older;

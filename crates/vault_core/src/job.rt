@@ -6,7 +6,7 @@ ghost use Rattle.record_codec.specs.Entries.{entry_of, IsInGrammar};
 ghost use Rattle.vault_core.specs.declared.pinned.Pinned.{Pinned as PinnedFile};
 ghost use Rattle.vault_core.specs.Coming.{seen_action, action_next, entry_of_job, written_as, is_last_ask, is_idle, is_move, provider_of};
 ghost use Rattle.vault_core.specs.Rest.{call_of, rest_of};
-ghost use Rattle.vault_core.specs.Parts.{core_job, plan_kept, sums_kept, IsSet, IsSteady, IsJobKept, has_append};
+ghost use Rattle.vault_core.specs.Parts.{core_job, plan_kept, sums_kept, IsSet, IsSteadyJob, IsJobKept, has_append};
 ghost use Rattle.vault_core.specs.Wished.{aim_of_wish};
 
 use crate::action::Action;
@@ -73,10 +73,11 @@ fn call(wish: &Wish, spot: &Spot, provider: u32) -> Action
 impl Job {
     /// The next of the actions that the job has not yet made.
     pub fn action(&self) -> Action
-        ensures value { (n : ℕ) → IsSteady n self.now
+        ensures value { (n : ℕ) → IsSteadyJob n self.now
             → slice_get (rest_of n self.now) 0 ≡ Some (seen_action result) }
-        ensures within { (n j : ℕ) → IsSteady n self.now → provider_of (seen_action result) ≡ Some j → j < n }
-        ensures appends { (n : ℕ) → IsSteady n self.now → is_move (Some (seen_action result)) ≡ true
+        ensures within { (n j : ℕ) → IsSteadyJob n self.now → provider_of (seen_action result) ≡ Some j
+            → j < n }
+        ensures appends { (n : ℕ) → IsSteadyJob n self.now → is_move (Some (seen_action result)) ≡ true
             → has_append self.now.wish ≡ true }
     {
         match self.cursor {

@@ -5,13 +5,12 @@ ghost use Rattle.std.specs.List.{list_any};
 ghost use Rattle.machine_defs.specs.Jobs.{Kind, aim_of};
 ghost use Rattle.machine_defs.specs.States.{State};
 ghost use Rattle.machine_defs.specs.Begins.{refusal_of_begin};
-ghost use Rattle.machine_defs.specs.Refusals.{first_refusal};
-ghost use Rattle.machine_defs.specs.Sights.{is_check, is_put_or_check, is_upgrade, is_name_among, is_busy, is_crowded_for, is_full, causes};
+ghost use Rattle.machine_defs.specs.Sights.{is_check, is_put_or_check, is_upgrade, is_name_among, is_busy, is_crowded_for, is_full};
 ghost use Rattle.vault_core.specs.declared.job.Job.{Job as JobData};
 ghost use Rattle.vault_core.specs.Carried.{CoreIs, IsAimOf, IsShortAim, refusal_of};
 ghost use Rattle.vault_core.specs.Wished.{aim_of_wish, profile_named, HasName, IsShort};
 ghost use Rattle.vault_core.specs.Reserves.{room_behind};
-ghost use Rattle.vault_core.specs.Refusing.{sight_in, aims_kept, puts_name, taken_names, put_refusal_in, word_refusal_in, refusal_in};
+ghost use Rattle.vault_core.specs.Refusing.{sight_in, aims_kept, puts_name, taken_names, refusal_in};
 
 use crate::job::Job;
 use crate::look::MOST_JOBS;
@@ -139,11 +138,12 @@ fn reserved_for(jobs: &[Job], providers: u8, version: u8) -> u64
     room
 }
 
-/// A refusal, where its cause applies.
-fn when(applies: bool, why: BeginFault) -> Option<BeginFault>
-    ensures { result ≡ (if applies then Some why else None) }
+/// A refusal where its cause applies, and else what comes behind it.
+fn when(applies: bool, why: BeginFault, behind: Option<BeginFault>) -> Option<BeginFault>
+    ensures { option_map refusal_of result
+        ≡ (if applies then Some (refusal_of why) else option_map refusal_of behind) }
 {
-    if applies { Some(why) } else { None }
+    if applies { Some(why) } else { behind }
 }
 
 /// The name of a wish is a name.
@@ -174,18 +174,6 @@ impl Core {
         }
     }
 
-    /// Why the words of a put, or the names in effect, let none begin.
-    fn put_refusal(&self, name: &Name, profile: Option<u8>) -> Option<BeginFault>
-        ensures { result ≡ put_refusal_in (sight_in self.now) name.now profile }
-    {
-        match profile {
-            None => when(self.is_crowded(name), BeginFault::TooManyFiles),
-            Some(profile) if profile >= PROFILES => Some(BeginFault::BadProfile),
-            Some(_) if self.table.version() == 1 => Some(BeginFault::OldVersion),
-            Some(_) => when(self.is_crowded(name), BeginFault::TooManyFiles),
-        }
-    }
-
     /// No further name fits in beside those in effect and those of running puts.
     fn is_crowded(&self, name: &Name) -> bool
         ensures { result ≡ is_crowded_for (sight_in self.now) name.now }
@@ -193,21 +181,6 @@ impl Core {
         let beside = names_beside(&self.table, &self.jobs);
         self.table.count().saturating_add(beside) >= MOST_FILES
             && !is_taken(&self.table, &self.jobs, name)
-    }
-
-    /// Why the words of a wish, or what is in effect, let no job begin.
-    fn word_refusal(&self, wish: &Wish) -> Option<BeginFault>
-        ensures { result ≡ word_refusal_in (sight_in self.now) wish.now }
-    {
-        match wish {
-            Wish::Put { name, profile, .. } => self.put_refusal(name, *profile),
-            Wish::Get { name } | Wish::Drop { name } => {
-                when(self.table.find(name).is_none(), BeginFault::NoSuchName)
-            }
-            Wish::Audit => when(self.table.due().is_some(), BeginFault::RepairDue),
-            Wish::Repair => when(self.table.due().is_none(), BeginFault::NothingDue),
-            Wish::Upgrade => when(self.table.version() == 2, BeginFault::NewVersion),
-        }
     }
 
     /// The records of a job find no room, or its number would come too near the last one.
@@ -231,7 +204,8 @@ impl Core {
 
     /// The first refusal that applies to a wish.
     fn first_refusal(&self, wish: &Wish) -> Option<BeginFault>
-        ensures { result ≡ refusal_in self.now wish.now }
+        ensures { HasName wish.now → IsShort wish.now →
+            option_map refusal_of result ≡ refusal_in self.now wish.now }
     {
         if self.barred {
             return Some(BeginFault::MustReopen);
@@ -239,21 +213,34 @@ impl Core {
         if self.is_busy(wish) {
             return Some(BeginFault::Busy);
         }
-        if let Some(fault) = self.word_refusal(wish) {
-            return Some(fault);
+        let full = when(self.is_full(wish), BeginFault::JournalFull, None);
+        match wish {
+            Wish::Put { name, profile, .. } => {
+                let crowded = when(self.is_crowded(name), BeginFault::TooManyFiles, full);
+                match *profile {
+                    None => crowded,
+                    Some(own) => {
+                        let old = when(self.table.version() == 1, BeginFault::OldVersion, crowded);
+                        when(own >= PROFILES, BeginFault::BadProfile, old)
+                    }
+                }
+            }
+            Wish::Get { name } | Wish::Drop { name } => {
+                when(
+                    self.table.find(name).is_none(),
+                    BeginFault::NoSuchName,
+                    full,
+                )
+            }
+            Wish::Audit => when(self.table.due().is_some(), BeginFault::RepairDue, full),
+            Wish::Repair => when(self.table.due().is_none(), BeginFault::NothingDue, full),
+            Wish::Upgrade => when(self.table.version() == 2, BeginFault::NewVersion, full),
         }
-        if self.is_full(wish) {
-            return Some(BeginFault::JournalFull);
-        }
-        None
     }
 
     /// The first refusal that applies to a wish, or to a stream, which is that of the machine.
     pub(crate) fn refusal(&self, wish: &Wish) -> Option<BeginFault>
-        ensures value { result ≡ refusal_in self.now wish.now }
-        ensures named { HasName wish.now }
-        ensures sight { IsShort wish.now → option_map refusal_of result
-            ≡ first_refusal (causes 8 (sight_in self.now) (aim_of_wish wish.now) (profile_named wish.now)) }
+        ensures sight { IsShort wish.now → option_map refusal_of result ≡ refusal_in self.now wish.now }
         ensures machine { (told : Option ℕ) (w : State) (kind : Kind) → CoreIs self.now w
             → IsAimOf told wish.now kind → IsShort wish.now → IsShortAim (aim_of kind) →
             option_map refusal_of result ≡ refusal_of_begin 8 w kind (profile_named wish.now) }

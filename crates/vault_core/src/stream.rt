@@ -6,7 +6,7 @@ ghost use Rattle.machine_defs.specs.Events.{IsSpelledKind};
 ghost use Rattle.machine_defs.specs.States.{State, ended};
 ghost use Rattle.machine_defs.specs.Begins.{refusal_of_begin};
 ghost use Rattle.vault_core.specs.declared.wish.BeginFault.TheVariants as fault;
-ghost use Rattle.vault_core.specs.Carried.{CoreIs, refusal_of, begun};
+ghost use Rattle.vault_core.specs.Carried.{CoreIs, refusal_of, job_begun};
 ghost use Rattle.vault_core.specs.Coming.{core_left, most_of};
 ghost use Rattle.vault_core.specs.Streams.{stripe_size, IsToldAs, IsGivenLength, FitsGiven, closed, given_more, IsStreamAt, MayClose};
 ghost use Rattle.vault_core.specs.Cut.{of_length, of_turns, cut_tasks, cursor_behind, steps_behind};
@@ -127,7 +127,7 @@ impl Core {
         requires { self.old.next_job < 2 ^ 32 - 1 }
         ensures begun { (w : State) (bytes : List ℕ) (moment : ℕ) → CoreIs self.old w
             → IsSpelledKind (PutJob name bytes) → length bytes ≤ largest_file
-            → OnOk result (CoreIs self.new (begun w moment (PutJob name bytes) profile)) }
+            → OnOk result (CoreIs self.new (job_begun w moment (PutJob name bytes) profile)) }
         ensures accepted { (w : State) (bytes : List ℕ) → CoreIs self.old w → length bytes ≤ largest_file
             → OnOk result (refusal_of_begin 8 w (PutJob name bytes) profile ≡ None) }
         ensures number { IfOk result (λ job. job ≡ self.old.next_job) }

@@ -1,20 +1,12 @@
 -- What holds of an answer by its cause.
 use Rattle.std.proofs.Common.{◌≡◌, ℕ, List, Ok, Err, sym, subst, ◌∙◌}
-use Rattle.std.specs.Prelude.{Result, IfOk, IfErr, IsErrAnd}
+use Rattle.std.specs.Prelude.{Result, IfErr, IsErrAnd}
 use Rattle.stream_model.specs.declared.fault.WriteFault.{WriteFault}
 use Rattle.stream_model.specs.declared.fault.WriteFault.TheVariants as write_fault
 use Rattle.vault_open.specs.declared.fault.InitFault.{InitFault}
 use Rattle.vault_open.specs.declared.fault.InitFault.TheVariants as init_fault
 use Rattle.vault_open.specs.Faults.{init_answer}
 use Rattle.vault_open.specs.Preparing.{IsTextFault}
-
-ok-still : {T E : Type 0} (r : Result T E) (P Q : T → Type 0) → ((x : T) → P x → Q x) → IfOk r P → IfOk r Q
-ok-still (Ok x) P Q step held = step x held
-ok-still (Err e) P Q step held = tt
-
-err-still : {T E : Type 0} (r : Result T E) (P Q : E → Type 0) → ((e : E) → P e → Q e) → IfErr r P → IfErr r Q
-err-still (Ok x) P Q step held = tt
-err-still (Err e) P Q step held = step e held
 
 -- what follows from the error of an answer is a statement about that error
 pub err-from : {T E : Type 0} (r : Result T E) (P Q : E → Type 0) → ((e : E) → P e → Q e) → IsErrAnd r P →

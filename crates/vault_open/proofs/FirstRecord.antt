@@ -7,7 +7,7 @@ use Rattle.device_defs.specs.Cells.{Cells, reads, firm}
 use Rattle.device_defs.specs.Disks.{written, synced}
 use Rattle.device_defs.specs.Told.{Goes}
 use Rattle.device_defs.proofs.Lasting.{reads-firm}
-use Rattle.record_defs.specs.Records.{Setup, Record, SetUp, PutStart, PutDone, Drop, AuditStart, AuditDone, RepairDone, is_in_grammar, PutDoneIn, Version, Resume, InEffect, RepairDue}
+use Rattle.record_defs.specs.Records.{Setup, Record, SetUp, PutStart, PutDone, Drop, AuditStart, AuditDone, RepairDone, is_in_grammar, PutDoneIn, Version, Resume}
 use Rattle.record_defs.specs.Spellings.{spelling}
 use Rattle.record_defs.specs.Areas.{Area, A, B, base_of, IsSwitched, StandsActive}
 use Rattle.record_defs.proofs.Standing.{active-long}
@@ -21,7 +21,7 @@ use Rattle.journal_core.specs.Texts.{StandsFirm, IsAfterMovesIn}
 use Rattle.journal_core.proofs.AreaStands.{read-firm}
 use Rattle.journal_core.proofs.AreaMoves.{begins-in}
 use Rattle.journal_core.proofs.MoveLemmas.{IfSome-same}
-use Rattle.opening_defs.specs.Journals.{BeginsWithSetup, BeginsOtherwise, IsSetUpOn}
+use Rattle.opening_defs.specs.Journals.{IsSetUpOn}
 use Rattle.opening_defs.proofs.SetUps.{reads-within}
 use Rattle.vault_open.specs.declared.fault.InitFault.{InitFault}
 use Rattle.vault_open.specs.declared.fault.InitFault.TheVariants as init_fault
@@ -29,45 +29,6 @@ use Rattle.vault_open.specs.Preparing.{IsBlank, IsReadied, with_first_record, fi
 use Rattle.vault_open.proofs.Readings.{reads-synced}
 
 -- ---- the first record of a journal
-
-begins-more : (r : Record) (rs : List Record) → BeginsWithSetup rs → BeginsWithSetup (r ∷ rs)
-begins-more r [] h = absurd h
-begins-more (SetUp s) (q ∷ rs) h = h
-begins-more (PutStart id name) (q ∷ rs) h = h
-begins-more (PutDone id size) (q ∷ rs) h = h
-begins-more (Drop name) (q ∷ rs) h = h
-begins-more (AuditStart number) (q ∷ rs) h = h
-begins-more (AuditDone number undecided counts) (q ∷ rs) h = h
-begins-more (RepairDone number) (q ∷ rs) h = h
-begins-more (PutDoneIn id size profile) (q ∷ rs) h = h
-begins-more Version (q ∷ rs) h = h
-begins-more (Resume next audit) (q ∷ rs) h = h
-begins-more (InEffect id size profile kept) (q ∷ rs) h = h
-begins-more (RepairDue number counts) (q ∷ rs) h = h
-
-others-more : (r : Record) (rs : List Record) → BeginsOtherwise rs → BeginsOtherwise (r ∷ rs)
-others-more r [] h = absurd h
-others-more (SetUp s) (q ∷ rs) h = h
-others-more (PutStart id name) (q ∷ rs) h = h
-others-more (PutDone id size) (q ∷ rs) h = h
-others-more (Drop name) (q ∷ rs) h = h
-others-more (AuditStart number) (q ∷ rs) h = h
-others-more (AuditDone number undecided counts) (q ∷ rs) h = h
-others-more (RepairDone number) (q ∷ rs) h = h
-others-more (PutDoneIn id size profile) (q ∷ rs) h = h
-others-more Version (q ∷ rs) h = h
-others-more (Resume next audit) (q ∷ rs) h = h
-others-more (InEffect id size profile kept) (q ∷ rs) h = h
-others-more (RepairDue number counts) (q ∷ rs) h = h
-
--- one record more leaves the answer to the first one
-pub fault-more : (base : ℕ) (r : Record) (rs : List Record) (why : InitFault) → IsFirstFault base rs why →
-    IsFirstFault base (r ∷ rs) why
-fault-more base r rs init_fault.Already is = begins-more r rs is
-fault-more base r rs (init_fault.BadJournal at) is = (others-more r rs is.0, is.1)
-fault-more base r rs init_fault.BadSetup is = absurd is
-fault-more base r rs init_fault.DiskFault is = absurd is
-fault-more base r rs init_fault.Memory is = absurd is
 
 -- the answer to a first record is that to records of which it is the only one
 pub fault-first : (base : ℕ) (first : RecordValue) → IsFirstFault base (entry_of first ∷ []) (first_answer base first)

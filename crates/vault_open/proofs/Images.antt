@@ -109,10 +109,6 @@ module _ (limit : ℕ) (w : State) (sound : IsSound limit w) (area : Area) (rs :
 
 -- ---- what all images of a disk show
 
--- a disk that does not tell stands for each state
-pub untold-shown : (w : State) → StandsForState None w
-untold-shown w = tt
-
 module _ (told : Option Cells) (w : State) (area : Area) (rs : List Record) (journal : w.journal ≡ rs)
     (area_is : w.area ≡ area) where
   -- what stands in an area for the journal with others before it

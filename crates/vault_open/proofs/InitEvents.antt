@@ -4,6 +4,7 @@ use Rattle.std.specs.Prelude.{IfSome, IsTrue, is_some, IsErrAnd}
 use Rattle.std.specs.List.{list_all}
 use Rattle.std.specs.Option.{option_map}
 use Rattle.std.proofs.lemmas.Bool.{false≢true, cases_lt}
+use Rattle.std.proofs.lemmas.Option.{none-some}
 use Rattle.stream_model.specs.declared.fault.WriteFault.{WriteFault}
 use Rattle.stream_model.specs.declared.fault.WriteFault.TheVariants as write_fault
 use Rattle.device_defs.specs.Cells.{Cells, reads}
@@ -76,24 +77,21 @@ begins-up (Resume next audit ∷ q ∷ rs) h = begins-up (q ∷ rs) h
 begins-up (InEffect id size profile kept ∷ q ∷ rs) h = begins-up (q ∷ rs) h
 begins-up (RepairDue number counts ∷ q ∷ rs) h = begins-up (q ∷ rs) h
 
-none-some : {X : Type 0} (x : X) → Some x ≡ None → ⊥
-none-some x is = absurd cc
-
 -- accepted records do not begin otherwise
 others-refused : (rs : List Record) → AreAccepted rs → BeginsOtherwise rs → ⊥
 others-refused [] a h = h
 others-refused (SetUp s ∷ []) a h = h
-others-refused (PutStart id name ∷ []) a h = none-some NoSetup a.0
-others-refused (PutDone id size ∷ []) a h = none-some NoSetup a.0
-others-refused (Drop name ∷ []) a h = none-some NoSetup a.0
-others-refused (AuditStart number ∷ []) a h = none-some NoSetup a.0
-others-refused (AuditDone number undecided counts ∷ []) a h = none-some NoSetup a.0
-others-refused (RepairDone number ∷ []) a h = none-some NoSetup a.0
-others-refused (PutDoneIn id size profile ∷ []) a h = none-some NoSetup a.0
-others-refused (Version ∷ []) a h = none-some NoSetup a.0
-others-refused (Resume next audit ∷ []) a h = none-some NoSetup a.0
-others-refused (InEffect id size profile kept ∷ []) a h = none-some NoSetup a.0
-others-refused (RepairDue number counts ∷ []) a h = none-some NoSetup a.0
+others-refused (PutStart id name ∷ []) a h = none-some NoSetup (sym a.0)
+others-refused (PutDone id size ∷ []) a h = none-some NoSetup (sym a.0)
+others-refused (Drop name ∷ []) a h = none-some NoSetup (sym a.0)
+others-refused (AuditStart number ∷ []) a h = none-some NoSetup (sym a.0)
+others-refused (AuditDone number undecided counts ∷ []) a h = none-some NoSetup (sym a.0)
+others-refused (RepairDone number ∷ []) a h = none-some NoSetup (sym a.0)
+others-refused (PutDoneIn id size profile ∷ []) a h = none-some NoSetup (sym a.0)
+others-refused (Version ∷ []) a h = none-some NoSetup (sym a.0)
+others-refused (Resume next audit ∷ []) a h = none-some NoSetup (sym a.0)
+others-refused (InEffect id size profile kept ∷ []) a h = none-some NoSetup (sym a.0)
+others-refused (RepairDue number counts ∷ []) a h = none-some NoSetup (sym a.0)
 others-refused (SetUp s ∷ q ∷ rs) a h = others-refused (q ∷ rs) a.1 h
 others-refused (PutStart id name ∷ q ∷ rs) a h = others-refused (q ∷ rs) a.1 h
 others-refused (PutDone id size ∷ q ∷ rs) a h = others-refused (q ∷ rs) a.1 h

@@ -85,27 +85,3 @@ fn first_wrong_stop(alloc: Global) -> Option<(usize, u32)> {
 fn cuts_leave_the_old_text_or_the_new(rt: HostRuntime) {
     assert_eq!(rt; first_wrong_stop(rt.alloc()), None);
 }
-
-/// Cuts about the last gate: after so many steps, by these picks, and the text that a get then gives.
-const AT_THE_GATE: [(u32, &[u8], Text); 4] = [
-    (10, &[], Text::Old),
-    (11, &[7], Text::Old),
-    (11, &[1], Text::New),
-    (11, &[], Text::New),
-];
-
-/// The place of the first of these cuts that leaves something else.
-fn first_wrong_gate(alloc: Global) -> Option<usize> {
-    for place in 0..AT_THE_GATE.len() {
-        let (steps, picks, text) = AT_THE_GATE[place];
-        if !leaves(alloc, steps, picks, (Seen::More, text, 3)) {
-            return Some(place);
-        }
-    }
-    None
-}
-
-#[test]
-fn cuts_at_the_last_gate(rt: HostRuntime) {
-    assert_eq!(rt; first_wrong_gate(rt.alloc()), None);
-}

@@ -1,9 +1,9 @@
-use Rattle.std.proofs.Common.{◌<◌, ◌++◌, ◌∷◌, ◌∙◌, ℕ, [], List, length, take, map, ap, sym, subst, arith}
+use Rattle.std.proofs.Common.{◌<◌, ◌++◌, ◌∷◌, ◌∙◌, ℕ, [], List, length, take, map, ap, sym, subst, refl, arith}
 use Rattle.std.proofs.lemmas.List.{take_more}
+use Rattle.std.proofs.lemmas.Option.{slice_get_read}
 use Rattle.file_layout.specs.declared.file.FileShape.{FileShape}
 use Rattle.stripe_bench.specs.Bench.{bench_kind}
 use Rattle.hail_scrub.specs.Begun.{file_providers, AreItems}
-use Rattle.hail_scrub.proofs.Rests.{get_here}
 use Rattle.hail_scrub.proofs.begin.take_all.Goals as goal
 
 pub loop-file-preserved : goal.loop-file-preserved
@@ -13,7 +13,7 @@ loop-file-preserved c =
     let i = c.loop-file.file-index in
     let file = c.file-item.result in
     let below : i < length files = omega arith in
-    let there = get_here files i file below c.file-item.is in
+    let there = slice_get_read files _ i file refl below c.file-item.is in
     let n = c.requires i file there in
     let before = subst (λ (k : ℕ). AreItems k master (map bench_kind c.loop-file.benches.items) (take i files)
     files c.loop-file.items.items) (sym n) c.loop-file.invariant.items in

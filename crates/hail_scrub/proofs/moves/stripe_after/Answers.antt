@@ -1,5 +1,5 @@
 use Rattle.std.proofs.Common.{arith}
-use Rattle.hail_scrub.proofs.Machine.{get_below}
+use Rattle.std.proofs.lemmas.Option.{slice_get_within}
 use Rattle.hail_scrub.proofs.Rests.{stripe_found, stripes_end}
 use Rattle.hail_scrub.proofs.moves.stripe_after.Goals as goal
 
@@ -15,6 +15,6 @@ returns-clause-at c = λ off.
 
 pub overflow_add-spot-2 : goal.overflow_add-spot-2
 overflow_add-spot-2 c =
-    let l = get_below c.args.items.now c.args.spot.place c.args.spot.item c.requires.spot.there in
+    let l = slice_get_within c.args.items.now c.args.spot.place c.args.spot.item c.requires.spot.there in
     let few = c.requires.few in
     omega (arith, l, few)

@@ -1,7 +1,8 @@
 use Rattle.std.proofs.Common.{◌∙◌, ap, arith}
+use Rattle.std.proofs.lemmas.List.{take_all}
 use Rattle.record_codec.specs.Entries.{with_master}
 use Rattle.vault_core.specs.Targets.{turns_for, tasks_made}
-use Rattle.vault_core.proofs.Pins.{tasks_more, take_over}
+use Rattle.vault_core.proofs.Pins.{tasks_more}
 use Rattle.vault_core.proofs.made.tasks_for.Goals as goal
 
 pub loop-file-preserved : goal.loop-file-preserved
@@ -14,4 +15,4 @@ loop-file-preserved c =
 pub returns : goal.returns
 returns c = λ key. c.loop-file.invariant key
     ∙ ap (tasks_made (turns_for (with_master c.args.setup.now key) c.args.wish.now))
-    (take_over c.args.files.now c.loop-file.file-index (omega arith))
+    (take_all c.loop-file.file-index c.args.files.now (omega arith))

@@ -1,8 +1,8 @@
 use Rattle.std.proofs.Common.{sym, subst, refl}
+use Rattle.std.proofs.lemmas.Option.{slice_get_read}
 use Rattle.std.specs.Vec.{with_item}
 use Rattle.hail_scrub.specs.Progress.{scrub_view}
 use Rattle.hail_scrub.specs.Steps.{MakesNext}
-use Rattle.hail_scrub.proofs.Rests.{get_here}
 use Rattle.hail_scrub.proofs.Placed.{bench_there, falls_by}
 use Rattle.hail_scrub.proofs.Openings.{open_spot, open_stays, open_whole, open_step, open_loses}
 use Rattle.hail_scrub.proofs.progress.Progress.open.Goals as goal
@@ -15,7 +15,8 @@ stop-requires c =
     let b0 = c.index_mut-bench.result.now in
     let here = c.requires.here in
     let turned_to = c.turn_to.ensures in
-    let there = get_here p.benches.items spot.item.bench b0 (bench_there p W spot (open_spot p W spot here))
+    let there = slice_get_read p.benches.items _ spot.item.bench b0 refl
+    (bench_there p W spot (open_spot p W spot here))
     c.index_mut-bench.ensures.value in
     open_stays p W spot here c.turn_to.new.self b0 turned_to.present turned_to.symbols turned_to.size there
     c.survey.new.bench c.survey.ensures.object (with_item p.benches spot.item.bench c.survey.new.bench)
@@ -29,7 +30,8 @@ returns-in-Ok-clause-whole c =
     let b0 = c.index_mut-bench.result.now in
     let here = c.requires.here in
     let turned_to = c.turn_to.ensures in
-    let there = get_here p.benches.items spot.item.bench b0 (bench_there p W spot (open_spot p W spot here))
+    let there = slice_get_read p.benches.items _ spot.item.bench b0 refl
+    (bench_there p W spot (open_spot p W spot here))
     c.index_mut-bench.ensures.value in
     let made = c.take.ensures in
     open_whole p W spot here c.turn_to.new.self b0 turned_to.present turned_to.symbols turned_to.size there
@@ -45,7 +47,8 @@ returns-in-Ok-clause-step c =
     let b0 = c.index_mut-bench.result.now in
     let here = c.requires.here in
     let turned_to = c.turn_to.ensures in
-    let there = get_here p.benches.items spot.item.bench b0 (bench_there p W spot (open_spot p W spot here))
+    let there = slice_get_read p.benches.items _ spot.item.bench b0 refl
+    (bench_there p W spot (open_spot p W spot here))
     c.index_mut-bench.ensures.value in
     let made = c.take.ensures in
     open_step p W spot here c.turn_to.new.self b0 turned_to.present turned_to.symbols turned_to.size there
@@ -66,7 +69,8 @@ returns-in-Err-clause-step c = λ ps.
     let b0 = c.index_mut-bench.result.now in
     let here = c.requires.here in
     let turned_to = c.turn_to.ensures in
-    let there = get_here p.benches.items spot.item.bench b0 (bench_there p W spot (open_spot p W spot here))
+    let there = slice_get_read p.benches.items _ spot.item.bench b0 refl
+    (bench_there p W spot (open_spot p W spot here))
     c.index_mut-bench.ensures.value in
     subst (λ t. MakesNext (scrub_view p) ps t (scrub_view c.stop.new.self) ps) (sym c.stop.ensures.answer)
     (open_loses p W spot here c.turn_to.new.self b0 turned_to.present turned_to.symbols turned_to.size there

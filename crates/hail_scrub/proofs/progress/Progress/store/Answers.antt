@@ -3,17 +3,16 @@ use Rattle.std.specs.Prelude.{slice_set}
 use Rattle.std.specs.Option.{option_map}
 use Rattle.std.specs.Vec.{with_item}
 use Rattle.std.proofs.lemmas.List.{map-set}
-use Rattle.std.proofs.lemmas.Option.{slice_get-get_or, slice_get-map}
+use Rattle.std.proofs.lemmas.Option.{slice_get-get_or, slice_get-map, slice_get_read}
 use Rattle.algebra_laws.proofs.Lists.{get-set_other}
 use Rattle.provider_model.specs.Seen.{provider_seen}
 use Rattle.hail_scrub.specs.declared.cursor.Item.{Item}
 use Rattle.hail_scrub.specs.Todo.{stores_from, past_stripe}
 use Rattle.hail_scrub.specs.Progress.{CursorIsAt, scrub_view}
 use Rattle.hail_scrub.specs.Steps.{MakesNext}
-use Rattle.hail_scrub.proofs.Rests.{get_here}
 use Rattle.hail_scrub.proofs.Placed.{bench_there, falls_by}
-use Rattle.stripe_bench.proofs.Sights.{called_at}
-use Rattle.hail_scrub.proofs.Storing.{store_spot, store_within, store_some, store_fits, store_whole, store_done_whole, store_done, store_fails, store_finds_none, was_stored, was_failed, found_no_memory}
+use Rattle.stripe_bench.proofs.Sights.{called_at, was_stored, was_failed, found_no_memory}
+use Rattle.hail_scrub.proofs.Storing.{store_spot, store_within, store_some, store_fits, store_whole, store_done_whole, store_done, store_fails, store_finds_none}
 use Rattle.hail_scrub.proofs.progress.Progress.store.Goals as goal
 
 pub index_mut-bench-requires : goal.index_mut-bench-requires
@@ -30,7 +29,7 @@ store-requires g c =
     let spot = c.args.spot in
     let within = bench_there p W spot (store_spot p W spot c.args.provider c.requires.here) in
     store_fits p W spot c.args.provider c.requires.here c.index_mut-bench.result.now
-    (get_here p.benches.items spot.item.bench c.index_mut-bench.result.now within
+    (slice_get_read p.benches.items _ spot.item.bench c.index_mut-bench.result.now refl within
     c.index_mut-bench.ensures.value)
 
 pub stop-requires : goal.stop-requires
@@ -41,7 +40,7 @@ stop-requires g c =
     let b0 = c.index_mut-bench.result.now in
     let within = bench_there p W spot (store_spot p W spot c.args.provider c.requires.here) in
     store_whole p W spot c.args.provider c.requires.here b0
-    (get_here p.benches.items spot.item.bench b0 within c.index_mut-bench.ensures.value)
+    (slice_get_read p.benches.items _ spot.item.bench b0 refl within c.index_mut-bench.ensures.value)
     c.store.new.self c.store.ensures.object (with_item p.benches spot.item.bench c.store.new.self) refl
 
 pub stop-requires-in-Err-Memory : goal.stop-requires-in-Err-Memory
@@ -52,7 +51,7 @@ stop-requires-in-Err-Memory g c =
     let b0 = c.index_mut-bench.result.now in
     let within = bench_there p W spot (store_spot p W spot c.args.provider c.requires.here) in
     store_whole p W spot c.args.provider c.requires.here b0
-    (get_here p.benches.items spot.item.bench b0 within c.index_mut-bench.ensures.value)
+    (slice_get_read p.benches.items _ spot.item.bench b0 refl within c.index_mut-bench.ensures.value)
     c.store.new.self c.store.ensures.object (with_item p.benches spot.item.bench c.store.new.self) refl
 
 pub returns-in-Ok-clause-whole : goal.returns-in-Ok-clause-whole
@@ -66,7 +65,7 @@ returns-in-Ok-clause-whole g c =
     let some : 0 < p.left = store_some p W spot j c.requires.here in
     let after = c.stores_after-self in
     store_done_whole p W spot j c.requires.here b0
-    (get_here p.benches.items spot.item.bench b0 within c.index_mut-bench.ensures.value)
+    (slice_get_read p.benches.items _ spot.item.bench b0 refl within c.index_mut-bench.ensures.value)
     c.store.new.self c.store.ensures.object (with_item p.benches spot.item.bench c.store.new.self) refl
     after.result (p.left - 1)
     (subst (λ (items : List Item). CursorIsAt p.providers items p.off after.result
@@ -87,7 +86,7 @@ returns-in-Ok-clause-step g c =
     let after = c.stores_after-self in
     let seen = provider_seen g.P.Provider in
     store_done p W spot j c.requires.here b0
-    (get_here p.benches.items spot.item.bench b0 within c.index_mut-bench.ensures.value)
+    (slice_get_read p.benches.items _ spot.item.bench b0 refl within c.index_mut-bench.ensures.value)
     c.store.new.self c.store.ensures.object (with_item p.benches spot.item.bench c.store.new.self) refl
     after.result (p.left - 1)
     (subst (λ (items : List Item). CursorIsAt p.providers items p.off after.result
@@ -124,7 +123,7 @@ returns-in-Err-Failed-clause-step g c =
     let j = c.args.provider in
     let less : j < p.providers = store_within p W c.args.spot j c.requires.here in
     let b0 = c.index_mut-bench.result.now in
-    let there = get_here p.benches.items c.args.spot.item.bench b0
+    let there = slice_get_read p.benches.items _ c.args.spot.item.bench b0 refl
     (bench_there p W c.args.spot (store_spot p W c.args.spot j c.requires.here))
     c.index_mut-bench.ensures.value in
     let seen = provider_seen g.P.Provider in
@@ -154,7 +153,7 @@ returns-in-Err-Memory-clause-step g c =
     let j = c.args.provider in
     let less : j < p.providers = store_within p W c.args.spot j c.requires.here in
     let b0 = c.index_mut-bench.result.now in
-    let there = get_here p.benches.items c.args.spot.item.bench b0
+    let there = slice_get_read p.benches.items _ c.args.spot.item.bench b0 refl
     (bench_there p W c.args.spot (store_spot p W c.args.spot j c.requires.here))
     c.index_mut-bench.ensures.value in
     let seen = provider_seen g.P.Provider in

@@ -1,17 +1,18 @@
 use Rattle.std.proofs.Common.{◌∙◌, Vec, Global}
+use Rattle.std.proofs.lemmas.Result.{IfOk-weaker}
 use Rattle.file_layout.specs.declared.file.FileShape.{FileShape}
-use Rattle.vault.proofs.Scrubbed.{all_shaped, all_files, on_ok}
+use Rattle.vault.proofs.Scrubbed.{all_shaped, all_files}
 use Rattle.vault.proofs.desk.Desk.all_files.Goals as goal
 
 pub returns-in-Ok-clause-shaped : goal.returns-in-Ok-clause-shaped
 returns-in-Ok-clause-shaped c =
-    on_ok _ _
+    IfOk-weaker c.shapes_for.result _ _
     (λ (files : Vec FileShape Global) are. all_shaped c.args.self.now c.deref.result.now files.items are)
-    c.shapes_for.result c.shapes_for.ensures
+    c.shapes_for.ensures
 
 pub returns-in-Ok-clause-files : goal.returns-in-Ok-clause-files
 returns-in-Ok-clause-files c = λ w d stands.
-    on_ok _ _
+    IfOk-weaker c.shapes_for.result _ _
     (λ (files : Vec FileShape Global) are. all_files c.args.self.now d w c.deref.result.now files.items stands
     (c.deref.ensures.value ∙ c.in-Ok.ensures w stands.core) are)
-    c.shapes_for.result c.shapes_for.ensures
+    c.shapes_for.ensures

@@ -5,9 +5,9 @@ use Rattle.std.proofs.lemmas.List.{map-set, length-set}
 use Rattle.algebra_laws.proofs.Lists.{get-set_other}
 use Rattle.std.proofs.lemmas.Option.{slice_get-get_or, slice_get-map}
 use Rattle.stripe_bench.specs.Calls.{sight}
+use Rattle.stripe_bench.proofs.Sights.{called_at}
 use Rattle.vault.proofs.AskJoin.{put_there, ask_there, tell_there, ask_step, told_takes}
 use Rattle.vault.proofs.AtWork.{by_work, place_there}
-use Rattle.vault.proofs.Called.{called_at}
 use Rattle.vault.proofs.JobPlaces.{item_at, place_within}
 use Rattle.vault.proofs.Props.{ask_prop, tell_prop}
 use Rattle.vault.proofs.RunningJobs.{runs_next}

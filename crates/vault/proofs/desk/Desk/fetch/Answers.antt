@@ -4,13 +4,13 @@ use Rattle.algebra_laws.proofs.Lists.{get-set_other}
 use Rattle.std.proofs.lemmas.Option.{slice_get-get_or, slice_get-map}
 use Rattle.std.specs.Option.{option_map}
 use Rattle.stripe_bench.specs.Calls.{sight}
+use Rattle.stripe_bench.proofs.Sights.{fetches_by, called_at}
 use Rattle.vault.proofs.AtWork.{by_work, place_there}
-use Rattle.vault.proofs.Called.{called_at}
 use Rattle.vault.proofs.FetchStep.{room_there, fetch_step}
 use Rattle.vault.proofs.JobPlaces.{item_at, place_within}
 use Rattle.vault.proofs.Props.{room_prop}
 use Rattle.vault.proofs.Replies.{replies}
-use Rattle.vault.proofs.Untold.{fetches_by, taken}
+use Rattle.vault.proofs.Untold.{taken}
 use Rattle.vault.proofs.desk.Desk.fetch.Goals as goal
 
 pub place_of-place-requires : goal.place_of-place-requires

@@ -4,7 +4,7 @@ use Rattle.std.proofs.lemmas.List.{map-set, length-set}
 use Rattle.algebra_laws.proofs.Lists.{get-set_other}
 use Rattle.std.proofs.lemmas.Option.{slice_get-get_or, slice_get-map}
 use Rattle.stripe_bench.specs.Calls.{sight}
-use Rattle.vault.proofs.Called.{called_at}
+use Rattle.stripe_bench.proofs.Sights.{called_at}
 use Rattle.vault.proofs.RemoveStep.{remove_step}
 use Rattle.vault.proofs.Replies.{replies}
 use Rattle.vault.proofs.Untold.{removes_by}

@@ -5,14 +5,13 @@ use Rattle.std.proofs.lemmas.List.{map-set, length-set}
 use Rattle.algebra_laws.proofs.Lists.{get-set_other}
 use Rattle.std.proofs.lemmas.Option.{slice_get-get_or, slice_get-map}
 use Rattle.stripe_bench.specs.Calls.{sight}
-use Rattle.vault.proofs.Called.{called_at}
+use Rattle.stripe_bench.proofs.Sights.{stores_by, fails_by, no_memory_by, called_at, was_stored, was_failed, found_no_memory}
 use Rattle.vault.proofs.JobPlaces.{item_at, place_within}
 use Rattle.vault.proofs.Replies.{replies, goes_not_on, padded_end}
 use Rattle.vault.proofs.AtWork.{by_work, place_there}
 use Rattle.vault.proofs.Props.{storer_prop}
 use Rattle.vault.proofs.Stops.{place_set}
-use Rattle.vault.proofs.Untold.{stores_by, fails_by, no_memory_by}
-use Rattle.vault.proofs.StoreStep.{storer_there, store_step, failed_step, no_memory_step, was_stored, was_failed, found_no_memory}
+use Rattle.vault.proofs.StoreStep.{storer_there, store_step, failed_step, no_memory_step}
 use Rattle.vault.proofs.desk.Desk.store.Goals as goal
 
 pub place_of-place-requires : goal.place_of-place-requires

@@ -5,7 +5,7 @@ use Rattle.vault.specs.declared.desk.Desk.{Desk}
 use Rattle.vault.proofs.Free.{not_free, none_run}
 use Rattle.vault.proofs.Alone.{barred_alone, unbarred, busy_alone, free_alone, drawn_stands, drawn_works}
 use Rattle.vault.proofs.vault.Vault.hold.Goals as goal
-use Rattle.vault_core.specs.View.{CoreView, IsStreamless}
+use Rattle.vault_core.specs.View.{CoreView, HasNoStream}
 
 pub returns-in_err-unheld-clause-holds : goal.returns-in_err-unheld-clause-holds
 returns-in_err-unheld-clause-holds c = λ w d stands.
@@ -58,4 +58,4 @@ returns-clause-holds c = λ w d stands.
 
 pub returns-clause-streams : goal.returns-clause-streams
 returns-clause-streams c = λ none.
-    subst (λ (core : CoreView). IsStreamless core) (sym c.draw-number.ensures.drawn) none
+    subst (λ (core : CoreView). HasNoStream core) (sym c.draw-number.ensures.drawn) none

@@ -1,9 +1,10 @@
 use Rattle.std.proofs.Common.{◌≤◌, ℕ, sym, subst}
+use Rattle.std.proofs.lemmas.Result.{IfOk-weaker}
 use Rattle.machine_defs.specs.Alone.{new_scrub}
 use Rattle.machine_defs.specs.States.{setup_in}
 use Rattle.state_laws.proofs.Written.{setup-providers}
 use Rattle.hail_scrub.proofs.Starts.{new_begun}
-use Rattle.vault.proofs.Scrubbed.{few_files, files_apart, one_count, count_fits, on_ok}
+use Rattle.vault.proofs.Scrubbed.{few_files, files_apart, one_count, count_fits}
 use Rattle.vault.proofs.vault.Vault.scrub.Goals as goal
 
 pub new-requires-clause-few : goal.new-requires-clause-few
@@ -30,7 +31,7 @@ returns-clause-begun c = λ w d moment stands.
 pub returns-clause-providers : goal.returns-clause-providers
 returns-clause-providers c =
     let v = c.args.self.now.desk in
-    on_ok _ _
+    IfOk-weaker c.new.result _ _
     (λ scrub e. subst (λ (n : ℕ). n ≤ v.setup.n) (sym e)
     (count_fits v c.in_ok-files.files.items c.in_ok-files.ensures.shaped c.args.self.now.at_work))
-    c.new.result c.new.ensures.providers
+    c.new.ensures.providers

@@ -1,6 +1,6 @@
 use Rattle.std.proofs.Common.{◌≡◌, Ok, Err, refl, ap, arith, sym, subst}
 use Rattle.record_defs.proofs.Standing.{base-least}
-use Rattle.vault_core.specs.View.{CoreView, IsStreamless}
+use Rattle.vault_core.specs.View.{CoreView, HasNoStream}
 use Rattle.vault_open.specs.declared.fault.StartFault.{StartFault}
 use Rattle.vault.proofs.Opened.{carries, stands, fresh_works}
 use Rattle.vault.proofs.vault.Vault.start.Goals as goal
@@ -64,4 +64,4 @@ returns-clause-cause g c = record {
 
 pub returns-clause-streams : goal.returns-clause-streams
 returns-clause-streams g c =
-    subst (λ (core : CoreView). IsStreamless core) (sym c.in_ok-desk.ensures.ok.core) (All-nil _)
+    subst (λ (core : CoreView). HasNoStream core) (sym c.in_ok-desk.ensures.ok.core) (All-nil _)

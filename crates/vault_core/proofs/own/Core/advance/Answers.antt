@@ -5,7 +5,7 @@ use Rattle.vault_core.specs.View.{CoreView}
 use Rattle.machine_defs.specs.Sights.{is_upgrade}
 use Rattle.vault_core.specs.Wished.{aim_of_wish}
 use Rattle.vault_core.specs.Parts.{setup_kept, core_job, view_of}
-use Rattle.vault_core.specs.Fed.{stepped}
+use Rattle.vault_core.specs.Fed.{stepped_job}
 use Rattle.vault_core.proofs.Goes.{left_some}
 use Rattle.vault_core.proofs.Kept.{other_core, jobs_set}
 use Rattle.vault_core.proofs.Moving.{plain_here, went_on, set_view_same}
@@ -56,7 +56,7 @@ returns-clause-moved c =
     let here = plain_here c.self.inside c.args.self.now c.args.place c.index_mut-job.result.now c.self.view_is
     c.self.invariant c.index_mut-job.ensures.value c.requires.plain in
     set_view_same c.self.inside c.args.self.now (with_item c.self.inside.jobs c.args.place c.advance.new.self)
-    c.args.place c.advance.new.self c.index_mut-job.result.now stepped c.self.view_is refl here.here
+    c.args.place c.advance.new.self c.index_mut-job.result.now stepped_job c.self.view_is refl here.here
     (ap core_job c.advance.ensures.same)
 
 pub returns-clause-falls : goal.returns-clause-falls

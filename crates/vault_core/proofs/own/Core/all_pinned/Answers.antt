@@ -1,5 +1,5 @@
-use Rattle.std.proofs.Common.{◌∙◌, Result, Ok, Err, refl, sym, subst}
-use Rattle.std.specs.Prelude.{IfOk}
+use Rattle.std.proofs.Common.{◌∙◌, refl, sym, subst}
+use Rattle.std.proofs.lemmas.Result.{IfOk-weaker}
 use Rattle.machine_defs.specs.Jobs.{AuditJob}
 use Rattle.vault_core.specs.Carried.{CoreIs}
 use Rattle.vault_core.specs.Parts.{view_of}
@@ -9,16 +9,11 @@ use Rattle.vault_core.proofs.Alike.{table-like}
 use Rattle.vault_core.proofs.Joins.{pins-are}
 use Rattle.vault_core.proofs.own.Core.all_pinned.Goals as goal
 
--- what holds of a result holds of it by what follows
-on_ok : {X E : Type 0} (P Q : X → Type 0) → ((x : X) → P x → Q x) → (r : Result X E) → IfOk r P → IfOk r Q
-on_ok P Q f (Ok x) p = f x p
-on_ok P Q f (Err e) p = tt
-
 pub returns : goal.returns
 returns c = λ w is.
     let here : CoreIs (view_of c.before.self.inside) w =
     subst (λ (v : CoreView). CoreIs v w) (sym c.before.self.view_is) is in
-    on_ok _ _
+    IfOk-weaker c.pin_all.result _ _
     (λ pinned e. e ∙ pins-are c.before.self.inside.table w wish.Audit AuditJob
     (table-like (view_of c.before.self.inside) w here) here.sound.files refl)
-    c.pin_all.result c.pin_all.ensures
+    c.pin_all.ensures

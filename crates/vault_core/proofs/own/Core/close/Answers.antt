@@ -33,9 +33,9 @@ invariant_of-self c =
     (c.stripes-stripes.ensures c.self.inside.master.0) c.close.ensures.tasks c.close.ensures.same in
     other_core c.self.inside (with_item c.self.inside.jobs c.args.place c.close.new.self) c.args.place
     c.close.new.self (core_job old) (core_job c.close.new.self) c.self.inside.append refl refl here.here
-    (ap (λ (j : Job). j.number) c.close.ensures.same) ends.upgrade ends.kept
+    (ap (λ (j : Job). j.number) c.close.ensures.same) ends.upgrade ends.went.kept
     (told_none (setup_kept c.self.inside) (core_job c.close.new.self)
-    (ap (λ (j : Job). j.told) c.close.ensures.same)) ends.room ends.starts c.self.invariant
+    (ap (λ (j : Job). j.told) c.close.ensures.same)) ends.went.room ends.went.starts c.self.invariant
 
 pub returns-clause-moved : goal.returns-clause-moved
 returns-clause-moved c =

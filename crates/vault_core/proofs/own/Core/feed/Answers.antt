@@ -4,7 +4,7 @@ use Rattle.vault_core.specs.declared.action.Action.TheVariants as act
 use Rattle.vault_core.specs.declared.reply.Reply.{Reply}
 use Rattle.record_codec.specs.Entries.{counted}
 use Rattle.vault_core.specs.View.{CoreJob, CoreView}
-use Rattle.vault_core.specs.Fed.{stepped, judged, drawn, number_drawn}
+use Rattle.vault_core.specs.Fed.{stepped_job, judged, drawn, number_drawn}
 use Rattle.vault_core.specs.Coming.{Acts, seen_action, HasReply}
 use Rattle.vault_core.proofs.Told.{told_some, leaves_set, leaves_removed}
 use Rattle.vault_core.proofs.Falls.{step_here, step_left, step_given, step_first, step_plain, step_runs, plain_by, verdict_plain, removed_falls, moved_setup, drawn_setup}
@@ -142,13 +142,13 @@ returns-in_default-action c =
       falls = step_left c.args.self.now c.advance.new.self c.args.job c.in-Some.place c.args.reply
           (seen_action c.action_over-action.result) here
           c.advance.ensures.falls;
-      setup = moved_setup c.args.self.now c.advance.new.self c.in-Some.place stepped here.job
+      setup = moved_setup c.args.self.now c.advance.new.self c.in-Some.place stepped_job here.job
           c.advance.ensures.moved here.here;
       streams = (leaves_set c.args.self.now c.advance.new.self c.in-Some.place here.job
-          (stepped here.job) here.here refl refl
+          (stepped_job here.job) here.here refl refl
           (ap (λ (x : CoreView). x.jobs) (c.advance.ensures.moved here.job here.here))).streams;
       told = (leaves_set c.args.self.now c.advance.new.self c.in-Some.place here.job
-          (stepped here.job) here.here refl refl
+          (stepped_job here.job) here.here refl refl
           (ap (λ (x : CoreView). x.jobs) (c.advance.ensures.moved here.job here.here))).told;
     }
 

@@ -8,7 +8,7 @@ use Rattle.vault_core.specs.View.{CoreView}
 use Rattle.vault_core.specs.Wished.{aim_of_wish, profile_named}
 use Rattle.vault_core.specs.Parts.{setup_kept, core_job, MayBegin, IsJobKept}
 use Rattle.vault_core.specs.Reserves.{Reserves, reserved_of}
-use Rattle.vault_core.specs.Carried.{CoreIs, IsAimOf, refusal_of, begun}
+use Rattle.vault_core.specs.Carried.{CoreIs, IsAimOf, refusal_of, job_begun}
 use Rattle.vault_core.specs.Making.{admitted, AreMore, IsMade}
 use Rattle.vault_core.proofs.Admitted.{told-start, more-jobs, core-begun, own-left, own-known, made-room, room-left, few-left, lone-left, on_ok_then}
 use Rattle.vault_core.proofs.own.Core.start_job.Goals as goal
@@ -22,7 +22,7 @@ admit-requires-clause-room c =
     c.in-Ok.job made (subst (λ (v : CoreView). IsJobKept v.setup c.in-Ok.job) c.self.view_is
     (c.in-Ok.ensures.kept c.self.inside.master.0)) in
     let l = room-left c.args.self.now c.args.wish (subst Reserves c.self.view_is c.self.invariant.reserves)
-    (sym c.in_default.is ∙ c.refusal.ensures.value) in
+    (sym (c.refusal.ensures.sight c.requires.size) ∙ ap (option_map refusal_of) c.in_default.is) in
     let whole : c.args.self.now.end + sum_by (reserved_of c.args.self.now.table.version c.args.self.now.setup)
     c.args.self.now.jobs + reserved_of c.args.self.now.table.version c.args.self.now.setup
     (core_job c.in-Ok.job) ≤ largest_journal = omega (arith, e, l) in
@@ -30,13 +30,13 @@ admit-requires-clause-room c =
 
 pub admit-requires-clause-few : goal.admit-requires-clause-few
 admit-requires-clause-few c =
-    few-left c.args.self.now c.args.wish (sym c.in_default.is ∙ c.refusal.ensures.value)
+    few-left c.args.self.now c.args.wish (sym (c.refusal.ensures.sight c.requires.size) ∙ ap (option_map refusal_of) c.in_default.is)
 
 pub admit-requires-clause-lone : goal.admit-requires-clause-lone
 admit-requires-clause-lone c =
     lone-left c.args.self.now c.args.wish (core_job c.in-Ok.job)
     (ap aim_of_wish (c.in-Ok.ensures.made c.self.inside.master.0).wish)
-    (sym c.in_default.is ∙ c.refusal.ensures.value)
+    (sym (c.refusal.ensures.sight c.requires.size) ∙ ap (option_map refusal_of) c.in_default.is)
 
 pub admit-requires-clause-told : goal.admit-requires-clause-told
 admit-requires-clause-told c =
@@ -60,13 +60,13 @@ returns-in-Ok-clause-begun c = λ w kind moment is of small spelled.
     c.requires.told in
     on_ok_then c.admit.result _ _
     (λ (e : c.admit.new.self ≡ admitted c.args.self.now c.in-Ok.job.wish c.in-Ok.job).
-    subst (λ (v : CoreView). CoreIs v (begun w moment kind (profile_named c.args.wish)))
+    subst (λ (v : CoreView). CoreIs v (job_begun w moment kind (profile_named c.args.wish)))
     (sym (e ∙ ap (λ (v : Wish). admitted c.args.self.now v c.in-Ok.job) made.wish))
     (core-begun c.args.self.now w kind moment c.args.wish c.in-Ok.job is
     (subst (λ (o : Option ℕ). IsAimOf o c.args.wish kind) (sym c.in-Ok.ensures.told) of) begins
     (told-start c.args.self.now.table c.args.self.now.setup c.args.self.now.next_job c.args.wish c.in-Ok.job
     set_up made begins) spelled
-    (λ p e. (let l = own-left c.args.self.now c.args.wish (sym c.in_default.is ∙ c.refusal.ensures.value) p e
+    (λ p e. (let l = own-left c.args.self.now c.args.wish (sym (c.refusal.ensures.sight c.requires.size) ∙ ap (option_map refusal_of) c.in_default.is) p e
     in
     omega (arith, l))) allowed bounds.1 made))
     c.admit.ensures.admitted
@@ -93,7 +93,7 @@ admit-requires-clause-kept c = subst (λ (v : CoreView). IsJobKept v.setup c.in-
 pub make_job-requires-clause-known : goal.make_job-requires-clause-known
 make_job-requires-clause-known c = λ key.
     own-known c.args.self.now (setup_kept c.self.inside) c.args.wish
-    (sym c.in_default.is ∙ c.refusal.ensures.value) c.self.invariant.set_up
+    (sym (c.refusal.ensures.sight c.requires.size) ∙ ap (option_map refusal_of) c.in_default.is) c.self.invariant.set_up
 
 pub returns-in-Some-clause-refused : goal.returns-in-Some-clause-refused
 returns-in-Some-clause-refused c = λ w kind is of small more.

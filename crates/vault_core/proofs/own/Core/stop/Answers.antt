@@ -1,6 +1,6 @@
 use Rattle.std.proofs.Common.{◌<◌, ◌∙◌, sym, ap, subst, length, ℕ, None, true, false}
 use Rattle.std.specs.Prelude.{Option, remove}
-use Rattle.vault_core.specs.Fed.{stopped}
+use Rattle.vault_core.specs.Fed.{ended_at}
 use Rattle.vault_core.specs.View.{CoreView}
 use Rattle.vault_core.proofs.Kept.{less_view, less_core, seen_at, freed_is}
 use Rattle.vault_core.specs.Parts.{core_job, view_of}
@@ -23,7 +23,7 @@ returns-then-eq c =
     c.remove-job.ensures.items
     ∙ (ap (λ (o : Option ℕ). record (view_of c.self.inside)
     { jobs = remove (view_of c.self.inside).jobs c.args.place; append = o }) f
-    ∙ ap (λ (x : CoreView). stopped x c.args.place) c.self.view_is)
+    ∙ ap (λ (x : CoreView). ended_at x c.args.place) c.self.view_is)
 
 pub invariant_of-self-else-eq : goal.invariant_of-self-else-eq
 invariant_of-self-else-eq c =
@@ -43,4 +43,4 @@ returns c =
     c.remove-job.ensures.items
     ∙ (ap (λ (o : Option ℕ). record (view_of c.self.inside)
     { jobs = remove (view_of c.self.inside).jobs c.args.place; append = o }) f
-    ∙ ap (λ (x : CoreView). stopped x c.args.place) c.self.view_is)
+    ∙ ap (λ (x : CoreView). ended_at x c.args.place) c.self.view_is)

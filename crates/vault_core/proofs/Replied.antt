@@ -1,1 +1,0 @@
--- An action that is done may be told so, but for the last ask of an audit.
