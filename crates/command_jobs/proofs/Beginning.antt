@@ -1,11 +1,10 @@
 -- A stream that begins over a vault just opened.
-use Rattle.std.proofs.Common.{◌≡◌, ℕ, zero, suc, ◌+◌, ◌*◌, ◌≤◌, List, [], length, replicate, Option, refl, ap, sym, subst, ◌∙◌, inl, inr, arith}
-use Rattle.std.proofs.lemmas.Bool.{cases_lt}
+use Rattle.std.proofs.Common.{◌≡◌, ℕ, zero, suc, ◌*◌, ◌≤◌, List, [], length, replicate, Option, refl, ap, sym, subst, ◌∙◌, arith}
 use Rattle.std.proofs.lemmas.List.{length-replicate}
 use Rattle.std.proofs.Math.Nat.{mul-le-mul_right}
 use Rattle.code_defs.specs.Profiles.{profile_of}
+use Rattle.code_defs.proofs.Profiles.{some_kept}
 use Rattle.device_defs.specs.Cells.{Cells}
-use Rattle.device_defs.specs.Faults.{Rose, last_count}
 use Rattle.device_defs.specs.Providers.{Provider}
 use Rattle.record_defs.specs.Records.{Setup, Record, largest_file}
 use Rattle.record_defs.specs.Areas.{Area}
@@ -14,7 +13,7 @@ use Rattle.machine_defs.specs.Events.{AreBytes}
 use Rattle.machine_defs.specs.Jobs.{PutJob}
 use Rattle.machine_defs.specs.States.{setup_in}
 use Rattle.command_defs.specs.Opens.{setup_in_effect}
-use Rattle.command_defs.specs.Seen.{ReadsAtMost, nobody}
+use Rattle.command_defs.specs.Seen.{nobody}
 use Rattle.command_defs.specs.GivenUp.{put_stripe}
 use Rattle.hail_field.specs.Shape.{IsShape}
 use Rattle.state_laws.proofs.Given.{valid-shape}
@@ -30,27 +29,8 @@ use Rattle.command_jobs.specs.Opened.{IsFreshOver}
 use Rattle.command_jobs.specs.Streams.{IsStripe, IsBegun}
 use Rattle.command_jobs.proofs.Alone.{BeginsAs, has-begun, opened-one}
 use Rattle.command_jobs.proofs.Fresh.{ThereIsOne, there-opened, setup-over, fresh-setup}
-use Rattle.command_jobs.proofs.ReadBytes.{reads-none}
-
--- nothing was read
-pub read-nothing : (told : Option (List ℕ)) → ReadsAtMost (largest_file + 1) told told
-read-nothing told = record { bytes = []; front = (reads-none told).front; few = omega arith }
-
--- a count that rose later, rose
-pub rose-later : (a b c : ℕ) → a ≤ b → b ≤ c → Rose b c → Rose a c
-rose-later a b c l m r = λ low. elim (cases_lt b last_count) [
-  | inl s ↦ (let t = r s in omega (arith, l, t))
-  | inr s ↦ (let t = s in omega (arith, low, m, t))
-]
 
 -- how many symbols of a block are kept
-keep-some : (p : ℕ) → 1 ≤ (profile_of p).keep
-keep-some zero = omega arith
-keep-some (suc zero) = omega arith
-keep-some (suc (suc zero)) = omega arith
-keep-some (suc (suc (suc zero))) = omega arith
-keep-some (suc (suc (suc (suc p)))) = omega arith
-
 keep-few : (p : ℕ) → (profile_of p).keep ≤ 96
 keep-few zero = omega arith
 keep-few (suc zero) = omega arith
@@ -90,7 +70,7 @@ module _ (there : ThereIsOne) (v : Vault) (area : Area) (records : List Record) 
       (a-stripe (setup_in_effect records).l
       (profile_of (chosen (setup_in_effect records) own)).keep its-shape.2
       (let n = its-shape.1 in let k = its-shape.4 in omega (arith, n, k))
-      (keep-some (chosen (setup_in_effect records) own)) (keep-few (chosen (setup_in_effect records) own)))
+      (some_kept (chosen (setup_in_effect records) own)) (keep-few (chosen (setup_in_effect records) own)))
 
   module _ (next : Vault) (name : List ℕ) (own : Option ℕ) (number size : ℕ) (providers : List Provider)
       (enough : (setup_in_effect records).n ≤ length providers) (size_is : size ≡ put_stripe records own)

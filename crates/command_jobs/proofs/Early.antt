@@ -1,10 +1,12 @@
 -- A put that ends before its stores are done has not begun its last append.
-use Rattle.std.proofs.Common.{◌≡◌, ℕ, zero, suc, ◌+◌, ◌*◌, ◌<◌, ◌≤◌, ◌⊎◌, List, [], ◌∷◌, ◌++◌, length, map, reverse, Option, Some, None, refl, ap, sym, subst, ◌∙◌, inl, inr, arith}
+use Rattle.std.proofs.Common.{◌≡◌, ℕ, zero, suc, ◌+◌, ◌*◌, ◌<◌, ◌≤◌, ◌⊎◌, List, [], ◌∷◌, ◌++◌, length, reverse, Option, Some, None, refl, ap, sym, subst, ◌∙◌, inl, inr, arith}
 use Rattle.std.specs.Prelude.{◌==◌, slice_get}
-use Rattle.std.specs.List.{flat_map, range_with_len}
 use Rattle.std.proofs.lemmas.Bool.{cases_Bool, cases_lt}
 use Rattle.std.proofs.lemmas.List.{length-append, length-reverse}
+use Rattle.algebra_laws.specs.Lists.{Each}
+use Rattle.algebra_laws.proofs.Each.{each_flat, each_map}
 use Rattle.algebra_laws.proofs.Options.{some-not-none}
+use Rattle.code_defs.specs.Points.{upto}
 use Rattle.record_defs.specs.Records.{Setup, Record, PutStart, PutDone, PutDoneIn}
 use Rattle.record_defs.specs.Table.{next_id}
 use Rattle.machine_defs.specs.Actions.{Action, WriteBody, SyncBody, WriteGate, SyncGate, Store, End, append_actions, remove_actions, store_actions, actions_of, on_each_provider}
@@ -41,28 +43,10 @@ IsMove WriteGate = Unit {0}
 IsMove SyncGate = Unit {0}
 IsMove action = ⊥
 
--- a fact of each element
-abbrev Each : {X : Type 0} → (X → Type 0) → List X → Type 0
-Each P [] = Unit {0}
-Each P (x ∷ xs) = P x × Each P xs
-
-each-append : {X : Type 0} (P : X → Type 0) (xs ys : List X) → Each P xs → Each P ys → Each P (xs ++ ys)
-each-append P [] ys a b = b
-each-append P (x ∷ xs) ys a b = (a.0, each-append P xs ys a.1 b)
-
-stores-on-each : (object stripe a k : ℕ) → Each IsStore (map (λ j. Store j object stripe) (range_with_len a k))
-stores-on-each object stripe a zero = tt
-stores-on-each object stripe a (suc k) = (tt, stores-on-each object stripe (a + 1) k)
-
-stores-of-each : (f : ℕ → List Action) → ((t : ℕ) → Each IsStore (f t)) → (a k : ℕ) →
-    Each IsStore (flat_map f (range_with_len a k))
-stores-of-each f h a zero = tt
-stores-of-each f h a (suc k) =
-    each-append IsStore (f a) (flat_map f (range_with_len (a + 1) k)) (h a) (stores-of-each f h (a + 1) k)
-
 are-stores : (s : Setup) (job : Job) (bytes : List ℕ) → Each IsStore (store_actions s job bytes)
-are-stores s job bytes = stores-of-each (λ t. on_each_provider s (λ j. Store j job.subject t))
-    (λ t. stores-on-each job.subject t 0 s.n) 0 (stripes_of (profiled s job.profile) (length bytes))
+are-stores s job bytes = each_flat IsStore (λ t. on_each_provider s (λ j. Store j job.subject t))
+    (upto (stripes_of (profiled s job.profile) (length bytes)))
+    (λ t. each_map IsStore (λ j. Store j job.subject t) (upto s.n) (λ j. tt))
 
 in-front : {X : Type 0} (P : X → Type 0) (xs ys : List X) (i : ℕ) (a : X) → i < length xs → Each P xs →
     slice_get (xs ++ ys) i ≡ Some a → P a

@@ -1,8 +1,8 @@
 -- Bytes that were read of a source, one piece after another.
-use Rattle.std.proofs.Common.{◌≡◌, ℕ, ◌+◌, ◌≤◌, length, Result, Ok, Err, arith, ◌&&◌, Bool, true, false, List, [], ◌++◌, take, drop, Option, None, Some, refl, ap, sym, ◌∙◌, append_assoc}
+use Rattle.std.proofs.Common.{◌≡◌, ℕ, ◌+◌, ◌≤◌, length, arith, ◌&&◌, List, [], ◌++◌, take, drop, Option, None, Some, refl, ap, sym, ◌∙◌, append_assoc}
 use Rattle.std.specs.List.{list_all}
 use borrow.Rule.Slice.PartMut.{put_mid}
-use Rattle.std.specs.Prelude.{OnErr}
+use Rattle.std.proofs.lemmas.Bool.{and_parts}
 use Rattle.std.proofs.lemmas.List.{take-append-drop, length-take-le, take-take}
 use Rattle.std.proofs.lemmas.Slice.{take-put_mid}
 use Rattle.std.proofs.Math.Seq.{take-append-add}
@@ -10,20 +10,16 @@ use Rattle.std.proofs.lemmas.List.Folds.{list_all-append}
 use Rattle.record_defs.specs.Records.{is_byte}
 use Rattle.device_defs.specs.Told.{then_told}
 use Rattle.machine_defs.specs.Events.{AreBytes}
-use Rattle.command_defs.specs.Seen.{ReadsFront}
+use Rattle.command_defs.specs.Seen.{ReadsAtMost, ReadsFront}
 
 pub bytes-append : (xs ys : List ℕ) → AreBytes xs → AreBytes ys → AreBytes (xs ++ ys)
 bytes-append xs ys a b =
     list_all-append is_byte xs ys ∙ (ap (λ t. t && list_all is_byte ys) a ∙ b)
 
-and-first : (a b : Bool) → (a && b) ≡ true → a ≡ true
-and-first true b e = refl
-and-first false b e = e
-
 pub bytes-front : (n : ℕ) (xs : List ℕ) → AreBytes xs → AreBytes (take n xs)
 bytes-front n xs h =
-    and-first (list_all is_byte (take n xs)) (list_all is_byte (drop n xs))
-    (sym (list_all-append is_byte (take n xs) (drop n xs)) ∙ (ap (list_all is_byte) (take-append-drop n xs) ∙ h))
+    (and_parts (list_all is_byte (take n xs)) (list_all is_byte (drop n xs))
+    (sym (list_all-append is_byte (take n xs) (drop n xs)) ∙ (ap (list_all is_byte) (take-append-drop n xs) ∙ h))).0
 
 told-none : (o : Option (List ℕ)) → o ≡ then_told [] o
 told-none None = refl
@@ -37,6 +33,10 @@ told-both a b (Some xs) = ap (λ (ys : List ℕ). Some ys) (sym (append_assoc a 
 pub told-on : (a b c : Option (List ℕ)) (xs ys : List ℕ) → a ≡ then_told xs b → b ≡ then_told ys c →
     a ≡ then_told (xs ++ ys) c
 told-on a b c xs ys e f = e ∙ (ap (then_told xs) f ∙ told-both xs ys c)
+
+-- a source that gave nothing gave no more than it may
+pub none-taken : (most : ℕ) (told : Option (List ℕ)) → ReadsAtMost most told told
+none-taken most told = record { bytes = []; front = told-none told; few = omega arith }
 
 pub reads-none : (told : Option (List ℕ)) → ReadsFront told told []
 reads-none told = record { are_bytes = refl; front = told-none told }
@@ -58,7 +58,3 @@ put-more a k g xs ys l e few =
     ∙ (ap (take (a + g)) (take-put_mid a k xs ys (a + length ys) refl l)
     ∙ (ap (λ n. take (n + g) (take a xs ++ ys)) (sym (length-take-le a xs l))
     ∙ take-append-add (take a xs) ys g))
-
-pub on-error : {A E : Type 0} (r : Result A E) (X : Type 0) → X → OnErr r X
-on-error (Ok a) X x = tt
-on-error (Err e) X x = x

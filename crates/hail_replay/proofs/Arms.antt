@@ -135,7 +135,7 @@ module _ (c next : Client) (d e : Devices) (tells : is_some e.holds ≡ is_some 
   step-kept job outcome S opened makes =
       (let X = S opened in
       let M = makes X.state 0 X.stands in
-      let same = steps X.state job X.state.is_open outcome M.state M.happens in
+      let same = steps X.state job outcome M.state M.happens in
       kept-by X.state M.state X.stands M.stands same
       (fell X.state M.state d e (devices-of c.vault c.alone c.next_job d X.state X.stands)
       (devices-of next.vault next.alone next.next_job e M.state M.stands)

@@ -1,5 +1,5 @@
 -- An audit that ended leaves its vault open, and the vault's table has the setup by which it flags.
-use Rattle.std.proofs.Common.{◌≡◌, ℕ, Bool, true, false, List, ◌∷◌, length, Option, Some, None, refl, ap, sym, ◌∙◌}
+use Rattle.std.proofs.Common.{◌≡◌, ℕ, Bool, true, false, List, ◌∷◌, length, Option, Some, None, refl, ap, sym, subst, ◌∙◌}
 use Rattle.std.specs.Prelude.{IsSome, nat_lt}
 use Rattle.std.specs.Option.{option_map}
 use Rattle.std.proofs.lemmas.Bool.{false≢true}
@@ -35,7 +35,8 @@ module _ (old new : State) (number undecided : ℕ) (counts : List ℕ) where
 
   steps : (job : ℕ) (is_open : Bool) → old.is_open ≡ is_open → Steps old job is_open audited new →
       new.is_open ≡ true
-  steps job true opened h = (same.steps old job true audited new h).is_open ∙ opened
+  steps job true opened h = (same.steps old job audited new
+      (subst (λ b. Steps old job b audited new) (sym opened) h)).is_open ∙ opened
   steps job false opened h = absurd h
 
   inits_by : (s : Setup) (good : Bool) → InitsBy old s good audited new → new.is_open ≡ true

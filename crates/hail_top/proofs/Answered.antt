@@ -4,7 +4,7 @@ use Rattle.device_defs.specs.Told.{TakesFront}
 use Rattle.code_defs.specs.Points.{upto, values_at}
 use Rattle.opening_defs.proofs.Resyncs.{resynced-same}
 use Rattle.command_defs.specs.Forms.{Command as Spelled}
-use Rattle.command_defs.specs.Forms.{RowOf, InitWith, PutUnder, PutAt, GetOf, DropOf, ListAll, AuditAll, RepairDue, UpgradeJournal, ScrubAll, PackJournal}
+use Rattle.command_defs.specs.Forms.{RowOf, InitWith, PutUnder, PutAt, GetOf, DropOf, ListAll, AuditAll, RepairAll, UpgradeJournal, ScrubAll, PackJournal}
 use Rattle.command_defs.specs.Keys.{longest_key}
 use Rattle.command_defs.specs.Seen.{Seen, Ending, IsRefused, sinking}
 use Rattle.command_defs.specs.Line.{values_line, no_row_line}
@@ -19,7 +19,7 @@ use Rattle.command_words.specs.declared.command.Command.{Command}
 use Rattle.command_words.specs.Commands.{command_of}
 use Rattle.hail_top.specs.Endings.{ending_with}
 use Rattle.hail_top.specs.InitRuns.{InitsOn}
-use Rattle.hail_top.proofs.Taken.{none-taken}
+use Rattle.command_jobs.proofs.ReadBytes.{none-taken}
 use Rattle.hail_top.proofs.Refused.{refused-told}
 use Rattle.hail_top.proofs.AnswerTexts.{front-none}
 
@@ -85,7 +85,7 @@ no_memory-told command same end is =
     by_command (DropOf name) = (commands.unstarted (opens.no_memory refused), (refl, refl))
     by_command ListAll = (commands.no_memory refused, (refl, refl))
     by_command AuditAll = (commands.unstarted (opens.no_memory refused), (refl, refl))
-    by_command RepairDue = (commands.unstarted (opens.no_memory refused), (refl, refl))
+    by_command RepairAll = (commands.unstarted (opens.no_memory refused), (refl, refl))
     by_command UpgradeJournal = (commands.unstarted (opens.no_memory refused), (refl, refl))
     by_command ScrubAll = (scrubs.unstarted (opens.no_memory refused), (refl, refl))
     by_command PackJournal = (packs.unstarted (opens.no_memory refused), (refl, refl))

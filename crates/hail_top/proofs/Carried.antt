@@ -1,6 +1,6 @@
 -- A schedule or a trial, carried out or not.
-use Rattle.std.proofs.Common.{◌≡◌, ◌⊎◌, inl, inr, ℕ, ◌+◌, List, length, reverse, refl, ap, sym, subst, arith}
-use Rattle.command_defs.specs.Seen.{Seen, Ending, provider_at, sinking}
+use Rattle.std.proofs.Common.{◌≡◌, ◌⊎◌, inl, inr, ℕ, ◌+◌, List, reverse, refl, ap, sym, subst}
+use Rattle.command_defs.specs.Seen.{Seen, Ending, sinking}
 use Rattle.device_defs.specs.Faults.{Rose}
 use Rattle.command_defs.specs.Sinking.{Sinking}
 use Rattle.machine_defs.specs.Heard.{Entry}
@@ -16,8 +16,7 @@ use Rattle.hail_replay.specs.declared.forms.Form.{Form}
 use Rattle.hail_replay.specs.declared.forms.Form.TheVariants as forms
 use Rattle.trial_maker.specs.Trials.{trial_commands}
 use Rattle.hail_top.specs.Carried.{AnswersForm, RunGoesOn, KeepsTheHeadline}
-use Rattle.hail_top.proofs.Taken.{none-taken}
-use Rattle.hail_replay.specs.Performed.{NoCountFell}
+use Rattle.command_jobs.proofs.ReadBytes.{none-taken}
 use Rattle.hail_top.specs.Endings.{ending_with}
 
 -- no event was done
@@ -32,16 +31,6 @@ undone status at old new end is disk faults providers sink = record {
   disk_faults = faults;
   providers = providers;
   sink = sink;
-}
-
--- where the devices stayed no count fell
-pub none-fell : (old new : Seen) → new.disk_faults ≡ old.disk_faults → new.providers ≡ old.providers →
-    NoCountFell (devices_of_seen old) (devices_of_seen new)
-none-fell old new faults providers = record {
-  disk = omega (arith, faults);
-  handed = ap length providers;
-  stores = λ j. (let e = ap (λ ps. (provider_at ps j).store_faults) providers in omega (arith, e));
-  others = λ j. (let e = ap (λ ps. (provider_at ps j).other_faults) providers in omega (arith, e));
 }
 
 -- how a report of a replay ends

@@ -8,7 +8,7 @@ use Rattle.std.specs.declared.alloc.Global.{Global}
 use Rattle.std.proofs.lemmas.Bool.{false≢true}
 use Rattle.command_defs.specs.Seen.{Seen, Ending}
 use Rattle.command_defs.specs.Row.{IsRowForm}
-use Rattle.command_defs.specs.Forms.{Numbers, Command as Spelled, RowOf, InitWith, PutUnder, PutAt, GetOf, DropOf, ListAll, AuditAll, RepairDue, UpgradeJournal, ScrubAll, PackJournal, IsForm, IsInitForm, IsNamedForm, IsPutAtForm, IsBareForm}
+use Rattle.command_defs.specs.Forms.{Numbers, Command as Spelled, RowOf, InitWith, PutUnder, PutAt, GetOf, DropOf, ListAll, AuditAll, RepairAll, UpgradeJournal, ScrubAll, PackJournal, IsForm, IsInitForm, IsNamedForm, IsPutAtForm, IsBareForm}
 use Rattle.hail_replay.specs.Forms.{IsReplayForm, IsTrialForm, IsFormOf}
 use Rattle.hail_replay.specs.declared.forms.Form.{Form}
 use Rattle.hail_replay.specs.declared.forms.Form.TheVariants as forms
@@ -59,7 +59,7 @@ command-word (GetOf name) = codes "get"
 command-word (DropOf name) = codes "drop"
 command-word ListAll = codes "list"
 command-word AuditAll = codes "audit"
-command-word RepairDue = codes "repair"
+command-word RepairAll = codes "repair"
 command-word UpgradeJournal = codes "upgrade"
 command-word ScrubAll = codes "scrub"
 command-word PackJournal = codes "pack"
@@ -120,7 +120,7 @@ command-first words (GetOf name) form = named-first (codes "get") words name for
 command-first words (DropOf name) form = named-first (codes "drop") words name form
 command-first words ListAll form = bare-first (codes "list") words form
 command-first words AuditAll form = bare-first (codes "audit") words form
-command-first words RepairDue form = bare-first (codes "repair") words form
+command-first words RepairAll form = bare-first (codes "repair") words form
 command-first words UpgradeJournal form = bare-first (codes "upgrade") words form
 command-first words ScrubAll form = bare-first (codes "scrub") words form
 command-first words PackJournal form = bare-first (codes "pack") words form
@@ -140,7 +140,7 @@ replay-apart (GetOf name) = refl
 replay-apart (DropOf name) = refl
 replay-apart ListAll = refl
 replay-apart AuditAll = refl
-replay-apart RepairDue = refl
+replay-apart RepairAll = refl
 replay-apart UpgradeJournal = refl
 replay-apart ScrubAll = refl
 replay-apart PackJournal = refl
@@ -154,7 +154,7 @@ trial-apart (GetOf name) = refl
 trial-apart (DropOf name) = refl
 trial-apart ListAll = refl
 trial-apart AuditAll = refl
-trial-apart RepairDue = refl
+trial-apart RepairAll = refl
 trial-apart UpgradeJournal = refl
 trial-apart ScrubAll = refl
 trial-apart PackJournal = refl

@@ -5,7 +5,7 @@ use Rattle.machine_defs.specs.Events.{Init, IsSpelled}
 use Rattle.machine_defs.specs.Runs.{now, IsRun}
 use Rattle.machine_defs.specs.States.{State, continued}
 use Rattle.state_laws.proofs.Events.{run-sound}
-use Rattle.command_defs.specs.Forms.{Command, Numbers, RowOf, InitWith, PutUnder, PutAt, GetOf, DropOf, ListAll, AuditAll, RepairDue, UpgradeJournal, ScrubAll, PackJournal}
+use Rattle.command_defs.specs.Forms.{Command, Numbers, RowOf, InitWith, PutUnder, PutAt, GetOf, DropOf, ListAll, AuditAll, RepairAll, UpgradeJournal, ScrubAll, PackJournal}
 use Rattle.command_defs.specs.Seen.{Seen, Ending}
 use Rattle.command_defs.specs.Sinking.{Sinking, WritesLine}
 use Rattle.command_words.specs.declared.command.Command.{Command as Read}
@@ -84,7 +84,7 @@ inits-same (GetOf name) same end = tt
 inits-same (DropOf name) same end = tt
 inits-same ListAll same end = tt
 inits-same AuditAll same end = tt
-inits-same RepairDue same end = tt
+inits-same RepairAll same end = tt
 inits-same UpgradeJournal same end = tt
 inits-same ScrubAll same end = tt
 inits-same PackJournal same end = tt

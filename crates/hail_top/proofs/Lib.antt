@@ -1,5 +1,4 @@
 mod RowWords
-mod PointSteps
 mod RowAnswers
 mod AnswerLaws
 mod Refused

@@ -3,7 +3,7 @@ use Rattle.std.proofs.Common.{◌≡◌, ℕ, List, [], ◌∷◌, length, Optio
 use Rattle.std.specs.declared.alloc.Global.{Global}
 use Rattle.command_defs.specs.Words.{AreSymbolWords}
 use Rattle.command_defs.specs.Row.{IsRowForm}
-use Rattle.command_defs.specs.Forms.{Command, RowOf, InitWith, PutUnder, PutAt, GetOf, DropOf, ListAll, AuditAll, RepairDue, UpgradeJournal, ScrubAll, PackJournal, IsForm}
+use Rattle.command_defs.specs.Forms.{Command, RowOf, InitWith, PutUnder, PutAt, GetOf, DropOf, ListAll, AuditAll, RepairAll, UpgradeJournal, ScrubAll, PackJournal, IsForm}
 use Rattle.hail_top.specs.Rows.{HasItsSymbols}
 
 length-AreSymbolWords : (words : List (String Global)) (symbols : List (Option ℕ)) →
@@ -32,7 +32,7 @@ HasItsSymbols-IsForm words (GetOf name) form = tt
 HasItsSymbols-IsForm words (DropOf name) form = tt
 HasItsSymbols-IsForm words ListAll form = tt
 HasItsSymbols-IsForm words AuditAll form = tt
-HasItsSymbols-IsForm words RepairDue form = tt
+HasItsSymbols-IsForm words RepairAll form = tt
 HasItsSymbols-IsForm words UpgradeJournal form = tt
 HasItsSymbols-IsForm words ScrubAll form = tt
 HasItsSymbols-IsForm words PackJournal form = tt

@@ -5,7 +5,7 @@ use Rattle.std.specs.Str.{bytes_eq}
 use Rattle.std.specs.declared.alloc.Global.{Global}
 use Rattle.std.proofs.lemmas.Bool.{false≢true}
 use Rattle.command_defs.specs.Seen.{Seen, Ending}
-use Rattle.command_defs.specs.Forms.{Command as Spelled, RowOf, InitWith, PutUnder, PutAt, GetOf, DropOf, ListAll, AuditAll, RepairDue, UpgradeJournal, ScrubAll, PackJournal, IsForm}
+use Rattle.command_defs.specs.Forms.{Command as Spelled, RowOf, InitWith, PutUnder, PutAt, GetOf, DropOf, ListAll, AuditAll, RepairAll, UpgradeJournal, ScrubAll, PackJournal, IsForm}
 use Rattle.hail_replay.specs.Forms.{IsFormOf}
 use Rattle.hail_replay.specs.declared.forms.Form.{Form}
 use Rattle.hail_replay.specs.declared.forms.Form.TheVariants as forms
@@ -54,7 +54,7 @@ command-apart (GetOf name) = refl
 command-apart (DropOf name) = refl
 command-apart ListAll = refl
 command-apart AuditAll = refl
-command-apart RepairDue = refl
+command-apart RepairAll = refl
 command-apart UpgradeJournal = refl
 command-apart ScrubAll = refl
 command-apart PackJournal = refl

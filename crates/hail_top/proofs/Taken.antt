@@ -1,24 +1,9 @@
 -- How much of a source was taken, also where no more came.
-use Rattle.std.proofs.Common.{◌≡◌, ℕ, zero, suc, ◌+◌, ◌≤◌, List, [], ◌∷◌, ◌++◌, length, take, Option, None, Some, refl, ap, sym, ◌∙◌, arith, length-append, append_assoc}
+use Rattle.std.proofs.Common.{◌≡◌, ℕ, ◌+◌, ◌≤◌, List, ◌++◌, length, take, Option, arith, length-append, length-take}
+use Rattle.std.proofs.Math.Nat.{min-le_left}
 use Rattle.device_defs.specs.Told.{then_told}
 use Rattle.command_defs.specs.Seen.{ReadsAtMost}
-
--- a source that gave nothing gave no more than it may
-pub none-taken : (most : ℕ) (told : Option (List ℕ)) → ReadsAtMost most told told
-none-taken most told = record { bytes = []; front = same told; few = omega arith }
-  where
-    same : (o : Option (List ℕ)) → o ≡ then_told [] o
-    same None = refl
-    same (Some xs) = refl
-
-both-told : (a b : List ℕ) (o : Option (List ℕ)) → then_told a (then_told b o) ≡ then_told (a ++ b) o
-both-told a b None = refl
-both-told a b (Some xs) = ap Some (sym (append_assoc a b xs))
-
-take-few : (n : ℕ) (xs : List ℕ) → length (take n xs) ≤ n
-take-few zero xs = omega arith
-take-few (suc n) [] = omega arith
-take-few (suc n) (x ∷ xs) = (let h = take-few n xs in omega (arith, h))
+use Rattle.command_jobs.proofs.ReadBytes.{told-on}
 
 -- these bytes were taken before, and so many came now
 pub more-taken : (most count : ℕ) (old mid new : Option (List ℕ)) (bytes out : List ℕ) →
@@ -26,7 +11,7 @@ pub more-taken : (most count : ℕ) (old mid new : Option (List ℕ)) (bytes out
     ReadsAtMost most old new
 more-taken most count old mid new bytes out before now few = record {
   bytes = bytes ++ take count out;
-  front = before ∙ (ap (then_told bytes) now ∙ both-told bytes (take count out) new);
-  few = (let a = length-append bytes (take count out) in let b = take-few count out in
-      omega (arith, a, b, few));
+  front = told-on old mid new bytes (take count out) before now;
+  few = (let a = length-append bytes (take count out) in let b = length-take count out in
+      let c = min-le_left count (length out) in omega (arith, a, b, c, few));
 }

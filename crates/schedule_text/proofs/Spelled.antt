@@ -1,5 +1,5 @@
 -- The spelling of commands is a schedule of them.
-use Rattle.std.proofs.Common.{◌≡◌, ℕ, ◌^◌, ◌<◌, false, List, [], ◌∷◌, ◌++◌, length, refl, sym, ap, subst, ◌∙◌, arith, inl, inr, append_assoc}
+use Rattle.std.proofs.Common.{◌≡◌, ℕ, ◌<◌, false, List, [], ◌∷◌, ◌++◌, length, refl, sym, ap, subst, ◌∙◌, arith, inl, inr, append_assoc}
 use Rattle.std.specs.Prelude.{codes, ◌==◌, slice_index}
 use Rattle.std.specs.List.{AllByRecursion, flat_map}
 use Rattle.std.specs.Fmt.{decimal}
@@ -87,10 +87,6 @@ lines-line text rest ends =
     grouped (x ∷ front) rest = ap (λ (t : List ℕ). x ∷ t) (grouped front rest)
 
 -- ---- the words of a command
-
--- a number of at most 128 bits, as its field holds it
-small : (n : ℕ) → n < 2 ^ 64 → n < 2 ^ 128
-small n fits = omega (arith, fits)
 
 -- the words of a command are words, and spell it
 pub record IsSpelling (command : Instruction) (ws : List Word) : Type 0 where

@@ -8,7 +8,7 @@ ghost use Rattle.machine_defs.specs.Events.{AreBytes};
 ghost use Rattle.machine_defs.specs.Heard.{HoldsForgery};
 ghost use Rattle.record_defs.specs.Records.{Record};
 ghost use Rattle.record_defs.specs.Table.{next_audit};
-ghost use Rattle.command_defs.specs.Forms.{GetOf, AuditAll, RepairDue, UpgradeJournal, ScrubAll, PackJournal, IsForm};
+ghost use Rattle.command_defs.specs.Forms.{GetOf, AuditAll, RepairAll, UpgradeJournal, ScrubAll, PackJournal, IsForm};
 ghost use Rattle.command_defs.specs.Jobs.{IsTold};
 ghost use Rattle.command_defs.specs.Lines.{audit_lines};
 ghost use Rattle.command_defs.specs.Opens.{setup_in_effect, object_in_effect};
@@ -52,7 +52,7 @@ pub fn others_may_go_after_a_repair()
         (first second third last : Ending)
         → AnswersWords put a b first → IsForm put (put_of name own)
         → AnswersWords audit c d second → IsForm audit AuditAll
-        → AnswersWords repair e f third → IsForm repair RepairDue
+        → AnswersWords repair e f third → IsForm repair RepairAll
         → AnswersWords get g h last → IsForm get (GetOf name)
         → Follows b c → Follows d e → Follows f g → IsKnown a records → a.source ≡ Some bytes
         → IsDone first → IsDone second → IsDone third

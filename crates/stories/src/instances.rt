@@ -7,7 +7,7 @@ ghost use Rattle.machine_defs.specs.Events.{AreBytes, Begun, Ended};
 ghost use Rattle.machine_defs.specs.Answers.{Put, Got};
 ghost use Rattle.machine_defs.specs.Halves.{AllTell};
 ghost use Rattle.machine_defs.specs.Untouched.{NoneAsksOn};
-ghost use Rattle.command_defs.specs.Forms.{PutUnder, GetOf, AuditAll, RepairDue, UpgradeJournal, ScrubAll, PackJournal, IsForm};
+ghost use Rattle.command_defs.specs.Forms.{PutUnder, GetOf, AuditAll, RepairAll, UpgradeJournal, ScrubAll, PackJournal, IsForm};
 ghost use Rattle.command_defs.specs.Jobs.{IsTold};
 ghost use Rattle.command_defs.specs.Lines.{audit_lines};
 ghost use Rattle.command_defs.specs.Opens.{setup_in_effect};
@@ -87,7 +87,7 @@ pub fn the_next_command_gets_a_byte()
 pub fn another_goes_after_the_repair()
     ensures audit { (words : List (String Global)) → IsForm words AuditAll
         → AnswersWords words damaged byte_audited (ends_hearing 0 answers_heard) }
-    ensures repair { (words : List (String Global)) → IsForm words RepairDue
+    ensures repair { (words : List (String Global)) → IsForm words RepairAll
         → AnswersWords words due repaired (ends 0) }
     ensures get { (words : List (String Global)) → IsForm words (GetOf named)
         → AnswersWords words mended got (ends_hearing 0 own_blocks_heard) }

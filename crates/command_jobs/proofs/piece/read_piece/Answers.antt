@@ -2,12 +2,13 @@ use Rattle.std.proofs.Common.{◌≡◌, ◌-◌, ◌≤◌, min, length, take, 
 use Rattle.std.proofs.lemmas.List.{length-take-le}
 use borrow.Rule.Slice.PartMut.{put_mid}
 use Rattle.device_defs.specs.Told.{then_told}
-use Rattle.command_jobs.proofs.ReadBytes.{bytes-front, told-on, put-more, on-error}
+use Rattle.journal_core.proofs.MoveLemmas.{on_err}
+use Rattle.command_jobs.proofs.ReadBytes.{bytes-front, told-on, put-more}
 use Rattle.command_jobs.proofs.piece.read_piece.Goals as goal
 
 pub returns-in_err-given-clause-short : goal.returns-in_err-given-clause-short
 returns-in_err-given-clause-short g c =
-    on-error c.from_residual.result _ (
+    on_err c.from_residual.result _ (
     let m = c.loop-count.invariant.most in
     let t = c.loop-count-test.true in
     let a = c.min-most.ensures in

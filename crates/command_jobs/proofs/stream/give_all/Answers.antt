@@ -7,7 +7,7 @@ use Rattle.vault.specs.Devices.{devices_seen}
 use Rattle.vault.specs.Stands.{Stands}
 use Rattle.vault.specs.Streams.{wants_of, told_of, stripe_of, IsPiece, FitsPiece}
 use Rattle.vault_open.specs.Devices.{Devices}
-use Rattle.command_jobs.proofs.Beginning.{rose-later}
+use Rattle.device_defs.proofs.Lasting.{rose-before}
 use Rattle.command_jobs.proofs.Fed.{none-waits, Went}
 use Rattle.command_jobs.proofs.Feeding.{waits-first, ends-first, stops-long, piece-fits, given-under-way, given-ends, waits-next, stops-short}
 use Rattle.command_jobs.proofs.stream.give_all.Goals as goal
@@ -189,5 +189,5 @@ returns-in-Err-clause-cause g c =
     let b = c.in-Err.ensures.cause.never_falls in
     record {
       never_falls = omega (arith, a, b);
-      rose = λ e. rose-later _ _ _ a b (c.in-Err.ensures.cause.rose refl);
+      rose = λ e. rose-before _ _ _ a b (c.in-Err.ensures.cause.rose refl);
     }

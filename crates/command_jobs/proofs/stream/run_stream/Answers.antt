@@ -1,4 +1,4 @@
-use Rattle.std.proofs.Common.{◌≡◌, ℕ, ◌≤◌, ◌++◌, List, Option, length, map, take, drop, ap, sym, subst, ◌∙◌, arith, rules}
+use Rattle.std.proofs.Common.{◌+◌, ◌≡◌, ℕ, ◌≤◌, ◌++◌, List, Option, length, map, take, drop, ap, sym, subst, ◌∙◌, arith, rules}
 use Rattle.std.proofs.lemmas.List.{length-map, length-take-le}
 use Rattle.std.proofs.Math.Seq.{take-append_seam}
 use Rattle.record_defs.specs.Records.{Record, largest_file}
@@ -8,6 +8,7 @@ use Rattle.command_defs.specs.Opens.{setup_in_effect}
 use Rattle.command_defs.specs.GivenUp.{put_stripe}
 use Rattle.command_defs.specs.Seen.{ReadsFront}
 use Rattle.device_defs.specs.Faults.{Rose}
+use Rattle.device_defs.proofs.Lasting.{rose-before}
 use Rattle.vault.specs.Devices.{devices_seen}
 use Rattle.provider_model.specs.Seen.{provider_seen}
 use Rattle.command_jobs.specs.Opened.{IsFreshOver}
@@ -15,7 +16,8 @@ use Rattle.command_jobs.specs.Streams.{StreamsTo, IsUnbegunOver}
 use Rattle.command_jobs.specs.declared.stream.Unbegun.{Unbegun}
 use Rattle.command_jobs.specs.declared.stream.Unbegun.TheVariants as unbegun
 use Rattle.command_jobs.proofs.Alone.{refused-over}
-use Rattle.command_jobs.proofs.Beginning.{read-nothing, rose-later, stripe-over, is-stripe, first-number, all-begun}
+use Rattle.command_jobs.proofs.Beginning.{stripe-over, is-stripe, first-number, all-begun}
+use Rattle.command_jobs.proofs.ReadBytes.{none-taken}
 use Rattle.command_jobs.proofs.Readings.{told-by}
 use Rattle.command_jobs.proofs.Streaming.{streams-over}
 use Rattle.command_jobs.proofs.stream.run_stream.Goals as goal
@@ -26,7 +28,7 @@ returns-in_err-stripe-clause-refused g c = told-by c.from_residual.result unbegu
     → IsFreshOver c.args.vault area records (g.D.Disk.holds c.args.disk.now) (g.D.Disk.faults c.args.disk.now)
     → IsUnbegunOver area records c.args.name.now c.args.profile why (g.S.Source.left c.args.source.now)
     (g.S.Source.left c.args.source.now))
-    c.from_residual.ensures.1 (λ area records fresh. read-nothing (g.S.Source.left c.args.source.now))
+    c.from_residual.ensures.1 (λ area records fresh. none-taken (largest_file + 1) (g.S.Source.left c.args.source.now))
 
 pub returns-in_err-number-clause-refused : goal.returns-in_err-number-clause-refused
 returns-in_err-number-clause-refused g c = told-by c.from_residual-in_err-number.result
@@ -143,4 +145,4 @@ returns-clause-ended g c = λ records old new opened fresh before after was is.
     let b = c.give_all-streamed.ensures.cause.never_falls in
     subst (λ n. Rose n new.source_faults) (sym was.faults_are)
     (subst (λ n. Rose (g.S.Source.faults c.args.source.now) n) (sym is.faults_are)
-    (rose-later _ _ _ a b (c.give_all-streamed.ensures.cause.rose e))))
+    (rose-before _ _ _ a b (c.give_all-streamed.ensures.cause.rose e))))

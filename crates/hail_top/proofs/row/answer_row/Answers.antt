@@ -2,7 +2,7 @@ use Rattle.std.proofs.Common.{List, ℕ, Option, subst, sym, ◌∙◌}
 use Rattle.std.proofs.lemmas.List.FromFn.{length-range_with_len}
 use Rattle.code_defs.specs.Points.{upto}
 use Rattle.command_defs.specs.Row.{OpensRow}
-use Rattle.hail_top.proofs.PointSteps.{Apart-upto}
+use Rattle.code_defs.proofs.Points.{Apart-range}
 use Rattle.hail_top.proofs.RowAnswers.{answers_held, AnswersRow-same}
 use Rattle.hail_top.proofs.row.answer_row.Goals as goal
 
@@ -21,5 +21,5 @@ returns-in-Ok-Some-clause-answers g c =
     AnswersRow-same row.n row.l row.b shape.n shape.l shape.b row.seen.items _ _ same
     (answers_held shape.n shape.l shape.b row.seen.items c.in-Ok-Some.values.items
     c.deref-in-Ok-Some.result.now _ _ shape.fits opens
-    (λ p q. only p q shape.fits (Apart-upto shape.n) (length-range_with_len 0 shape.n ∙ sym whole) whole)
+    (λ p q. only p q shape.fits (Apart-range 0 shape.n) (length-range_with_len 0 shape.n ∙ sym whole) whole)
     c.deref-in-Ok-Some.ensures.value c.write_values.ensures.writes)

@@ -1,13 +1,13 @@
 use Rattle.std.proofs.Common.{List, ℕ, length, ap, ◌∙◌, sym, subst}
 use Rattle.std.proofs.lemmas.List.FromFn.{length-range_with_len}
 use Rattle.algebra_laws.specs.Field.{Apart}
-use Rattle.hail_top.proofs.PointSteps.{Apart-upto}
+use Rattle.code_defs.proofs.Points.{Apart-range}
 use Rattle.hail_top.proofs.row.open.Goals as goal
 
 pub open_row-requires-clause-apart : goal.open_row-requires-clause-apart
 open_row-requires-clause-apart c =
     subst (λ (points : List ℕ). Apart points) (sym (c.deref.ensures.value ∙ c.in_ok-all.ensures))
-    (Apart-upto c.args.shape.n)
+    (Apart-range 0 c.args.shape.n)
 
 pub open_row-requires-clause-even : goal.open_row-requires-clause-even
 open_row-requires-clause-even c =

@@ -1,4 +1,4 @@
-use Rattle.command_defs.specs.Forms.{GetOf, AuditAll, RepairDue}
+use Rattle.command_defs.specs.Forms.{GetOf, AuditAll, RepairAll}
 use Rattle.command_laws.specs.Ends.{put_of}
 use Rattle.stories.proofs.commands.others_may_go_after_a_repair.Goals as goal
 
@@ -8,4 +8,4 @@ returns c =
     audits is_audit repairs is_repair gets is_get.
     c.put_files_are_got.ensures.mended name bytes own records spoilt a b d e f g h i first second third last
     (puts.answers (put_of name own) is_put) (audits.answers AuditAll is_audit)
-    (repairs.answers RepairDue is_repair) (gets.answers (GetOf name) is_get)
+    (repairs.answers RepairAll is_repair) (gets.answers (GetOf name) is_get)

@@ -1,5 +1,5 @@
 use Rattle.std.proofs.Common.{refl, inl, arith}
-use Rattle.command_defs.specs.Forms.{GetOf, AuditAll, RepairDue}
+use Rattle.command_defs.specs.Forms.{GetOf, AuditAll, RepairAll}
 use Rattle.command_runs.specs.Devices.{named}
 use Rattle.command_runs.proofs.Meets.{first, second, three-tell, robbed-untouched, repair-steady, get-steady, flagged-second}
 use Rattle.hail_top.proofs.Words.{command-words}
@@ -14,8 +14,8 @@ returns-clause-audit c = λ words spells.
 
 pub returns-clause-repair : goal.returns-clause-repair
 returns-clause-repair c = λ words spells.
-    command-words words RepairDue _ _ _ spells
-    (λ other also. c.words_spell_one_command.ensures words RepairDue other spells also)
+    command-words words RepairAll _ _ _ spells
+    (λ other also. c.words_spell_one_command.ensures words RepairAll other spells also)
     c.commands_end.ensures.repair tt (falls _ _ four-idle refl refl refl refl)
 
 pub returns-clause-get : goal.returns-clause-get
