@@ -5,7 +5,7 @@ ghost use Rattle.std.specs.List.Sorted.{IsSorted};
 ghost use Rattle.std.specs.Ordering.{nat_cmp};
 
 use crate::folder::Folder;
-use crate::last_blocks::LastBlocks;
+use crate::last_blocks::{LastBlock, LastBlocks, read_into, symbols};
 use crate::one_block::answer_in_block;
 use crate::provider_folders::Mark;
 use crate::seen_rows::answer_of;
@@ -24,6 +24,82 @@ fn ascend(rows: &mut [u64])
     rows.sort_unstable();
 }
 
+/// Answers a challenge to a file of one block; none where there is no block of the challenge's size.
+fn answer_in_one<R: Files + Clone + Drop>(
+    folder: &mut Folder<R>,
+    places: &mut [LastBlock],
+    object: u64,
+    challenge: &Challenge,
+) -> io::Result<Option<Symbol>>
+    requires { 0 < length places.old }
+{
+    let size = challenge.size;
+    if !read_into(places, folder, object, 0, size)? {
+        return Ok(None);
+    }
+    let block = &symbols(places, 0)[..size as usize];
+    Ok(answer_in_block(&challenge.draw(), block))
+}
+
+/// The symbol in a row; none where there is no block of the challenge's size.
+fn symbol_in<R: Files + Clone + Drop>(
+    folder: &mut Folder<R>,
+    places: &mut [LastBlock],
+    object: u64,
+    challenge: &Challenge,
+    row: u64,
+) -> io::Result<Option<Symbol>>
+    requires row { row < challenge.now.rows }
+    requires places { 0 < length places.old }
+{
+    let size = u64::from(challenge.size);
+    let stripe = (row / size) as u32;
+    if !read_into(places, folder, object, stripe, challenge.size)? {
+        return Ok(None);
+    }
+    Ok(Some(symbols(places, stripe)[(row % size) as usize]))
+}
+
+/// Answers a challenge by what stands in the picked rows; none where one of them has no symbol.
+fn answer_in_rows<R: Files + Clone + Drop>(
+    folder: &mut Folder<R>,
+    places: &mut [LastBlock],
+    object: u64,
+    challenge: &Challenge,
+) -> io::Result<Option<Symbol>>
+    requires { 0 < length places.old }
+{
+    let drawn = challenge.draw();
+    let picks = challenge.picks as usize;
+    let mut drawn_rows = drawn.rows;
+    let picked = &mut drawn_rows[..picks];
+    ascend(picked);
+    let mut rows = [(0, Symbol::ZERO); 64];
+    for k in 0..picks {
+        let row = picked[k];
+        let Some(symbol) = symbol_in(folder, places, object, challenge, row)? else {
+            return Ok(None);
+        };
+        rows[k] = (row, symbol);
+    }
+    Ok(answer_of(&drawn, &rows[..picks]))
+}
+
+/// Answers a challenge by the files, or by the blocks that are kept in these places.
+fn answer_over<R: Files + Clone + Drop>(
+    folder: &mut Folder<R>,
+    places: &mut [LastBlock],
+    object: u64,
+    challenge: &Challenge,
+) -> io::Result<Option<Symbol>>
+    requires { 0 < length places.old }
+{
+    if challenge.rows <= u64::from(challenge.size) {
+        return answer_in_one(folder, places, object, challenge);
+    }
+    answer_in_rows(folder, places, object, challenge)
+}
+
 /// A folder of blocks. Answers in a row about one object read each block once, where no stripes eight apart
 /// are picked: the blocks are kept until a store, a fetch, a removal or a change of a block, a call that
 /// fails, or an answer about another object or to another size. None outlasts the command.
@@ -34,7 +110,7 @@ pub struct AskedFolder<R: Files + Clone + Drop> {
 }
 
 impl<R: Files + Clone + Drop> AskedFolder<R> {
-    /// The folder at this path, as [`Folder::new`] says, with room for the blocks that are kept.
+    /// The folder at this path, as [`Folder::new`] says. No block is kept.
     pub fn new(
         rt: &R,
         alloc: Global,
@@ -45,7 +121,7 @@ impl<R: Files + Clone + Drop> AskedFolder<R> {
     {
         Ok(AskedFolder {
             folder: Folder::new(rt, alloc, path, unsynced)?,
-            last: LastBlocks::new(alloc)?,
+            last: LastBlocks::new(alloc),
         })
     }
 
@@ -67,60 +143,14 @@ impl<R: Files + Clone + Drop> AskedFolder<R> {
         self.last.forget(self.folder.fetch(object, stripe, out))
     }
 
-    /// Answers a challenge to a file of one block; none where there is no block of the challenge's size.
-    fn answer_in_one(&mut self, object: u64, challenge: &Challenge) -> io::Result<Option<Symbol>> {
-        let size = challenge.size;
-        if !self.last.read(&mut self.folder, object, 0, size)? {
-            return Ok(None);
-        }
-        let block = &self.last.symbols(0)[..size as usize];
-        Ok(answer_in_block(&challenge.draw(), block))
-    }
-
-    /// The symbol in a row; none where there is no block of the challenge's size.
-    fn symbol_in(
-        &mut self,
-        object: u64,
-        challenge: &Challenge,
-        row: u64,
-    ) -> io::Result<Option<Symbol>>
-        requires { row < challenge.now.rows }
-    {
-        let size = u64::from(challenge.size);
-        let stripe = (row / size) as u32;
-        if !self
-            .last
-            .read(&mut self.folder, object, stripe, challenge.size)?
-        {
-            return Ok(None);
-        }
-        Ok(Some(self.last.symbols(stripe)[(row % size) as usize]))
-    }
-
-    /// Answers a challenge by what stands in the picked rows; none where one of them has no symbol.
-    fn answer_in_rows(&mut self, object: u64, challenge: &Challenge) -> io::Result<Option<Symbol>> {
-        let drawn = challenge.draw();
-        let picks = challenge.picks as usize;
-        let mut drawn_rows = drawn.rows;
-        let picked = &mut drawn_rows[..picks];
-        ascend(picked);
-        let mut rows = [(0, Symbol::ZERO); 64];
-        for k in 0..picks {
-            let row = picked[k];
-            let Some(symbol) = self.symbol_in(object, challenge, row)? else {
-                return Ok(None);
-            };
-            rows[k] = (row, symbol);
-        }
-        Ok(answer_of(&drawn, &rows[..picks]))
-    }
-
-    /// Answers a challenge by the files or by the blocks that are kept.
+    /// Answers a challenge by the files or by the blocks that are kept. Where there is no memory to keep some,
+    /// the answer has one place of its own.
     fn answer_so(&mut self, object: u64, challenge: &Challenge) -> io::Result<Option<Symbol>> {
-        if challenge.rows <= u64::from(challenge.size) {
-            return self.answer_in_one(object, challenge);
+        if self.last.has_places() {
+            return answer_over(&mut self.folder, &mut self.last.places, object, challenge);
         }
-        self.answer_in_rows(object, challenge)
+        let mut place = [LastBlock::none()];
+        answer_over(&mut self.folder, &mut place, object, challenge)
     }
 
     /// Answers a challenge; none where a block is missing of which it picks a row.
