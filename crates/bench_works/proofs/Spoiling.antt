@@ -8,7 +8,7 @@ use Rattle.code_defs.specs.Points.{upto, values_at}
 use Rattle.code_defs.specs.Profiles.{Profile}
 use Rattle.code_defs.specs.ServerCode.{differences, IsCodeword, Opens}
 use Rattle.code_defs.proofs.Points.{nat_eq-differ}
-use Rattle.column_laws.proofs.RightBlocks.{agree-differences}
+use Rattle.code_defs.proofs.Codewords.{agree-differences}
 
 -- an error that is not zero changes a symbol
 pub error_changes : (x e : ℕ) → e ≢ 0 → nim_add x e ≢ x
@@ -54,7 +54,7 @@ spoiled_opens profile block word errors is even wrong few = record {
         few,
         count,
         agree-differences is.polynomial (upto profile.size) block
-            (whole ∙ sym points),
+            (points ∙ sym whole),
         points,
       );
     };
