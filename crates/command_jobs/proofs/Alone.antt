@@ -19,7 +19,6 @@ use Rattle.machine_defs.specs.Heard.{Entry, heard_by}
 use Rattle.machine_defs.specs.Machine.{Happens}
 use Rattle.machine_defs.specs.Runs.{Moment, now}
 use Rattle.machine_defs.specs.Refusals as refusal
-use Rattle.machine_defs.specs.Refusals.{Refusal}
 use Rattle.machine_defs.specs.States.{State, setup_in}
 use Rattle.machine_defs.specs.Stands.{StandsForState}
 use Rattle.command_defs.specs.Seen.{Seen, nobody}

@@ -4,12 +4,10 @@ use Rattle.std.specs.Prelude.{◌==◌, slice_get}
 use Rattle.std.proofs.lemmas.Bool.{cases_Bool, cases_lt}
 use Rattle.std.proofs.lemmas.List.{length-append, length-reverse}
 use Rattle.algebra_laws.specs.Lists.{Each}
-use Rattle.algebra_laws.proofs.Each.{each_flat, each_map}
 use Rattle.algebra_laws.proofs.Options.{some-not-none}
-use Rattle.code_defs.specs.Points.{upto}
 use Rattle.record_defs.specs.Records.{Setup, Record, PutStart, PutDone, PutDoneIn}
 use Rattle.record_defs.specs.Table.{next_id}
-use Rattle.machine_defs.specs.Actions.{Action, WriteBody, SyncBody, WriteGate, SyncGate, Store, End, append_actions, remove_actions, store_actions, actions_of, on_each_provider}
+use Rattle.machine_defs.specs.Actions.{Action, WriteBody, SyncBody, WriteGate, SyncGate, Store, End, append_actions, remove_actions, store_actions, actions_of}
 use Rattle.machine_defs.specs.Answers as answer
 use Rattle.machine_defs.specs.Answers.{Answer}
 use Rattle.machine_defs.specs.Appends.{done_record}
@@ -20,6 +18,7 @@ use Rattle.machine_defs.specs.Setups.{profiled, stripes_of}
 use Rattle.machine_defs.specs.States.{State, setup_in}
 use Rattle.machine_defs.specs.Begins.{chosen}
 use Rattle.machine_defs.specs.Steps.{next_action, is_idle_drop, Acts}
+use Rattle.machine_defs.proofs.Fair.{IsStore, all_stores}
 use Rattle.machine_defs.proofs.JobLists.{cond_true, cond_false}
 use Rattle.state_laws.proofs.Orders.{put-list, put-first}
 use Rattle.opening_defs.specs.Opened.{IsOpenAtRest}
@@ -32,21 +31,12 @@ use Rattle.command_jobs.proofs.Cuts.{fault-records}
 
 -- ---- the actions of a put up to its stores
 
-abbrev IsStore : Action → Type 0
-IsStore (Store j object stripe) = Unit {0}
-IsStore action = ⊥
-
 abbrev IsMove : Action → Type 0
 IsMove WriteBody = Unit {0}
 IsMove SyncBody = Unit {0}
 IsMove WriteGate = Unit {0}
 IsMove SyncGate = Unit {0}
 IsMove action = ⊥
-
-are-stores : (s : Setup) (job : Job) (bytes : List ℕ) → Each IsStore (store_actions s job bytes)
-are-stores s job bytes = each_flat IsStore (λ t. on_each_provider s (λ j. Store j job.subject t))
-    (upto (stripes_of (profiled s job.profile) (length bytes)))
-    (λ t. each_map IsStore (λ j. Store j job.subject t) (upto s.n) (λ j. tt))
 
 in-front : {X : Type 0} (P : X → Type 0) (xs ys : List X) (i : ℕ) (a : X) → i < length xs → Each P xs →
     slice_get (xs ++ ys) i ≡ Some a → P a
@@ -124,7 +114,7 @@ module _ (start w new : State) (name bytes : List ℕ) (own : Option ℕ) (job :
           (tt, (tt, (tt, (tt, tt)))) (listed action is),
     )
     | inr l ↦ inr (in-middle IsStore append_actions stores rest job.place action l short
-        (are-stores (setup_in start) job bytes) (listed action is))
+        (all_stores (setup_in start) job bytes) (listed action is))
   ]
 
   -- the put has not done its work

@@ -67,11 +67,19 @@ known-refused status at records old new end r K =
       };
     })
 
-images-kept : (a b : Option Cells) (P : List ℕ → Type 0) → IfSome a (λ cells. EachImage b (IsImage cells)) →
+-- what holds of the images of a disk holds of those that are left of them
+pub images-kept : (a b : Option Cells) (P : List ℕ → Type 0) → IfSome a (λ cells. EachImage b (IsImage cells)) →
     is_some a ≡ true → EachImage a P → EachImage b P
 images-kept None b P kept tells stand = absurd (false≢true tells)
 images-kept (Some a) None P kept tells stand = tt
 images-kept (Some a) (Some b) P kept tells stand = λ image is. stand image (kept image is)
+
+-- what holds of the images of a disk holds of what a stop leaves of it
+pub stopped-at : (a b : Option Cells) (P : List ℕ → Type 0) → is_some a ≡ true → EachImage a P →
+    Goes Stopped a b → (image : List ℕ) × (b ≡ Some (firm image)) × P image
+stopped-at None b P tells stand g = absurd (false≢true tells)
+stopped-at (Some a) None P tells stand g = absurd g
+stopped-at (Some a) (Some b) P tells stand (image, of, is) = (image, ap Some is, stand image of)
 
 -- a store that is sure is so after a refusal
 pub sure-refused : (status at : ℕ) (records : List Record) (old new : Seen) (end : Ending) →
@@ -265,12 +273,6 @@ sure-next records new next S N = elim N.disk [
             (λ image is. subst (StandsIn S.known.opened.area records) (sym (image-firm c.0 image is)) c.2);
       })
 ]
-  where
-    stopped-at : (a b : Option Cells) (P : List ℕ → Type 0) → is_some a ≡ true → EachImage a P →
-        Goes Stopped a b → (image : List ℕ) × (b ≡ Some (firm image)) × P image
-    stopped-at None b P tells stand g = absurd (false≢true tells)
-    stopped-at (Some a) None P tells stand g = absurd g
-    stopped-at (Some a) (Some b) P tells stand (image, of, is) = (image, ap Some is, stand image of)
 
 -- ---- commands that leave the store alone
 

@@ -1,15 +1,12 @@
 -- Stops and replacements between commands go on with a run, and so do commands one after the other.
-use Rattle.std.proofs.Common.{◌≡◌, ℕ, ◌<◌, ◌==◌, Bool, true, false, List, [], ◌∷◌, ◌++◌, length, Option, None, Some, refl, ap, sym, subst, ◌∙◌, inl, inr, arith, append_assoc}
+use Rattle.std.proofs.Common.{◌≡◌, ℕ, ◌<◌, ◌==◌, Bool, true, false, List, [], ◌∷◌, ◌++◌, length, Some, refl, ap, sym, subst, ◌∙◌, inl, inr, arith, append_assoc}
 use Rattle.std.specs.Prelude.{is_some, nat_lt, slice_get, slice_set, IsSome}
 use Rattle.std.proofs.lemmas.Bool.{cases_Bool, false≢true, eq-eqb, eqb-true, lt-ltb}
 use Rattle.std.proofs.lemmas.List.{length-set}
 use Rattle.algebra_laws.proofs.Lists.{get-set_other, get-set_same}
-use Rattle.device_defs.specs.Cells.{Cells, firm}
-use Rattle.device_defs.specs.Disks.{Stopped}
-use Rattle.device_defs.specs.Images.{EachImage}
+use Rattle.device_defs.specs.Cells.{firm}
 use Rattle.device_defs.specs.Providers.{Held, Provider, with_symbol, without_block, HasPlace}
 use Rattle.device_defs.specs.ProviderCalls.{Replaces}
-use Rattle.device_defs.specs.Told.{Goes}
 use Rattle.device_defs.proofs.Lasting.{image-firm, each_image-mono}
 use Rattle.record_defs.specs.Records.{Record}
 use Rattle.record_defs.specs.Areas.{Area}
@@ -28,6 +25,7 @@ use Rattle.command_laws.specs.After.{IsSure}
 use Rattle.command_laws.specs.Pieces.{IsStore, IsCall, moment, ReplacesHeld, AreReplaced, IsLater, AreBetween, Call, last_seen, IsChain, AreCalls}
 use Rattle.job_laws.proofs.Telling.{opened_state, state-over}
 use Rattle.command_laws.proofs.Knowing.{StandsInState}
+use Rattle.command_laws.proofs.Afterwards.{stopped-at}
 use Rattle.command_laws.proofs.GoingOn.{now-more, run-sound, settled, SettlesOn, MaySettle, settled-by, command-on}
 
 -- ---- lists with an element replaced
@@ -170,12 +168,6 @@ replaced-on start (event ∷ events) ms s next R S disk faults (spelled, (mid, h
       subst (λ l. IsRun 8 start l) same more.2,
       subst (λ l. IsStore (now start l) next) same more.3,
     ))
-
-stopped-at : (a b : Option Cells) (P : List ℕ → Type 0) → is_some a ≡ true → EachImage a P →
-    Goes Stopped a b → (image : List ℕ) × (b ≡ Some (firm image)) × P image
-stopped-at None b P tells h g = absurd (false≢true tells)
-stopped-at (Some a) None P tells h g = absurd g
-stopped-at (Some a) (Some b) P tells h (image, of, is) = (image, ap Some is, h image of)
 
 -- a run goes on through stops and replacements to what the next command finds
 pub later-on : (start : State) (ms : List Moment) (new next : Seen) → IsRun 8 start ms →

@@ -8,7 +8,7 @@ use Rattle.algebra_laws.proofs.Options.{is_some-option_map}
 use Rattle.device_defs.specs.Cells.{Cells, reads}
 use Rattle.device_defs.specs.Disks.{synced}
 use Rattle.device_defs.specs.Faults.{Rose}
-use Rattle.device_defs.specs.Images.{IsImage, EachImage}
+use Rattle.device_defs.specs.Images.{EachImage}
 use Rattle.device_defs.specs.Providers.{Provider}
 use Rattle.device_defs.proofs.Lasting.{image-firm, each_image-mono}
 use Rattle.device_defs.proofs.PickLaws.{IsImage-reads}
@@ -64,6 +64,7 @@ use Rattle.command_laws.proofs.JobEnds.{given-status, given-front}
 use Rattle.command_laws.proofs.Images.{refused-keeps}
 use Rattle.command_laws.proofs.LastStates.{last-state, part-state}
 use Rattle.command_laws.proofs.Knowing.{IsGood, read-good, none-up, StandsInState}
+use Rattle.command_laws.proofs.Afterwards.{images-kept}
 use Rattle.command_laws.proofs.DoneStores.{tells-past}
 use Rattle.job_laws.proofs.BeginRefusals.{refusal-of, pack-refusal-of}
 
@@ -155,12 +156,6 @@ image-of-synced : (c : Cells) (b : Option Cells) (P : List ℕ → Type 0) → b
     EachImage b P
 image-of-synced c b P is p =
     subst (λ d. EachImage d P) (sym is) (λ image of. subst P (sym (image-firm (reads c) image of)) p)
-
-each-kept : (a b : Option Cells) (P : List ℕ → Type 0) → IfSome a (λ cells. EachImage b (IsImage cells)) →
-    is_some a ≡ true → EachImage a P → EachImage b P
-each-kept None b P kept tells h = absurd (false≢true tells)
-each-kept (Some a) None P kept tells h = tt
-each-kept (Some a) (Some b) P kept tells h = λ image is. h image (kept image is)
 
 -- ---- what a put has read
 
@@ -438,7 +433,7 @@ module _ (start : State) (ms : List Moment) (R : IsRun 8 start ms) (old : Seen)
 
     stands-kept : (status at : ℕ) → IsRefused status at old new end →
         StandsForState new.disk (closed_at new.disk_faults)
-    stands-kept status at r = each-kept old.disk new.disk _ (refused-keeps status at old new end r) S.tells
+    stands-kept status at r = images-kept old.disk new.disk _ (refused-keeps status at old new end r) S.tells
         (each_image-mono old.disk _ _ again S.images)
       where
         again : (image : List ℕ) → StandsInState w image → StandsInState (closed_at new.disk_faults) image

@@ -23,7 +23,7 @@ use Rattle.machine_defs.specs.Answers as answer
 use Rattle.machine_defs.specs.Answers.{Answer}
 use Rattle.command_defs.specs.Forms.{Command, Numbers, RowOf, InitWith, PutUnder, PutAt, GetOf, DropOf, ListAll, AuditAll, RepairAll, UpgradeJournal, ScrubAll, PackJournal}
 use Rattle.opening_defs.specs.Journals.{IsResynced, IsFree, IsSetUpOn, MayBeLeft}
-use Rattle.opening_defs.proofs.Resyncs.{image-resynced}
+use Rattle.opening_defs.proofs.Resyncs.{image-resynced, resynced}
 use Rattle.opening_defs.proofs.SetUps.{set_up-free}
 use Rattle.command_defs.specs.Seen.{Seen, Ending, IsRefused, KeepsDisk, ReadsFront}
 use Rattle.command_defs.specs.Opens.{IsOpened, Unstarted}
@@ -409,22 +409,13 @@ list-images old new end (AnswersList.unstarted u) = unstarted-keeps old new end 
 list-images old new end (AnswersList.no_memory r) = refused-keeps 70 0 old new end r
 list-images old new end (AnswersList.listed records opened L) = keeps-synced old.disk new.disk L.disk
 
-resynced-by : (old new : Option Cells) → new ≡ option_map synced old → Goes IsResynced old new
-resynced-by None None is = tt
-resynced-by None (Some new) is = absurd (let e : Some new ≡ None = is in cc)
-resynced-by (Some old) None is = absurd (let e : None ≡ Some (synced old) = is in cc)
-resynced-by (Some old) (Some new) is = inr (some-same new (synced old) is)
-  where
-    some-same : (a b : Cells) → Some a ≡ Some b → a ≡ b
-    some-same a b e = cc
-
 -- a scrub at most syncs the disk
 pub scrub-disk : (old new : Seen) (end : Ending) → AnswersScrub old new end → KeepsDisk old new
 scrub-disk old new end (AnswersScrub.unstarted u) =
     (let r = unstarted-refused old new end u in r.3.disk)
 scrub-disk old new end (AnswersScrub.no_memory records opened synced r) = r.disk
 scrub-disk old new end (AnswersScrub.ended records how opened synced heard runs left by) =
-    resynced-by old.disk new.disk synced
+    resynced old.disk new.disk synced
 
 -- a scrub leaves only images that the disk had before
 pub scrub-images : (old new : Seen) (end : Ending) → AnswersScrub old new end → KeepsImages old new

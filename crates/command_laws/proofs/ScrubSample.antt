@@ -2,7 +2,6 @@
 use Rattle.std.proofs.Common.{◌≡◌, ℕ, ◌+◌, List, [], ◌∷◌, ◌++◌, length, Option, None, Some, refl, sym, subst, inl, arith}
 use Rattle.std.specs.Prelude.{IfSome}
 use Rattle.device_defs.specs.Providers.{Held}
-use Rattle.device_defs.specs.Told.{Goes}
 use Rattle.record_defs.specs.Areas.{A}
 use Rattle.machine_defs.specs.Actions.{Action, End, on_each_stripe, open_actions}
 use Rattle.machine_defs.specs.Alone.{StepsScrub, new_scrub, unalone}
@@ -17,6 +16,7 @@ use Rattle.command_defs.specs.Scrubs.{RanScrub, ScrubsAlone, ScrubbedAlone, Answ
 use Rattle.command_defs.specs.Commands.{Answers}
 use Rattle.opening_defs.specs.Opened.{AreHanded}
 use Rattle.command_laws.specs.Instances.{store, small_setup, idle_providers, held_records, no_counts, scrubbed_store, ends}
+use Rattle.job_laws.proofs.Removals.{goes-same}
 use Rattle.command_laws.proofs.Samples.{held-sure, formed, form-is, form-handed, file-empty, same-disk}
 
 -- nothing differs
@@ -79,11 +79,6 @@ x = ran_alone held_records (store held_records) scrubbed_store [] 0 held_records
 of-each : (P : Held → Type 0) → ((held : Held) → P held) → (o : Option Held) → IfSome o P
 of-each P all None = tt
 of-each P all (Some held) = all held
-
-goes-same : (change : Held → Held → Type 0) → ((held : Held) → change held held) → (o : Option Held) →
-    Goes change o o
-goes-same change same None = tt
-goes-same change same (Some held) = same held
 
 scrubbed-alone : ScrubbedAlone held_records none_off (store held_records) scrubbed_store
 scrubbed-alone = record {

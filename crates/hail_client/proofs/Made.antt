@@ -3,7 +3,7 @@ use Rattle.std.proofs.Common.{◌≡◌, ℕ, ◌<◌, ◌^◌, ◌||◌, true, 
 use Rattle.std.specs.Prelude.{IfSome, OnErr, is_some}
 use Rattle.std.specs.List.{list_any}
 use Rattle.machine_defs.specs.Begins.{BeginsAt, refusal_of_begin}
-use Rattle.machine_defs.specs.Events.{Begin, Closed, IsSpelledKind}
+use Rattle.machine_defs.specs.Events.{Begin, put_event, Closed, IsSpelledKind}
 use Rattle.machine_defs.specs.Jobs.{Kind, PutJob, aim_of, job_of}
 use Rattle.machine_defs.specs.Heard.{heard_by}
 use Rattle.machine_defs.specs.Refusals as refusal
@@ -23,7 +23,6 @@ use Rattle.vault.specs.Stands as vault
 use Rattle.hail_client.specs.declared.alone.Alone.{Alone}
 use Rattle.hail_client.specs.declared.client.Client.{Client}
 use Rattle.hail_client.specs.declared.turn.ClientTurn.TheVariants as client_turn
-use Rattle.hail_client.specs.Begins.{put_event}
 use Rattle.hail_client.specs.Outcomes.{client_begin_outcome}
 use Rattle.hail_client.specs.Stands.{StandsBy, ClientStands, MakesEvent, ClientMakesStep}
 use Rattle.hail_client.proofs.Beside.{beside-of, same-alone}

@@ -1,5 +1,4 @@
 pub mod AtWork
-pub mod Begins
 pub mod Client
 pub mod Outcomes
 pub mod Stands

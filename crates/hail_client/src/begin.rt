@@ -1,9 +1,8 @@
 ghost use Rattle.std.specs.Prelude.{◌≡◌, ◌<◌, ◌-◌, ◌^◌, ℕ, IfSome};
-ghost use Rattle.machine_defs.specs.Events.{Begin, BeginScrub, BeginPack, AreBytes};
+ghost use Rattle.machine_defs.specs.Events.{Begin, BeginScrub, BeginPack, put_event, AreBytes};
 ghost use Rattle.machine_defs.specs.Jobs.{GetJob, DropJob, AuditJob, RepairJob, UpgradeJob};
 ghost use Rattle.machine_defs.specs.States.{State};
 ghost use Rattle.vault_open.specs.Devices.{Devices};
-ghost use Rattle.hail_client.specs.Begins.{put_event};
 ghost use Rattle.hail_client.specs.Client.{client_next_job, IsSame};
 ghost use Rattle.hail_client.specs.Outcomes.{client_begin_outcome, UnlessBegun};
 ghost use Rattle.hail_client.specs.Stands.{ClientStands, MakesEvent};

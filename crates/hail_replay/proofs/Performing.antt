@@ -4,7 +4,7 @@ use Rattle.std.specs.Prelude.{IfSome, is_some}
 use Rattle.std.proofs.lemmas.Bool.{cases_Bool}
 use Rattle.device_defs.specs.Cells.{Cells}
 use Rattle.device_defs.specs.Providers.{Provider}
-use Rattle.machine_defs.specs.Events.{Event, Begin, BeginAt, BeginScrub, BeginPack, Step, Names}
+use Rattle.machine_defs.specs.Events.{Event, Begin, BeginAt, BeginScrub, BeginPack, put_event, Step, Names}
 use Rattle.machine_defs.specs.Heard.{Entry, heard_by, heard_at, reported_after}
 use Rattle.machine_defs.specs.Jobs.{Kind, PutJob, job_of}
 use Rattle.machine_defs.specs.Machine.{Happens}
@@ -18,7 +18,6 @@ use Rattle.vault_core.specs.declared.wish.BeginFault.{BeginFault}
 use Rattle.vault_open.specs.Devices.{Devices, devices}
 use Rattle.hail_client.specs.declared.client.Client.{Client}
 use Rattle.hail_client.specs.declared.turn.ClientTurn.{ClientTurn}
-use Rattle.hail_client.specs.Begins.{put_event}
 use Rattle.hail_client.specs.Client.{is_open, client_coming, IsSame}
 use Rattle.hail_client.specs.Outcomes.{client_begin_outcome, step_outcome, HeardIs, replace_outcome}
 use Rattle.hail_client.specs.Stands.{ClientStands, MakesEvent, IsReached, RunsJobOn}

@@ -24,7 +24,7 @@ use Rattle.hail_top.specs.Endings.{ending_with}
 use Rattle.hail_top.specs.Telling.{TellsOf, TellsAnswer}
 use Rattle.hail_top.specs.Jobs.{AnswersOver}
 use Rattle.hail_top.proofs.Refused.{refused-told}
-use Rattle.hail_top.proofs.Told.{resynced}
+use Rattle.opening_defs.proofs.Resyncs.{resynced}
 use Rattle.hail_top.proofs.AnswerTexts.{answer-ends}
 
 -- the job ran to its end, and that was told

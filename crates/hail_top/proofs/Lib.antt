@@ -14,7 +14,6 @@ mod Opened
 mod PutEnds
 mod ListEnds
 mod Answered
-mod Told
 mod Taken
 mod Carried
 pub mod FormWords

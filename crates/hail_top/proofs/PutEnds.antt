@@ -34,7 +34,7 @@ use Rattle.hail_top.specs.Telling.{unbegun_ending, TellsPut, TellsStreamed}
 use Rattle.hail_top.specs.Jobs.{PutsOver}
 use Rattle.hail_top.proofs.AnswerTexts.{answer-ends}
 use Rattle.hail_top.proofs.Refused.{refused-told}
-use Rattle.hail_top.proofs.Told.{resynced}
+use Rattle.opening_defs.proofs.Resyncs.{resynced}
 use Rattle.hail_top.proofs.JobEnds.{untouched}
 
 -- there is no profile of the number that the put names

@@ -18,7 +18,7 @@ use Rattle.hail_top.specs.Telling.{TellsScrub}
 use Rattle.hail_top.proofs.AnswerTexts.{fault-ends}
 use Rattle.hail_top.proofs.JobEnds.{untouched}
 use Rattle.hail_top.proofs.Refused.{refused-told}
-use Rattle.hail_top.proofs.Told.{resynced}
+use Rattle.opening_defs.proofs.Resyncs.{resynced}
 
 -- how the command ends whose scrub's answer was told
 scrub-ends : (answer : Answer) (old new : Seen) (end : Ending) →

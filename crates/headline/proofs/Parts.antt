@@ -9,7 +9,7 @@ use Rattle.machine_defs.specs.Survival.{EndsPut, HasComeIn, IsKept}
 use Rattle.machine_defs.proofs.Acknowledged.{acknowledged}
 use Rattle.machine_defs.proofs.Survive.{survives}
 use Rattle.machine_defs.proofs.Uses.{stored_once, asked_once}
-use Rattle.machine_defs.proofs.Given.{run_part}
+use Rattle.machine_defs.proofs.Untouched.{run_back}
 use Rattle.run_laws.proofs.PutBytes.{put_bytes_stay}
 use Rattle.run_laws.proofs.FirstHalf.{first_half}
 use Rattle.machine_defs.specs.Scrubs.{scrubbed, IsScrubCalm}
@@ -35,7 +35,7 @@ module _ (limit : ℕ) (start : State) (clean : IsStart start) where
 
       came : HasComeIn start before name file
       came = acknowledged limit start m before job name bytes clean
-          (run_part limit start later (m ∷ before) run) ends
+          (run_back limit start later (m ∷ before) run) ends
 
       split : later ++ m ∷ before ≡ (later ++ m ∷ came.later) ++ came.moment ∷ came.before
       split = ap (λ l. later ++ m ∷ l) came.split

@@ -6,6 +6,7 @@ use Rattle.machine_defs.specs.Lines.{lines_of}
 use Rattle.machine_defs.specs.Runs.{Moment, now, IsRun}
 use Rattle.machine_defs.specs.States.{State}
 use Rattle.machine_defs.specs.Transcripts.{Instruction, Once, RunJob, CarriesOut}
+use Rattle.machine_defs.proofs.Untouched.{run_back}
 use Rattle.line_laws.specs.Told.{IsToldByLine, AsksForOneLine, WritesOneLine, IsOfLines}
 use Rattle.line_laws.specs.Read.{lines_of_all, AskForOneLine, EndsAs}
 use Rattle.line_laws.proofs.OneLine.{one-line}
@@ -24,12 +25,6 @@ not-nothing r front one none =
     let text = one-line r one in
     let size = length-append text.0 (10 ∷ []) in
     omega (arith, ap length none, length-append front (lines_of r), ap length text.2, size)
-
--- the moments behind others are a run
-behind : (limit : ℕ) (start : State) (steps ms : List Moment) → IsRun limit start (steps ++ ms) →
-    IsRun limit start ms
-behind limit start [] ms run = run
-behind limit start (m ∷ steps) ms run = behind limit start steps ms run.2
 
 -- the newest moment of a run
 newest-one : (limit : ℕ) (start : State) (m : Moment) (ms : List Moment) (event : Event) → m.event ≡ event →
@@ -74,7 +69,7 @@ module _ (limit : ℕ) (start : State) (base : List Moment) where
       let one = newest-one limit start C.0 ((C.1 ++ C.2) ++ base) (Step job) C.5.step tt here in
       let parts =
       told-one C.0.outcome s C.3 ss one told.0 (run-lines commands C.2 C.3 C.6) (sym C.7 ∙ same) in
-      let rest = behind limit start C.1 (C.2 ++ base)
+      let rest = run_back limit start C.1 (C.2 ++ base)
       (subst (IsRun limit start) (append_assoc C.1 C.2 base) here.2) in
       (C.0, C.1, C.2, C.4, C.5, parts.1, text-tells commands C.2 C.3 ss rest asks C.6 told.1 parts.0)
 
@@ -118,7 +113,7 @@ module _ (limit : ℕ) (start : State) (base : List Moment) where
       let one = newest-one limit start C.0 ((C.1 ++ C.2) ++ base) (Step job) C.5.step tt here in
       let parts = one-behind C.0.outcome s front other C.3 ss one told.0 whole ahead
       (run-lines commands C.2 C.3 C.6) (ap (λ l. front ++ l) (sym C.7) ∙ same) in
-      let older = behind limit start C.1 (C.2 ++ base)
+      let older = run_back limit start C.1 (C.2 ++ base)
       (subst (IsRun limit start) (append_assoc C.1 C.2 base) here.2) in
       let rest = text-behind commands C.2 C.3 front other ss older asks C.6 told.1 (omega (arith, many))
       whole ahead parts.0 in

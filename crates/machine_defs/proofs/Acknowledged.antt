@@ -53,6 +53,11 @@ end_place w job name bytes kind h = elim (put_next w job name bytes End kind h) 
     no_end (suc (suc (suc zero))) e = (let f : Some SyncGate ≡ Some End = e in cc)
     no_end (suc (suc (suc (suc q)))) e = (let f : None ≡ Some End = e in cc)
 
+-- the record that a state has more than the one before is what came in
+pub came_by : (old new : State) (r : Record) → new.records ≡ r ∷ old.records → came old new ≡ Some r
+came_by old new r rec = cond_true (length new.records == suc (length old.records)) (newest new.records) None
+    (eq-eqb _ _ (ap length rec)) ∙ ap newest rec
+
 -- what has come in before an event has come in after it
 later_on : (start : State) (m : Moment) (ms : List Moment) (name : List ℕ) (file : File) →
     HasComeIn start ms name file → HasComeIn start (m ∷ ms) name file
@@ -74,11 +79,6 @@ Facts start ms = (k : ℕ) (j : Job) (name bytes : List ℕ) → job_of (now sta
 module _ (limit : ℕ) (start : State) (m : Moment) (ms : List Moment) (N : num.Facts objects start ms)
     (P : pin.Facts start ms) (V : prof.Facts start ms) (F : Facts start ms)
     (X : Changes limit (length ms) (now start ms) m.event m.outcome m.state) where
-  came_now : (r : Record) → m.state.records ≡ r ∷ (now start ms).records →
-      came (now start ms) m.state ≡ Some r
-  came_now r rec = cond_true (length m.state.records == suc (length (now start ms).records))
-      (newest m.state.records) None (eq-eqb _ _ (ap length rec)) ∙ ap newest rec
-
   step_facts : Facts start (m ∷ ms)
   step_facts k j name bytes h kind late = elim (X.job k j h) [
     | Job_is.kept r (Grown.as_before rec) ↦ later_on start m ms name _
@@ -147,7 +147,7 @@ module _ (limit : ℕ) (start : State) (m : Moment) (ms : List Moment) (N : num.
             split = refl;
             comes = record {
               version = e.version;
-              done = came_now a.entry rec ∙ ap Some e.entry_is;
+              done = came_by (now start ms) m.state a.entry rec ∙ ap Some e.entry_is;
               profiled = e.profiled;
               started = P.started k x name bytes runs kx late_x (omega arith);
               named = refl;

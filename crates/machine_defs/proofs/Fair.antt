@@ -188,7 +188,7 @@ IsRest SyncGate = ⊥
 IsRest action = Unit {0}
 
 -- a store
-abbrev IsStore : Action → Type 0
+abbrev pub IsStore : Action → Type 0
 IsStore (Store j o s) = Unit {0}
 IsStore action = ⊥
 
@@ -202,7 +202,8 @@ rest_tail s job = each_append IsRest (remove_actions s job) (End ∷ [])
     (each_flat IsRest (λ object. on_each_provider s (λ j. Remove j object)) job.older
     (λ o. each_map IsRest (λ j. Remove j o) (upto s.n) (λ j. tt))) (tt, tt)
 
-all_stores : (s : Setup) (job : Job) (bytes : List ℕ) → Each IsStore (store_actions s job bytes)
+-- the actions that store a file are stores
+pub all_stores : (s : Setup) (job : Job) (bytes : List ℕ) → Each IsStore (store_actions s job bytes)
 all_stores s job bytes = each_flat IsStore (λ stripe. on_each_provider s (λ j. Store j job.subject stripe))
     (upto (stripes_of (profiled s job.profile) (length bytes)))
     (λ stripe. each_map IsStore (λ j. Store j job.subject stripe) (upto s.n) (λ j. tt))

@@ -6,9 +6,7 @@ use Rattle.algebra_laws.proofs.Lists.{get-map_range}
 use Rattle.code_defs.specs.ServerCode.{differences}
 use Rattle.column_defs.specs.Opened.{block_at, SeenBlock}
 use Rattle.machine_defs.specs.Jobs.{Given, Worked}
-use Rattle.machine_defs.specs.States.{State}
 use Rattle.machine_defs.specs.Given.{block_given, blocks_given, symbols_given}
-use Rattle.machine_defs.specs.Runs.{Moment, IsRun}
 use Rattle.machine_defs.specs.Heard.{Entry, given_to}
 use Rattle.machine_defs.proofs.JobLists.{cond_true, cond_false}
 use Rattle.machine_defs.specs.Events.{AreBytes}
@@ -41,12 +39,6 @@ block_at-given given n object stripe j l =
     ap (λ (x : Option SeenBlock). option_and_then (λ (block : SeenBlock). block) x)
     (get-map_range (block_given given object stripe) n 0 j l)
     ∙ ap (block_given given object stripe) (let e : 0 + j ≡ j = omega arith in e)
-
--- the earlier moments of a run are a run
-pub run_part : (limit : ℕ) (start : State) (later ms : List Moment) → IsRun limit start (later ++ ms) →
-    IsRun limit start ms
-run_part limit start [] ms run = run
-run_part limit start (m ∷ later) ms run = run_part limit start later ms run.2
 
 -- zeros are bytes
 pub zeros-bytes : (n : ℕ) → AreBytes (replicate n 0)

@@ -1,5 +1,5 @@
 -- The file of a name stays while no job that puts or drops the name begins.
-use Rattle.std.proofs.Common.{◌≡◌, ℕ, suc, ◌+◌, ◌<◌, ◌≤◌, ◌==◌, ◌⊎◌, false, List, [], ◌∷◌, ◌++◌, length, Some, None, refl, ap, sym, subst, ◌∙◌, inl, inr, arith}
+use Rattle.std.proofs.Common.{◌≡◌, ℕ, ◌+◌, ◌<◌, ◌≤◌, ◌==◌, ◌⊎◌, false, List, [], ◌∷◌, ◌++◌, length, Some, None, refl, ap, sym, subst, ◌∙◌, inl, inr, arith}
 use Rattle.std.proofs.lemmas.Bool.{cases_Bool, cases_eq, cases_lt, eq-eqb}
 use Rattle.record_defs.specs.Records.{Record, PutStart}
 use Rattle.record_defs.specs.Table.{File, file_as, setup_of, version_of, next_id, started_as, is_start_of, is_same_name}
@@ -11,7 +11,7 @@ use Rattle.machine_defs.specs.Events.{Event, Step, Begun, More, Ended}
 use Rattle.machine_defs.specs.States.{State, Append, IsStart}
 use Rattle.machine_defs.specs.Appends.{Writes, done_record, is_first_append}
 use Rattle.machine_defs.specs.Steps.{next_action}
-use Rattle.machine_defs.specs.Runs.{Moment, now, newest, came, IsRun}
+use Rattle.machine_defs.specs.Runs.{Moment, now, IsRun}
 use Rattle.machine_defs.specs.Survival.{takes_out, NoneTakesOut, NeverTakenOut, IsKept, EndsPut}
 use Rattle.machine_defs.specs.Began.{IsBeginOf, NoneBegan, GivesUp}
 use Rattle.machine_defs.specs.Transcripts.{Instruction, Once, RunJob, GoOn, CarriesOut}
@@ -30,7 +30,7 @@ use Rattle.machine_defs.proofs.PinFacts.{count_same, setup_one}
 use Rattle.machine_defs.proofs.PutProfiles as prof
 use Rattle.machine_defs.proofs.Held.{All, all}
 use Rattle.machine_defs.proofs.Survive as survive
-use Rattle.machine_defs.proofs.Acknowledged.{gate_at, end_place}
+use Rattle.machine_defs.proofs.Acknowledged.{gate_at, end_place, came_by}
 use Rattle.machine_defs.proofs.Began.{Had, Came, came_all, ended_gone, given_up_none}
 
 -- ---- begins
@@ -497,7 +497,7 @@ module _ (limit : ℕ) (start : State) (m : Moment) (ms : List Moment) (name : L
             survive.comes limit start m ms G X name file_j
                 (record {
                   version = e.version;
-                  done = came_by a.entry rec ∙ ap Some entry;
+                  done = came_by (now start ms) m.state a.entry rec ∙ ap Some entry;
                   profiled = λ old. profile ∙ e.profiled old;
                   started = ap (started_as (now start ms).records) subject
                       ∙ A.pins.started k x name bytes runs kx late_x (omega arith);
@@ -507,11 +507,6 @@ module _ (limit : ℕ) (start : State) (m : Moment) (ms : List Moment) (name : L
                 (let g = next_of_records objects (now start ms) m.state A.numbers.written X.records in
                 omega arith) landed,
           ))
-        where
-          came_by : (r : Record) → m.state.records ≡ r ∷ (now start ms).records →
-              came (now start ms) m.state ≡ Some r
-          came_by r rec = cond_true (length m.state.records == suc (length (now start ms).records))
-              (newest m.state.records) None (eq-eqb _ _ (ap length rec)) ∙ ap newest rec
 
   since_step : Since start (m ∷ ms) name b
   since_step = record { only = only_step; kept = kept_step }

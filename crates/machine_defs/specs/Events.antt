@@ -1,12 +1,14 @@
 -- Events, and what comes of them.
 --
 --   Event              == a line of a schedule, one step of a job, or a later call of the program
+--   put_event profile name bytes
+--                      == the begin of a put, with a profile of its own where one is named
 --   IsSpelled event    == its numbers fit their types, its bytes are bytes and its symbol is a symbol
 --   Outcome            == what comes of an event
 --
 -- A stop within a call of a device is that call failing, and then a Stop. A provider that gives other
 -- symbols of a held block in one answer is one that is altered before the call and altered again after it.
-use Rattle.std.specs.Prelude.{ℕ, ◌<◌, ◌^◌, List, IsTrue}
+use Rattle.std.specs.Prelude.{ℕ, ◌<◌, ◌^◌, List, Option, None, Some, IsTrue}
 use Rattle.std.specs.List.{list_all}
 use Rattle.record_defs.specs.Records.{Setup, is_byte, is_master}
 use Rattle.record_defs.specs.Table.{File}
@@ -29,6 +31,11 @@ pub data Event : Type 0 where
   Reopen : Event
   Names : Event
   Continue : Event
+
+-- the begin of a put, of a file with a profile of its own where one is named
+abbrev pub put_event : Option ℕ → List ℕ → List ℕ → Event
+put_event None name bytes = Begin (PutJob name bytes)
+put_event (Some profile) name bytes = BeginAt profile name bytes
 
 -- a list of bytes
 abbrev pub AreBytes : List ℕ → Type 0

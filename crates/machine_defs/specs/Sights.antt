@@ -1,6 +1,7 @@
 -- What the refusals of a begin look at, and these refusals in order.
 --
 --   Sight                      == all that they look at
+--   puts_name name aim         == a job of this aim is a put of this name
 --   sight_of w                 == what they see of a state
 --   is_shut x                  == a scrub, a pack or an upgrade runs, beside which no job begins
 --   is_busy limit x aim        == what runs leaves no place for a job of this aim
@@ -31,6 +32,11 @@ pub record Sight : Type 0 where
   pub used : ℕ  -- bytes of the journal's text, with all that is reserved for the running jobs
   pub next_id : ℕ
   pub next_audit : ℕ
+
+-- a put of this name
+abbrev pub puts_name : List ℕ → Aim → Bool
+puts_name name (ToPut own size) = is_same_name name own
+puts_name name aim = false
 
 -- the aims of running jobs
 abbrev pub aims_of : List Job → List Aim

@@ -13,7 +13,7 @@ use Rattle.machine_defs.specs.States.{State, Append, with_provider, going_on}
 use Rattle.machine_defs.specs.Steps.{next_action}
 use Rattle.machine_defs.proofs.JobLists.{cond_true, cond_false}
 use Rattle.made_runs.specs.Steps.{called, by_flight, acted, gone, gone_on, stepped}
-use Rattle.made_runs.specs.Turns.{Turn, Goes, Works, Notes, Came, Heard, NoneCame, StoreFails, Cut, after, after_next, after_found, after_step, gone_by, turned, job_run}
+use Rattle.made_runs.specs.Turns.{Turn, Goes, Works, Notes, Came, Heard, NoneCame, StoreFails, Cut, after, after_next, after_found, gone_by, turned, job_run}
 use Rattle.made_runs.specs.Instructions.{Instruction, Turned, Turns, Begins, Reopens, Comes, begun_by, done, run_of}
 use Rattle.made_runs.specs.Counts.{SameCounts, goes_well, IsWell, AreWell}
 use Rattle.made_runs.proofs.Steps.{first, second}

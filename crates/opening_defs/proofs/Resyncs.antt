@@ -1,6 +1,8 @@
 -- A disk that is as it was, or that was synced once more.
 use Rattle.std.proofs.Common.{◌≡◌, inl, inr, ℕ, List, Option, Some, None, refl, sym, subst}
+use Rattle.std.specs.Option.{option_map}
 use Rattle.device_defs.specs.Cells.{Cells, reads}
+use Rattle.device_defs.specs.Disks.{synced}
 use Rattle.device_defs.specs.Images.{IsImage}
 use Rattle.device_defs.specs.Told.{Goes}
 use Rattle.device_defs.proofs.PickLaws.{IsImage-reads}
@@ -24,3 +26,9 @@ resynced-same (Some cells) = inl refl
 pub resynced-equal : (old new : Option Cells) → new ≡ old → Goes IsResynced old new
 resynced-equal old new is =
     subst (λ (told : Option Cells). Goes IsResynced old told) (sym is) (resynced-same old)
+
+-- a disk that was synced
+pub resynced : (old new : Option Cells) → new ≡ option_map synced old → Goes IsResynced old new
+resynced None new is = subst (λ (told : Option Cells). Goes IsResynced None told) (sym is) tt
+resynced (Some cells) new is =
+    subst (λ (told : Option Cells). Goes IsResynced (Some cells) told) (sym is) (inr refl)

@@ -66,7 +66,8 @@ module _ (old : State) where
   no_new : (a : Append) → old.append ≡ Some a → old.append ≡ None → ⊥
   no_new a = some-not-none old.append a
 
-  was_moved : (b : Append) → old.append ≡ Some b → (append : Option Append) (a : Append) → append ≡ Some a →
+  -- none is in flight where one was moved on
+  pub was_moved : (b : Append) → old.append ≡ Some b → (append : Option Append) (a : Append) → append ≡ Some a →
       old.append ≡ None → ⊥
   was_moved b flight append a h none = some-not-none old.append b flight none
 
@@ -94,7 +95,8 @@ module _ (old : State) where
         (let e : record { entry = a.entry; maker = maker } ≡ d = cc in
         Doubt_was.gated a flight (sym (ap (λ (x : Doubt). x.entry) e)))
 
-    first_job : (entry : Record) (a : Append) → Some (record { job = job.number; entry = entry; moves = 1 })
+    -- an append that was begun is of its job
+    pub first_job : (entry : Record) (a : Append) → Some (record { job = job.number; entry = entry; moves = 1 })
         ≡ Some a → a.job ≡ job.number
     first_job entry a h =
         (let e : record { job = job.number; entry = entry; moves = 1 } ≡ a = cc in

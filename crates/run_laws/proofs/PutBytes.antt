@@ -18,7 +18,7 @@ use Rattle.machine_defs.proofs.StepEnds.{event_end}
 use Rattle.machine_defs.proofs.Events.{changes}
 use Rattle.machine_defs.proofs.Numbers.{objects, Draws, next_by, next_is_by, next_of_records}
 use Rattle.machine_defs.proofs.Numbers as num
-use Rattle.machine_defs.proofs.Given.{run_part}
+use Rattle.machine_defs.proofs.Untouched.{run_back}
 use Rattle.run_laws.proofs.InEffect.{facts}
 use Rattle.run_laws.proofs.FirstHalf.{first_run, got_right}
 
@@ -74,7 +74,7 @@ pub put_bytes_stay : (limit : ℕ) (start : State) (later ms : List Moment) (m :
     (name bytes : List ℕ) → IsStart start → IsRun limit start (later ++ m ∷ ms) →
     EndsPut start m ms job name bytes → (now start (later ++ m ∷ ms)).bytes job.subject ≡ bytes
 put_bytes_stay limit start later ms m job name bytes clean run e =
-    (let run_m = run_part limit start later (m ∷ ms) run in
+    (let run_m = run_back limit start later (m ∷ ms) run in
     let end = event_end limit (length ms) (now start ms) m.event m.outcome m.state job answer.Put
     (λ x. x) e.event e.outcome e.runs run_m.1 in
     let late = past_first (now start ms) job name bytes e.kind end.0 in

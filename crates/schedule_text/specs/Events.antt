@@ -4,18 +4,17 @@
 --   event_command event            == the event as a command of the machine: `Run` is as many steps as it
 --                                     takes, `List` asks for the names
 --   commands_of events             == the same of each
-use Rattle.std.specs.Prelude.{ℕ, List, map, Option, None, Some}
+use Rattle.std.specs.Prelude.{ℕ, List, map, Option}
 use Rattle.record_codec.specs.Entries.{with_master}
-use Rattle.machine_defs.specs.Jobs.{PutJob, GetJob, DropJob, AuditJob, RepairJob, UpgradeJob}
-use Rattle.machine_defs.specs.Events.{Init, Begin, BeginAt, BeginScrub, BeginPack, Step, Alter, Lose, Stop, Reopen, Names}
+use Rattle.machine_defs.specs.Jobs.{GetJob, DropJob, AuditJob, RepairJob, UpgradeJob}
+use Rattle.machine_defs.specs.Events.{Init, Begin, BeginScrub, BeginPack, put_event, Step, Alter, Lose, Stop, Reopen, Names}
 use Rattle.machine_defs.specs.Transcripts.{Instruction, Once, RunJob}
 use Rattle.schedule_text.specs.declared.event.Event.{Event}
 use Rattle.schedule_text.specs.declared.event.Event.TheVariants as kind
 
 -- the begin of a put, with a profile of its own where one is named
 abbrev pub put_command : List ℕ → List ℕ → Option ℕ → Instruction
-put_command name bytes None = Once (Begin (PutJob name bytes))
-put_command name bytes (Some profile) = Once (BeginAt profile name bytes)
+put_command name bytes profile = Once (put_event profile name bytes)
 
 -- an event as a command of the machine
 abbrev pub event_command : Event → Instruction

@@ -66,7 +66,7 @@ module _ (old : State) where
         ]
 
     -- a fetch gave what its provider held, or none
-    found_by : (j o s : ℕ) (block : Option (List ℕ)) (p : Provider) (new : State) →
+    pub found_by : (j o s : ℕ) (block : Option (List ℕ)) (p : Provider) (new : State) →
         Fetches (worked_object old job o).profile.size o s (old.providers j) block p →
         new.providers ≡ with_provider old.providers j p → IsHeldThen old new job.pinned j o s block
     found_by j o s block p new call providers = elim call.gives [

@@ -3,7 +3,7 @@
 use Rattle.std.proofs.Common.{◌≡◌, ℕ, ◌==◌, true, false, cond, ◌⊎◌, List, [], ◌∷◌, Option, Some, None, refl, ap, sym, subst, ◌∙◌, inl, inr}
 use Rattle.std.proofs.lemmas.Bool.{ne_eqb, cases_eq, cases_Bool, eqb-true, false≢true}
 use Rattle.algebra_laws.proofs.Options.{some-not-none, is_some-none}
-use Rattle.record_defs.specs.Records.{Record, Setup, SetUp}
+use Rattle.record_defs.specs.Records.{Setup, SetUp}
 use Rattle.record_defs.specs.Table.{setup_of}
 use Rattle.machine_defs.specs.Jobs.{PutJob, Job, job_of, with_job, without_job, advanced}
 use Rattle.machine_defs.specs.Actions.{Action, WriteBody, SyncBody, WriteGate, SyncGate, Store, Fetch, Ask, Work, Remove}
@@ -17,6 +17,7 @@ use Rattle.machine_defs.specs.Machine.{Happens}
 use Rattle.machine_defs.proofs.Cases.{IsLast, Acting, Cases, by_event}
 use Rattle.machine_defs.proofs.JobLists.{cond_true, cond_false, same_value, found_itself, still_found}
 use Rattle.machine_defs.proofs.Asides.{steps_aside}
+use Rattle.run_laws.proofs.Direct.{was_moved, first_job}
 
 -- the jobs of other numbers stay
 other_with : (js : List Job) (y : Job) (k : ℕ) → (k ≡ y.number → ⊥) → job_of (with_job js y) k ≡ job_of js k
@@ -135,19 +136,9 @@ module _ (old : State) where
         job_of js k ≡ job_of old.jobs k
     left_out js jobs k apart = ap (λ l. job_of l k) jobs ∙ other_without old.jobs job.number k apart
 
-    was_moved : (b : Append) → old.append ≡ Some b → (append : Option Append) (a : Append) → append ≡ Some a →
-        old.append ≡ None → ⊥
-    was_moved b flight append a h none = some-not-none old.append b flight none
-
     none_now : (append : Option Append) → append ≡ None → (a : Append) → append ≡ Some a → old.append ≡ None →
         ⊥
     none_now append is a h none = some-not-none append a h is
-
-    first_job : (entry : Record) (a : Append) → Some (record { job = job.number; entry = entry; moves = 1 })
-        ≡ Some a → a.job ≡ job.number
-    first_job entry a h =
-        (let e : record { job = job.number; entry = entry; moves = 1 } ≡ a = cc in
-        sym (ap (λ (x : Append). x.job) e))
 
     no_sync : (action : Action) → IsNoSync action → action ≡ SyncGate → ⊥
     no_sync action h e = subst IsNoSync e h
@@ -195,23 +186,23 @@ module _ (old : State) where
     acts = record {
       begins = λ entry next none writes faults low. record {
         doubt = λ d h. Doubt_now.kept h refl;
-        audits = Audits_are.drew job runs none (first_job entry) refl;
+        audits = Audits_are.drew job runs none (first_job old job runs entry) refl;
         opened = λ d h. same_open;
         stay = stay_by WriteBody _ next (λ e. absurd (no_sync WriteBody tt e)) (went _ _ refl refl);
       };
       syncs = λ a next flight mine faults low. goes_on SyncBody _ (advanced job) next tt refl refl refl refl
-          refl (was_moved a flight _) same_open;
+          refl (was_moved old a flight _) same_open;
       gates = λ a next flight mine faults low. record {
         doubt = in_doubt a _ next flight mine.0 refl refl
             (inl (found_itself old.jobs (advanced job) job runs));
-        audits = Audits_are.undrawn refl (was_moved a flight _);
+        audits = Audits_are.undrawn refl (was_moved old a flight _);
         opened = λ d h. same_open;
         stay = stay_by WriteGate _ next (λ e. absurd (no_sync WriteGate tt e))
             (went _ (advanced job) refl refl);
       };
       finishes = λ a next flight mine faults low. record {
         doubt = no_doubt _ refl;
-        audits = Audits_are.undrawn refl (was_moved a flight _);
+        audits = Audits_are.undrawn refl (was_moved old a flight _);
         opened = λ d h. same_open;
         stay = stay_by SyncGate _ next (λ e. inl refl) (went _ _ refl refl);
       };
@@ -219,7 +210,7 @@ module _ (old : State) where
           ends_so action _ next (λ e. refl) refl refl refl refl (inr refl) now_barred;
       bars_gated = λ a next flight mine faults low rose. record {
         doubt = in_doubt a _ next flight mine.0 refl refl (inr refl);
-        audits = Audits_are.undrawn refl (was_moved a flight _);
+        audits = Audits_are.undrawn refl (was_moved old a flight _);
         opened = λ d h. now_barred;
         stay = stay_by WriteGate _ next (λ e. absurd (no_sync WriteGate tt e)) (left_out _ refl);
       };

@@ -6,12 +6,11 @@ use Rattle.column_defs.specs.Opened.{GivesSymbols}
 use Rattle.record_defs.specs.Records.{Setup, SetUp}
 use Rattle.record_defs.specs.Table.{setup_of}
 use Rattle.device_defs.specs.Providers.{Provider}
-use Rattle.device_defs.specs.ProviderCalls.{FailsToGive, Fetches, Asks}
+use Rattle.device_defs.specs.ProviderCalls.{FailsToGive, Asks}
 use Rattle.column_defs.specs.Challenges.{honest_answer}
 use Rattle.machine_defs.specs.Jobs.{Kind, PutJob, Job, Given, Fetched, Answered, Worked, job_of, with_job, without_job, advanced, advanced_with}
 use Rattle.machine_defs.specs.Actions.{Action, WriteBody, SyncBody, WriteGate, SyncGate, Store, Fetch, Ask, Work, Remove}
 use Rattle.machine_defs.specs.Refusals as refusal
-use Rattle.machine_defs.specs.Refusals.{Refusal}
 use Rattle.machine_defs.specs.Answers as answer
 use Rattle.machine_defs.specs.Events.{Event, Init, Begin, BeginAt, BeginScrub, BeginPack, Step, Stop, Reopen, Continue, Outcome, Ready, Refused, Opened, Begun, More, Ended, Replaced, NothingHeld, Stopped, Continued}
 use Rattle.machine_defs.specs.States.{State, Append, Doubt, worked_object, setup_in, with_provider, going_on}
@@ -27,6 +26,7 @@ use Rattle.machine_defs.proofs.Changes.{IsLone}
 use Rattle.machine_defs.proofs.JobLists.{cond_true, found_with, found_without, found_more, found_none}
 use Rattle.second_half_laws.specs.Origins.{IsHeldThen}
 use Rattle.second_half_laws.proofs.GetEnds.{none_beside}
+use Rattle.second_half_laws.proofs.Origin.{found_by}
 use Rattle.machine_defs.proofs.Cases.{IsStill, Acting, Cases, by_event}
 use Rattle.second_half_laws.specs.Gave.{IsAnsweredThen}
 
@@ -192,15 +192,6 @@ module _ (moment : ℕ) (old : State) where
     called y j p = record (going_on old y) { providers = with_provider old.providers j p }
 
     -- what a call of a provider gave
-    found_by : (j o s : ℕ) (block : Option (List ℕ)) (p : Provider) (new : State) →
-        Fetches (worked_object old job o).profile.size o s (old.providers j) block p →
-        new.providers ≡ with_provider old.providers j p → IsHeldThen old new job.pinned j o s block
-    found_by j o s block p new call providers = elim call.gives [
-      | inl g ↦ inl g
-      | inr f ↦ inr (subst (λ (x : Provider). FailsToGive (old.providers j) block x)
-          (sym (ap (λ g. g j) providers ∙ cond_true (j == j) p (old.providers j) (eq-eqb j j refl))) f)
-    ]
-
     answered_by : (j o round : ℕ) (symbol : Option ℕ) (p : Provider) (new : State) →
         Asks (honest_answer (asked_challenge (setup_in old) job o round)) o (old.providers j) symbol p →
         new.providers ≡ with_provider old.providers j p →
@@ -242,7 +233,7 @@ module _ (moment : ℕ) (old : State) where
           (Passed.gave (Fetched j o s block) (
             block,
             refl,
-            found_by j o s block p
+            found_by old job runs j o s block p
                 (called (advanced_with job (Fetched j o s block)) j p) call refl,
           ) refl refl) refl refl;
       asks = λ j o round symbol p next call. makes (Ask j o round) _ _ next tt refl refl

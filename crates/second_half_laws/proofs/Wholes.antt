@@ -20,7 +20,7 @@ use Rattle.machine_defs.proofs.Changes.{Records_is}
 use Rattle.machine_defs.proofs.Events.{changes}
 use Rattle.machine_defs.proofs.Numbers.{objects, Draws}
 use Rattle.machine_defs.proofs.Held.{contains_in, actions_are, all}
-use Rattle.machine_defs.proofs.Given.{run_part}
+use Rattle.machine_defs.proofs.Untouched.{run_back}
 use Rattle.machine_defs.proofs.NextActions.{actions_by-advanced}
 use Rattle.run_laws.proofs.InEffect as eff
 use Rattle.run_laws.proofs.PutBytes.{Stands, stands_on, stands_later}
@@ -123,7 +123,7 @@ module _ (limit : ℕ) (start : State) (clean : IsStart start) (ms : List Moment
       WasMade start c.before c.maker (Work o s)
   work_made job o j s kind c =
       (let run_c : IsRun limit start (c.moment ∷ c.before) =
-      run_part limit start c.later (c.moment ∷ c.before) (subst (IsRun limit start) c.split run) in
+      run_back limit start c.later (c.moment ∷ c.before) (subst (IsRun limit start) c.split run) in
       let F = made.facts limit start clean c.before run_c.2 in
       let w = (worked_before_store (now start c.before) c.maker j o s (c.same.kind ∙ kind) c.makes.next).0 in
       (F.made c.maker.number c.maker w.place (Work o s) c.makes.runs w.made w.action).0)

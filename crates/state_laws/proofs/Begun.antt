@@ -18,7 +18,7 @@ use Rattle.machine_defs.specs.Refusals.{Cause, first_refusal}
 use Rattle.machine_defs.specs.Events.{IsSpelledKind}
 use Rattle.machine_defs.specs.States.{State, Packing, setup_in, file_in, journal_end}
 use Rattle.machine_defs.specs.Space.{append_sizes, reserved}
-use Rattle.machine_defs.specs.Sights.{sight_of, aims_of, room_used, is_check, is_upgrade, is_shut, are_jobs_in_the_way, is_name_among, names_taken, is_crowded_for, is_stored, is_full, is_too_full, are_numbers_used_up, causes}
+use Rattle.machine_defs.specs.Sights.{puts_name, sight_of, aims_of, room_used, is_check, is_upgrade, is_shut, are_jobs_in_the_way, is_name_among, names_taken, is_crowded_for, is_stored, is_full, is_too_full, are_numbers_used_up, causes}
 use Rattle.machine_defs.specs.Begins.{refusal_of_begin, due_number, subject_at_begin, chosen, beginning}
 use Rattle.machine_defs.proofs.JobLists.{cond_true, cond_false, same_value, found_more, still_found}
 use Rattle.machine_defs.proofs.Pins.{any_aim, check_alone}
@@ -29,7 +29,7 @@ use Rattle.state_laws.specs.SoundJobs.{IsWish, IsReady, IsSoundJob}
 use Rattle.state_laws.specs.Sound.{IsPutUnderWay, starts_left, IsLimit, IsSound}
 use Rattle.state_laws.proofs.Orders.{in_order}
 use Rattle.state_laws.proofs.JobLists.{sum-more, numbered-more, numbered-below, made-some}
-use Rattle.state_laws.proofs.NamesTaken.{are_put, puts_name, taken_by, once-taken, listed-taken, fewer, taken-fewer}
+use Rattle.state_laws.proofs.NamesTaken.{are_put, taken_by, once-taken, listed-taken, fewer, taken-fewer}
 use Rattle.state_laws.proofs.Records.{is_some-at, due-spelled, due-number, setup-fits, version-either}
 use Rattle.state_laws.proofs.Packs.{journal-same}
 use Rattle.state_laws.proofs.Written.{starts-first, starts-later, set_up-in, setup-valid}

@@ -13,7 +13,7 @@ use Rattle.machine_defs.specs.Jobs.{Kind, PutJob, GetJob, DropJob, AuditJob, Rep
 use Rattle.machine_defs.specs.Actions.{Action, WriteBody, SyncBody, WriteGate, SyncGate, append_actions, actions_left, appends_left}
 use Rattle.machine_defs.specs.States.{State, Append, Packing, setup_in, file_in, journal_end}
 use Rattle.machine_defs.specs.Space.{reserved}
-use Rattle.machine_defs.specs.Sights.{is_check, is_upgrade}
+use Rattle.machine_defs.specs.Sights.{puts_name, is_check, is_upgrade}
 use Rattle.machine_defs.specs.Appends.{Writes, is_first_append, subject_drawn, bytes_drawn, is_pinned, removable, taken_out, done_append}
 use Rattle.machine_defs.specs.Steps.{next_action}
 use Rattle.machine_defs.proofs.JobLists.{cond_true, cond_false, same_value, found_with, found_itself}
@@ -27,7 +27,7 @@ use Rattle.state_laws.specs.SoundJobs.{IsPin, IsOlder, HasDrawn, IsReady, IsSoun
 use Rattle.state_laws.specs.Sound.{IsSoundAppend, IsPutUnderWay, starts_left, IsSound}
 use Rattle.state_laws.proofs.Orders.{put_rest, audit_rest, put-list, audit-list, put-first, put-later, audit-later, drop-first, repair-first, upgrade-first}
 use Rattle.state_laws.proofs.JobLists.{sum-with, length-with, numbered-with, only-with, only-number, mine, other}
-use Rattle.state_laws.proofs.NamesTaken.{are_put, puts_name, put-in, taken-fewer}
+use Rattle.state_laws.proofs.NamesTaken.{are_put, put-in, taken-fewer}
 use Rattle.state_laws.proofs.Records.{is_some-at, up-more, setup-more, next_id-grows, sound-accepted, grammar-more, held-more, Came, file-came, version-before}
 use Rattle.state_laws.proofs.Packs.{journal-brought}
 use Rattle.state_laws.proofs.Rooms.{room_of, room-step, put-writes_first, put-writes_later, audit-writes_first, audit-writes_later}

@@ -12,7 +12,8 @@ use Rattle.state_laws.specs.Orders.{moves_made}
 use Rattle.state_laws.specs.Follows.{MayFollowIn}
 use Rattle.state_laws.specs.Sound.{IsDoubtOf, IsSoundAppend, starts_left, IsSound}
 use Rattle.state_laws.proofs.JobLists.{sum-without, length-without, numbered-without, still-without, only-without, not-mine, other}
-use Rattle.state_laws.proofs.NamesTaken.{are_put, puts_name, taken-fewer}
+use Rattle.state_laws.proofs.NamesTaken.{are_put, taken-fewer}
+use Rattle.machine_defs.specs.Sights.{puts_name}
 use Rattle.state_laws.proofs.Packs.{journal-same}
 use Rattle.state_laws.proofs.Going.{kept}
 

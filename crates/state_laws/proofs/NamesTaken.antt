@@ -8,7 +8,7 @@ use Rattle.record_defs.specs.Table.{File, is_same_name, files_of, file_of, find_
 use Rattle.record_defs.proofs.FilesLaws.{same-eq, same-refl, find-files_of, same-sym, before-irrefl}
 use Rattle.record_defs.proofs.OrderLaws.{is_below, ordered-files_of}
 use Rattle.machine_defs.specs.Jobs.{Aim, ToPut, ToGet, ToDrop, ToAudit, ToRepair, ToUpgrade, aim_of, Job, job_of}
-use Rattle.machine_defs.specs.Sights.{aims_of, is_name_among, with_name, names_in, with_puts}
+use Rattle.machine_defs.specs.Sights.{puts_name, aims_of, is_name_among, with_name, names_in, with_puts}
 use Rattle.machine_defs.proofs.JobLists.{cond_true, cond_false}
 use Rattle.machine_defs.proofs.Pins.{any_job}
 use Rattle.machine_defs.proofs.Sights.{any-aims}
@@ -17,11 +17,6 @@ use Rattle.machine_defs.proofs.Sights.{any-aims}
 abbrev pub AreOnce : List (List ℕ) → Type 0
 AreOnce [] = Unit {0}
 AreOnce (x ∷ xs) = (is_name_among xs x ≡ false) × AreOnce xs
-
--- a job of this aim puts under a name
-abbrev pub puts_name : List ℕ → Aim → Bool
-puts_name n (ToPut name size) = is_same_name n name
-puts_name n aim = false
 
 -- ---- what is listed
 

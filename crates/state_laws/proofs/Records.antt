@@ -10,7 +10,7 @@ use Rattle.record_defs.specs.Table.{File, Due, file_as, profile_in, setup_of, ve
 use Rattle.record_defs.specs.Acceptance as no
 use Rattle.record_defs.specs.Areas.{entries_size}
 use Rattle.record_defs.proofs.FilesLaws.{same-eq}
-use Rattle.record_defs.specs.Acceptance.{refused, AreAccepted, Refused}
+use Rattle.record_defs.specs.Acceptance.{refused, AreAccepted}
 use Rattle.record_defs.proofs.SoundLaws.{are_sound, next_id-more}
 use Rattle.machine_defs.specs.Events.{AreBytes}
 use Rattle.machine_defs.proofs.JobLists.{cond_true, cond_false, same_value}

@@ -13,7 +13,7 @@ use Rattle.machine_defs.specs.Actions.{Action, End, ends_append, appends_left, a
 use Rattle.machine_defs.specs.Audits.{HasSums}
 use Rattle.machine_defs.specs.States.{State, Append, Doubt, setup_in, journal_end, going_on}
 use Rattle.machine_defs.specs.Space.{reserved}
-use Rattle.machine_defs.specs.Sights.{is_check, is_upgrade}
+use Rattle.machine_defs.specs.Sights.{puts_name, is_check, is_upgrade}
 use Rattle.machine_defs.specs.Appends.{Writes, done_record, is_first_append, subject_drawn, bytes_drawn}
 use Rattle.machine_defs.specs.Steps.{next_action}
 use Rattle.machine_defs.proofs.JobLists.{cond_true, cond_false, same_value, found_with}
@@ -24,7 +24,7 @@ use Rattle.state_laws.specs.SoundJobs.{IsReady, IsSoundJob}
 use Rattle.state_laws.specs.Sound.{IsDoubtOf, IsSoundAppend, IsPutUnderWay, starts_left, IsSound}
 use Rattle.state_laws.proofs.Orders.{gates}
 use Rattle.state_laws.proofs.JobLists.{sum-with, length-with, numbered-with, still-with, only-with, not-mine, other}
-use Rattle.state_laws.proofs.NamesTaken.{are_put, puts_name, taken-fewer}
+use Rattle.state_laws.proofs.NamesTaken.{are_put, taken-fewer}
 use Rattle.state_laws.proofs.Records.{sound-accepted, held-on, held-same}
 use Rattle.state_laws.proofs.Packs.{started-in, journal-same}
 use Rattle.state_laws.proofs.Rooms.{room-same}

@@ -19,7 +19,7 @@ use Rattle.machine_defs.specs.Actions.{WriteBody, End, append_actions, actions_o
 use Rattle.machine_defs.specs.Audits.{HasSums}
 use Rattle.machine_defs.specs.States.{State, setup_in, file_in, journal_end}
 use Rattle.machine_defs.specs.Space.{reserved}
-use Rattle.machine_defs.specs.Sights.{sight_of, is_name_among, names_in, names_taken}
+use Rattle.machine_defs.specs.Sights.{puts_name, sight_of, is_name_among, names_in, names_taken}
 use Rattle.machine_defs.specs.Events.{AreBytes, IsSpelledKind}
 use Rattle.machine_defs.proofs.Pins.{any_job}
 use Rattle.machine_defs.proofs.Numbers.{next_by, next_is_by, first_below, first_above}
@@ -33,7 +33,7 @@ use Rattle.state_laws.specs.SoundJobs.{IsWish, IsReady, IsSoundJob, HasDrawn}
 use Rattle.state_laws.specs.Sound.{starts_left, IsSound}
 use Rattle.state_laws.proofs.Orders.{in_order-step, next-left, appends-cons, appends_in, appends-order, drop_rest, drop-body}
 use Rattle.state_laws.proofs.JobLists.{sum-member}
-use Rattle.state_laws.proofs.NamesTaken.{fewer, once-files, listed-files_of, listed-taken, length-names_in, are_put, puts_name, taken_by}
+use Rattle.state_laws.proofs.NamesTaken.{fewer, once-files, listed-files_of, listed-taken, length-names_in, are_put, taken_by}
 use Rattle.state_laws.proofs.Records.{AreAppended, next_id-le, next_audit-le, first-appended, setup-spelled, file-plain}
 use Rattle.state_laws.proofs.Packs.{file-alike, crowded-alike}
 use Rattle.state_laws.proofs.SumsLaws.{AreSmall, sums-small}

@@ -19,9 +19,8 @@ use Rattle.machine_defs.specs.Refusals.{Refusal}
 use Rattle.machine_defs.specs.States.{State, Alone, setup_in}
 use Rattle.machine_defs.specs.Actions.{appends_left}
 use Rattle.machine_defs.specs.Space.{append_sizes, room_left, reserved}
-use Rattle.machine_defs.specs.Sights.{Sight, sight_of, aims_of, room_used, is_put_or_check, is_check, is_upgrade, is_shut, are_jobs_in_the_way, is_busy, is_name_among, with_name, names_in, with_puts, is_crowded_for, is_full, is_too_full, are_numbers_used_up, causes}
+use Rattle.machine_defs.specs.Sights.{puts_name, Sight, sight_of, aims_of, room_used, is_put_or_check, is_check, is_upgrade, is_shut, are_jobs_in_the_way, is_busy, is_name_among, with_name, names_in, with_puts, is_crowded_for, is_full, is_too_full, are_numbers_used_up, causes}
 use Rattle.state_laws.proofs.NamesTaken.{listed-with_puts, listed-files, length-names_in}
-use Rattle.state_laws.proofs.NamesTaken.{puts_name as machine_puts}
 use Rattle.vault_core.specs.declared.wish.Wish.{Wish}
 use Rattle.vault_core.specs.declared.wish.Wish.TheVariants as wish
 use Rattle.vault_core.specs.declared.job.Job.{Job}
@@ -34,7 +33,7 @@ use Rattle.vault_core.specs.Parts.{setup_kept, core_job, view_of, IsJobKept, IsC
 use Rattle.vault_core.specs.Reserves.{sizes_of, room_behind, reserved_of}
 use Rattle.vault_core.specs.Carried.{longest, IsAimOf, IsShortAim, IsJobOf, CoreIs}
 use Rattle.vault_core.proofs.Links.{appends-is, aim-alike}
-use Rattle.vault_core.specs.Refusing.{aims_in, sight_in, aims_kept, puts_name, taken_names}
+use Rattle.vault_core.specs.Refusing.{aims_in, sight_in, aims_kept, taken_names}
 use Rattle.vault_core.proofs.Alike.{IsLikeFoldOf, table-like}
 
 -- ---- lists of jobs, as they are kept and as they are seen
@@ -67,19 +66,12 @@ same-pointwise [] (y ∷ ys) = refl
 same-pointwise (x ∷ xs) [] = refl
 same-pointwise (x ∷ xs) (y ∷ ys) = grind (arith, nat_tests, same-pointwise xs ys)
 
-any-puts : (name : List ℕ) (aims : List Aim) → list_any (machine_puts name) aims
-    ≡ list_any (puts_name name) aims
-any-puts name [] = refl
-any-puts name (ToPut own size ∷ aims) = ap (λ (b : Bool). is_same_name name own || b) (any-puts name aims)
-any-puts name (aim ∷ aims) = any-puts name aims
-
 -- a name is taken where a job puts it or a file has it
 pub taken-by : (files : List File) (aims : List Aim) (name : List ℕ) →
     is_name_among (taken_names files aims) name
     ≡ (list_any (puts_name name) aims || is_some (find_file files name))
 taken-by files aims name = listed-with_puts _ aims name
-    ∙ (ap (λ (b : Bool). b || is_name_among (taken_names files []) name) (any-puts name aims)
-    ∙ ap (λ (b : Bool). list_any (puts_name name) aims || b) (listed-files files name))
+    ∙ ap (λ (b : Bool). list_any (puts_name name) aims || b) (listed-files files name)
 
 -- a file is found or not, whatever is made of it
 pub found-some : {X : Type 0} (f : X → File) {found : Option File} (o : Option X) → option_map f o ≡ found →

@@ -2,12 +2,11 @@
 --
 --   sight_in c              == what the refusals of a begin see of a core: nothing runs alone
 --   aims_kept jobs          == what jobs as they are kept are for, in the order of their begins
---   puts_name name aim      == an aim is a put of this name
 --   taken_names files aims  == the names of files and of puts among jobs, each once
 --   refusal_in c w          == the first refusal of a wish
-use Rattle.std.specs.Prelude.{ℕ, ◌+◌, Bool, false, List, map, sum_by, Option}
-use Rattle.record_defs.specs.Table.{File, is_same_name}
-use Rattle.machine_defs.specs.Jobs.{Aim, ToPut}
+use Rattle.std.specs.Prelude.{ℕ, ◌+◌, false, List, map, sum_by, Option}
+use Rattle.record_defs.specs.Table.{File}
+use Rattle.machine_defs.specs.Jobs.{Aim}
 use Rattle.machine_defs.specs.Refusals.{Refusal, first_refusal}
 use Rattle.machine_defs.specs.Sights.{Sight, names_in, with_puts, causes}
 use Rattle.vault_table.specs.Values.{id_after}
@@ -39,11 +38,6 @@ sight_in c = record {
 -- what jobs as they are kept are for
 abbrev pub aims_kept : List Job → List Aim
 aims_kept jobs = map (λ (j : Job). aim_of_wish j.wish) jobs
-
--- a put of this name
-abbrev pub puts_name : List ℕ → Aim → Bool
-puts_name name (ToPut own size) = is_same_name name own
-puts_name name aim = false
 
 -- the names of files and of the puts among jobs, each once
 abbrev pub taken_names : List File → List Aim → List (List ℕ)

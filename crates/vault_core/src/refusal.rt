@@ -5,12 +5,12 @@ ghost use Rattle.std.specs.List.{list_any};
 ghost use Rattle.machine_defs.specs.Jobs.{Kind, aim_of};
 ghost use Rattle.machine_defs.specs.States.{State};
 ghost use Rattle.machine_defs.specs.Begins.{refusal_of_begin};
-ghost use Rattle.machine_defs.specs.Sights.{is_check, is_put_or_check, is_upgrade, is_name_among, is_busy, is_crowded_for, is_full};
+ghost use Rattle.machine_defs.specs.Sights.{puts_name, is_check, is_put_or_check, is_upgrade, is_name_among, is_busy, is_crowded_for, is_full};
 ghost use Rattle.vault_core.specs.declared.job.Job.{Job as JobData};
 ghost use Rattle.vault_core.specs.Carried.{CoreIs, IsAimOf, IsShortAim, refusal_of};
 ghost use Rattle.vault_core.specs.Wished.{aim_of_wish, profile_named, HasName, IsShort};
 ghost use Rattle.vault_core.specs.Reserves.{room_behind};
-ghost use Rattle.vault_core.specs.Refusing.{sight_in, aims_kept, puts_name, taken_names, refusal_in};
+ghost use Rattle.vault_core.specs.Refusing.{sight_in, aims_kept, taken_names, refusal_in};
 
 use crate::job::Job;
 use crate::look::MOST_JOBS;

@@ -1,5 +1,5 @@
 use Rattle.std.proofs.Common.{◌∷◌}
-use Rattle.machine_defs.proofs.Given.{run_part}
+use Rattle.machine_defs.proofs.Untouched.{run_back}
 use Rattle.second_half_laws.proofs.Wholes.{put_running, doubt_put, came_put, came_stands}
 use Rattle.second_half_laws.proofs.laws.done_puts_are_whole.Goals as goal
 
@@ -17,6 +17,6 @@ returns-clause-came c limit start m ms version id size profile clean run came ow
 
 pub returns-clause-stay : goal.returns-clause-stay
 returns-clause-stay c limit start later ms m version id size profile clean run came own =
-    (let here = run_part limit start later (m ∷ ms) run in
+    (let here = run_back limit start later (m ∷ ms) run in
     let put = came_put limit start clean m ms here version id size profile came own in
     (put.0, put.1, came_stands limit start clean m ms here later id size profile run put.0 put.1))

@@ -1,7 +1,7 @@
 use Rattle.std.proofs.Common.{◌∙◌, ap, sym, ℕ, List}
 use Rattle.std.specs.Prelude.{nat_eq}
 use Rattle.std.specs.Cmp.Lexicographic.{pointwise}
-use Rattle.vault_core.specs.Refusing.{puts_name}
+use Rattle.machine_defs.specs.Sights.{puts_name}
 use Rattle.vault_core.proofs.Refusals.{same-pointwise}
 use Rattle.vault_core.specs.Wished.{aim_of_wish}
 use Rattle.vault_core.specs.declared.wish.Wish.{Wish}
