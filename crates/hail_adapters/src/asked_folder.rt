@@ -101,8 +101,9 @@ fn answer_over<R: Files + Clone + Drop>(
 }
 
 /// A folder of blocks. Answers in a row about one object read each block once, where no stripes eight apart
-/// are picked: the blocks are kept until a store, a fetch, a removal or a change of a block, a call that
-/// fails, or an answer about another object or to another size. None outlasts the command.
+/// are picked and there is memory to keep blocks, else for each answer: they are kept until a store, a fetch,
+/// a removal or a change of a block, a call that fails, or an answer about another object or to another size.
+/// None outlasts the command.
 #[derive(Drop)]
 pub struct AskedFolder<R: Files + Clone + Drop> {
     folder: Folder<R>,

@@ -22,7 +22,8 @@ const MOST_FAILED: u64 = 8;
 /// the folder is not looked at any more, and each call fails: else each block of a provider that does not
 /// answer would be waited for. A block that is not there is no failure. An answer to a challenge goes by the
 /// files, but for up to eight blocks that the answers right before it, about the same object, have read: so
-/// the rounds of an audit read a small file once. Any other call and a failing one drop these blocks.
+/// the rounds of an audit read a small file once, where there is memory to keep its blocks. Any other call and
+/// a failing one drop them.
 #[derive(Drop)]
 pub struct FolderProvider<R: Files + Clone + Drop> {
     folder: AskedFolder<R>,
