@@ -16,7 +16,6 @@ use Rattle.column_defs.specs.Opened.{SeenBlock, masked, bare, OpensTo, AllOpen, 
 use Rattle.algebra_laws.specs.Field.{Apart}
 use Rattle.column_defs.proofs.PointLaws.{Apart-points}
 use Rattle.std.proofs.lemmas.Option.{slice_get-get_or}
-use Rattle.column_defs.proofs.MaskLengths.{length-bare}
 use Rattle.column_codec.proofs.Places.{index_within}
 use Rattle.column_codec.specs.ObjectKeys.{ArePoints}
 use Rattle.column_codec.specs.OpenedBlocks.{opened_at, opened_of, AreOpened, HasRow, LosesPlace}
@@ -37,11 +36,6 @@ bare-secondary o j stripe block above size =
     let row : stripe * o.profile.size ≡ stripe * o.profile.size + 0 = omega arith in
     ap (λ n. masked o j (stripe * n) block) size ∙ ap (λ r. masked o j r block) row
     ∙ sym (ap (λ b. if b then block else masked o j (row_number o stripe 0) block) is)
-
--- a block of another size opens to nothing
-pub opens-other_size : (o : Object) (j stripe : ℕ) (seen : List ℕ) → length seen ≢ o.profile.size →
-    OpensTo o j stripe (Some seen) None
-opens-other_size o j stripe seen other p near = other (sym (length-bare o j stripe seen) ∙ near.whole)
 
 -- values put at a place of each block
 pub put_here : (out : List ℕ) (f : ℕ → ℕ) (keep place j x : ℕ) → place < keep →

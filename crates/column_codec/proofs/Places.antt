@@ -1,8 +1,8 @@
 -- Lists that are filled place by place.
-use Rattle.std.specs.Prelude.{◌≡◌, ℕ, zero, suc, ◌+◌, ◌*◌, ◌<◌, ◌≤◌, ◌++◌, ◌∷◌, [], Bool, true, false, List, length, map, take, nat_eq}
+use Rattle.std.specs.Prelude.{◌≡◌, ℕ, zero, suc, ◌+◌, ◌*◌, ◌<◌, ◌≤◌, ◌++◌, ◌∷◌, [], Bool, true, false, List, length, map, take, drop, nat_eq}
 use Rattle.std.proofs.Common.{arith, ap, sym, refl, ◌∙◌, get_or, set, eqb-true, subst}
 use Rattle.std.proofs.Math.Nat.{mul-le-mul, mul-le-mul_right}
-use Rattle.std.proofs.lemmas.List.{take_more_set}
+use Rattle.std.proofs.lemmas.List.{take_at, take_more_set}
 use Rattle.std.proofs.lemmas.List.FromFn.{map-range_with_len_more}
 use Rattle.code_defs.specs.Points.{upto}
 use Rattle.std.proofs.lemmas.List.{get_or-set_other, length-set}
@@ -53,6 +53,11 @@ pub rewritten : {X : Type 0} (new rest : List X) (len : ℕ) → len ≡ length 
 rewritten [] rest len e = ap (λ (n : ℕ). take n rest) e
 rewritten {X} (x ∷ xs) rest zero e = absurd (omega (arith, e))
 rewritten {X} (x ∷ xs) rest (suc n) e = ap (λ (l : List X). x ∷ l) (rewritten xs rest n (omega (arith, e)))
+
+-- what was written over a whole vector is what it holds
+pub written_whole : {X : Type 0} (old here new : List X) (size : ℕ) → length new ≡ length here
+    → length here ≡ size → take size (new ++ drop (length new) old) ≡ new
+written_whole old here new size same whole = take_at new (drop (length new) old) size (same ∙ whole)
 
 -- the other places keep their sizes
 pub sizes_stay : (out : List (List ℕ)) (size j : ℕ) (x : List ℕ) →

@@ -6,3 +6,4 @@ pub mod PresentBlocks
 pub mod Tables
 pub mod Agreement
 pub mod Views
+pub mod Bench

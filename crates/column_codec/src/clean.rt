@@ -1,10 +1,10 @@
+use crate::at_hand::AtHand;
 use crate::block::Block;
 use crate::coder::StripeCoder;
 use crate::guess::lacking;
 use crate::masks::MasksAtHand;
 use crate::opened::Opened;
 use crate::seen::SeenStripe;
-use crate::trust::Trust;
 use hail_field::Symbol;
 use hail_poly::Work;
 
@@ -28,13 +28,6 @@ struct Look {
     wanted: [bool; 16],
     most: u8,
     more: u8,
-}
-
-/// What the stripes before left at hand, which decides nothing: who is trusted, and masks.
-#[derive(Drop)]
-pub(crate) struct AtHand<'a, 'b> {
-    pub(crate) trust: &'a mut Trust,
-    pub(crate) masks: &'b mut MasksAtHand,
 }
 
 impl<'a> StripeCoder<'a> {
@@ -63,7 +56,7 @@ impl<'a> StripeCoder<'a> {
     }
 }
 
-impl<'a> SeenStripe<'a> {
+impl<'a, 'b> SeenStripe<'a, 'b> {
     ghost use Rattle.std.specs.Prelude.{◌≡◌, ◌≤◌, ◌<◌, ◌*◌, ℕ, Some, None, [], length, slice_index_or};
     ghost use Rattle.std.specs.Bool.{OnTrue};
     ghost use Rattle.column_defs.specs.Opened.{OpensTo, GivesSymbols};
@@ -166,7 +159,7 @@ impl<'a> SeenStripe<'a> {
             &look.wanted,
             look.most,
             &mut look.marks,
-            at_hand.masks,
+            &mut at_hand.masks,
             scratch,
         );
         if count < keys.file.shape.n - keys.file.shape.b {
@@ -177,7 +170,7 @@ impl<'a> SeenStripe<'a> {
             marks: &look.marks,
             blocks: scratch,
         };
-        opened.carry(look.more, at_hand.trust, rows, work)
+        opened.carry(look.more, &mut at_hand.trust, rows, work)
     }
 
     /// Fills `rows` with the symbols of a stripe where enough blocks are codewords as they were seen and

@@ -4,14 +4,11 @@ use crate::keys::ObjectKeys;
 use crate::masks::{MasksAtHand, ROWS};
 use hail_field::Symbol;
 use mask_tag::mask_block;
-use server_code::AnyCode;
 
 impl ObjectKeys {
     ghost use Rattle.std.specs.Prelude.{◌≡◌, ◌≤◌, ◌<◌, ◌*◌, length};
-    ghost use Rattle.column_defs.specs.Columns.{column_of_symbols};
     ghost use Rattle.column_defs.specs.Opened.{masked};
     ghost use Rattle.file_layout.specs.Files.{shaped_object};
-    ghost use Rattle.server_code.specs.Any.{code_profile};
 
     /// Adds a provider's masks to a block of at most sixteen symbols, from those at hand.
     fn add_short(&self, stripe: u32, provider: usize, masks: &mut MasksAtHand, block: &mut [Symbol])
@@ -45,7 +42,7 @@ impl ObjectKeys {
     }
 
     /// Adds a provider's masks to a block of a stripe, at most 128 symbols, which also takes them off.
-    pub fn add_masks(
+    pub(crate) fn add_masks(
         &self,
         stripe: u32,
         provider: usize,
@@ -62,31 +59,6 @@ impl ObjectKeys {
         } else {
             self.add_long(stripe, provider, block);
         }
-    }
-
-    /// Fills `out` with one provider's block of a stripe with these symbols, which lie in layout order.
-    pub fn column_into(
-        &self,
-        code: &AnyCode,
-        stripe: u32,
-        symbols: &[Symbol],
-        provider: usize,
-        masks: &mut MasksAtHand,
-        out: &mut [Symbol],
-    )
-        requires provider { provider < self.now.file.shape.n }
-        requires symbols { length symbols.now ≡ self.now.file.shape.l * self.now.file.profile.keep }
-        requires code { code_profile code.now ≡ self.now.file.profile }
-        requires out { length out.old ≡ self.now.file.profile.size }
-        ensures { out.new ≡ column_of_symbols (shaped_object self.now.master.0 self.now.file) symbols.now
-            provider stripe }
-    {
-        let coder = StripeCoder {
-            keys: self,
-            code,
-            stripe,
-        };
-        coder.column_into(symbols, provider, masks, out);
     }
 }
 
@@ -134,7 +106,7 @@ impl<'a> StripeCoder<'a> {
     }
 
     /// Fills `out` with one provider's block of a stripe with these symbols, which lie in layout order.
-    pub fn column_into(
+    pub(crate) fn column_into(
         &self,
         symbols: &[Symbol],
         provider: usize,

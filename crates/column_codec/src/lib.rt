@@ -2,14 +2,18 @@
 #![tactic(auto)]
 
 mod agreement;
+mod at_hand;
+mod bench;
 mod block;
 mod clean;
+mod codec;
 mod coder;
 mod column;
 mod encode;
 mod gather;
 mod guess;
 mod keys;
+mod made;
 mod masks;
 mod open_block;
 mod opened;
@@ -22,10 +26,12 @@ mod tables;
 mod trust;
 mod weights;
 
+pub use at_hand::AtHand;
+pub use bench::Bench;
 pub use block::Block;
-pub use encode::{column_block, encode_stripe};
+pub use codec::Codec;
 pub use keys::ObjectKeys;
 pub use masks::MasksAtHand;
-pub use opening::{RowLost, open_stripe};
+pub use opening::RowLost;
 pub use table::ConstantTable;
 pub use trust::{Decoded, Trust};

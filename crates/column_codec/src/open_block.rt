@@ -1,4 +1,3 @@
-use crate::Block;
 use crate::coder::StripeCoder;
 use crate::keys::ObjectKeys;
 use crate::masks::MasksAtHand;
@@ -57,55 +56,6 @@ impl<'a> StripeCoder<'a> {
         self.keys.take_masks_off(self.stripe, provider, masks, out);
         match self.code.decode_in(out, work) {
             Some(_) => true,
-            None => false,
-        }
-    }
-
-    /// Opens a seen block of any size into `out`.
-    fn open_sized(
-        &self,
-        provider: usize,
-        seen: &[Symbol],
-        masks: &mut MasksAtHand,
-        out: &mut [Symbol],
-        work: &mut Work,
-    ) -> bool
-        requires provider { provider < self.now.keys.now.file.shape.n }
-        requires out { length out.old ≡ self.now.keys.now.file.profile.size }
-        requires room { 128 ≤ work.old.size }
-        ensures yes { OnTrue result (OpensTo (coder_object self.now) provider self.now.stripe
-            (Some seen.now) (Some out.new)) }
-        ensures no { OnFalse result (OpensTo (coder_object self.now) provider self.now.stripe
-            (Some seen.now) None) }
-        ensures room { work.new.size ≡ work.old.size }
-    {
-        if seen.len() == out.len() {
-            self.open_whole(provider, seen, masks, out, work)
-        } else {
-            false
-        }
-    }
-
-    /// Opens a seen block of a provider into `out`, and answers whether it opened to a codeword.
-    pub(crate) fn open_block(
-        &self,
-        provider: usize,
-        seen: &Option<Block>,
-        masks: &mut MasksAtHand,
-        out: &mut [Symbol],
-        work: &mut Work,
-    ) -> bool
-        requires provider { provider < self.now.keys.now.file.shape.n }
-        requires out { length out.old ≡ self.now.keys.now.file.profile.size }
-        requires room { 128 ≤ work.old.size }
-        ensures yes { OnTrue result (OpensTo (coder_object self.now) provider self.now.stripe
-            seen.now (Some out.new)) }
-        ensures no { OnFalse result (OpensTo (coder_object self.now) provider self.now.stripe
-            seen.now None) }
-        ensures room { work.new.size ≡ work.old.size }
-    {
-        match seen {
-            Some(block) => self.open_sized(provider, block.symbols(), masks, out, work),
             None => false,
         }
     }

@@ -1,25 +1,19 @@
-ghost use Rattle.std.specs.Prelude.{◌≡◌, ◌≤◌, ◌<◌, ◌*◌, ◌%◌, ◌≢◌, ◌+◌, ℕ, Some, None, length, map, All, slice_index, slice_index_or, [], replicate, OnOk, OnErr, IfErr, if◌then◌else◌};
+ghost use Rattle.std.specs.Prelude.{◌≡◌, ◌≤◌, ◌<◌, ◌*◌, ◌%◌, ◌≢◌, ◌+◌, ℕ, Some, None, length, map, slice_index, slice_index_or, [], replicate, OnOk, OnErr, IfErr, if◌then◌else◌};
 ghost use Rattle.std.specs.Bool.{OnTrue, OnFalse};
 ghost use Rattle.code_defs.specs.Polynomials.{value};
 ghost use Rattle.code_defs.specs.Points.{upto};
-ghost use Rattle.column_defs.specs.Opened.{AllOpen, AcceptsRow, AcceptsNoRow, GivesSymbols, LosesRow, symbol_in};
+ghost use Rattle.column_defs.specs.Opened.{AcceptsRow, AcceptsNoRow, symbol_in};
 ghost use Rattle.file_layout.specs.Files.{shaped_object};
-ghost use Rattle.server_code.specs.Any.{code_profile};
 ghost use Rattle.column_codec.specs.OpenedBlocks.{opened_at, opened_of, HasRow, LosesPlace};
-ghost use Rattle.column_codec.specs.Views.{coder_object, opened_object, opened_blocks};
+ghost use Rattle.column_codec.specs.Views.{opened_object, opened_blocks};
 
 use crate::block::Block;
-use crate::coder::StripeCoder;
 use crate::keys::ObjectKeys;
-use crate::masks::MasksAtHand;
 use crate::opened::Opened;
 use crate::trust::{Trust, without};
 use dispersal_code::open_row;
-use file_layout::FileShape;
 use hail_field::Symbol;
 use hail_poly::Work;
-use key_schedule::Master;
-use server_code::AnyCode;
 
 // The symbol at a place of a block, none where the block did not open.
 fn marked_symbol(mark: bool, block: &Block, place: usize) -> Option<Symbol>
@@ -74,34 +68,6 @@ fn put_row(work: &Work, keep: usize, place: usize, l: usize, out: &mut [Symbol])
 #[derive(Clone, Copy, Debug, PartialEq, Eq)]
 pub struct RowLost {
     pub row: u64,
-}
-
-impl<'a> StripeCoder<'a> {
-    /// Opens the seen blocks of all providers into `out`, and marks those that opened to a codeword.
-    fn open_blocks(
-        &self,
-        seen: &[Option<Block>],
-        masks: &mut MasksAtHand,
-        out: &mut [Block],
-        work: &mut Work,
-    ) -> [bool; 16]
-        requires seen { length seen.now ≡ self.now.keys.now.file.shape.n }
-        requires out { length out.old ≡ self.now.keys.now.file.shape.n }
-        requires blocks { All (λ block. length block ≡ self.now.keys.now.file.profile.size) out.old }
-        requires room { 128 ≤ work.old.size }
-        ensures opens { AllOpen (coder_object self.now) self.now.stripe 0 seen.now
-            (opened_of result out.new self.now.keys.now.file.shape.n) }
-        ensures sizes { (j : ℕ) → j < length out.new
-            → length (slice_index_or out.new j []) ≡ self.now.keys.now.file.profile.size }
-        ensures room { work.new.size ≡ work.old.size }
-    {
-        let mut marks = [false; 16];
-        for j in 0..out.len() {
-            let block = &mut out[j];
-            marks[j] = self.open_block(j, &seen[j], masks, &mut block.symbols, work);
-        }
-        marks
-    }
 }
 
 impl ObjectKeys {
@@ -260,77 +226,4 @@ impl<'a> Opened<'a> {
             self.open_each_row(stripe, trust, rows, work)
         }
     }
-}
-
-impl ObjectKeys {
-    /// Opens the seen blocks of a stripe, and fills `rows` with its symbols in layout order. `RowLost` names
-    /// the lowest row at a kept place that is not accepted; `rows` is then all zero.
-    pub fn open_stripe(
-        &self,
-        code: &AnyCode,
-        stripe: u32,
-        seen: &[Option<Block>],
-        rows: &mut [Symbol],
-        scratch: &mut [Block],
-        work: &mut Work,
-    ) -> Result<(), RowLost>
-        requires code { code_profile code.now ≡ self.now.file.profile }
-        requires seen { length seen.now ≡ self.now.file.shape.n }
-        requires rows { length rows.old ≡ self.now.file.shape.l * self.now.file.profile.keep }
-        requires scratch { length scratch.old ≡ self.now.file.shape.n }
-        requires blocks { All (λ block. length block ≡ self.now.file.profile.size) scratch.old }
-        requires room { 128 ≤ work.old.size }
-        ensures ok { OnOk result (GivesSymbols (shaped_object self.now.master.0 self.now.file) stripe
-            seen.now rows.new) }
-        ensures lost { IfErr result (λ lost. LosesRow (shaped_object self.now.master.0 self.now.file) stripe
-            seen.now lost.row) }
-        ensures zeros { OnErr result (rows.new ≡ replicate (length rows.old) 0) }
-        ensures blocks { All (λ block. length block ≡ self.now.file.profile.size) scratch.new }
-        ensures room { work.new.size ≡ work.old.size }
-    {
-        let coder = StripeCoder {
-            keys: self,
-            code,
-            stripe,
-        };
-        let marks = coder.open_blocks(seen, &mut MasksAtHand::new(), scratch, work);
-        let opened = Opened {
-            keys: self,
-            marks: &marks,
-            blocks: scratch,
-        };
-        opened.open_rows(stripe, &mut Trust::new(), rows, work)
-    }
-}
-
-/// Fills `rows` with the symbols of a stripe in layout order, opened from the blocks that were seen of all
-/// providers: each to the codeword near it, each row to the polynomial of degree below `l` that agrees with
-/// enough of them. `RowLost` comes exactly where some row at a kept place is not accepted, with the lowest
-/// such row; `rows` is then all zero. It takes no memory. Where more stripes of one object are opened,
-/// `ObjectKeys` saves deriving its keys each time.
-pub fn open_stripe(
-    master: &Master,
-    file: &FileShape,
-    code: &AnyCode,
-    stripe: u32,
-    seen: &[Option<Block>],
-    rows: &mut [Symbol],
-    scratch: &mut [Block],
-    work: &mut Work,
-) -> Result<(), RowLost>
-    requires code { code_profile code.now ≡ file.now.profile }
-    requires seen { length seen.now ≡ file.now.shape.n }
-    requires rows { length rows.old ≡ file.now.shape.l * file.now.profile.keep }
-    requires scratch { length scratch.old ≡ file.now.shape.n }
-    requires blocks { All (λ block. length block ≡ file.now.profile.size) scratch.old }
-    requires room { 128 ≤ work.old.size }
-    ensures ok { OnOk result (GivesSymbols (shaped_object master.now.0 file.now) stripe seen.now rows.new) }
-    ensures lost { IfErr result (λ lost. LosesRow (shaped_object master.now.0 file.now) stripe seen.now
-        lost.row) }
-    ensures zeros { OnErr result (rows.new ≡ replicate (length rows.old) 0) }
-    ensures blocks { All (λ block. length block ≡ file.now.profile.size) scratch.new }
-    ensures room { work.new.size ≡ work.old.size }
-{
-    let keys = ObjectKeys::new(master, file);
-    keys.open_stripe(code, stripe, seen, rows, scratch, work)
 }

@@ -1,17 +1,13 @@
+use crate::at_hand::AtHand;
 use crate::block::Block;
-use crate::clean::AtHand;
-use crate::coder::StripeCoder;
-use crate::keys::ObjectKeys;
 use crate::masks::MasksAtHand;
 use crate::opened::Opened;
 use crate::opening::RowLost;
 use crate::seen::SeenStripe;
-use crate::trust::Trust;
 use hail_field::Symbol;
 use hail_poly::Work;
-use server_code::AnyCode;
 
-impl<'a> SeenStripe<'a> {
+impl<'a, 'b> SeenStripe<'a, 'b> {
     ghost use Rattle.std.specs.Prelude.{◌≡◌, ◌≤◌, ◌<◌, ◌*◌, ℕ, [], None, Some, length, All, replicate, slice_index_or, OnOk, OnErr, IfErr};
     ghost use Rattle.std.specs.Bool.{OnTrue, OnFalse};
     ghost use Rattle.column_defs.specs.Opened.{AllOpen, OpensTo, GivesSymbols, LosesRow};
@@ -97,101 +93,12 @@ impl<'a> SeenStripe<'a> {
         }
         let keys = self.coder.keys;
         at_hand.trust.count_blocks(u32::from(keys.file.shape.n));
-        let marks = self.open_present_blocks(at_hand.masks, scratch, work);
+        let marks = self.open_present_blocks(&mut at_hand.masks, scratch, work);
         let opened = Opened {
             keys,
             marks: &marks,
             blocks: scratch,
         };
-        opened.open_rows(self.coder.stripe, at_hand.trust, rows, work)
-    }
-}
-
-impl ObjectKeys {
-    ghost use Rattle.std.specs.Prelude.{◌≡◌, ◌≤◌, ◌*◌, length, All, replicate, OnOk, OnErr, IfErr};
-    ghost use Rattle.column_defs.specs.Opened.{GivesSymbols, LosesRow};
-    ghost use Rattle.file_layout.specs.Files.{shaped_object};
-    ghost use Rattle.server_code.specs.Any.{code_profile};
-    ghost use Rattle.column_codec.specs.PresentBlocks.{present_blocks};
-
-    /// Opens a stripe like `open_stripe`, from blocks that lie one after the other in `seen`, one a provider,
-    /// each with a flag in `present`; what lies in the place of an absent one does not count.
-    pub fn open_present(
-        &self,
-        code: &AnyCode,
-        stripe: u32,
-        seen: &[Symbol],
-        present: &[bool],
-        rows: &mut [Symbol],
-        scratch: &mut [Block],
-        work: &mut Work,
-    ) -> Result<(), RowLost>
-        requires code { code_profile code.now ≡ self.now.file.profile }
-        requires seen { length seen.now ≡ self.now.file.shape.n * self.now.file.profile.size }
-        requires present { length present.now ≡ self.now.file.shape.n }
-        requires rows { length rows.old ≡ self.now.file.shape.l * self.now.file.profile.keep }
-        requires scratch { length scratch.old ≡ self.now.file.shape.n }
-        requires blocks { All (λ block. length block ≡ self.now.file.profile.size) scratch.old }
-        requires room { 128 ≤ work.old.size }
-        ensures ok { OnOk result (GivesSymbols (shaped_object self.now.master.0 self.now.file) stripe
-            (present_blocks self.now.file.profile.size present.now seen.now) rows.new) }
-        ensures lost { IfErr result (λ lost. LosesRow (shaped_object self.now.master.0 self.now.file) stripe
-            (present_blocks self.now.file.profile.size present.now seen.now) lost.row) }
-        ensures zeros { OnErr result (rows.new ≡ replicate (length rows.old) 0) }
-        ensures blocks { All (λ block. length block ≡ self.now.file.profile.size) scratch.new }
-        ensures room { work.new.size ≡ work.old.size }
-    {
-        self.open_trusting(
-            code,
-            stripe,
-            seen,
-            present,
-            &mut Trust::new(),
-            &mut MasksAtHand::new(),
-            rows,
-            scratch,
-            work,
-        )
-    }
-
-    /// The same, begun by the providers that the stripes before left trusted. What it opens to is the same
-    /// for each trust.
-    pub fn open_trusting<'a>(
-        &'a self,
-        code: &'a AnyCode,
-        stripe: u32,
-        seen: &'a [Symbol],
-        present: &'a [bool],
-        trust: &mut Trust,
-        masks: &mut MasksAtHand,
-        rows: &mut [Symbol],
-        scratch: &mut [Block],
-        work: &mut Work,
-    ) -> Result<(), RowLost>
-        requires code { code_profile code.now ≡ self.now.file.profile }
-        requires seen { length seen.now ≡ self.now.file.shape.n * self.now.file.profile.size }
-        requires present { length present.now ≡ self.now.file.shape.n }
-        requires rows { length rows.old ≡ self.now.file.shape.l * self.now.file.profile.keep }
-        requires scratch { length scratch.old ≡ self.now.file.shape.n }
-        requires blocks { All (λ block. length block ≡ self.now.file.profile.size) scratch.old }
-        requires room { 128 ≤ work.old.size }
-        ensures ok { OnOk result (GivesSymbols (shaped_object self.now.master.0 self.now.file) stripe
-            (present_blocks self.now.file.profile.size present.now seen.now) rows.new) }
-        ensures lost { IfErr result (λ lost. LosesRow (shaped_object self.now.master.0 self.now.file) stripe
-            (present_blocks self.now.file.profile.size present.now seen.now) lost.row) }
-        ensures zeros { OnErr result (rows.new ≡ replicate (length rows.old) 0) }
-        ensures blocks { All (λ block. length block ≡ self.now.file.profile.size) scratch.new }
-        ensures room { work.new.size ≡ work.old.size }
-    {
-        let seen = SeenStripe {
-            coder: StripeCoder {
-                keys: self,
-                code,
-                stripe,
-            },
-            symbols: seen,
-            present,
-        };
-        seen.open(&mut AtHand { trust, masks }, rows, scratch, work)
+        opened.open_rows(self.coder.stripe, &mut at_hand.trust, rows, work)
     }
 }

@@ -7,10 +7,10 @@ use hail_field::Symbol;
 /// whether it is present, and what they are opened with. What lies in the place of an absent one does not
 /// count.
 #[derive(Clone, Copy)]
-pub struct SeenStripe<'a> {
+pub struct SeenStripe<'a, 'b> {
     pub coder: StripeCoder<'a>,
-    pub symbols: &'a [Symbol],
-    pub present: &'a [bool],
+    pub symbols: &'b [Symbol],
+    pub present: &'b [bool],
     pub ghost symbols_fit: { length symbols.now
         ≡ coder.keys.now.file.shape.n * coder.keys.now.file.profile.size },
     pub ghost present_fits: { length present.now ≡ coder.keys.now.file.shape.n },

@@ -1,13 +1,10 @@
 ghost use Rattle.std.specs.Prelude.{◌≡◌, ◌<◌, ◌≤◌, ◌+◌, All, length, replicate};
-ghost use Rattle.server_code.specs.Any.{code_profile};
 
 use crate::given::numbered_key;
 use code_points::find_profile;
 use column_codec::*;
 use file_layout::FileShape;
 use hail_field::{Shape, Symbol};
-use hail_poly::Work;
-use server_code::AnyCode;
 use std::alloc::Global;
 use std::process::Abort;
 
@@ -35,19 +32,17 @@ fn blocks_hold_what_is_written(rt: HostRuntime) {
     );
 }
 
-/// A file of profile 0 over four providers, of which one keeps symbols, and the code of its blocks.
+/// A bench for a file of profile 0 over four providers, of which one keeps symbols.
 #[derive(Drop)]
 struct Small {
-    file: FileShape,
-    code: AnyCode,
-    ghost coded: { code_profile code ≡ file.profile },
-    ghost n: { file.shape.n ≡ 4 },
-    ghost l: { file.shape.l ≡ 1 },
-    ghost size: { file.profile.size ≡ 6 },
-    ghost keep: { file.profile.keep ≡ 2 },
+    bench: Bench,
+    ghost n: { bench.keys.file.shape.n ≡ 4 },
+    ghost l: { bench.keys.file.shape.l ≡ 1 },
+    ghost size: { bench.keys.file.profile.size ≡ 6 },
+    ghost keep: { bench.keys.file.profile.keep ≡ 2 },
 }
 
-/// Such a file of this many bytes.
+/// One for such a file of this many bytes.
 fn small_file(rt: &impl Abort, alloc: Global, length: u32) -> Small
     requires { length ≤ 64 }
 {
@@ -58,15 +53,8 @@ fn small_file(rt: &impl Abort, alloc: Global, length: u32) -> Small
         shape: Shape::new(4, 1, 1).expect(rt, "a shape"),
         profile,
     };
-    let code = AnyCode::new(alloc, profile).expect(rt, "memory");
-    Small { file, code }
-}
-
-/// Room to open blocks.
-fn work(rt: &impl Abort, alloc: Global) -> Work
-    ensures { result.size ≡ 128 }
-{
-    Work::new(alloc, 128).expect(rt, "memory")
+    let bench = Bench::made(alloc, &numbered_key(), &file).expect(rt, "memory");
+    Small { bench }
 }
 
 /// Four blocks of zeros.
@@ -82,18 +70,15 @@ fn four(rt: &impl Abort, alloc: Global, size: u32) -> [Block; 4]
 }
 
 /// The blocks of a stripe of these bytes.
-fn stripe(rt: &impl Abort, alloc: Global, small: &Small, number: u32, bytes: &[u8]) -> [Block; 4] {
-    let mut out = four(rt, alloc, small.file.profile.size);
-    let mut work = work(rt, alloc);
-    encode_stripe(
-        &numbered_key(),
-        &small.file,
-        &small.code,
-        number,
-        bytes,
-        &mut out,
-        &mut work,
-    );
+fn stripe(
+    rt: &impl Abort,
+    alloc: Global,
+    small: &mut Small,
+    number: u32,
+    bytes: &[u8],
+) -> [Block; 4] {
+    let mut out = four(rt, alloc, small.bench.keys.file.profile.size);
+    small.bench.encode(number, bytes, &mut out);
     out
 }
 
@@ -122,127 +107,102 @@ fn are_known(blocks: &[Block; 4]) -> bool {
     blocks[0].symbols() == FIRST.as_slice() && blocks[3].symbols() == LAST.as_slice()
 }
 
-/// The block of the last provider of the bytes `new`, made alone.
-fn last(rt: &impl Abort, alloc: Global, small: &Small) -> [Symbol; 6] {
+/// The block at hand.
+fn column(bench: &Bench) -> [Symbol; 6]
+    requires { bench.now.keys.file.profile.size ≡ 6 }
+{
     let mut block = [Symbol::ZERO; 6];
-    let rows = [Symbol(7_824_750), Symbol::ZERO];
-    let mut work = work(rt, alloc);
-    column_block(
-        &numbered_key(),
-        &small.file,
-        &small.code,
-        0,
-        &rows,
-        3,
-        &mut block,
-        &mut [],
-        &mut work,
-    );
+    block.copy_from_slice(&bench.column);
     block
+}
+
+/// The block of the last provider of the bytes `new`, made alone.
+fn last(small: &mut Small) -> [Symbol; 6] {
+    let bench = &mut small.bench;
+    bench.take_symbols(&[Symbol(7_824_750), Symbol::ZERO]);
+    bench.make_column(0, 3);
+    column(bench)
 }
 
 // Keys, codewords and nim products written in Python from their definitions gave these values.
 #[test]
 fn columns_are_as_computed_elsewhere(rt: HostRuntime) {
-    let new = small_file(&rt, rt.alloc(), 3);
-    let blocks = stripe(&rt, rt.alloc(), &new, 0, b"new");
-    assert!(rt; are_known(&blocks) && last(&rt, rt.alloc(), &new) == LAST);
+    let mut new = small_file(&rt, rt.alloc(), 3);
+    let blocks = stripe(&rt, rt.alloc(), &mut new, 0, b"new");
+    assert!(rt; are_known(&blocks) && last(&mut new) == LAST);
 }
 
 /// What a stripe opens to: the answer, and its symbols.
 type Found = (Result<(), RowLost>, [Symbol; 2]);
 
 /// What the second stripe of a file opens to.
-fn opened(rt: &impl Abort, alloc: Global, small: &Small, seen: &[Option<Block>; 4]) -> Found {
+fn opened(
+    rt: &impl Abort,
+    alloc: Global,
+    small: &mut Small,
+    seen: &[Symbol; 24],
+    present: &[bool; 4],
+) -> Found {
+    let mut codec = Codec::new(alloc).expect(rt, "memory");
+    let bench = &mut small.bench;
+    bench.take_symbols(&[Symbol::ONE; 2]);
+    let answer = bench.open(&mut codec, 1, seen, present);
     let mut rows = [Symbol::ONE; 2];
-    let mut scratch = four(rt, alloc, small.file.profile.size);
-    let mut work = work(rt, alloc);
-    let answer = open_stripe(
-        &numbered_key(),
-        &small.file,
-        &small.code,
-        1,
-        seen,
-        &mut rows,
-        &mut scratch,
-        &mut work,
-    );
+    rows.copy_from_slice(&bench.rows);
     (answer, rows)
 }
 
-/// A block of the same six symbols.
-fn copy_of(rt: &impl Abort, alloc: Global, block: &Block) -> Block {
-    let symbols = block.symbols();
-    let mut copy = zeros(rt, alloc, 6);
-    if symbols.len() == 6 {
-        copy.symbols_mut().copy_from_slice(symbols);
-    }
-    copy
-}
-
-/// Four blocks without the first.
-fn without_first(rt: &impl Abort, alloc: Global, blocks: &[Block; 4]) -> [Option<Block>; 4] {
-    [
-        None,
-        Some(copy_of(rt, alloc, &blocks[1])),
-        Some(copy_of(rt, alloc, &blocks[2])),
-        Some(copy_of(rt, alloc, &blocks[3])),
-    ]
-}
-
 /// Lays the symbols of a block from a place on.
-fn lay(block: &[Symbol; 6], place: usize, seen: &mut [Symbol])
-    requires { place + 6 ≤ length seen.old }
+fn lay(block: &[Symbol], place: usize, seen: &mut [Symbol])
+    requires block { length block.now ≡ 6 }
+    requires place { place + 6 ≤ length seen.old }
 {
-    for k in 0..6 {
-        seen[place + k] = block[k];
-    }
+    seen[place..place + 6].copy_from_slice(block);
 }
 
-/// The blocks of the second stripe of ones, one after the other, without the first.
-fn one_list(small: &Small, keys: &ObjectKeys) -> [Symbol; 24]
-    requires { keys.now.file ≡ small.now.file }
-{
-    let mut rows = [Symbol::ZERO; 2];
-    keys.symbols_into(1, &[1; 33], &mut rows);
-    let mut masks = MasksAtHand::new();
+/// Four blocks one after the other, without the first.
+fn without_first(blocks: &[Block; 4]) -> [Symbol; 24] {
     let mut seen = [Symbol::ZERO; 24];
     for j in 1..4 {
-        let mut block = [Symbol::ZERO; 6];
-        keys.column_into(&small.code, 1, &rows, j, &mut masks, &mut block);
-        lay(&block, 6 * j, &mut seen);
+        let block = blocks[j].symbols();
+        if block.len() == 6 {
+            lay(block, 6 * j, &mut seen);
+        }
     }
     seen
 }
 
-/// What they open to.
-fn list_opened(rt: &impl Abort, alloc: Global, small: &Small) -> Found {
-    let keys = ObjectKeys::new(&numbered_key(), &small.file);
-    let mut rows = [Symbol::ZERO; 2];
-    let mut scratch = four(rt, alloc, small.file.profile.size);
-    let mut work = work(rt, alloc);
-    let answer = keys.open_present(
-        &small.code,
-        1,
-        &one_list(small, &keys),
-        &[false, true, true, true],
-        &mut rows,
-        &mut scratch,
-        &mut work,
-    );
-    (answer, rows)
+/// Makes the block of a provider in the second stripe of ones.
+fn make(small: &mut Small, provider: u32)
+    requires { provider < 4 }
+{
+    let bench = &mut small.bench;
+    bench.take_stripe(&[1; 33], 1);
+    bench.make_column(1, provider);
 }
 
-/// What the second stripe of 33 ones opens to: without the first block, without it in one list, and without
-/// any.
+/// The blocks of the second stripe of ones, made one by one, without the first.
+fn one_list(small: &mut Small) -> [Symbol; 24] {
+    let mut seen = [Symbol::ZERO; 24];
+    for j in 1..4 {
+        make(small, j as u32);
+        lay(&small.bench.column, 6 * j, &mut seen);
+    }
+    seen
+}
+
+/// What the second stripe of 33 ones opens to: without the first block, without it where the blocks were made
+/// one by one, and without any.
 fn openings(rt: &impl Abort, alloc: Global) -> [Found; 3] {
-    let ones = small_file(rt, alloc, 33);
-    let blocks = stripe(rt, alloc, &ones, 1, &[1; 33]);
-    let seen = without_first(rt, alloc, &blocks);
+    let mut ones = small_file(rt, alloc, 33);
+    let blocks = stripe(rt, alloc, &mut ones, 1, &[1; 33]);
+    let seen = without_first(&blocks);
+    let listed = one_list(&mut ones);
+    let present = [false, true, true, true];
     [
-        opened(rt, alloc, &ones, &seen),
-        list_opened(rt, alloc, &ones),
-        opened(rt, alloc, &ones, &[None, None, None, None]),
+        opened(rt, alloc, &mut ones, &seen, &present),
+        opened(rt, alloc, &mut ones, &listed, &present),
+        opened(rt, alloc, &mut ones, &seen, &[false; 4]),
     ]
 }
 
@@ -256,61 +216,55 @@ fn stripes_open_with_one_block_absent_and_lose_a_row_without_any(rt: HostRuntime
     assert!(rt; openings(&rt, rt.alloc()) == wanted);
 }
 
-/// What the columns of a file of profile 0 over seven providers are made with, of which two keep symbols, and
-/// the code of its blocks.
+/// A bench for a file of profile 0 over seven providers, of which two keep symbols.
 #[derive(Drop)]
 struct Wide {
-    keys: ObjectKeys,
-    code: AnyCode,
-    ghost coded: { code_profile code ≡ keys.file.profile },
-    ghost n: { keys.file.shape.n ≡ 7 },
-    ghost l: { keys.file.shape.l ≡ 2 },
-    ghost size: { keys.file.profile.size ≡ 6 },
-    ghost keep: { keys.file.profile.keep ≡ 2 },
+    bench: Bench,
+    ghost n: { bench.keys.file.shape.n ≡ 7 },
+    ghost l: { bench.keys.file.shape.l ≡ 2 },
+    ghost size: { bench.keys.file.profile.size ≡ 6 },
+    ghost keep: { bench.keys.file.profile.keep ≡ 2 },
 }
 
-/// Keys with tables, turned to the file from another one.
-fn turned(rt: &impl Abort, alloc: Global) -> ObjectKeys {
+/// Keys with tables.
+fn tabled(rt: &impl Abort, alloc: Global) -> ObjectKeys {
     let file = FileShape {
         id: 1,
         length: 64,
         shape: Shape::new(7, 2, 2).expect(rt, "a shape"),
         profile: find_profile(0).expect(rt, "a profile"),
     };
-    let mut keys = ObjectKeys::with_tables(alloc, &numbered_key(), &file).expect(rt, "memory");
-    keys.turn_to(2);
-    keys
+    ObjectKeys::with_tables(alloc, &numbered_key(), &file).expect(rt, "memory")
 }
 
-/// The file of 64 ones.
+/// One for the file of 64 ones, turned to it from another one.
 fn wide_file(rt: &impl Abort, alloc: Global) -> Wide {
-    let keys = turned(rt, alloc);
-    let (shape, profile) = (keys.file.shape, keys.file.profile);
+    let mut bench = Bench::new(alloc, tabled(rt, alloc)).expect(rt, "memory");
+    bench.turn_to(2);
+    let (shape, profile) = (bench.keys.file.shape, bench.keys.file.profile);
     assert!(rt; shape.n == 7 && shape.l == 2 && profile.size == 6 && profile.keep == 2);
-    let code = AnyCode::new(alloc, profile).expect(rt, "memory");
-    Wide { keys, code }
+    Wide { bench }
 }
 
-/// The codeword of a provider: of a stripe of ones, or of other symbols where it lies.
-fn given(wide: &Wide, provider: usize, lies: bool) -> [Symbol; 6]
+/// Makes the codeword of a provider: of a stripe of ones, or of other symbols where it lies.
+fn give(wide: &mut Wide, provider: u32, lies: bool)
     requires { provider < 7 }
 {
-    let mut rows = [Symbol(provider as u128 + 2); 4];
-    if !lies {
-        wide.keys.symbols_into(0, &[1; 64], &mut rows);
+    let bench = &mut wide.bench;
+    if lies {
+        bench.take_symbols(&[Symbol(u128::from(provider) + 2); 4]);
+    } else {
+        bench.take_stripe(&[1; 64], 0);
     }
-    let mut block = [Symbol::ZERO; 6];
-    let mut masks = MasksAtHand::new();
-    wide.keys
-        .column_into(&wide.code, 0, &rows, provider, &mut masks, &mut block);
-    block
+    bench.make_column(0, provider);
 }
 
 /// The codewords of all seven, one after the other, with one wrong symbol in each if all err.
-fn all_given(wide: &Wide, liars: &[bool; 7], err: bool) -> [Symbol; 42] {
+fn all_given(wide: &mut Wide, liars: &[bool; 7], err: bool) -> [Symbol; 42] {
     let mut seen = [Symbol::ZERO; 42];
     for j in 0..7 {
-        lay(&given(wide, j, liars[j]), 6 * j, &mut seen);
+        give(wide, j as u32, liars[j]);
+        lay(&wide.bench.column, 6 * j, &mut seen);
         if err {
             seen[6 * j] = seen[6 * j].add(Symbol::ONE);
         }
@@ -318,57 +272,28 @@ fn all_given(wide: &Wide, liars: &[bool; 7], err: bool) -> [Symbol; 42] {
     seen
 }
 
-/// Seven blocks of zeros.
-fn seven(rt: &impl Abort, alloc: Global, size: u32) -> [Block; 7]
-    ensures { All (λ block. length block ≡ size) result }
-{
-    [
-        zeros(rt, alloc, size),
-        zeros(rt, alloc, size),
-        zeros(rt, alloc, size),
-        zeros(rt, alloc, size),
-        zeros(rt, alloc, size),
-        zeros(rt, alloc, size),
-        zeros(rt, alloc, size),
-    ]
-}
-
 /// Whether what was seen opens to a stripe of ones.
-fn opens(
-    wide: &Wide,
-    seen: &[Symbol; 42],
-    trust: &mut Trust,
-    masks: &mut MasksAtHand,
-    scratch: &mut [Block],
-    work: &mut Work,
-) -> bool
-    requires seven { length scratch.old ≡ 7 }
-    requires blocks { All (λ block. length block ≡ wide.now.keys.file.profile.size) scratch.old }
-    requires room { 128 ≤ work.old.size }
-    ensures blocks { All (λ block. length block ≡ wide.now.keys.file.profile.size) scratch.new }
-    ensures room { work.new.size ≡ work.old.size }
-{
-    let mut rows = [Symbol::ZERO; 4];
-    let answer = wide.keys.open_trusting(
-        &wide.code, 0, seen, &[true; 7], trust, masks, &mut rows, scratch, work,
-    );
-    answer == Ok(()) && rows == [Symbol(0x0101_0101_0101_0101_0101_0101_0101_0101); 4]
+fn opens(wide: &mut Wide, codec: &mut Codec, seen: &[Symbol; 42]) -> bool {
+    let bench = &mut wide.bench;
+    let answer = bench.open(codec, 0, seen, &[true; 7]);
+    answer == Ok(())
+        && bench.rows.as_slice()
+            == [Symbol(0x0101_0101_0101_0101_0101_0101_0101_0101); 4].as_slice()
 }
 
-/// Whether it opens so, and again by those that are trusted then; and how many blocks and rows were decoded.
+/// Whether it opens so, each provider trusted, and again by those that are trusted then; and how many blocks
+/// and rows were decoded.
 fn opens_twice(
     rt: &impl Abort,
     alloc: Global,
-    wide: &Wide,
+    wide: &mut Wide,
     seen: &[Symbol; 42],
 ) -> (bool, u32, u32) {
-    let mut trust = Trust::new();
-    let mut masks = MasksAtHand::new();
-    let mut scratch = seven(rt, alloc, wide.keys.file.profile.size);
-    let mut work = work(rt, alloc);
-    let open = opens(wide, seen, &mut trust, &mut masks, &mut scratch, &mut work)
-        && opens(wide, seen, &mut trust, &mut masks, &mut scratch, &mut work);
-    (open, trust.decoded().blocks, trust.decoded().rows)
+    let mut codec = Codec::new(alloc).expect(rt, "memory");
+    wide.bench.at_hand = AtHand::new();
+    let open = opens(wide, &mut codec, seen) && opens(wide, &mut codec, seen);
+    let decoded = wide.bench.at_hand.trust.decoded();
+    (open, decoded.blocks, decoded.rows)
 }
 
 /// Which of seven providers give codewords of other symbols, whether one symbol of each block is wrong, and
@@ -403,9 +328,10 @@ static BESIDE: [Beside; 6] = [
 ];
 
 /// The place of the first row that goes otherwise.
-fn first_other(rt: &impl Abort, alloc: Global, wide: &Wide) -> Option<usize> {
+fn first_other(rt: &impl Abort, alloc: Global, wide: &mut Wide) -> Option<usize> {
     for (place, (liars, err, wanted)) in BESIDE.iter().enumerate() {
-        if opens_twice(rt, alloc, wide, &all_given(wide, liars, *err)) != *wanted {
+        let seen = all_given(wide, liars, *err);
+        if opens_twice(rt, alloc, wide, &seen) != *wanted {
             return Some(place);
         }
     }
@@ -414,6 +340,6 @@ fn first_other(rt: &impl Abort, alloc: Global, wide: &Wide) -> Option<usize> {
 
 #[test]
 fn stripes_open_beside_liars(rt: HostRuntime) {
-    let wide = wide_file(&rt, rt.alloc());
-    assert_eq!(rt; first_other(&rt, rt.alloc(), &wide), None);
+    let mut wide = wide_file(&rt, rt.alloc());
+    assert_eq!(rt; first_other(&rt, rt.alloc(), &mut wide), None);
 }

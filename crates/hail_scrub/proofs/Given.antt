@@ -6,7 +6,7 @@ use Rattle.std.proofs.lemmas.List.{drop_more}
 use Rattle.algebra_laws.proofs.Lists.{get-map_range}
 use Rattle.code_defs.specs.Points.{upto}
 use Rattle.column_defs.specs.Opened.{SeenBlock, block_at}
-use Rattle.machine_defs.specs.Jobs.{Given, Worked}
+use Rattle.machine_defs.specs.Jobs.{Given}
 use Rattle.machine_defs.specs.Jobs as jobs
 use Rattle.machine_defs.specs.Given.{block_given, blocks_given, symbols_given}
 use Rattle.stripe_bench.specs.Gifts.{fetched_gifts}

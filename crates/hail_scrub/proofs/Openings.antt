@@ -10,11 +10,12 @@ use Rattle.column_codec.specs.PresentBlocks.{present_blocks}
 use Rattle.column_codec.proofs.PresentLemmas.{length-present_blocks}
 use Rattle.device_defs.specs.Providers.{Provider}
 use Rattle.machine_defs.specs.Actions.{Action, Store, Work}
-use Rattle.stripe_bench.specs.Bench.{bench_object, turned, bench_kind, file_kind}
+use Rattle.column_codec.specs.Bench.{bench_object, turned}
+use Rattle.stripe_bench.specs.Bench.{bench_kind, file_kind}
 use Rattle.stripe_bench.specs.Blocks.{blocks_in, HasEmptied}
-use Rattle.stripe_bench.specs.declared.bench.Bench.{Bench}
+use Rattle.column_codec.specs.declared.bench.Bench.{Bench}
 use Rattle.stripe_bench.specs.declared.blocks.Blocks.{Blocks}
-use Rattle.stripe_bench.specs.declared.codec.Codec.{Codec}
+use Rattle.column_codec.specs.declared.codec.Codec.{Codec}
 use Rattle.hail_scrub.specs.declared.cursor.Spot.{Spot}
 use Rattle.hail_scrub.specs.declared.cursor.Cursor.{Cursor}
 use Rattle.hail_scrub.specs.declared.cursor.Cursor.TheVariants as cursor

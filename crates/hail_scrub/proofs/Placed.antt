@@ -6,8 +6,9 @@ use Rattle.std.proofs.lemmas.List.{length-map}
 use Rattle.std.proofs.lemmas.Option.{slice_get-map, slice_get_within}
 use Rattle.column_defs.specs.Objects.{Object}
 use Rattle.column_codec.specs.PresentBlocks.{present_blocks}
-use Rattle.stripe_bench.specs.Bench.{turned, bench_kind, file_kind}
-use Rattle.stripe_bench.specs.declared.bench.Bench.{Bench}
+use Rattle.column_codec.specs.Bench.{turned}
+use Rattle.stripe_bench.specs.Bench.{bench_kind, file_kind}
+use Rattle.column_codec.specs.declared.bench.Bench.{Bench}
 use Rattle.hail_scrub.specs.declared.cursor.Item.{Item}
 use Rattle.hail_scrub.specs.declared.cursor.Spot.{Spot}
 use Rattle.hail_scrub.specs.declared.cursor.Cursor.{Cursor}

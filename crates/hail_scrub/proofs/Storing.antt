@@ -9,8 +9,9 @@ use Rattle.column_defs.specs.Columns.{column_of_symbols}
 use Rattle.device_defs.specs.Providers.{Provider}
 use Rattle.device_defs.specs.ProviderCalls.{Stores, FailsToStore, FindsNoMemory}
 use Rattle.machine_defs.specs.Actions.{Action, Store}
-use Rattle.stripe_bench.specs.Bench.{bench_object, turned, bench_kind, file_kind}
-use Rattle.stripe_bench.specs.declared.bench.Bench.{Bench}
+use Rattle.column_codec.specs.Bench.{bench_object, turned}
+use Rattle.stripe_bench.specs.Bench.{bench_kind, file_kind}
+use Rattle.column_codec.specs.declared.bench.Bench.{Bench}
 use Rattle.hail_scrub.specs.declared.cursor.Spot.{Spot}
 use Rattle.hail_scrub.specs.declared.cursor.Cursor.{Cursor}
 use Rattle.hail_scrub.specs.declared.cursor.Cursor.TheVariants as cursor

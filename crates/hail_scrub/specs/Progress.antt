@@ -22,7 +22,7 @@ use Rattle.column_codec.specs.PresentBlocks.{present_blocks}
 use Rattle.file_layout.specs.Files.{shaped_object}
 use Rattle.machine_defs.specs.Actions.{Action}
 use Rattle.stripe_bench.specs.Bench.{bench_kind, file_kind}
-use Rattle.stripe_bench.specs.declared.bench.Bench.{Bench}
+use Rattle.column_codec.specs.declared.bench.Bench.{Bench}
 use Rattle.hail_scrub.specs.declared.cursor.Item.{Item}
 use Rattle.hail_scrub.specs.declared.cursor.Spot.{Spot}
 use Rattle.hail_scrub.specs.declared.cursor.Cursor.{Cursor}

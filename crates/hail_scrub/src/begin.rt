@@ -14,11 +14,12 @@ use crate::cursor::Item;
 use crate::moves::file_at;
 use crate::progress::{Found, Progress};
 use crate::scrub::Scrub;
+use column_codec::{Bench, Codec};
 use file_layout::FileShape;
 use hail_field::Memory;
 use key_schedule::Master;
 use std::alloc::Global;
-use stripe_bench::{Bench, Blocks, Codec, bench_place};
+use stripe_bench::{Blocks, bench_place};
 
 /// The most symbols of a block.
 const LARGEST_BLOCK: usize = 128;

@@ -5,15 +5,15 @@ ghost use Rattle.code_defs.specs.ServerCode.{differences};
 ghost use Rattle.column_defs.specs.Columns.{column_of_symbols};
 ghost use Rattle.column_defs.specs.Opened.{block_at, GivesSymbols, LosesRow};
 ghost use Rattle.machine_defs.specs.Alone.{differs};
-ghost use Rattle.stripe_bench.specs.Bench.{bench_object, turned};
+ghost use Rattle.column_codec.specs.Bench.{bench_object, turned};
 ghost use Rattle.stripe_bench.specs.Blocks.{blocks_in};
 ghost use Rattle.hail_scrub.specs.Todo.{stores_from};
 ghost use Rattle.hail_scrub.specs.Steps.{off_in};
 ghost use Rattle.hail_scrub.specs.Compared.{HasBlocks, IsSurveyed};
 
-use column_codec::RowLost;
+use column_codec::{Bench, Codec, RowLost};
 use hail_field::Symbol;
-use stripe_bench::{Bench, Blocks, Codec};
+use stripe_bench::Blocks;
 
 /// 1 where two symbols differ, else 0.
 fn difference(a: Symbol, b: Symbol) -> u64

@@ -1,6 +1,7 @@
 use crate::cursor::{Cursor, Item};
+use column_codec::{Bench, Codec};
 use key_schedule::Master;
-use stripe_bench::{Bench, Blocks, Codec};
+use stripe_bench::Blocks;
 
 /// What a scrub has found: the stripes that were opened, and of each provider how many symbols and how many
 /// blocks differed.

@@ -18,6 +18,7 @@ use crate::progress::{Found, Progress};
 use crate::turn::{ScrubAnswer, ScrubTurn};
 use column_codec::RowLost;
 use provider_model::{Provider, StoreFault};
+use stripe_bench::store_stripe;
 
 /// Adds to each number the one at its place, at most 128.
 fn add_each(sums: &mut [u64; 16], more: &[u64; 16])
@@ -181,7 +182,8 @@ impl Progress {
     {
         let index = provider as usize;
         let bench = &mut self.benches[spot.item.bench];
-        match bench.store(
+        match store_stripe(
+            bench,
             &mut providers[index],
             provider,
             spot.item.file.id,

@@ -1,11 +1,12 @@
 //! Providers in memory that hold all files, and what is done to them.
 use crate::files::{KEY, notes, small, wide};
+use column_codec::Bench;
 use file_layout::FileShape;
 use hail_field::Symbol;
 use provider_model::{MemProvider, Provider, Tamper};
 use std::alloc::Global;
 use std::process::Abort;
-use stripe_bench::Bench;
+use stripe_bench::store_stripe;
 
 /// Something that is done to a provider.
 #[derive(Clone, Copy)]
@@ -22,12 +23,12 @@ const STRIPES: &[(u64, u32)] = &[(1, 0), (2, 0), (2, 1), (2, 2), (3, 0)];
 /// Stores a block of the stripe at hand.
 fn store_on<P: Provider>(bench: &mut Bench, to: &mut P, place: u32, object: u64, stripe: u32) {
     if place < u32::from(bench.keys.file.shape.n) {
-        let _ = bench.store(to, place, object, stripe);
+        let _ = store_stripe(bench, to, place, object, stripe);
     }
 }
 
 /// Stores the blocks of a stripe of these bytes.
-fn store_stripe<P: Provider>(
+fn store_on_all<P: Provider>(
     bench: &mut Bench,
     providers: &mut [P],
     bytes: &[u8],
@@ -52,7 +53,7 @@ fn store_file<P: Provider>(
 ) {
     let mut bench = Bench::made(alloc, &KEY, file).expect(rt, "memory");
     for stripe in 0..file.stripes() {
-        store_stripe(&mut bench, providers, bytes, file.id, stripe);
+        store_on_all(&mut bench, providers, bytes, file.id, stripe);
     }
 }
 

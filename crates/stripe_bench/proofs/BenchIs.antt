@@ -3,7 +3,7 @@ use Rattle.std.proofs.Common.{◌≡◌, ℕ}
 use Rattle.code_points.specs.Profile.{plain_profile}
 use Rattle.code_defs.specs.Profiles.{profile_of}
 use Rattle.record_defs.specs.Records.{Setup}
-use Rattle.stripe_bench.specs.declared.bench.Bench.{Bench}
+use Rattle.column_codec.specs.declared.bench.Bench.{Bench}
 use Rattle.stripe_bench.specs.Bench.{IsBench}
 
 -- a bench with the shape and the master key of a setup, and with a profile, is that of an object of them

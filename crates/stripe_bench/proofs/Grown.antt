@@ -38,11 +38,6 @@ fetched_there object stripe size start old all new found p q start_is all_is fet
     (subst (λ (k : ℕ). Fetches (length (drop k all)) object stripe p (given_of found (drop k new)) q) start_is
     fetched)
 
--- what was written over a whole vector is what it holds
-pub written_whole : {X : Type 0} (old here new : List X) (size : ℕ) → length new ≡ length here
-    → length here ≡ size → take size (new ++ drop (length new) old) ≡ new
-written_whole old here new size same whole = take_at new (drop (length new) old) size (same ∙ whole)
-
 -- the last items of a slice that begins so many before its end
 pub last_part : {X : Type 0} (xs ys : List X) (len k n : ℕ) → xs ≡ ys → len ≡ length ys → k ≡ n
     → take (length xs - (len - k)) (drop (len - k) xs) ≡ drop (length ys - n) ys

@@ -1,27 +1,22 @@
 //! Benches for files of several shapes and profiles, one for each of these.
 ghost use Rattle.std.specs.Prelude.{◌≡◌, ◌++◌, ◌∷◌, [], ℕ, Some, IfSome, IfOk, OnOk, OnErr, map, slice_get};
+ghost use Rattle.std.specs.Bool.{OnTrue};
 ghost use Rattle.column_defs.specs.Objects.{Object};
 ghost use Rattle.stripe_bench.specs.Bench.{bench_kind, file_kind};
 
-use crate::bench::Bench;
+use column_codec::Bench;
 use file_layout::FileShape;
 use hail_field::Memory;
 use key_schedule::Master;
 use std::alloc::Global;
 
-impl Bench {
-    ghost use Rattle.std.specs.Prelude.{◌≡◌};
-    ghost use Rattle.std.specs.Bool.{OnTrue};
-    ghost use Rattle.stripe_bench.specs.Bench.{bench_kind, file_kind};
-
-    /// The bench serves this file's object, once it is turned to its number.
-    fn fits(&self, master: &Master, file: &FileShape) -> bool
-        ensures { OnTrue result (bench_kind self.now ≡ file_kind master.now.0 file.now) }
-    {
-        self.keys.master == *master
-            && self.keys.file.shape == file.shape
-            && self.keys.file.profile == file.profile
-    }
+/// A bench serves this file's object, once it is turned to its number.
+fn fits(bench: &Bench, master: &Master, file: &FileShape) -> bool
+    ensures { OnTrue result (bench_kind bench.now ≡ file_kind master.now.0 file.now) }
+{
+    bench.keys.master == *master
+        && bench.keys.file.shape == file.shape
+        && bench.keys.file.profile == file.profile
 }
 
 /// The place of a bench that serves a file's object.
@@ -30,7 +25,7 @@ fn place_of(benches: &[Bench], master: &Master, file: &FileShape) -> Option<usiz
         ≡ Some (file_kind master.now.0 file.now)) }
 {
     for place in 0..benches.len() {
-        if benches[place].fits(master, file) {
+        if fits(&benches[place], master, file) {
             return Some(place);
         }
     }

@@ -1,11 +1,10 @@
-use crate::bench::Bench;
 use crate::blocks::Blocks;
-use crate::codec::Codec;
-use column_codec::RowLost;
+use column_codec::{Bench, Codec, RowLost};
 
 impl Blocks {
     ghost use Rattle.std.specs.Prelude.{◌≡◌};
-    ghost use Rattle.stripe_bench.specs.Bench.{bench_object, OpensAs, HasAllBlocks};
+    ghost use Rattle.column_codec.specs.Bench.{bench_object, OpensAs};
+    ghost use Rattle.stripe_bench.specs.Bench.{HasAllBlocks};
     ghost use Rattle.stripe_bench.specs.Blocks.{last_blocks, HasEmptied};
 
     /// Opens the stripe of the last blocks, one of each provider.

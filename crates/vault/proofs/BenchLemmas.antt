@@ -7,7 +7,7 @@ use Rattle.code_defs.specs.Profiles.{profile_of}
 use Rattle.key_schedule.specs.declared.master.Master.{Master}
 use Rattle.record_defs.specs.Records.{Setup}
 use Rattle.record_codec.specs.Entries.{with_master}
-use Rattle.stripe_bench.specs.declared.bench.Bench.{Bench}
+use Rattle.column_codec.specs.declared.bench.Bench.{Bench}
 use Rattle.stripe_bench.specs.Bench.{IsBench}
 use Rattle.stripe_bench.proofs.BenchIs as stripe
 use Rattle.vault.specs.declared.desk.Desk.{Desk}

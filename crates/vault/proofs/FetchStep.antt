@@ -14,9 +14,8 @@ use Rattle.machine_defs.specs.States.{State, setup_in, worked_object, going_on, 
 use Rattle.machine_defs.specs.Steps.{next_action}
 use Rattle.vault_core.specs.Carried.{ComesNext}
 use Rattle.vault_core.specs.declared.reply.Reply.TheVariants as reply
-use Rattle.vault.specs.declared.heard.Fetch.{Fetch as FetchValue}
 use Rattle.record_defs.specs.Records.{Setup}
-use Rattle.stripe_bench.specs.declared.bench.Bench.{Bench}
+use Rattle.column_codec.specs.declared.bench.Bench.{Bench}
 use Rattle.stripe_bench.specs.Bench.{IsBench}
 use Rattle.vault.specs.declared.tasks.RepairTask.{RepairTask}
 use Rattle.vault.specs.declared.tasks.Running.{Running}
@@ -140,7 +139,7 @@ module _ (w : State) (job : Job) (k o s : ℕ) (next : next_action w job ≡ Som
     size = is.size ∙ ap (λ (x : Object). x.profile.size) (turned_is (setup_in w) is.file.profile t.bench o
         is.bench ∙ worked-own w job is.file o is.pinned
         (own_object (setup_in w).n (after w job) is.file.id (pinned_stripes (setup_in w) is.file) is.opened
-        o s (k + 1) (order_after (setup_in w).n k o s (after w job) is.phase is.order) is.opens));
+        o s (k + 1) (order_after (setup_in w).n k o s (after w job) is.phase is.order) is.opens).0);
   }
   got task.Drop is has = absurd (not_allowed (DropJob is.name) is.kind)
   got (task.Audit t) is has = absurd (not_allowed AuditJob is.kind)
@@ -217,16 +216,14 @@ module _ (v : Desk) (w : State) (holds : Option Cells) (faults moment number k o
       room_there = room_for w coming.job k o s coming.comes m runs_turned
 
       -- the fetch is a step of the machine
-      pub fetch_step : (v' : Desk) (ps' : List Provider) (p q : Provider) (r' : Running) (fetch : FetchValue)
-          (found : Bool) (block : List ℕ) → r'.number ≡ m.number →
-          fetch ≡ record { provider = k; object = o; stripe = s }
-          → TakesFetch m.task r'.task fetch found block →
+      pub fetch_step : (v' : Desk) (ps' : List Provider) (p q : Provider) (r' : Running) (found : Bool)
+          (block : List ℕ) → r'.number ≡ m.number → TakesFetch m.task r'.task found block →
           Fetches (fetch_size m.task) o s p (given_of found block) q → slice_get ps k ≡ Some p →
           ps' ≡ slice_set ps k q
           → v'.jobs.items ≡ slice_set v.jobs.items place r' → KeepsAll v v' → v'.flight ≡ v.flight →
           IsFed v.core number reply.Done v'.core
           → DeskMakesStep w moment number turn.More v' (devices holds faults ps) (devices holds faults ps')
-      fetch_step v' ps' p q r' fetch found block number_is fetch_is takes fetches p_is ps_is jobs keeps flight fed =
+      fetch_step v' ps' p q r' found block number_is takes fetches p_is ps_is jobs keeps flight fed =
           let job = coming.job in
           let next_job = advanced_with job (Fetched k o s (given_of found block)) in
           let new : State = record (going_on w next_job) { providers = with_provider w.providers k q } in
@@ -238,7 +235,7 @@ module _ (v : Desk) (w : State) (holds : Option Cells) (faults moment number k o
           seen
           (subst (λ (m : ℕ). Fetches m o s p (given_of found block) q)
           turned.size fetches) in
-          let on = runs_on w job k o s coming.comes m r' fetch found block runs_turned number_is fetch_is takes
+          let on = runs_on w job k o s coming.comes m r' found block runs_turned number_is takes
           turned.bench in
           goes_on v v' w new holds faults moment number place ps ps' (Fetch k o s) r r' next_job stands coming
           (given_of found block, (q, call, refl))

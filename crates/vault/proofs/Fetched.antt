@@ -9,12 +9,12 @@ use Rattle.record_defs.specs.Records.{Setup}
 use Rattle.machine_defs.specs.Actions.{Action, Fetch, actions_of, actions_left}
 use Rattle.machine_defs.specs.Jobs.{Kind, PutJob, GetJob, DropJob, AuditJob, RepairJob, UpgradeJob, Given, Fetched, Job, advanced_with}
 use Rattle.machine_defs.specs.Given.{pinned_profile}
-use Rattle.machine_defs.specs.Heard.{Entry}
+use Rattle.machine_defs.specs.Setups.{pinned_stripes}
+use Rattle.machine_defs.specs.Heard.{Entry, entries_of}
 use Rattle.machine_defs.specs.States.{State, setup_in}
 use Rattle.machine_defs.specs.Steps.{next_action}
 use Rattle.state_laws.proofs.Orders.{next-left}
 use Rattle.stripe_bench.specs.declared.blocks.Blocks.{Blocks}
-use Rattle.vault.specs.declared.heard.Fetch.{Fetch as FetchValue}
 use Rattle.vault.specs.declared.heard.Fetches.{Fetches}
 use Rattle.vault.specs.declared.tasks.GetTask.{GetTask}
 use Rattle.vault.specs.declared.tasks.RepairTask.{RepairTask}
@@ -25,31 +25,17 @@ use Rattle.vault.specs.declared.tasks.Task.TheVariants as task
 use Rattle.stripe_bench.specs.Blocks.{given_of, Grows}
 use Rattle.vault.specs.Fetching.{GrowsFetches, TakesFetch, HasRoomFor}
 use Rattle.stripe_bench.specs.Blocks.{blocks_in}
-use Rattle.vault.specs.Heard.{fetched_entries}
+use Rattle.vault.specs.Heard.{fetched_entry, fetched_entries}
 use Rattle.vault.specs.Orders.{Phase, Between, Fetching, Opened, GoesOn, fetches_left, works_left, is_fetch, is_work}
-use Rattle.stripe_bench.specs.Bench.{bench_object, IsBench}
+use Rattle.column_codec.specs.Bench.{bench_object}
+use Rattle.stripe_bench.specs.Bench.{IsBench}
 use Rattle.stripe_bench.specs.Gifts.{fetched_gifts}
 use Rattle.vault.specs.Tasks.{HasFetched, IsInWork, IsGet, IsRepair, IsTask, IsRunning, fetched_in}
 use Rattle.stripe_bench.proofs.Gifts.{present_more, gifts_more}
 use Rattle.vault.proofs.Allowed.{next_allowed}
+use Rattle.vault.proofs.HeardAt.{entries_more, entry_next}
+use Rattle.vault.proofs.Worked.{own_object}
 use Rattle.vault.proofs.Ways.{actions_same}
-
--- ---- entries
-
--- one entry more
-pub entries_more : (job : ℕ) (fetches : List FetchValue) (blocks : List (Option (List ℕ))) (f : FetchValue)
-    (block : Option (List ℕ)) → length fetches ≡ length blocks
-    → fetched_entries job (fetches ++ f ∷ []) (blocks ++ block ∷ [])
-    ≡ fetched_entries job fetches blocks ++ record {
-      job = job;
-      given = Fetched f.provider f.object f.stripe block;
-    } ∷ []
-entries_more job [] [] f block same = refl
-entries_more job [] (b ∷ blocks) f block same = absurd (omega (arith, same))
-entries_more job (g ∷ fetches) [] f block same = absurd (omega (arith, same))
-entries_more job (g ∷ fetches) (b ∷ blocks) f block same =
-    ap (λ (l : List Entry). record { job = job; given = Fetched g.provider g.object g.stripe b } ∷ l)
-    (entries_more job fetches blocks f block (omega (arith, same)))
 
 -- ---- the stripe in work
 
@@ -142,20 +128,22 @@ module _ (st : Setup) (job : Job) (k o s : ℕ) (tail : List Action) where
 
   -- with a block fetched, or none, a get is at the action behind this fetch
   pub get_after : fetches_left (Fetch k o s ∷ tail) ≡ 1 + fetches_left tail →
-      works_left (Fetch k o s ∷ tail) ≡ 0 + works_left tail
-      → (t : GetTask) (f : Fetches) (fetch : FetchValue) (found : Bool) (block : List ℕ) →
-      IsGet st t job (Fetch k o s ∷ tail) → fetch ≡ record { provider = k; object = o; stripe = s }
-      → GrowsFetches t.fetched f fetch found block →
+      works_left (Fetch k o s ∷ tail) ≡ 0 + works_left tail → k < st.n
+      → (t : GetTask) (f : Fetches) (found : Bool) (block : List ℕ) → IsGet st t job (Fetch k o s ∷ tail)
+      → GrowsFetches t.fetched f found block →
       IsGet st (record t { fetched = f }) (advanced_with job (Fetched k o s (given_of found block))) tail
-  get_after fetches_are works_are t f fetch found block is fetch_is grows =
+  get_after fetches_are works_are less t f found block is grows =
       let b = t.fetched.blocks in
       let blocks_are = all_more b f.blocks found block is.symbols grows.blocks in
-      let count : length t.fetched.fetches.items ≡ length (blocks_in b) = is.fetches
-      ∙ sym (length-present_blocks b.size b.present.items b.symbols.items) in
+      let order = order_after st.n k o s tail is.phase is.order in
+      let own = own_object st.n tail is.file.id (pinned_stripes st is.file) is.opened o s (k + 1) order
+      is.opens in
+      let count : length b.present.items ≡ is.opened * st.n + k = is.count
+      ∙ ap (λ (m : ℕ). is.opened * st.n + m) (count_before st.n k o s tail is.phase is.order) in
+      let place : 0 + length (blocks_in b) ≡ is.opened * st.n + k = zero-add (length (blocks_in b))
+      ∙ length-present_blocks b.size b.present.items b.symbols.items ∙ count in
       let present : length f.blocks.present.items ≡ length b.present.items + 1 =
       ap length grows.blocks.present_is ∙ length-append b.present.items (found ∷ []) in
-      let fetches : length f.fetches.items ≡ length t.fetched.fetches.items + 1 = ap length grows.fetches
-      ∙ length-append t.fetched.fetches.items (fetch ∷ []) in
       let symbols : length f.blocks.symbols.items ≡ length b.symbols.items + b.size =
       ap length grows.blocks.symbols_is ∙ length-append b.symbols.items block
       ∙ ap (λ (m : ℕ). length b.symbols.items + m) grows.blocks.fits in
@@ -168,36 +156,31 @@ module _ (st : Setup) (job : Job) (k o s : ℕ) (tail : List Action) where
         bench = is.bench;
         size = grows.blocks.size_is ∙ is.size;
         job_is = grows.job ∙ is.job_is;
+        object_is = grows.object ∙ is.object_is;
+        n_is = grows.n ∙ is.n_is;
         heard =
-            (λ i. fetched_entries (grows.job i) (grows.fetches i) (blocks_are i))
-            ∙ entries_more t.fetched.job t.fetched.fetches.items (blocks_in b) fetch
-            (given_of found block) count
-            ∙ (λ i. is.heard i ++ record {
-              job = is.job_is i;
-              given = Fetched (fetch_is i).provider (fetch_is i).object (fetch_is i).stripe
-                  (given_of found block);
-            } ∷ []);
-        fetches = fetches ∙ ap (λ (m : ℕ). m + 1) is.fetches ∙ sym present;
+            (λ i. fetched_entries (grows.job i) (grows.object i) (grows.n i) 0 (blocks_are i))
+            ∙ entries_more t.fetched.job t.fetched.object t.fetched.n 0 (blocks_in b) (given_of found block)
+            ∙ (λ i. is.heard i ++ fetched_entry (is.job_is i) ((is.object_is ∙ sym own.0) i) (is.n_is i)
+            (0 + length (blocks_in b)) (given_of found block) ∷ [])
+            ∙ ap (λ (e : Entry). entries_of job.number job.given ++ e ∷ [])
+            (entry_next job.number o st.n is.opened k _ (given_of found block) place less
+            ∙ ap (λ (m : ℕ). record { job = job.number; given = Fetched k o m (given_of found block) })
+            (sym own.1));
         symbols = symbols ∙ ap (λ (m : ℕ). m + b.size) is.symbols
             ∙ (let e : length b.present.items * b.size + b.size ≡ (length b.present.items + 1) * b.size =
             omega arith in e) ∙ (λ i. (sym present) i * (sym grows.blocks.size_is) i);
         phase = Fetching o s (k + 1);
-        order = order_after st.n k o s tail is.phase is.order;
+        order = order;
         in_work = fetched_after st.n k o s tail b f.blocks job.given found block
             (fetched_before st.n k o s tail is.phase b t.bench.rows.items job.given is.order is.in_work)
             grows.blocks;
         opened = is.opened;
         opens = is.opens;
+        count = present ∙ ap (λ (m : ℕ). m + 1) count
+            ∙ (let e : is.opened * st.n + k + 1 ≡ is.opened * st.n + (k + 1) = omega arith in e);
         bytes = is.bytes;
-        room_fetches = omega (
-          arith,
-          is.room_fetches,
-          fetches_are,
-          grows.room,
-          fetches,
-          t.fetched.fetches.ok.0,
-          f.fetches.ok.0,
-        );
+        few = omega (arith, is.few, fetches_are, present);
         room_present = omega (
           arith,
           is.room_present,
@@ -271,6 +254,19 @@ module _ (w : State) (job : Job) (k o s : ℕ) (next : next_action w job ≡ Som
   works_are : works_left (Fetch k o s ∷ after w job) ≡ 0 + works_left (after w job)
   works_are = sum_by-cons (λ a. cond (is_work a) 1 0) (Fetch k o s) (after w job)
 
+  -- the provider is one of the setup's
+  pub within : k < (setup_in w).n
+  within = by_kind job.kind (next_allowed w job (Fetch k o s) next)
+    where
+      by_kind : (kind : Kind) → Rattle.vault.proofs.Allowed.IsAllowed (setup_in w).n kind (Fetch k o s) →
+          k < (setup_in w).n
+      by_kind (PutJob name bytes) h = absurd h
+      by_kind (GetJob name) h = h
+      by_kind (DropJob name) h = absurd h
+      by_kind AuditJob h = absurd h
+      by_kind RepairJob h = h
+      by_kind UpgradeJob h = absurd h
+
   -- a job whose next action is a fetch has room for it
   pub room_for : (r : Running) → IsRunning (setup_in w) r job → HasRoomFor r.task
   room_for r running = by_task r.task
@@ -286,7 +282,7 @@ module _ (w : State) (job : Job) (k o s : ℕ) (next : next_action w job ≡ Som
       by_task (task.Put t) is = absurd (not_allowed (PutJob is.name t.bytes) is.kind)
       by_task (task.Stream t) is = absurd (not_allowed (PutJob is.name is.bytes) is.kind)
       by_task (task.Get t) is = record {
-        fetches = omega (arith, is.room_fetches, fetches_are);
+        few = omega (arith, is.few, fetches_are);
         blocks = record {
           present = omega (arith, is.room_present, fetches_are);
           symbols = omega (arith, is.room_symbols, ap (λ (m : ℕ). m * t.fetched.blocks.size) fetches_are);
@@ -317,12 +313,10 @@ module _ (w : State) (job : Job) (k o s : ℕ) (next : next_action w job ≡ Som
   HasBench t = Unit {0}
 
   -- the job goes on with one fetch more
-  pub runs_on : (r r' : Running) (fetch : FetchValue) (found : Bool) (block : List ℕ) →
-      IsRunning (setup_in w) r job → r'.number ≡ r.number →
-      fetch ≡ record { provider = k; object = o; stripe = s }
-      → TakesFetch r.task r'.task fetch found block → HasBench r.task →
+  pub runs_on : (r r' : Running) (found : Bool) (block : List ℕ) → IsRunning (setup_in w) r job →
+      r'.number ≡ r.number → TakesFetch r.task r'.task found block → HasBench r.task →
       IsRunning (setup_in w) r' (advanced_with job (Fetched k o s (given_of found block)))
-  runs_on r r' fetch found block running number fetch_is takes has = record {
+  runs_on r r' found block running number takes has = record {
     number = number ∙ running.number;
     task = subst (λ (l : List Action). IsTask (setup_in w) next_job l r'.task) (sym tail_is)
         (by_task r.task r'.task
@@ -341,28 +335,15 @@ module _ (w : State) (job : Job) (k o s : ℕ) (next : next_action w job ≡ Som
           (actions_same (setup_in w) job (job.place + 1) (Fetched k o s (given_of found block) ∷ job.given))
 
       by_task : (t t' : Task) → IsTask (setup_in w) job (Fetch k o s ∷ after w job) t →
-          TakesFetch t t' fetch found block → HasBench t →
+          TakesFetch t t' found block → HasBench t →
           IsTask (setup_in w) (advanced_with job (Fetched k o s (given_of found block))) (after w job) t'
       by_task (task.Get t) (task.Get u) is takes has =
           subst (λ (x : GetTask). IsGet (setup_in w) x
           (advanced_with job (Fetched k o s (given_of found block))) (after w job)) (sym takes.0)
-          (get_after (setup_in w) job k o s (after w job) fetches_are works_are t u.fetched fetch found block
-          is fetch_is takes.1)
+          (get_after (setup_in w) job k o s (after w job) fetches_are works_are within t u.fetched found block
+          is takes.1)
       by_task (task.Repair t) (task.Repair u) is takes has =
           subst (λ (x : RepairTask). IsRepair (setup_in w) x
           (advanced_with job (Fetched k o s (given_of found block))) (after w job)) (sym takes.0)
           (repair_after (setup_in w) job k o s (after w job) t u.blocks found block is has takes.1)
       by_task t u is takes has = absurd takes
-
-  -- the provider is one of the setup's
-  pub within : k < (setup_in w).n
-  within = by_kind job.kind (next_allowed w job (Fetch k o s) next)
-    where
-      by_kind : (kind : Kind) → Rattle.vault.proofs.Allowed.IsAllowed (setup_in w).n kind (Fetch k o s) →
-          k < (setup_in w).n
-      by_kind (PutJob name bytes) h = absurd h
-      by_kind (GetJob name) h = h
-      by_kind (DropJob name) h = absurd h
-      by_kind AuditJob h = absurd h
-      by_kind RepairJob h = h
-      by_kind UpgradeJob h = absurd h

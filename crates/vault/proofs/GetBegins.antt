@@ -21,17 +21,17 @@ use Rattle.state_laws.proofs.Written.{setup-providers}
 use Rattle.vault_core.specs.Carried.{IsKindOf}
 use Rattle.vault_core.specs.declared.wish.BeginFault.{BeginFault}
 use Rattle.vault_core.specs.declared.wish.Wish.TheVariants as wish
-use Rattle.stripe_bench.specs.declared.bench.Bench.{Bench}
+use Rattle.column_codec.specs.declared.bench.Bench.{Bench}
 use Rattle.vault.specs.declared.tasks.GetTask.{GetTask}
 use Rattle.vault.specs.declared.tasks.Task.TheVariants as task
 use Rattle.vault.specs.declared.desk.Desk.{Desk}
-use Rattle.vault.specs.declared.heard.Fetch.{Fetch}
 use Rattle.vault_open.specs.Devices.{Devices}
-use Rattle.stripe_bench.specs.Blocks.{blocks_in}
+use Rattle.column_codec.specs.PresentBlocks.{present_blocks}
 use Rattle.vault.specs.Heard.{fetched_entries}
 use Rattle.vault.specs.Orders.{Between, GoesOn, OpensFrom, fetches_left, works_left}
 use Rattle.vault.specs.Desks.{DeskStands, DeskMakesBegin}
-use Rattle.stripe_bench.specs.Bench.{IsBench, bench_object}
+use Rattle.column_codec.specs.Bench.{bench_object}
+use Rattle.stripe_bench.specs.Bench.{IsBench}
 use Rattle.vault.specs.Tasks.{IsGet, IsTask}
 use Rattle.vault.specs.Benches.{IsBenchFor, IsNewGet, stripes_on}
 use Rattle.vault_core.proofs.Alike.{table-like}
@@ -99,9 +99,10 @@ module _ (v : Desk) (d : Devices) (w : State) (moment : ℕ) (stands : DeskStand
         bench = subst (IsBench s file.profile) (sym new.bench_is) is_bench;
         size = new.size_is ∙ ap (λ (b : Bench). b.keys.file.profile.size) (sym new.bench_is);
         job_is = new.job_is ∙ stands.core.next_job;
-        heard = ap (λ (fs : List Fetch). fetched_entries t.fetched.job fs (blocks_in t.fetched.blocks))
-            new.fetches;
-        fetches = ap length new.fetches ∙ sym no_blocks;
+        object_is = new.object_is ∙ for_file.id_is;
+        n_is = new.n_is ∙ same_n;
+        heard = λ i. fetched_entries t.fetched.job t.fetched.object t.fetched.n 0
+            (present_blocks t.fetched.blocks.size (new.present i) (new.symbols i));
         symbols = ap length new.symbols ∙ none ∙ ap (λ (k : ℕ). k * t.fetched.blocks.size) (sym no_blocks);
         phase = Between;
         order = subst (GoesOn s.n Between) (sym rest-is)
@@ -110,9 +111,9 @@ module _ (v : Desk) (d : Devices) (w : State) (moment : ℕ) (stands : DeskStand
         opened = 0;
         opens = subst (OpensFrom file.id total 0) (sym rest-is)
             (get-opens s file.id total total 0 (omega arith));
+        count = no_blocks ∙ (let e : 0 ≡ 0 * s.n + 0 = omega arith in e);
         bytes = new.bytes;
-        room_fetches = subst (λ (k : ℕ). vec_len t.fetched.fetches + k ≤ vec_capacity t.fetched.fetches)
-            count_same new.room_fetches;
+        few = omega (arith, new.few, count_same, no_blocks);
         room_present = subst (λ (k : ℕ). vec_len t.fetched.blocks.present + k ≤ vec_capacity
             t.fetched.blocks.present) count_same new.room_present;
         room_symbols = subst (λ (k : ℕ). vec_len

@@ -19,7 +19,7 @@ use Rattle.machine_defs.specs.Events.{AreBytes}
 use Rattle.machine_defs.specs.Jobs.{Kind, PutJob, GetJob, DropJob, AuditJob, RepairJob, UpgradeJob, aim_of, Job, job_of, with_job}
 use Rattle.machine_defs.specs.States.{State, setup_in}
 use Rattle.machine_defs.proofs.JobLists.{cond_true, cond_false, number_of, same_value}
-use Rattle.stripe_bench.specs.Bench.{bench_object}
+use Rattle.column_codec.specs.Bench.{bench_object}
 use Rattle.vault_core.specs.Carried.{CoreIs}
 use Rattle.vault_core.specs.Streams.{stripe_size, IsGivenLength, FitsGiven, FitsAim}
 use Rattle.vault_core.specs.View.{CoreJob, job_in, told_by, told_in, wanted_at, wanted_by, wants_in}

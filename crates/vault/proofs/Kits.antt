@@ -17,8 +17,9 @@ use Rattle.record_defs.specs.Table.{File}
 use Rattle.machine_defs.specs.Jobs.{Pinned}
 use Rattle.machine_defs.specs.Setups.{profiled, object_of}
 use Rattle.machine_defs.proofs.JobLists.{cond_true, cond_false}
-use Rattle.stripe_bench.specs.declared.bench.Bench.{Bench}
-use Rattle.stripe_bench.specs.Bench.{bench_object, turned, IsBench}
+use Rattle.column_codec.specs.declared.bench.Bench.{Bench}
+use Rattle.column_codec.specs.Bench.{bench_object, turned}
+use Rattle.stripe_bench.specs.Bench.{IsBench}
 use Rattle.vault.specs.declared.desk.Desk.{Desk}
 use Rattle.vault.specs.Benches.{is_sized, is_served, IsOfDesk, AreOfDesk, AreServed, IsSwapped}
 use Rattle.vault.specs.Orders.{Phase, Between, Fetching, Opened}

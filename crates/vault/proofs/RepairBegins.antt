@@ -12,7 +12,7 @@ use Rattle.machine_defs.specs.Jobs.{RepairJob, Pinned}
 use Rattle.machine_defs.specs.States.{State, setup_in}
 use Rattle.machine_defs.proofs.JobLists.{cond_true, cond_false}
 use Rattle.state_laws.proofs.Written.{setup-providers}
-use Rattle.stripe_bench.specs.declared.bench.Bench.{Bench}
+use Rattle.column_codec.specs.declared.bench.Bench.{Bench}
 use Rattle.stripe_bench.specs.Bench.{IsBench}
 use Rattle.vault_open.specs.Devices.{Devices}
 use Rattle.vault.specs.declared.desk.Desk.{Desk}

@@ -16,7 +16,7 @@ use Rattle.machine_defs.proofs.JobLists.{number_of}
 use Rattle.state_laws.proofs.Orders.{next-left}
 use Rattle.vault_core.specs.Carried.{ComesNext}
 use Rattle.vault_core.specs.declared.reply.Reply.TheVariants as reply
-use Rattle.stripe_bench.specs.declared.bench.Bench.{Bench}
+use Rattle.column_codec.specs.declared.bench.Bench.{Bench}
 use Rattle.stripe_bench.specs.declared.blocks.Blocks.{Blocks}
 use Rattle.vault.specs.declared.tasks.RepairTask.{RepairTask}
 use Rattle.vault.specs.declared.tasks.Running.{Running}
@@ -32,7 +32,8 @@ use Rattle.vault.specs.Orders.{Phase, Between, Fetching, Opened, GoesOn}
 use Rattle.vault.specs.Running.{place_in, heard_of, KeepsAll, IsFed, IsStopped}
 use Rattle.vault.specs.Desks.{DeskStands, Comes, DeskMakesStep}
 use Rattle.vault.specs.Storing.{stored_block, KeepsTask, IsStorer}
-use Rattle.stripe_bench.specs.Bench.{IsBench, turned}
+use Rattle.column_codec.specs.Bench.{turned}
+use Rattle.stripe_bench.specs.Bench.{IsBench}
 use Rattle.vault.specs.Tasks.{fetched_in, AreOfSetup, HasBenchFor, IsAtHand, IsInWork, IsRepair, IsTask, IsRunning}
 use Rattle.vault.proofs.Kits.{turned_is, bench_after, bench_count, first_count, own_after, serves_after, at_hand_after}
 use Rattle.vault.proofs.Allowed.{IsAllowed, next_allowed}

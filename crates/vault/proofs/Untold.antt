@@ -8,7 +8,6 @@ use Rattle.device_defs.specs.Told.{Goes}
 use Rattle.journal_core.specs.declared.append.Append.{Append}
 use Rattle.vault.specs.declared.flight.Moved.{Moved}
 use Rattle.vault.specs.declared.flight.Moved.TheVariants as moved
-use Rattle.vault.specs.declared.heard.Fetch.{Fetch}
 use Rattle.vault.specs.declared.question.Question.{Question}
 use Rattle.vault.specs.declared.tasks.Task.{Task}
 use Rattle.vault.specs.declared.tasks.Task.TheVariants as task
@@ -28,15 +27,15 @@ other_counts p q h =
     record { store_faults = h.store_faults; other_faults = h.other_faults; fetches = h.fetches }
 
 -- what a fetch left is a block
-pub taken : (t u : Task) (fetch : Fetch) (found : Bool) (block : List ℕ) → TakesFetch t u fetch found block
+pub taken : (t u : Task) (found : Bool) (block : List ℕ) → TakesFetch t u found block
     → IfSome (given_of found block) (IsBlock (fetch_size t))
-taken (task.Get t) (task.Get u) fetch found block takes =
+taken (task.Get t) (task.Get u) found block takes =
     if_given (IsBlock t.fetched.blocks.size) found block
     (record { size_is = takes.1.blocks.fits; symbols = takes.1.blocks.numbers })
-taken (task.Repair t) (task.Repair u) fetch found block takes =
+taken (task.Repair t) (task.Repair u) found block takes =
     if_given (IsBlock t.blocks.size) found block
     (record { size_is = takes.1.fits; symbols = takes.1.numbers })
-taken t u fetch found block takes = absurd takes
+taken t u found block takes = absurd takes
 
 -- an ask, of a symbol where it gave something
 pub asks_by : (is_told : Bool) (honest : (ℕ → Option (List ℕ)) → Option ℕ) (o : ℕ) (p q : Provider)

@@ -1,5 +1,5 @@
 -- The work on a stripe is a step of the machine.
-use Rattle.std.proofs.Common.{◌≡◌, ℕ, zero, suc, ◌+◌, ◌*◌, ◌≤◌, Vec, Global, cond, List, [], ◌∷◌, ◌++◌, length, drop, Some, None, Result, Ok, Err, refl, sym, ap, subst, ◌∙◌, arith, length-append}
+use Rattle.std.proofs.Common.{◌≡◌, ℕ, zero, suc, ◌+◌, ◌*◌, ◌^◌, ◌≤◌, Vec, Global, cond, List, [], ◌∷◌, ◌++◌, length, drop, Some, None, Result, Ok, Err, refl, sym, ap, subst, ◌∙◌, arith, length-append}
 use Rattle.std.specs.Prelude.{slice_get, slice_set, vec_len, vec_capacity}
 use Rattle.std.specs.List.{flat_map, range_with_len}
 use Rattle.std.proofs.lemmas.Grind.{flat_map-append}
@@ -31,21 +31,21 @@ use Rattle.vault.specs.declared.turn.Turn.{Turn}
 use Rattle.vault.specs.declared.turn.Turn.TheVariants as turn
 use Rattle.vault.specs.declared.desk.Desk.{Desk}
 use Rattle.vault_open.specs.Devices.{Devices}
-use Rattle.stripe_bench.specs.Blocks.{blocks_in}
-use Rattle.vault.specs.Heard.{fetched_entries}
+use Rattle.vault.specs.Heard.{entries_fetched}
 use Rattle.vault.specs.Opening.{work_blocks, OpensRows, LosesWork, TakesWork, KeepsHeard, WorksAs, CanWork}
 use Rattle.vault.specs.Orders.{Phase, Between, Fetching, Opened, GoesOn, fetches_left, works_left, is_fetch, is_work}
 use Rattle.vault.specs.Running.{place_in, heard_of, KeepsAll, IsFed, IsStopped}
 use Rattle.vault.specs.Desks.{DeskStands, Comes, DeskMakesStep}
-use Rattle.stripe_bench.specs.declared.bench.Bench.{Bench}
-use Rattle.stripe_bench.specs.Bench.{bench_object, turned, IsBench}
+use Rattle.column_codec.specs.declared.bench.Bench.{Bench}
+use Rattle.column_codec.specs.Bench.{bench_object, turned}
+use Rattle.stripe_bench.specs.Bench.{IsBench}
 use Rattle.vault.specs.Tasks.{AreOfSetup, HasBenchFor, IsAtHand, IsGet, IsRepair, IsTask, IsRunning, HasFetched}
 use Rattle.vault.proofs.OwnObjects.{worked-own}
 use Rattle.vault.proofs.Allowed.{IsAllowed, next_allowed}
 use Rattle.vault.proofs.Kits.{turned_is, bench_after, bench_count, first_count, own_after, serves_after}
 use Rattle.vault.proofs.Stops.{ends_by}
 use Rattle.vault.proofs.Ways.{actions_same, at_place, goes_on, hands_alike}
-use Rattle.vault.proofs.Worked.{all_fetched, order_opened, enough_present, enough_symbols, last_is}
+use Rattle.vault.proofs.Worked.{all_fetched, all_counted, order_opened, enough_present, enough_symbols, last_is}
 use Rattle.stripe_bench.proofs.Gifts.{worked_is, worked_other}
 use Rattle.hail_scrub.proofs.Machine.{handed_same}
 
@@ -254,10 +254,9 @@ module _ (w : State) (job : Job) (o s : ℕ) (next : next_action w job ≡ Some 
           size = ap (λ (f : Fetches). f.blocks.size) moved ∙ is.size
               ∙ sym (ap (λ (x : Object). x.profile.size) takes.2);
           job_is = ap (λ (f : Fetches). f.job) moved ∙ is.job_is;
-          heard = ap (λ (f : Fetches). fetched_entries f.job f.fetches.items (blocks_in f.blocks)) moved
-              ∙ is.heard;
-          fetches = subst (λ (f : Fetches). length f.fetches.items ≡ length f.blocks.present.items)
-              (sym moved) is.fetches;
+          object_is = ap (λ (f : Fetches). f.object) moved ∙ is.object_is;
+          n_is = ap (λ (f : Fetches). f.n) moved ∙ is.n_is;
+          heard = ap entries_fetched moved ∙ is.heard;
           symbols = subst (λ (f : Fetches). length f.blocks.symbols.items
               ≡ length f.blocks.present.items * f.blocks.size) (sym moved) is.symbols;
           phase = Opened o s;
@@ -265,14 +264,18 @@ module _ (w : State) (job : Job) (o s : ℕ) (next : next_action w job ≡ Some 
           in_work = rows_is ∙ worked_is o s rows job.given;
           opened = is.opened + 1;
           opens = is.opens.2;
+          count =
+              ap (λ (f : Fetches). length f.blocks.present.items) moved ∙ is.count
+              ∙ ap (λ (m : ℕ). is.opened * st.n + m) (all_counted st.n o s tail is.phase is.order)
+              ∙ (let e : is.opened * st.n + st.n ≡ (is.opened + 1) * st.n + 0 = omega arith in e);
           bytes =
               takes.3 ∙ ap (λ (l : List ℕ). t.bytes.items ++ bytes_of_symbols l) rows_is
               ∙ bytes_after is.file.id is.opened rows t.bytes.items job.given is.bytes
               ∙ (λ i. flat_map (λ t. bytes_of_symbols
               (symbols_given (Worked ((sym is.opens.0) i) ((sym is.opens.1) i) rows ∷ job.given)
               is.file.id t)) (upto (is.opened + 1)));
-          room_fetches = subst (λ (f : Fetches). vec_len f.fetches + fetches_left tail ≤ vec_capacity
-              f.fetches) (sym moved) (omega (arith, is.room_fetches, fetches_are));
+          few = subst (λ (f : Fetches). length f.blocks.present.items + fetches_left tail ≤ 2 ^ 32)
+              (sym moved) (omega (arith, is.few, fetches_are));
           room_present = subst (λ (f : Fetches). vec_len f.blocks.present + fetches_left tail ≤ vec_capacity
               f.blocks.present) (sym moved) (omega (arith, is.room_present, fetches_are));
           room_symbols = subst (λ (f : Fetches). vec_len f.blocks.symbols + fetches_left
@@ -354,8 +357,7 @@ module _ (w : State) (job : Job) (o s : ℕ) (next : next_action w job ≡ Some 
 
 -- what a job heard is as before
 heard_same : (t u : Task) → KeepsHeard t u → heard_of u ≡ heard_of t
-heard_same (task.Get t) (task.Get u) keeps =
-    ap (λ (f : Fetches). fetched_entries f.job f.fetches.items (blocks_in f.blocks)) keeps
+heard_same (task.Get t) (task.Get u) keeps = ap entries_fetched keeps
 heard_same (task.Repair t) (task.Repair u) keeps = refl
 heard_same t u keeps = absurd keeps
 

@@ -11,7 +11,7 @@ use Rattle.stripe_bench.specs.declared.blocks.Blocks.{Blocks}
 use Rattle.stripe_bench.specs.Blocks.{last_blocks}
 use Rattle.vault.specs.Orders.{Phase, Between, Fetching, Opened, GoesOn, OpensFrom}
 use Rattle.stripe_bench.proofs.Gifts.{gifts_give}
-use Rattle.vault.specs.Tasks.{HasFetched, IsInWork}
+use Rattle.vault.specs.Tasks.{HasFetched, IsInWork, fetched_in}
 
 -- ---- the last blocks
 
@@ -39,6 +39,13 @@ module _ (n o s : ℕ) (tail : List Action) (b : Blocks) (rows : List ℕ) (give
   order_opened (Fetching p t c) order = subst (λ (m : ℕ). GoesOn n (Opened m s) tail) (sym order.1)
       (subst (λ (m : ℕ). GoesOn n (Opened p m) tail) (sym order.2) order.3)
 
+-- each provider's block counts then
+pub all_counted : (n o s : ℕ) (tail : List Action) (phase : Phase) → GoesOn n phase (Work o s ∷ tail) →
+    fetched_in phase ≡ n
+all_counted n o s tail Between order = absurd order
+all_counted n o s tail (Opened p t) order = absurd order
+all_counted n o s tail (Fetching p t c) order = order.0
+
 module _ (n o s : ℕ) (b : Blocks) (given : List Given) (has : HasFetched o s n b given) where
   -- there is a mark for each provider fetched from
   pub enough_present : n ≤ length b.present.items
@@ -63,13 +70,14 @@ module _ (n o s : ℕ) (b : Blocks) (given : List Given) (has : HasFetched o s n
 
 -- ---- the only object of a get
 
--- the stripe that is fetched is worked on, so that it is one of the object whose stripes are opened
+-- the stripe that is fetched is worked on, so that it is the next one of the object whose stripes are opened
 pub own_object : (n : ℕ) (rest : List Action) (id total opened : ℕ) (o s c : ℕ) →
-    GoesOn n (Fetching o s c) rest → OpensFrom id total opened rest → o ≡ id
+    GoesOn n (Fetching o s c) rest → OpensFrom id total opened rest → (o ≡ id) × (s ≡ opened)
 own_object n [] id total opened o s c order opens = absurd order
 own_object n (Fetch j p t ∷ rest) id total opened o s c order opens =
     own_object n rest id total opened o s (c + 1) order.4 opens
-own_object n (Work p t ∷ rest) id total opened o s c order opens = sym order.1 ∙ opens.0
+own_object n (Work p t ∷ rest) id total opened o s c order opens =
+    (sym order.1 ∙ opens.0, sym order.2 ∙ opens.1)
 own_object n (Store j p t ∷ rest) id total opened o s c order opens = absurd order
 own_object n (Ask j p t ∷ rest) id total opened o s c order opens = absurd order
 own_object n (Remove j p ∷ rest) id total opened o s c order opens = absurd order

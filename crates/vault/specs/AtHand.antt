@@ -19,7 +19,7 @@ use Rattle.column_defs.specs.Objects.{stripe_symbols, symbols_in}
 use Rattle.record_defs.specs.Records.{Setup}
 use Rattle.machine_defs.specs.Jobs.{Kind, PutJob, Job, job_of}
 use Rattle.machine_defs.specs.Setups.{put_stripes}
-use Rattle.stripe_bench.specs.Bench.{bench_object}
+use Rattle.column_codec.specs.Bench.{bench_object}
 use Rattle.vault_core.specs.View.{CoreJob, CoreView, job_in, told_in, HasNoStream}
 use Rattle.vault.specs.declared.tasks.Running.{Running}
 use Rattle.vault.specs.declared.tasks.Task.{Task}

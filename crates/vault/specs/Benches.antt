@@ -1,5 +1,5 @@
 -- What a job begins with, and the benches of a repair.
-use Rattle.std.specs.Prelude.{◌≡◌, ◌⊎◌, ℕ, ◌+◌, ◌*◌, ◌≤◌, ◌==◌, Bool, true, false, nat_le, List, [], ◌∷◌, replicate, Option, None, Some, slice_get, slice_set, vec_len, vec_capacity}
+use Rattle.std.specs.Prelude.{◌≡◌, ◌⊎◌, ℕ, ◌+◌, ◌*◌, ◌^◌, ◌≤◌, ◌==◌, Bool, true, false, nat_le, List, [], ◌∷◌, replicate, Option, None, Some, slice_get, slice_set, vec_len, vec_capacity}
 use Rattle.std.specs.List.{list_any}
 use Rattle.code_defs.specs.Profiles.{profile_of}
 use Rattle.code_points.specs.Profile.{plain_profile}
@@ -11,8 +11,8 @@ use Rattle.vault.specs.declared.tasks.GetTask.{GetTask}
 use Rattle.vault.specs.declared.tasks.RepairTask.{RepairTask}
 use Rattle.vault.specs.declared.tasks.Task.{Task}
 use Rattle.vault.specs.declared.tasks.Task.TheVariants as task
-use Rattle.stripe_bench.specs.Bench.{bench_object}
-use Rattle.stripe_bench.specs.declared.bench.Bench.{Bench}
+use Rattle.column_codec.specs.Bench.{bench_object}
+use Rattle.column_codec.specs.declared.bench.Bench.{Bench}
 use Rattle.vault.specs.declared.desk.Desk.{Desk}
 
 -- a bench of a desk's master key and shape
@@ -98,15 +98,15 @@ stripes_on bench = stripes (bench_object bench) bench.keys.file.length
 -- a get that has fetched nothing yet, with room for all
 pub record IsNewGet (job : ℕ) (bench : Bench) (t : GetTask) : Type 0 where
   pub job_is : t.fetched.job ≡ job
+  pub object_is : t.fetched.object ≡ bench.keys.file.id
+  pub n_is : t.fetched.n ≡ bench.keys.file.shape.n
   pub bench_is : t.bench ≡ bench
   pub length_is : t.length ≡ bench.keys.file.length
   pub size_is : t.fetched.blocks.size ≡ bench.keys.file.profile.size
-  pub fetches : t.fetched.fetches.items ≡ []
   pub present : t.fetched.blocks.present.items ≡ []
   pub symbols : t.fetched.blocks.symbols.items ≡ []
   pub bytes : t.bytes.items ≡ []
-  pub room_fetches : vec_len t.fetched.fetches
-      + stripes_on bench * bench.keys.file.shape.n ≤ vec_capacity t.fetched.fetches
+  pub few : stripes_on bench * bench.keys.file.shape.n ≤ 2 ^ 32
   pub room_present : vec_len t.fetched.blocks.present
       + stripes_on bench * bench.keys.file.shape.n ≤ vec_capacity t.fetched.blocks.present
   pub room_symbols : vec_len t.fetched.blocks.symbols

@@ -1,34 +1,32 @@
 -- What a fetch does to what a job works with.
 --
---   GrowsFetches old new fetch found block == one fetch more was made, which gave the block where it was
---                                             found
---   TakesFetch old new fetch found block   == the same of what a job works with
---   HasRoomForFetch f, HasRoomFor task     == a job can make one more fetch without memory
-use Rattle.std.specs.Prelude.{◌≡◌, ℕ, ◌+◌, ◌≤◌, Bool, List, [], ◌∷◌, ◌++◌, vec_len, vec_capacity}
-use Rattle.vault.specs.declared.heard.Fetch.{Fetch}
+--   GrowsFetches old new found block   == one fetch more was made, which gave the block where it was found
+--   TakesFetch old new found block     == the same of what a job works with
+--   HasRoomForFetch f, HasRoomFor task == a job can make one more fetch without memory
+use Rattle.std.specs.Prelude.{◌≡◌, ℕ, ◌+◌, ◌≤◌, ◌^◌, Bool, List, length}
 use Rattle.vault.specs.declared.heard.Fetches.{Fetches}
 use Rattle.vault.specs.declared.tasks.Task.{Task}
 use Rattle.vault.specs.declared.tasks.Task.TheVariants as task
 use Rattle.stripe_bench.specs.Blocks.{Grows, HasRoom}
 
 -- one fetch more was made
-pub record GrowsFetches (old new : Fetches) (fetch : Fetch) (found : Bool) (block : List ℕ) : Type 0 where
+pub record GrowsFetches (old new : Fetches) (found : Bool) (block : List ℕ) : Type 0 where
   pub job : new.job ≡ old.job
-  pub fetches : new.fetches.items ≡ old.fetches.items ++ fetch ∷ []
-  pub room : vec_capacity old.fetches ≤ vec_capacity new.fetches
+  pub object : new.object ≡ old.object
+  pub n : new.n ≡ old.n
   pub blocks : Grows old.blocks new.blocks found block
 
 -- a job made one fetch more
-abbrev pub TakesFetch : Task → Task → Fetch → Bool → List ℕ → Type 0
-TakesFetch (task.Get t) (task.Get u) fetch found block =
-    (u ≡ record t { fetched = u.fetched }) × GrowsFetches t.fetched u.fetched fetch found block
-TakesFetch (task.Repair t) (task.Repair u) fetch found block =
+abbrev pub TakesFetch : Task → Task → Bool → List ℕ → Type 0
+TakesFetch (task.Get t) (task.Get u) found block =
+    (u ≡ record t { fetched = u.fetched }) × GrowsFetches t.fetched u.fetched found block
+TakesFetch (task.Repair t) (task.Repair u) found block =
     (u ≡ record t { blocks = u.blocks }) × Grows t.blocks u.blocks found block
-TakesFetch old new fetch found block = ⊥
+TakesFetch old new found block = ⊥
 
 -- there is room for one more fetch
 pub record HasRoomForFetch (f : Fetches) : Type 0 where
-  pub fetches : vec_len f.fetches + 1 ≤ vec_capacity f.fetches
+  pub few : length f.blocks.present.items + 1 ≤ 2 ^ 32
   pub blocks : HasRoom f.blocks
 
 -- a job can make one more fetch without memory

@@ -1,26 +1,38 @@
 -- What a job heard, as entries of a report.
 --
---   fetched_entries job fetches blocks == an entry for each fetch, with what it gave
---   answered_entries job asks symbols  == an entry for each ask
---   entries_in parts                   == all that a job heard, in order
---   entry_heard heard                  == one of them
-use Rattle.std.specs.Prelude.{ℕ, List, [], ◌∷◌, Option}
+--   fetched_entry job object n place block    == the fetch at a place of a get from n providers, and what it
+--                                                gave
+--   fetched_entries job object n place blocks == an entry for each fetch from a place on
+--   entries_fetched fetches                   == an entry for each fetch of a get
+--   answered_entries job asks symbols         == an entry for each ask
+--   entries_in parts                          == all that a job heard, in order
+--   entry_heard heard                         == one of them
+use Rattle.std.specs.Prelude.{ℕ, ◌+◌, ◌/◌, ◌%◌, List, [], ◌∷◌, Option}
 use Rattle.std.specs.Option.{option_map}
 use Rattle.machine_defs.specs.Jobs.{Fetched, Answered}
 use Rattle.machine_defs.specs.Heard.{Entry}
 use Rattle.stripe_bench.specs.Blocks.{blocks_in}
-use Rattle.vault.specs.declared.heard.Fetch.{Fetch}
+use Rattle.vault.specs.declared.heard.Fetches.{Fetches}
 use Rattle.vault.specs.declared.heard.Ask.{Ask}
 use Rattle.vault.specs.declared.heard.Parts.{Parts}
 use Rattle.vault.specs.declared.heard.Parts.TheVariants as part
 use Rattle.vault.specs.declared.heard.Heard.{Heard}
 use Rattle.vault.specs.declared.heard.Heard.TheVariants as heard
 
--- an entry for each fetch, with what it gave
-abbrev pub fetched_entries : ℕ → List Fetch → List (Option (List ℕ)) → List Entry
-fetched_entries job (f ∷ fs) (block ∷ blocks) =
-    record { job = job; given = Fetched f.provider f.object f.stripe block } ∷ fetched_entries job fs blocks
-fetched_entries job fs blocks = []
+-- what the fetch at a place gave: a stripe has one from each of the n providers, in order
+abbrev pub fetched_entry : (job object n place : ℕ) → Option (List ℕ) → Entry
+fetched_entry job object n place block =
+    record { job = job; given = Fetched (place % n) object (place / n) block }
+
+-- an entry for each fetch from a place on, with what it gave
+abbrev pub fetched_entries : (job object n place : ℕ) → List (Option (List ℕ)) → List Entry
+fetched_entries job object n place [] = []
+fetched_entries job object n place (block ∷ blocks) =
+    fetched_entry job object n place block ∷ fetched_entries job object n (place + 1) blocks
+
+-- an entry for each fetch of a get, with what it gave
+abbrev pub entries_fetched : Fetches → List Entry
+entries_fetched f = fetched_entries f.job f.object f.n 0 (blocks_in f.blocks)
 
 -- an entry for each ask, with what it gave
 abbrev pub answered_entries : ℕ → List Ask → List (Option ℕ) → List Entry
@@ -32,7 +44,7 @@ answered_entries job asks symbols = []
 -- all that a job heard, in order
 abbrev pub entries_in : Parts → List Entry
 entries_in part.Nothing = []
-entries_in (part.Fetched f) = fetched_entries f.job f.fetches.items (blocks_in f.blocks)
+entries_in (part.Fetched f) = entries_fetched f
 entries_in (part.Answered a) = answered_entries a.job a.asks.items a.symbols.items
 
 -- one thing that a job heard

@@ -11,7 +11,8 @@ use Rattle.std.specs.Prelude.{◌≡◌, ℕ, ◌+◌, ◌*◌, ◌≤◌, List,
 use Rattle.column_defs.specs.Objects.{bytes_of_symbols, stripe_symbols}
 use Rattle.column_defs.specs.Opened.{SeenBlock, GivesSymbols, LosesRow}
 use Rattle.column_codec.specs.declared.opening.RowLost.{RowLost}
-use Rattle.stripe_bench.specs.Bench.{bench_object, turned, HasAllBlocks}
+use Rattle.column_codec.specs.Bench.{bench_object, turned}
+use Rattle.stripe_bench.specs.Bench.{HasAllBlocks}
 use Rattle.stripe_bench.specs.Blocks.{last_blocks, HasEmptied}
 use Rattle.vault.specs.declared.tasks.Task.{Task}
 use Rattle.vault.specs.declared.tasks.Task.TheVariants as task

@@ -26,9 +26,8 @@ use Rattle.vault.specs.declared.turn.Answer.{Answer}
 use Rattle.vault.specs.declared.turn.Turn.{Turn}
 use Rattle.vault.specs.declared.turn.Turn.TheVariants as turn
 use Rattle.vault.specs.declared.desk.Desk.{Desk}
-use Rattle.stripe_bench.specs.Blocks.{blocks_in}
 use Rattle.vault.specs.AtHand.{KeepsStreams}
-use Rattle.vault.specs.Heard.{fetched_entries, answered_entries}
+use Rattle.vault.specs.Heard.{entries_fetched, answered_entries}
 
 -- the place of the job of a number
 abbrev pub place_in : List Running → ℕ → Option ℕ
@@ -40,7 +39,7 @@ RunsIn c job = is_some (job_in c.jobs job) ≡ true
 
 -- what a job heard
 abbrev pub heard_of : Task → List Entry
-heard_of (task.Get t) = fetched_entries t.fetched.job t.fetched.fetches.items (blocks_in t.fetched.blocks)
+heard_of (task.Get t) = entries_fetched t.fetched
 heard_of (task.Audit t) = answered_entries t.heard.job t.heard.asks.items t.heard.symbols.items
 heard_of t = []
 

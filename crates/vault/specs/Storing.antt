@@ -10,7 +10,7 @@ use Rattle.column_defs.specs.Columns.{column_of_symbols}
 use Rattle.column_defs.specs.Objects.{symbols_in}
 use Rattle.vault.specs.declared.tasks.Task.{Task}
 use Rattle.vault.specs.declared.tasks.Task.TheVariants as task
-use Rattle.stripe_bench.specs.Bench.{bench_object, turned}
+use Rattle.column_codec.specs.Bench.{bench_object, turned}
 
 -- the block that a job stores
 abbrev pub stored_block : Task → ℕ → ℕ → ℕ → List ℕ

@@ -13,7 +13,7 @@
 --                                      == what a job of this kind works with
 --   IsTask s job rest task             == one of these
 --   AreRunning s running jobs          == the running jobs, in order, with what they work with
-use Rattle.std.specs.Prelude.{◌≡◌, ◌⊎◌, ℕ, ◌+◌, ◌*◌, ◌<◌, ◌≤◌, Bool, List, [], ◌∷◌, ◌++◌, length, replicate, Option, vec_len, vec_capacity}
+use Rattle.std.specs.Prelude.{◌≡◌, ◌⊎◌, ℕ, ◌+◌, ◌*◌, ◌^◌, ◌<◌, ◌≤◌, Bool, List, [], ◌∷◌, ◌++◌, length, replicate, Option, vec_len, vec_capacity}
 use Rattle.std.specs.List.{flat_map}
 use Rattle.std.specs.Option.{ForSome}
 use Rattle.algebra_laws.specs.Lists.{Each}
@@ -29,7 +29,7 @@ use Rattle.machine_defs.specs.Given.{symbols_given, pinned_profile}
 use Rattle.machine_defs.specs.Actions.{Action, actions_left}
 use Rattle.machine_defs.specs.Heard.{entries_of}
 use Rattle.stripe_bench.specs.declared.blocks.Blocks.{Blocks}
-use Rattle.stripe_bench.specs.declared.bench.Bench.{Bench}
+use Rattle.column_codec.specs.declared.bench.Bench.{Bench}
 use Rattle.vault.specs.declared.tasks.PutTask.{PutTask}
 use Rattle.vault.specs.declared.tasks.StreamTask.{StreamTask}
 use Rattle.vault.specs.declared.tasks.GetTask.{GetTask}
@@ -38,10 +38,10 @@ use Rattle.vault.specs.declared.tasks.RepairTask.{RepairTask}
 use Rattle.vault.specs.declared.tasks.Task.{Task}
 use Rattle.vault.specs.declared.tasks.Task.TheVariants as task
 use Rattle.vault.specs.declared.tasks.Running.{Running}
-use Rattle.stripe_bench.specs.Bench.{bench_object, IsBench}
-use Rattle.stripe_bench.specs.Blocks.{blocks_in}
+use Rattle.column_codec.specs.Bench.{bench_object}
+use Rattle.stripe_bench.specs.Bench.{IsBench}
 use Rattle.stripe_bench.specs.Gifts.{fetched_gifts}
-use Rattle.vault.specs.Heard.{fetched_entries, answered_entries}
+use Rattle.vault.specs.Heard.{entries_fetched, answered_entries}
 use Rattle.vault.specs.Orders.{Phase, Between, Fetching, Opened, GoesOn, OpensFrom, fetches_left, works_left, asks_left}
 use Rattle.vault.specs.Rounds.{Round, rounds_in, JudgesEach, AsksOn}
 
@@ -118,9 +118,9 @@ pub record IsGet (s : Setup) (t : GetTask) (job : Job) (rest : List Action) : Ty
   pub bench : IsBench s file.profile t.bench
   pub size : t.fetched.blocks.size ≡ t.bench.keys.file.profile.size
   pub job_is : t.fetched.job ≡ job.number
-  pub heard : fetched_entries t.fetched.job t.fetched.fetches.items (blocks_in t.fetched.blocks)
-      ≡ entries_of job.number job.given
-  pub fetches : length t.fetched.fetches.items ≡ length t.fetched.blocks.present.items
+  pub object_is : t.fetched.object ≡ file.id
+  pub n_is : t.fetched.n ≡ s.n
+  pub heard : entries_fetched t.fetched ≡ entries_of job.number job.given
   pub symbols : length t.fetched.blocks.symbols.items
       ≡ length t.fetched.blocks.present.items * t.fetched.blocks.size
   pub phase : Phase
@@ -128,9 +128,10 @@ pub record IsGet (s : Setup) (t : GetTask) (job : Job) (rest : List Action) : Ty
   pub in_work : IsInWork phase t.fetched.blocks t.bench.rows.items job.given
   pub opened : ℕ
   pub opens : OpensFrom file.id (pinned_stripes s file) opened rest
+  pub count : length t.fetched.blocks.present.items ≡ opened * s.n + fetched_in phase
   pub bytes : t.bytes.items ≡ flat_map (λ stripe. bytes_of_symbols (symbols_given job.given file.id stripe))
       (upto opened)
-  pub room_fetches : vec_len t.fetched.fetches + fetches_left rest ≤ vec_capacity t.fetched.fetches
+  pub few : length t.fetched.blocks.present.items + fetches_left rest ≤ 2 ^ 32
   pub room_present : vec_len t.fetched.blocks.present
       + fetches_left rest ≤ vec_capacity t.fetched.blocks.present
   pub room_symbols : vec_len t.fetched.blocks.symbols

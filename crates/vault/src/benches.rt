@@ -8,9 +8,9 @@ ghost use Rattle.vault.specs.Benches.{IsBenchFor, AreOfDesk, AreServed, is_sized
 
 use crate::desk::Desk;
 use code_points::{Profile, find_profile};
+use column_codec::Bench;
 use file_layout::FileShape;
 use std::alloc::Global;
-use stripe_bench::Bench;
 use vault_core::BeginFault;
 
 /// The largest length of a file, in bytes.

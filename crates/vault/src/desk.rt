@@ -1,10 +1,10 @@
 use crate::flight::Flight;
 use crate::tasks::Running;
+use column_codec::Codec;
 use hail_field::Shape;
 use key_schedule::Master;
 use record_codec::Setup;
 use std::alloc::Global;
-use stripe_bench::Codec;
 use vault_core::Core;
 
 /// What a vault works with: the core, where the journal's area begins in bytes from the start of the disk, the

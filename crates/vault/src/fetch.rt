@@ -16,7 +16,7 @@ ghost use Rattle.vault.specs.Fetching.{TakesFetch, HasRoomFor, GrowsFetches, Has
 ghost use Rattle.vault.specs.declared.turn.Turn.TheVariants as turn;
 
 use crate::desk::Desk;
-use crate::heard::{Fetch, Fetches};
+use crate::heard::Fetches;
 use crate::tasks::Task;
 use crate::turn::Turn;
 use provider_model::Provider;
@@ -24,15 +24,14 @@ use vault_core::Reply;
 
 impl Fetches {
     /// Makes one fetch more, for which there is room.
-    fn fetch<P: Provider>(&mut self, from: &mut P, fetch: Fetch)
+    fn fetch<P: Provider>(&mut self, from: &mut P, object: u64, stripe: u32)
         requires { HasRoomForFetch self.old }
-        ensures fetched { (found : Bool) × (block : List ℕ) × GrowsFetches self.old self.new fetch found block
-            × FetchesOf self.old.blocks.size fetch.object fetch.stripe (provider_seen P.Provider from.old)
+        ensures fetched { (found : Bool) × (block : List ℕ) × GrowsFetches self.old self.new found block
+            × FetchesOf self.old.blocks.size object stripe (provider_seen P.Provider from.old)
             (given_of found block) (provider_seen P.Provider from.new) }
         ensures called { P.calls from.new ≡ one_more (P.calls from.old) }
     {
-        self.blocks.fetch(from, fetch.object, fetch.stripe);
-        self.fetches.push_reserved(fetch);
+        self.blocks.fetch(from, object, stripe);
     }
 }
 
@@ -56,16 +55,16 @@ impl Task {
     }
 
     /// Makes a fetch of a get or a repair.
-    fn fetch<P: Provider>(&mut self, from: &mut P, fetch: Fetch)
+    fn fetch<P: Provider>(&mut self, from: &mut P, object: u64, stripe: u32)
         requires { HasRoomFor self.old }
-        ensures fetched { (found : Bool) × (block : List ℕ) × TakesFetch self.old self.new fetch found block
-            × FetchesOf (fetch_size self.old) fetch.object fetch.stripe (provider_seen P.Provider from.old)
+        ensures fetched { (found : Bool) × (block : List ℕ) × TakesFetch self.old self.new found block
+            × FetchesOf (fetch_size self.old) object stripe (provider_seen P.Provider from.old)
             (given_of found block) (provider_seen P.Provider from.new) }
         ensures called { P.calls from.new ≡ one_more (P.calls from.old) }
     {
         match self {
-            Task::Get(get) => get.fetched.fetch(from, fetch),
-            Task::Repair(repair) => repair.blocks.fetch(from, fetch.object, fetch.stripe),
+            Task::Get(get) => get.fetched.fetch(from, object, stripe),
+            Task::Repair(repair) => repair.blocks.fetch(from, object, stripe),
             Task::Put(_) | Task::Stream(_) | Task::Drop | Task::Audit(_) | Task::Upgrade => {
                 unreachable!()
             }
@@ -101,14 +100,9 @@ impl Desk {
         let profile = self.profile_in(job, object);
         let place = self.place_of(job);
         let index = provider as usize;
-        let fetch = Fetch {
-            provider,
-            object,
-            stripe,
-        };
         let task = &mut self.jobs[place].task;
         task.turn_to(provider, profile);
-        task.fetch(&mut providers[index], fetch);
+        task.fetch(&mut providers[index], object, stripe);
         self.core.feed(job, Reply::Done);
         Turn::More
     }

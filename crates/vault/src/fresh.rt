@@ -5,9 +5,9 @@ ghost use Rattle.vault_open.specs.declared.fault.StartFault.TheVariants as start
 ghost use Rattle.vault.specs.Fresh.{IsFreshDesk};
 
 use crate::desk::Desk;
+use column_codec::Codec;
 use hail_field::Shape;
 use std::alloc::Global;
-use stripe_bench::Codec;
 use vault_core::Core;
 use vault_open::{StartFault, Store};
 

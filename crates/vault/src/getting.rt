@@ -4,9 +4,10 @@ ghost use Rattle.vault.specs.declared.tasks.GetTask.{GetTask as GetTaskValue};
 
 use crate::heard::Fetches;
 use crate::tasks::GetTask;
+use column_codec::Bench;
 use hail_field::Memory;
 use std::alloc::Global;
-use stripe_bench::{Bench, Blocks};
+use stripe_bench::Blocks;
 
 /// No fetch and no byte yet, with room for all of the bench's file.
 fn room_for(alloc: Global, job: u32, bench: &Bench) -> Result<(Fetches, Vec<u8>), Memory>
@@ -21,12 +22,12 @@ fn room_for(alloc: Global, job: u32, bench: &Bench) -> Result<(Fetches, Vec<u8>)
     let stripes = file.stripes() as usize;
     let count = stripes * usize::from(file.shape.n);
     let stripe = 16 * (usize::from(file.shape.l) * file.profile.keep as usize);
-    let fetches = Vec::with_capacity(alloc, count)?;
     let blocks = Blocks::with_room(alloc, count, file.profile.size as usize)?;
     let bytes = Vec::with_capacity(alloc, stripes * stripe)?;
     let fetched = Fetches {
         job,
-        fetches,
+        object: file.id,
+        n: file.shape.n,
         blocks,
     };
     Ok((fetched, bytes))

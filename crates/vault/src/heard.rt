@@ -1,3 +1,5 @@
+ghost use Rattle.std.specs.Prelude.{◌≤◌, ◌^◌, length};
+
 use hail_field::Symbol;
 use std::marker::Model;
 use stripe_bench::Blocks;
@@ -23,14 +25,6 @@ pub enum Heard<'a> {
     },
 }
 
-/// Which block a fetch was for.
-#[derive(Clone, Copy)]
-pub struct Fetch {
-    pub provider: u32,
-    pub object: u64,
-    pub stripe: u32,
-}
-
 /// Which answer an ask was for.
 #[derive(Clone, Copy)]
 pub struct Ask {
@@ -39,12 +33,16 @@ pub struct Ask {
     pub round: u32,
 }
 
-/// The fetches of a get, in order, and what they gave.
+/// What the fetches of a get gave, which are of one object: stripe by stripe, one from each of the `n`
+/// providers in order.
 #[derive(Drop)]
 pub struct Fetches {
     pub job: u32,
-    pub fetches: Vec<Fetch>,
+    pub object: u64,
+    pub n: u8,
     pub blocks: Blocks,
+    pub ghost some: { 1 ≤ n },
+    pub ghost few: { length blocks.present.items ≤ 2 ^ 32 },
 }
 
 /// The asks of an audit, in order, and what they gave.

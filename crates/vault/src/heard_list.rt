@@ -1,7 +1,6 @@
 ghost use Rattle.std.specs.Prelude.{◌≡◌, length, slice_get};
 ghost use Rattle.std.specs.Option.{option_map};
-ghost use Rattle.stripe_bench.specs.Blocks.{blocks_in};
-ghost use Rattle.vault.specs.Heard.{fetched_entries, answered_entries, entry_heard};
+ghost use Rattle.vault.specs.Heard.{entries_fetched, answered_entries, entry_heard};
 
 use crate::heard::{Answers, Fetches, Heard, HeardList, Parts};
 
@@ -15,25 +14,22 @@ fn item_at<T: Copy>(items: &[T], place: usize) -> Option<T>
 impl Fetches {
     /// How many fetches were made.
     fn count(&self) -> usize
-        ensures { result ≡ length (fetched_entries self.now.job self.now.fetches.items
-            (blocks_in self.now.blocks)) }
+        ensures { result ≡ length (entries_fetched self.now) }
     {
-        self.fetches.len().min(self.blocks.present.len())
+        self.blocks.present.len()
     }
 
     /// What the fetch at a place gave.
     fn at(&self, place: usize) -> Option<Heard<'_>>
-        ensures { option_map entry_heard result
-            ≡ slice_get (fetched_entries self.now.job self.now.fetches.items (blocks_in self.now.blocks))
-            place }
+        ensures { option_map entry_heard result ≡ slice_get (entries_fetched self.now) place }
     {
-        let fetch = item_at(&self.fetches, place)?;
         let block = self.blocks.at(place)?;
+        let n = usize::from(self.n);
         Some(Heard::Fetched {
             job: self.job,
-            provider: fetch.provider,
-            object: fetch.object,
-            stripe: fetch.stripe,
+            provider: (place % n) as u32,
+            object: self.object,
+            stripe: (place / n) as u32,
             block,
         })
     }

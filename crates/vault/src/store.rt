@@ -11,7 +11,7 @@ ghost use Rattle.stripe_bench.specs.Calls.{sight, CalledOnce};
 ghost use Rattle.vault.specs.AtHand.{KeepsStreams};
 ghost use Rattle.vault.specs.Desks.{DeskStands, IsAtWork, Comes, DeskMakesStep};
 ghost use Rattle.vault.specs.Outcomes.{IfEnded, IsNoAction, HasPaddedCounts};
-ghost use Rattle.stripe_bench.specs.Bench.{turned};
+ghost use Rattle.column_codec.specs.Bench.{turned};
 ghost use Rattle.vault.specs.Storing.{stored_block, KeepsTask, IsStorer};
 ghost use Rattle.vault.specs.declared.turn.Turn.TheVariants as turn;
 
@@ -19,6 +19,7 @@ use crate::desk::Desk;
 use crate::tasks::{PutTask, Task};
 use crate::turn::{Answer, Turn};
 use provider_model::{Provider, StoreFault};
+use stripe_bench::store_stripe;
 use vault_core::Reply;
 
 impl PutTask {
@@ -26,8 +27,8 @@ impl PutTask {
     ghost use Rattle.device_defs.specs.Faults.{one_more};
     ghost use Rattle.column_defs.specs.Columns.{column_of_symbols};
     ghost use Rattle.column_defs.specs.Objects.{symbols_in};
-    ghost use Rattle.stripe_bench.specs.Bench.{turned};
-    ghost use Rattle.stripe_bench.specs.Bench.{bench_object};
+    ghost use Rattle.column_codec.specs.Bench.{turned};
+    ghost use Rattle.column_codec.specs.Bench.{bench_object};
 
     /// Takes the symbols of a stripe out of the bytes of the file, once for all its providers.
     fn gather(&mut self, stripe: u32)
@@ -61,7 +62,7 @@ impl PutTask {
         ensures bytes { self.new.bytes ≡ self.old.bytes }
     {
         self.gather(stripe);
-        self.bench.store(to, provider, object, stripe)
+        store_stripe(&mut self.bench, to, provider, object, stripe)
     }
 }
 
@@ -82,8 +83,8 @@ impl Task {
     {
         match self {
             Task::Put(put) => put.store(to, provider, object, stripe),
-            Task::Stream(stream) => stream.bench.store(to, provider, object, stripe),
-            Task::Repair(repair) => repair.bench.store(to, provider, object, stripe),
+            Task::Stream(stream) => store_stripe(&mut stream.bench, to, provider, object, stripe),
+            Task::Repair(repair) => store_stripe(&mut repair.bench, to, provider, object, stripe),
             Task::Get(_) | Task::Drop | Task::Audit(_) | Task::Upgrade => unreachable!(),
         }
     }

@@ -7,7 +7,7 @@ ghost use Rattle.machine_defs.specs.Jobs.{PutJob, Job, job_of};
 ghost use Rattle.machine_defs.specs.States.{State, ended};
 ghost use Rattle.record_codec.specs.Entries.{with_master};
 ghost use Rattle.record_defs.specs.Records.{largest_file};
-ghost use Rattle.stripe_bench.specs.Bench.{bench_object};
+ghost use Rattle.column_codec.specs.Bench.{bench_object};
 ghost use Rattle.vault_core.specs.declared.wish.BeginFault.TheVariants as fault;
 ghost use Rattle.vault_core.specs.Coming.{core_left};
 ghost use Rattle.vault_core.specs.Streams.{stripe_size};
@@ -80,7 +80,7 @@ impl Task {
 impl StreamTask {
     ghost use Rattle.std.specs.Prelude.{◌≡◌, ◌*◌, Some};
     ghost use Rattle.column_defs.specs.Objects.{stripe_symbols, symbols_in};
-    ghost use Rattle.stripe_bench.specs.Bench.{bench_object};
+    ghost use Rattle.column_codec.specs.Bench.{bench_object};
 
     /// Takes a stripe out of a piece that begins with it, and says how many bytes a stripe has.
     fn take(&mut self, piece: &[u8], stripe: u32) -> usize

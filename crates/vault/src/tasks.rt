@@ -4,9 +4,10 @@ ghost use Rattle.column_defs.specs.Objects.{symbols_in};
 ghost use Rattle.file_layout.specs.Files.{shaped_object};
 
 use crate::heard::{Answers, Fetches};
+use column_codec::Bench;
 use record_codec::Counts;
 use stream_model::Bytes;
-use stripe_bench::{Bench, Blocks};
+use stripe_bench::Blocks;
 
 /// What a put works with: the bytes of its file, and the stripe whose symbols are at hand.
 #[derive(Drop)]

@@ -13,9 +13,8 @@ ghost use Rattle.vault.specs.declared.turn.Turn.TheVariants as turn;
 use crate::desk::Desk;
 use crate::tasks::{GetTask, RepairTask, Task};
 use crate::turn::{Answer, Turn};
-use column_codec::RowLost;
+use column_codec::{Codec, RowLost};
 use hail_field::Symbol;
-use stripe_bench::Codec;
 use vault_core::Reply;
 
 /// Puts more bytes at the end, for which there is room.
@@ -50,7 +49,8 @@ impl GetTask {
         ensures { WorksAs (task.Get self.old) (task.Get self.new) object stripe result }
     {
         self.bench.turn_to(object);
-        self.fetched.blocks.open(&mut self.bench, codec, stripe)?;
+        let fetched = &self.fetched;
+        fetched.blocks.open(&mut self.bench, codec, stripe)?;
         push_symbols(&mut self.bytes, &self.bench.rows);
         Ok(())
     }

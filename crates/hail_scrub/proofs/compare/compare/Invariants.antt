@@ -1,5 +1,5 @@
 use Rattle.std.proofs.Common.{◌≡◌, ℕ, ◌<◌, ◌≤◌, length, get_or}
-use Rattle.stripe_bench.specs.Bench.{bench_object}
+use Rattle.column_codec.specs.Bench.{bench_object}
 use Rattle.stripe_bench.specs.Blocks.{blocks_in}
 use Rattle.hail_scrub.specs.Steps.{off_in}
 use Rattle.hail_scrub.proofs.compare.compare.Given as goal

@@ -22,8 +22,8 @@ index_mut-bench-requires g c =
     let l = bench_there p W c.args.spot (store_spot p W c.args.spot c.args.provider c.requires.here) in
     omega (arith, l)
 
-pub store-requires : goal.store-requires
-store-requires g c =
+pub store_stripe-requires : goal.store_stripe-requires
+store_stripe-requires g c =
     let p = c.args.self.now in
     let W = c.requires.whole in
     let spot = c.args.spot in
@@ -41,7 +41,8 @@ stop-requires g c =
     let within = bench_there p W spot (store_spot p W spot c.args.provider c.requires.here) in
     store_whole p W spot c.args.provider c.requires.here b0
     (slice_get_read p.benches.items _ spot.item.bench b0 refl within c.index_mut-bench.ensures.value)
-    c.store.new.self c.store.ensures.object (with_item p.benches spot.item.bench c.store.new.self) refl
+    c.store_stripe.new.bench c.store_stripe.ensures.object
+    (with_item p.benches spot.item.bench c.store_stripe.new.bench) refl
 
 pub stop-requires-in-Err-Memory : goal.stop-requires-in-Err-Memory
 stop-requires-in-Err-Memory g c =
@@ -52,7 +53,8 @@ stop-requires-in-Err-Memory g c =
     let within = bench_there p W spot (store_spot p W spot c.args.provider c.requires.here) in
     store_whole p W spot c.args.provider c.requires.here b0
     (slice_get_read p.benches.items _ spot.item.bench b0 refl within c.index_mut-bench.ensures.value)
-    c.store.new.self c.store.ensures.object (with_item p.benches spot.item.bench c.store.new.self) refl
+    c.store_stripe.new.bench c.store_stripe.ensures.object
+    (with_item p.benches spot.item.bench c.store_stripe.new.bench) refl
 
 pub returns-in-Ok-clause-whole : goal.returns-in-Ok-clause-whole
 returns-in-Ok-clause-whole g c =
@@ -66,7 +68,8 @@ returns-in-Ok-clause-whole g c =
     let after = c.stores_after-self in
     store_done_whole p W spot j c.requires.here b0
     (slice_get_read p.benches.items _ spot.item.bench b0 refl within c.index_mut-bench.ensures.value)
-    c.store.new.self c.store.ensures.object (with_item p.benches spot.item.bench c.store.new.self) refl
+    c.store_stripe.new.bench c.store_stripe.ensures.object
+    (with_item p.benches spot.item.bench c.store_stripe.new.bench) refl
     after.result (p.left - 1)
     (subst (λ (items : List Item). CursorIsAt p.providers items p.off after.result
     (stores_from p.providers (j + 1) p.off spot.item.file.id spot.stripe ++ past_stripe p.providers items spot))
@@ -87,18 +90,19 @@ returns-in-Ok-clause-step g c =
     let seen = provider_seen g.P.Provider in
     store_done p W spot j c.requires.here b0
     (slice_get_read p.benches.items _ spot.item.bench b0 refl within c.index_mut-bench.ensures.value)
-    c.store.new.self c.store.ensures.object (with_item p.benches spot.item.bench c.store.new.self) refl
+    c.store_stripe.new.bench c.store_stripe.ensures.object
+    (with_item p.benches spot.item.bench c.store_stripe.new.bench) refl
     after.result (p.left - 1)
     (subst (λ (items : List Item). CursorIsAt p.providers items p.off after.result
     (stores_from p.providers (j + 1) p.off spot.item.file.id spot.stripe ++ past_stripe p.providers items spot))
     c.deref.ensures.value after.ensures.at)
     after.ensures.behind (omega (arith, some))
-    c.store.ensures.rows _ _ _ _
+    c.store_stripe.ensures.rows _ _ _ _
     (slice_get-map seen c.args.providers.now j
     ∙ ap (option_map seen) (slice_get-get_or c.args.providers.now j c.index-providers-index.result
     (omega (arith, less, c.requires.there))))
-    (map-set seen c.args.providers.now j c.store.new.to)
-    (was_stored _ _ _ _ _ _ _ c.in-Ok.is c.store.ensures.stored)
+    (map-set seen c.args.providers.now j c.store_stripe.new.to)
+    (was_stored _ _ _ _ _ _ _ c.in-Ok.is c.store_stripe.ensures.stored)
 
 pub returns-in-Ok-clause-left : goal.returns-in-Ok-clause-left
 returns-in-Ok-clause-left g c =
@@ -108,13 +112,13 @@ returns-in-Ok-clause-left g c =
 
 pub returns-in-Ok-clause-others : goal.returns-in-Ok-clause-others
 returns-in-Ok-clause-others g c = λ k other.
-    get-set_other c.args.providers.now c.args.provider k c.store.new.to other
+    get-set_other c.args.providers.now c.args.provider k c.store_stripe.new.to other
 
 pub returns-in-Ok-clause-called : goal.returns-in-Ok-clause-called
 returns-in-Ok-clause-called g c =
     let less = store_within c.args.self.now c.requires.whole c.args.spot c.args.provider c.requires.here in
     called_at g.P.Provider.calls c.args.providers.now c.args.provider c.index-providers-index.result
-    c.store.new.to (omega (arith, less, c.requires.there)) c.store.ensures.called
+    c.store_stripe.new.to (omega (arith, less, c.requires.there)) c.store_stripe.ensures.called
 
 pub returns-in-Err-Failed-clause-step : goal.returns-in-Err-Failed-clause-step
 returns-in-Err-Failed-clause-step g c =
@@ -128,23 +132,23 @@ returns-in-Err-Failed-clause-step g c =
     c.index_mut-bench.ensures.value in
     let seen = provider_seen g.P.Provider in
     subst (λ t. MakesNext (scrub_view p) (map seen c.args.providers.now) t (scrub_view c.stop.new.self)
-    (map seen (slice_set c.args.providers.now j c.store.new.to))) (sym c.stop.ensures.answer)
+    (map seen (slice_set c.args.providers.now j c.store_stripe.new.to))) (sym c.stop.ensures.answer)
     (store_fails p W c.args.spot j c.requires.here b0 there _ _ _ _ _ c.stop.ensures.over
     (slice_get-map seen c.args.providers.now j
     ∙ ap (option_map seen) (slice_get-get_or c.args.providers.now j c.index-providers-index.result
     (omega (arith, less, c.requires.there))))
-    (map-set seen c.args.providers.now j c.store.new.to)
-    (was_failed _ _ _ _ _ _ _ c.in-Err-Failed.is c.in-Err-Failed.field-0-is c.store.ensures.stored))
+    (map-set seen c.args.providers.now j c.store_stripe.new.to)
+    (was_failed _ _ _ _ _ _ _ c.in-Err-Failed.is c.in-Err-Failed.field-0-is c.store_stripe.ensures.stored))
 
 pub returns-in-Err-Failed-clause-others : goal.returns-in-Err-Failed-clause-others
 returns-in-Err-Failed-clause-others g c = λ k other.
-    get-set_other c.args.providers.now c.args.provider k c.store.new.to other
+    get-set_other c.args.providers.now c.args.provider k c.store_stripe.new.to other
 
 pub returns-in-Err-Failed-clause-called : goal.returns-in-Err-Failed-clause-called
 returns-in-Err-Failed-clause-called g c =
     let less = store_within c.args.self.now c.requires.whole c.args.spot c.args.provider c.requires.here in
     called_at g.P.Provider.calls c.args.providers.now c.args.provider c.index-providers-index.result
-    c.store.new.to (omega (arith, less, c.requires.there)) c.store.ensures.called
+    c.store_stripe.new.to (omega (arith, less, c.requires.there)) c.store_stripe.ensures.called
 
 pub returns-in-Err-Memory-clause-step : goal.returns-in-Err-Memory-clause-step
 returns-in-Err-Memory-clause-step g c =
@@ -159,20 +163,20 @@ returns-in-Err-Memory-clause-step g c =
     let seen = provider_seen g.P.Provider in
     subst (λ t. MakesNext (scrub_view p) (map seen c.args.providers.now) t
     (scrub_view c.stop-in-Err-Memory.new.self)
-    (map seen (slice_set c.args.providers.now j c.store.new.to))) (sym c.stop-in-Err-Memory.ensures.answer)
+    (map seen (slice_set c.args.providers.now j c.store_stripe.new.to))) (sym c.stop-in-Err-Memory.ensures.answer)
     (store_finds_none p W c.args.spot j c.requires.here b0 there _ _ _ _ _ c.stop-in-Err-Memory.ensures.over
     (slice_get-map seen c.args.providers.now j
     ∙ ap (option_map seen) (slice_get-get_or c.args.providers.now j c.index-providers-index.result
     (omega (arith, less, c.requires.there))))
-    (map-set seen c.args.providers.now j c.store.new.to)
-    (found_no_memory _ _ _ _ _ _ _ c.in-Err-Memory.is c.in-Err-Memory.field-0-is c.store.ensures.stored))
+    (map-set seen c.args.providers.now j c.store_stripe.new.to)
+    (found_no_memory _ _ _ _ _ _ _ c.in-Err-Memory.is c.in-Err-Memory.field-0-is c.store_stripe.ensures.stored))
 
 pub returns-in-Err-Memory-clause-others : goal.returns-in-Err-Memory-clause-others
 returns-in-Err-Memory-clause-others g c = λ k other.
-    get-set_other c.args.providers.now c.args.provider k c.store.new.to other
+    get-set_other c.args.providers.now c.args.provider k c.store_stripe.new.to other
 
 pub returns-in-Err-Memory-clause-called : goal.returns-in-Err-Memory-clause-called
 returns-in-Err-Memory-clause-called g c =
     let less = store_within c.args.self.now c.requires.whole c.args.spot c.args.provider c.requires.here in
     called_at g.P.Provider.calls c.args.providers.now c.args.provider c.index-providers-index.result
-    c.store.new.to (omega (arith, less, c.requires.there)) c.store.ensures.called
+    c.store_stripe.new.to (omega (arith, less, c.requires.there)) c.store_stripe.ensures.called

@@ -40,9 +40,9 @@ returns-clause-machine g c = λ w moment holds faults is_told stands.
     c.place_of-place.result c.index_mut.result.now at there
     (record { number = c.index_mut.result.now.number; task = c.turn_to.new.self })
     c.profile_in-profile.result refl c.profile_in-profile.ensures c.turn_to.ensures
-    _ _ _ _ (record { number = c.index_mut.result.now.number; task = c.fetch.new.self }) _ made.0 made.1 refl
-    refl made.2
-    (fetches_by is_told _ _ _ _ _ _ (taken _ _ _ made.0 made.1 made.2) made.3)
+    _ _ _ _ (record { number = c.index_mut.result.now.number; task = c.fetch.new.self }) made.0 made.1 refl
+    made.2
+    (fetches_by is_told _ _ _ _ _ _ (taken _ _ made.0 made.1 made.2) made.3)
     (slice_get-map seen c.args.providers.now c.args.provider
     ∙ ap (option_map seen)
     (slice_get-get_or c.args.providers.now c.args.provider c.index-providers-index.result

@@ -1,6 +1,6 @@
 use Rattle.std.proofs.Common.{◌≡◌, ◌∙◌, ap, sym, List, ◌∷◌, [], ◌++◌, true, subst}
 use Rattle.code_defs.specs.Profiles.{Profile}
-use Rattle.stripe_bench.specs.declared.bench.Bench.{Bench}
+use Rattle.column_codec.specs.declared.bench.Bench.{Bench}
 use Rattle.vault.specs.Benches.{AreOfDesk, is_served}
 use Rattle.vault.proofs.Kits.{served_last, served_more, desk_more}
 use Rattle.vault.proofs.desk.Desk.serve.Goals as goal

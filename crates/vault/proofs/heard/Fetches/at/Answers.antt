@@ -1,40 +1,45 @@
-use Rattle.std.proofs.Common.{◌≡◌, List, None, Some, sym, ap, ◌∙◌}
+use Rattle.std.proofs.Common.{◌≡◌, ◌+◌, ◌/◌, ◌<◌, ◌^◌, length, None, Some, sym, ap, ◌∙◌, zero-add, arith}
 use Rattle.std.specs.Prelude.{slice_get}
-use Rattle.std.specs.Option.{option_copied}
-use Rattle.vault.specs.declared.heard.Fetch.{Fetch}
+use Rattle.std.specs.Option.{option_copied, option_map}
+use Rattle.std.proofs.Math.Facts.{Fits-of_lt}
+use Rattle.std.proofs.Math.Nat.{div-le_self}
+use Rattle.std.proofs.lemmas.Option.{slice_get_within}
+use Rattle.column_codec.proofs.PresentLemmas.{length-present_blocks}
 use Rattle.stripe_bench.specs.Blocks.{blocks_in}
-use Rattle.vault.proofs.HeardAt.{fetched_at, fetched_at-none, slice_get-fetched_entries}
+use Rattle.vault.specs.Heard.{fetched_entry}
+use Rattle.vault.proofs.HeardAt.{slice_get-fetched_entries}
 use Rattle.vault.proofs.heard.Fetches.at.Goals as goal
-
-pub returns-in_err-fetch : goal.returns-in_err-fetch
-returns-in_err-fetch c =
-    let f = c.args.self.now in
-    let blocks = blocks_in f.blocks in
-    let none : slice_get f.fetches.items c.args.place ≡ None =
-    ap (λ (l : List Fetch). slice_get l c.args.place) (sym c.deref.ensures.value)
-    ∙ sym c.in_err-fetch.ensures in
-    rw c.from_residual.ensures
-    (sym (slice_get-fetched_entries f.job f.fetches.items blocks c.args.place
-    ∙ ap (λ x. fetched_at f.job x (slice_get blocks c.args.place)) none))
 
 pub returns-in_err-block : goal.returns-in_err-block
 returns-in_err-block c =
     let f = c.args.self.now in
     let blocks = blocks_in f.blocks in
     let none : slice_get blocks c.args.place ≡ None = sym c.in_err-block.ensures in
-    rw c.from_residual-in_err-block.ensures
-    (sym (slice_get-fetched_entries f.job f.fetches.items blocks c.args.place
-    ∙ ap (λ x. fetched_at f.job (slice_get f.fetches.items c.args.place) x) none
-    ∙ fetched_at-none f.job (slice_get f.fetches.items c.args.place)))
+    rw c.from_residual.ensures
+    (sym (slice_get-fetched_entries f.job f.object f.n 0 blocks c.args.place
+    ∙ ap (option_map (fetched_entry f.job f.object f.n (0 + c.args.place))) none))
+
+pub overflow_cast-result-2 : goal.overflow_cast-result-2
+overflow_cast-result-2 c =
+    let f = c.args.self.now in
+    let b = f.blocks in
+    let within : c.args.place < length (blocks_in b) =
+    slice_get_within (blocks_in b) c.args.place _ (sym c.in_ok-block.ensures) in
+    let less : c.args.place / c.from-n.result < 2 ^ 32 = omega (
+      arith,
+      within,
+      length-present_blocks b.size b.present.items b.symbols.items,
+      f.few,
+      div-le_self c.args.place c.from-n.result,
+    ) in
+    Fits-of_lt less
 
 pub returns : goal.returns
 returns c =
     let f = c.args.self.now in
     let blocks = blocks_in f.blocks in
-    let fetch : slice_get f.fetches.items c.args.place ≡ Some c.in_ok-fetch.fetch =
-    ap (λ (l : List Fetch). slice_get l c.args.place) (sym c.deref.ensures.value)
-    ∙ sym c.in_ok-fetch.ensures in
     let block : slice_get blocks c.args.place ≡ Some (option_copied c.in_ok-block.block) =
     sym c.in_ok-block.ensures in
-    sym (slice_get-fetched_entries f.job f.fetches.items blocks c.args.place
-    ∙ (λ i. fetched_at f.job (fetch i) (block i)))
+    sym (slice_get-fetched_entries f.job f.object f.n 0 blocks c.args.place
+    ∙ (λ i. option_map (fetched_entry f.job f.object ((sym c.from-n.ensures) i) (zero-add c.args.place i))
+    (block i)))

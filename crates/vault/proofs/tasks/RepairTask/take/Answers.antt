@@ -1,7 +1,7 @@
 use Rattle.std.proofs.Common.{◌≡◌, inl, inr, refl, sym, ap, ◌∙◌, List, Some, arith}
 use Rattle.std.specs.Prelude.{position, slice_set}
 use Rattle.std.proofs.lemmas.Option.{slice_get-get_or}
-use Rattle.stripe_bench.specs.declared.bench.Bench.{Bench}
+use Rattle.column_codec.specs.declared.bench.Bench.{Bench}
 use Rattle.vault.specs.Benches.{is_sized}
 use Rattle.vault.proofs.Kits.{one_placed, size_of, none_own}
 use Rattle.vault.proofs.tasks.RepairTask.take.Goals as goal

@@ -1,7 +1,9 @@
 ghost use Rattle.std.specs.Prelude.{◌≡◌, ◌*◌, length, All, IfOk};
 
+use crate::at_hand::AtHand;
 use crate::bench::Bench;
-use column_codec::{Block, MasksAtHand, ObjectKeys, Trust};
+use crate::block::Block;
+use crate::keys::ObjectKeys;
 use file_layout::FileShape;
 use hail_field::{Memory, Symbol};
 use key_schedule::Master;
@@ -39,8 +41,8 @@ fn zeros_for(
 }
 
 impl Bench {
-    /// A bench for the object of these keys, of zeros.
-    fn new(alloc: Global, keys: ObjectKeys) -> Result<Bench, Memory>
+    /// A bench for the object of these keys, with zeros at hand, which takes memory.
+    pub fn new(alloc: Global, keys: ObjectKeys) -> Result<Bench, Memory>
         ensures { IfOk result (λ bench. bench.keys ≡ keys) }
     {
         let code = AnyCode::new(alloc, keys.file.profile)?;
@@ -51,12 +53,12 @@ impl Bench {
             rows,
             column,
             scratch,
-            masks: MasksAtHand::new(),
-            trust: Trust::new(),
+            at_hand: AtHand::new(),
         })
     }
 
-    /// A bench for a file's object.
+    /// A bench for a file's object, with tables of its weights where these save more than they take. It takes
+    /// memory.
     pub fn made(alloc: Global, master: &Master, file: &FileShape) -> Result<Bench, Memory>
         ensures master { IfOk result (λ bench. bench.keys.master ≡ master.now) }
         ensures file { IfOk result (λ bench. bench.keys.file ≡ file.now) }

@@ -1,6 +1,6 @@
 use Rattle.std.proofs.Common.{ℕ, ap}
-use Rattle.stripe_bench.specs.Bench.{bench_object}
-use Rattle.stripe_bench.proofs.bench.Bench.turn_to.Goals as goal
+use Rattle.column_codec.specs.Bench.{bench_object}
+use Rattle.column_codec.proofs.bench.Bench.turn_to.Goals as goal
 
 pub returns-then-self-object-clause-object : goal.returns-then-self-object-clause-object
 returns-then-self-object-clause-object c =

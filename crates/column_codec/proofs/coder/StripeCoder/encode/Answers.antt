@@ -1,6 +1,6 @@
 use Rattle.file_layout.specs.Files.{shaped_object}
 use Rattle.column_codec.proofs.RowLemmas.{columns-sizes}
-use Rattle.column_codec.proofs.coder.StripeCoder.encode_within.Goals as goal
+use Rattle.column_codec.proofs.coder.StripeCoder.encode.Goals as goal
 
 pub returns-clause-sizes : goal.returns-clause-sizes
 returns-clause-sizes c =

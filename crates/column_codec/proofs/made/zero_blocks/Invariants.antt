@@ -1,6 +1,6 @@
 use Rattle.std.proofs.Common.{◌≡◌, ◌≤◌, length, All}
 use Rattle.std.specs.Prelude.{vec_capacity}
-use Rattle.stripe_bench.proofs.made.zero_blocks.Given as goal
+use Rattle.column_codec.proofs.made.zero_blocks.Given as goal
 
 abbrev pub invariant-loop : goal.invariant-loop
 invariant-loop l = record {

@@ -1,6 +1,6 @@
 use Rattle.std.proofs.Common.{ap, ◌∙◌, length}
-use Rattle.stripe_bench.proofs.Grown.{written_whole}
-use Rattle.stripe_bench.proofs.bench.Bench.take_stripe.Goals as goal
+use Rattle.column_codec.proofs.Places.{written_whole}
+use Rattle.column_codec.proofs.bench.Bench.take_stripe.Goals as goal
 
 pub symbols_into-requires : goal.symbols_into-requires
 symbols_into-requires c = ap length c.deref_mut.ensures.value ∙ c.args.self.now.rows_fit

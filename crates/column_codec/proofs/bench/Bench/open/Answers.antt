@@ -1,13 +1,12 @@
 use Rattle.std.proofs.Common.{ap, sym, subst, ◌≡◌, ◌∙◌, List, ℕ, Result, Ok, Err, length}
-use Rattle.std.specs.Prelude.{All, OnOk, IfErr}
+use Rattle.std.specs.Prelude.{All, OnOk, OnErr, IfErr, replicate}
 use Rattle.column_codec.specs.PresentBlocks.{present_blocks}
 use Rattle.column_codec.specs.declared.opening.RowLost.{RowLost}
 use Rattle.column_defs.specs.Objects.{Object}
 use Rattle.column_defs.specs.Opened.{SeenBlock, GivesSymbols, LosesRow}
-use Rattle.stripe_bench.specs.Bench.{OpensAs}
-use Rattle.stripe_bench.specs.Bench.{bench_object}
-use Rattle.stripe_bench.proofs.Grown.{written_whole}
-use Rattle.stripe_bench.proofs.bench.Bench.open.Goals as goal
+use Rattle.column_codec.specs.Bench.{bench_object, OpensAs}
+use Rattle.column_codec.proofs.Places.{written_whole}
+use Rattle.column_codec.proofs.bench.Bench.open.Goals as goal
 
 -- blocks are opened, or a row of them is lost
 opens : (o : Object) (stripe : ℕ) (seen : List SeenBlock) (r : Result Unit RowLost) (rows : List ℕ)
@@ -16,15 +15,15 @@ opens : (o : Object) (stripe : ℕ) (seen : List SeenBlock) (r : Result Unit Row
 opens o stripe seen (Ok done) rows gives loses = gives
 opens o stripe seen (Err lost) rows gives loses = loses
 
-pub open_trusting-requires-clause-rows : goal.open_trusting-requires-clause-rows
-open_trusting-requires-clause-rows c = ap length c.deref_mut.ensures.value ∙ c.args.self.now.rows_fit
+pub open-requires-clause-rows : goal.open-requires-clause-rows
+open-requires-clause-rows c = ap length c.deref_mut.ensures.value ∙ c.args.self.now.rows_fit
 
-pub open_trusting-requires-clause-scratch : goal.open_trusting-requires-clause-scratch
-open_trusting-requires-clause-scratch c =
+pub open-requires-clause-scratch : goal.open-requires-clause-scratch
+open-requires-clause-scratch c =
     ap length c.deref_mut-2.ensures.value ∙ c.args.self.now.scratch_fits
 
-pub open_trusting-requires-clause-blocks : goal.open_trusting-requires-clause-blocks
-open_trusting-requires-clause-blocks c =
+pub open-requires-clause-blocks : goal.open-requires-clause-blocks
+open-requires-clause-blocks c =
     let v = c.args.self.now in
     subst (λ (blocks : List (List ℕ)). All (λ block. length block ≡ v.keys.file.profile.size) blocks)
     (sym c.deref_mut-2.ensures.value) v.blocks_fit
@@ -32,7 +31,7 @@ open_trusting-requires-clause-blocks c =
 pub invariant_of-self : goal.invariant_of-self
 invariant_of-self c =
     let v = c.args.self.now in
-    let made = c.open_trusting in
+    let made = c.open in
     let rows =
     written_whole v.rows.items c.deref_mut.result.now made.new.rows v.rows.len made.auto.rows
     c.deref_mut.ensures.len in
@@ -53,7 +52,7 @@ invariant_of-self c =
 pub returns-clause-opened : goal.returns-clause-opened
 returns-clause-opened c =
     let v = c.args.self.now in
-    let made = c.open_trusting in
+    let made = c.open in
     let o = bench_object v in
     let seen = present_blocks v.keys.file.profile.size c.args.present.now c.args.seen.now in
     subst (λ (rows : List ℕ). OpensAs o c.args.stripe seen made.result rows)
@@ -61,3 +60,14 @@ returns-clause-opened c =
     (written_whole v.rows.items c.deref_mut.result.now made.new.rows v.rows.len made.auto.rows
     c.deref_mut.ensures.len))
     (opens o c.args.stripe seen made.result made.new.rows made.ensures.ok made.ensures.lost)
+
+pub returns-clause-zeros : goal.returns-clause-zeros
+returns-clause-zeros c =
+    let v = c.args.self.now in
+    let made = c.open in
+    subst (λ (rows : List ℕ). OnErr made.result (rows ≡ replicate (length v.rows.items) 0))
+    (sym
+    (written_whole v.rows.items c.deref_mut.result.now made.new.rows v.rows.len made.auto.rows
+    c.deref_mut.ensures.len))
+    (subst (λ (rows : List ℕ). OnErr made.result (made.new.rows ≡ replicate (length rows) 0))
+    c.deref_mut.ensures.value made.ensures.zeros)

@@ -1,7 +1,7 @@
 use Rattle.std.proofs.Common.{List, ℕ, subst, ◌∙◌}
 use Rattle.column_defs.specs.Columns.{column_of_symbols}
 use Rattle.provider_model.specs.Seen.{StoresAs, provider_seen}
-use Rattle.stripe_bench.proofs.bench.Bench.store.Goals as goal
+use Rattle.stripe_bench.proofs.storing.store_stripe.Goals as goal
 
 pub returns-clause-stored : goal.returns-clause-stored
 returns-clause-stored g c =

@@ -1,8 +1,8 @@
 use Rattle.std.proofs.Common.{ap, ◌∙◌, List, ℕ, length}
 use Rattle.column_defs.specs.Columns.{column_of_symbols}
-use Rattle.stripe_bench.specs.Bench.{bench_object}
-use Rattle.stripe_bench.proofs.Grown.{written_whole}
-use Rattle.stripe_bench.proofs.bench.Bench.make_column.Goals as goal
+use Rattle.column_codec.specs.Bench.{bench_object}
+use Rattle.column_codec.proofs.Places.{written_whole}
+use Rattle.column_codec.proofs.bench.Bench.make_column.Goals as goal
 
 pub column_into-requires-clause-symbols : goal.column_into-requires-clause-symbols
 column_into-requires-clause-symbols c = ap length c.deref.ensures.value ∙ c.args.self.now.rows_fit

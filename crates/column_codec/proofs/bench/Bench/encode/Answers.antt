@@ -1,0 +1,27 @@
+use Rattle.std.proofs.Common.{ap, ◌∙◌, length}
+use Rattle.column_codec.proofs.Places.{written_whole}
+use Rattle.column_codec.proofs.bench.Bench.encode.Goals as goal
+
+pub encode-requires-clause-symbols : goal.encode-requires-clause-symbols
+encode-requires-clause-symbols c = ap length c.deref_mut.ensures.value ∙ c.args.self.now.rows_fit
+
+pub invariant_of-self : goal.invariant_of-self
+invariant_of-self c =
+    let v = c.args.self.now in
+    let rows =
+    written_whole v.rows.items c.deref_mut.result.now c.encode.new.symbols v.rows.len
+    c.encode.auto.symbols c.deref_mut.ensures.len in
+    record {
+      code_fits = v.code_fits;
+      rows_fit = ap length rows ∙ c.encode.auto.symbols ∙ ap length c.deref_mut.ensures.value ∙ v.rows_fit;
+      column_fits = v.column_fits;
+      scratch_fits = v.scratch_fits;
+      blocks_fit = v.blocks_fit;
+    }
+
+pub returns-clause-rows : goal.returns-clause-rows
+returns-clause-rows c =
+    let v = c.args.self.now in
+    written_whole v.rows.items c.deref_mut.result.now c.encode.new.symbols v.rows.len
+    c.encode.auto.symbols c.deref_mut.ensures.len
+    ∙ c.encode.ensures.symbols
