@@ -1,3 +1,1 @@
-pub mod Mixing
-mod StripeLemmas
-pub mod Spoiling
+pub mod Profiles

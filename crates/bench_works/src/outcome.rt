@@ -1,5 +1,3 @@
-ghost use Rattle.std.specs.Prelude.{◌≡◌, ◌*◌, ◌/◌, max};
-
 use column_codec::Decoded;
 
 /// What a piece of work came to.
@@ -18,9 +16,7 @@ pub const NOTHING: Decoded = Decoded { blocks: 0, rows: 0 };
 
 impl Outcome {
     /// How many answers came in a second, if all came in these nanoseconds.
-    pub fn rate(&self, nanos: u128) -> u128
-        ensures { result ≡ self.now.count * 1_000_000_000 / max nanos 1 }
-    {
+    pub fn rate(&self, nanos: u128) -> u128 {
         u128::from(self.count) * 1_000_000_000 / nanos.max(1)
     }
 }

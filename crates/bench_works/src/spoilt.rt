@@ -1,12 +1,10 @@
 //! Providers that do not give their blocks as they were made.
-ghost use Rattle.std.specs.Prelude.{◌≡◌, ◌≤◌, ◌<◌, ◌*◌, ◌↔◌, IsTrue, length};
-ghost use Rattle.code_defs.specs.ServerCode.{differences};
+ghost use Rattle.std.specs.Prelude.{◌≡◌, ◌<◌};
 
 use crate::blocks::fill;
 use crate::decode;
 use crate::failure::Failure;
-use crate::stripes::Coded;
-use column_codec::{MasksAtHand, ObjectKeys};
+use column_codec::Bench;
 use hail_field::{Shape, Symbol};
 
 /// How the first providers spoil their blocks: so many give others than their own, and after these so many in
@@ -20,32 +18,9 @@ pub struct Spoilt {
     pub erring: u8,
 }
 
-/// Fills a block with the codeword of other symbols, and puts a provider's masks on.
-fn other_codeword(
-    coded: &Coded,
-    keys: &ObjectKeys,
-    stripe: u32,
-    provider: u32,
-    masks: &mut MasksAtHand,
-    rows: &mut [Symbol],
-    block: &mut [Symbol],
-)
-    requires file { keys.now.file ≡ coded.now.file }
-    requires provider { provider < coded.now.file.shape.n }
-    requires rows { length rows.old ≡ coded.now.file.shape.l * coded.now.file.profile.keep }
-    requires block { length block.old ≡ coded.now.file.profile.size }
-{
-    fill(stripe.wrapping_mul(16).wrapping_add(provider), rows);
-    keys.column_into(&coded.code, stripe, rows, provider as usize, masks, block);
-}
-
-/// Adds an error to as many symbols of a block as are corrected.
-fn add_errors(coded: &Coded, stripe: u32, block: &mut [Symbol])
-    requires block { length block.old ≡ coded.now.file.profile.size }
-    ensures { differences block.new block.old ≤ coded.now.file.profile.fix }
-{
-    let error = Symbol(u128::from(stripe) + 1);
-    decode::spoil(coded.file.profile.fix, error, block);
+/// What the symbols of a provider that lies in a stripe begin with.
+fn lie(stripe: u32, provider: u32) -> u32 {
+    stripe.wrapping_mul(16).wrapping_add(provider)
 }
 
 impl Spoilt {
@@ -57,7 +32,7 @@ impl Spoilt {
     };
 
     /// The way and the count of providers that two words name; `Usage` where they name none.
-    pub fn from_words(way: &str, count: &str) -> Result<Spoilt, Failure> {
+    pub(crate) fn from_words(way: &str, count: &str) -> Result<Spoilt, Failure> {
         let count = count.parse::<u8>()?;
         let (garbage, liars, erring) = match way {
             "codewords" => (false, count, 0),
@@ -73,37 +48,25 @@ impl Spoilt {
     }
 
     /// Whether the file is still opened: at most `b` providers give other blocks than their own.
-    pub fn fits(self, shape: Shape) -> bool
-        ensures { IsTrue result ↔ (self.liars ≤ shape.b) }
-    {
+    pub(crate) fn fits(self, shape: Shape) -> bool {
         self.liars <= shape.b
     }
 
-    /// Spoils the block of a provider, with room for the symbols of a stripe.
-    pub fn spoil(
-        self,
-        coded: &Coded,
-        keys: &ObjectKeys,
-        stripe: u32,
-        provider: u32,
-        masks: &mut MasksAtHand,
-        rows: &mut [Symbol],
-        block: &mut [Symbol],
-    )
-        requires file { keys.now.file ≡ coded.now.file }
-        requires provider { provider < coded.now.file.shape.n }
-        requires rows { length rows.old ≡ coded.now.file.shape.l * coded.now.file.profile.keep }
-        requires block { length block.old ≡ coded.now.file.profile.size }
-        ensures near { self.liars ≤ provider → differences block.new block.old ≤ coded.now.file.profile.fix }
+    /// Spoils the block of a provider, which is at hand on a bench.
+    pub(crate) fn spoil(self, bench: &mut Bench, stripe: u32, provider: u32)
+        requires { provider < bench.old.keys.file.shape.n }
+        ensures { bench.new.keys ≡ bench.old.keys }
     {
         if provider < u32::from(self.liars) {
             if self.garbage {
-                fill(stripe.wrapping_mul(16).wrapping_add(provider), block);
+                fill(lie(stripe, provider), &mut bench.column);
             } else {
-                other_codeword(coded, keys, stripe, provider, masks, rows, block);
+                fill(lie(stripe, provider), &mut bench.rows);
+                bench.make_column(stripe, provider);
             }
         } else if provider < u32::from(self.erring) {
-            add_errors(coded, stripe, block);
+            let error = Symbol(u128::from(stripe) + 1);
+            decode::spoil(bench.keys.file.profile.fix, error, &mut bench.column);
         }
     }
 }
