@@ -1,40 +1,21 @@
--- Jobs whose steps are computed, from states just opened over four providers.
-use Rattle.std.proofs.Common.{◌≡◌, ℕ, zero, suc, ◌+◌, ◌<◌, ◌≤◌, true, false, List, [], ◌∷◌, length, ◌++◌, Option, Some, None, refl, ap, sym, subst, ◌∙◌, arith}
-use Rattle.std.specs.Prelude.{slice_get, IfSome}
+-- Jobs that are given by their turns, from every state that was just opened over four providers, and commands
+-- that run them over the file of one byte: the state that is left is computed.
+use Rattle.std.specs.Prelude.{slice_get, reverse}
+use Rattle.std.specs.Option.{option_map}
+use Rattle.std.proofs.Common.{◌≡◌, ◌⊎◌, ℕ, zero, suc, ◌+◌, true, List, [], ◌∷◌, length, ◌++◌, Option, Some, None, refl, ap, sym, subst, ◌∙◌, inl, inr, arith}
 use Rattle.std.proofs.lemmas.Bool.{false≢true}
-use Rattle.device_defs.specs.Providers.{Provider}
-use Rattle.record_defs.specs.Records.{Record}
-use Rattle.record_defs.specs.Areas.{Area}
-use Rattle.record_defs.specs.Table.{file_of}
-use Rattle.machine_defs.specs.Jobs.{Kind, PutJob, job_of}
-use Rattle.machine_defs.specs.Answers.{Answer}
-use Rattle.machine_defs.specs.Begins.{refusal_of_begin, beginning}
-use Rattle.machine_defs.specs.Events.{Step, Ended, AreBytes, IsSpelledKind}
-use Rattle.machine_defs.specs.Heard.{Entry, heard_by}
-use Rattle.machine_defs.specs.Machine.{Happens}
-use Rattle.machine_defs.specs.States.{State}
-use Rattle.machine_defs.specs.Stands.{StandsForState}
-use Rattle.machine_defs.specs.Runs.{Moment, now}
-use Rattle.opening_defs.specs.Opened.{IsJustOpened}
+use Rattle.machine_defs.specs.Stands.{StandsPlain, StandsWithDoubt, StandsSwitched, StandsForState}
 use Rattle.state_laws.proofs.Packs.{file-alike}
-use Rattle.command_defs.specs.Seen.{Seen, Ending, ReadsFront}
-use Rattle.command_defs.specs.JobRuns.{AreSteps, RunsJob}
-use Rattle.command_defs.specs.Lines.{text_of}
-use Rattle.command_defs.specs.Opens.{IsOpened, setup_in_effect}
-use Rattle.command_defs.specs.Refusals.{is_unknown, refusal_over}
-use Rattle.command_defs.specs.Jobs.{SamePast, RanAlone, RunsAlone, LeftAlone, EndsByAnswer, AnswersJob}
-use Rattle.command_defs.specs.Commands.{AnswersPut, AnswersAlone}
-use Rattle.lone_laws.specs.Walked.{MayName}
 use Rattle.job_laws.proofs.BeginRefusals.{refusal-alone}
+use Rattle.job_laws.proofs.Alike as alike
 use Rattle.job_laws.proofs.Alike.{ran-alike}
 use Rattle.job_laws.proofs.Telling.{left-alone, jobs-leave}
-use Rattle.made_runs.specs.Steps.{can_step}
-use Rattle.made_runs.specs.Turns.{Turn, Goes, Gives, LosesOne, StoreFails, Cut, gone_by, can_go_by, turned, FitsTurn, FitsStep, told, after_step, job_run, AreFitTurns, is_more}
+use Rattle.made_runs.specs.Turns.{AreFitTurns}
 use Rattle.made_runs.proofs.Steps.{first, second, steps}
 use Rattle.made_runs.proofs.Turns.{goes-so}
-use Rattle.damage_run.specs.Schedule.{byte}
-use Rattle.command_runs.specs.Devices.{named}
-use Rattle.command_runs.proofs.Shape.{formed, form-is, one_byte, one_byte-is}
+use Rattle.command_runs.specs.Words.{Cells, EachImage, Provider, Record, Area, A, StandsActive, File, file_of, Kind, Job, job_of, Answer, beginning, Step, Ended, IsSpelledKind, Entry, heard_by, Happens, State, Doubt, Moment, now, AreHanded, IsJustOpened, Seen, Ending, SameSource, provider_at, AreSteps, text_of, IsOpened, setup_in_effect, refusal_over, IsNext, IsNextRecord, SameBehind, SamePast, RanAlone, RunsAlone, EndsByAnswer, AnswersJob, past, AnswersAlone, MayName, can_step, Turn, Goes, Gives, LosesOne, StoreFails, Cut, gone_by, can_go_by, turned, FitsTurn, FitsStep, told, after_step, job_run, is_more}
+use Rattle.command_runs.specs.Devices.{each, named}
+use Rattle.command_runs.proofs.Shape.{four, formed, form-is, one_byte, one_byte-is}
 
 -- plain steps go on the steps of a job
 plain : (w : State) (moment : ℕ) (ms : List Moment) (n k : ℕ) → can_go_by w ms n k ≡ true →
@@ -65,6 +46,68 @@ are-steps w moment n [] f = tt
 are-steps w moment n (turn ∷ turns) f =
     turn-steps w moment (job_run w [] n turns) n turn f.0 f.1 (are-steps w moment n turns f.2)
 
+-- ---- what is left
+
+-- records with the one in doubt
+abbrev pub with_doubt : Option Doubt → List Record → List Record
+with_doubt None rs = rs
+with_doubt (Some doubt) rs = doubt.entry ∷ rs
+
+-- what a state and its job tell in the end
+pub record Left : Type 0 where
+  pub area : Area
+  pub records : List Record
+  pub faults : ℕ
+  pub handed : ℕ
+  pub providers : List Provider
+  pub heard : List Entry
+
+-- of a state, with the record in doubt
+abbrev pub left_by : State → Option Job → Left
+left_by last job = record {
+  area = last.area;
+  records = with_doubt last.doubt last.journal;
+  faults = last.disk_faults;
+  handed = last.handed;
+  providers = each last.providers;
+  heard = heard_by job;
+}
+
+-- what is seen of the devices, and was heard
+abbrev pub seen_as : Area → List Record → Seen → List Entry → ℕ → Left
+seen_as area after new heard handed = record {
+  area = area;
+  records = after;
+  faults = new.disk_faults;
+  handed = handed;
+  providers = new.providers;
+  heard = heard;
+}
+
+by_doubt : (w : State) (image : List ℕ) (doubt : Option Doubt) → w.doubt ≡ doubt →
+    StandsActive image w.area (with_doubt doubt w.journal) →
+    StandsPlain w image ⊎ (StandsWithDoubt w image ⊎ StandsSwitched w image)
+by_doubt w image None is stands = inl (inl stands)
+by_doubt w image (Some doubt) is stands =
+    inr (inl (record { doubt = doubt; in_doubt = is; stands = stands }))
+
+-- images that stand for what is left stand for its state
+pub stand-so : (told : Option Cells) (w : State) (job : Option Job) (left : Left) → left_by w job ≡ left →
+    EachImage told (λ image. StandsActive image left.area left.records) → StandsForState told w
+stand-so None w job left is each = tt
+stand-so (Some cells) w job left is each = λ image has. by_doubt w image w.doubt refl
+    (subst (λ (l : Left). StandsActive image l.area l.records) (sym is) (each image has))
+
+-- the providers are those handed in where there are four
+pub handed-four : {seen : List Provider} (w : State) → w.handed ≡ 4 → each w.providers ≡ seen →
+    AreHanded seen w
+handed-four w count is = subst (λ ps. AreHanded ps w) is (record {
+  count = count;
+  each = four (λ j. slice_get (each w.providers) j ≡ Some (w.providers j)) refl refl refl refl;
+})
+
+-- ---- a job from a state spelled out
+
 -- a job has begun, of a put also with a profile of its own
 abbrev pub begun_with : State → ℕ → Kind → Option ℕ → State
 begun_with w n kind own = record w { jobs = w.jobs ++ beginning w n kind own ∷ []; next_job = w.next_job + 1 }
@@ -74,214 +117,172 @@ abbrev pub after_turns : State → ℕ → Kind → Option ℕ → List Turn →
 after_turns w n kind own turns =
     now (begun_with w n kind own) (job_run (begun_with w n kind own) [] w.next_job turns)
 
--- a job runs so
-pub runs-so : (w : State) (n : ℕ) (kind : Kind) (own : Option ℕ) (turns : List Turn) (answer : Answer)
-    (last : State) →
-    w.is_open ≡ true → refusal_of_begin 8 w kind own ≡ None →
-    AreFitTurns (begun_with w n kind own) [] w.next_job turns →
-    Happens 8 n (after_turns w n kind own turns) (Step w.next_job) (Ended answer) last →
-    RunsJob w n kind own answer (heard_by (job_of (after_turns w n kind own turns).jobs w.next_job)) last
-runs-so w n kind own turns answer last is_open begins fit ends = record {
-  begun = begun_with w n kind own;
-  job = w.next_job;
-  begins = (is_open, begins, refl, refl);
-  goes_on = record {
-    steps = job_run (begun_with w n kind own) [] w.next_job turns;
-    are_steps = are-steps (begun_with w n kind own) (n + 1) w.next_job turns fit;
-    ends = ends;
-    heard_is = refl;
-  };
-}
+-- a turn ends it
+pub ends-by : (w : State) (n : ℕ) (final : Turn) (answer : Answer) → told final ≡ Ended answer →
+    FitsStep w 1 final → Happens 8 n w (Step 1) (Ended answer) (after_step w 1 final)
+ends-by w n final answer is fits =
+    subst (λ o. Happens 8 n w (Step 1) o (after_step w 1 final)) is (goes-so 8 n w 1 final fits)
 
--- four providers are handed in
-pub four-each : (xs : List Provider) (ps : ℕ → Provider) → slice_get xs 0 ≡ Some (ps 0) →
-    slice_get xs 1 ≡ Some (ps 1) → slice_get xs 2 ≡ Some (ps 2) → slice_get xs 3 ≡ Some (ps 3) →
-    (j : ℕ) → j < 4 → slice_get xs j ≡ Some (ps j)
-four-each xs ps a b c d zero l = a
-four-each xs ps a b c d (suc zero) l = b
-four-each xs ps a b c d (suc (suc zero)) l = c
-four-each xs ps a b c d (suc (suc (suc zero))) l = d
-four-each xs ps a b c d (suc (suc (suc (suc j)))) l = absurd (omega (arith, l))
+-- a state over these providers, spelled out
+abbrev pub spelled : Area → List Record → (ℕ → List ℕ) → List Provider → State → State
+spelled area rs bytes held w = formed area rs bytes (provider_at held 0) (provider_at held 1)
+    (provider_at held 2) (provider_at held 3) w
 
--- a job that runs alone from each state spelled out runs so from each just opened
-pub alone-over : (area : Area) (rs : List Record) (p q r s : Provider) (kind : Kind) (own : Option ℕ) (answer
-    : Answer)
-    (old new : Seen) (heard : List Entry) → old.disk_faults ≤ 0 → old.providers ≡ (p ∷ q ∷ r ∷ s ∷ []) →
-    IsSpelledKind kind → MayName kind own →
-    ((w : State) (n : ℕ) → w.handed ≡ 4 →
-    RanAlone area rs kind own answer old new heard 0 (formed area rs w.bytes p q r s w) n) →
-    RunsAlone area rs kind own answer old new heard
-alone-over area rs p q r s kind own answer old new heard before same spelled named ran = record {
-  faults = 0;
-  before = before;
-  ran = λ w n V. let U : IsJustOpened w area rs 1 0 (p ∷ q ∷ r ∷ s ∷ [])
-      = subst (λ ps. IsJustOpened w area rs 1 0 ps) same V in
-      ran-alike w U.at_rest area rs kind own answer old new heard 0 n spelled named
-      (subst (λ u. RanAlone area rs kind own answer old new heard 0 u n) (form-is area rs w.bytes p q r s w
-      refl U)
-      (ran w n U.handed.count));
-}
+-- one just opened is such, but for its history
+pub spelled-is : (area : Area) (rs : List Record) (bytes : ℕ → List ℕ) (held : List Provider) (w : State) →
+    bytes ≡ w.bytes → IsJustOpened w area rs 1 0 (each (provider_at held)) →
+    spelled area rs bytes held w ≡ alike.plain w
+spelled-is area rs bytes held = form-is area rs bytes (provider_at held 0) (provider_at held 1)
+    (provider_at held 2) (provider_at held 3)
 
--- the file of one byte has its byte in a state just opened
+module _ (area : Area) (rs : List Record) (kind : Kind) (own : Option ℕ) (answer : Answer) (old new : Seen)
+    (heard : List Entry) (see : (ℕ → List ℕ) → ℕ → List ℕ) where
+  -- the state before, with what is seen of the bytes of the files, and the one after turns of the job
+  abbrev start : State → State
+  start w = spelled area rs (see w.bytes) old.providers w
+
+  abbrev at_end : List Turn → State → ℕ → State
+  at_end turns w n = after_turns (start w) n kind own turns
+
+  -- it may begin: no fault of the disk is counted, and four providers are handed in
+  abbrev MayBegin : Type 0
+  MayBegin = (old.disk_faults ≡ 0) × (old.providers ≡ each (provider_at old.providers))
+      × (refusal_over area rs kind own ≡ None) × IsSpelledKind kind × MayName kind own
+
+  -- a job that goes so from each such state runs alone
+  pub alone-so : (after : List Record) (turns : List Turn) (last : State → ℕ → State) →
+      ((w : State) → IsJustOpened w area rs 1 0 old.providers → see w.bytes ≡ w.bytes) → MayBegin →
+      ((w : State) (n : ℕ) → StandsForState new.disk (last w n)) →
+      ((w : State) (n : ℕ) → AreFitTurns (begun_with (start w) n kind own) [] 1 turns) →
+      ((w : State) (n : ℕ) → Happens 8 n (at_end turns w n) (Step 1) (Ended answer) (last w n)) →
+      ((w : State) (n : ℕ) → left_by (last w n) (job_of (at_end turns w n).jobs 1)
+      ≡ seen_as area after new heard w.handed) →
+      ((w : State) (n : ℕ) → SamePast area kind own answer rs (last w n).journal old.disk new.disk) →
+      RunsAlone area rs kind own answer old new heard
+  alone-so after turns last sees may images fit ends left same = record {
+    faults = 0;
+    before = omega (arith, may.0);
+    ran = λ w n V. let U : IsJustOpened w area rs 1 0 (each (provider_at old.providers))
+        = subst (λ ps. IsJustOpened w area rs 1 0 ps) may.1 V in
+        ran-alike w V.at_rest area rs kind own answer old new heard 0 n may.3 may.4
+        (subst (λ u. RanAlone area rs kind own answer old new heard 0 u n)
+        (spelled-is area rs (see w.bytes) old.providers w (sees w V) U) (record {
+          last = last w n;
+          runs = record {
+            begun = begun_with (start w) n kind own;
+            job = 1;
+            begins = (refl, refusal-alone (start w) kind own ∙ may.2, refl, refl);
+            goes_on = record {
+              steps = job_run (begun_with (start w) n kind own) [] 1 turns;
+              are_steps = are-steps (begun_with (start w) n kind own) (n + 1) 1 turns (fit w n);
+              ends = ends w n;
+              heard_is = sym (ap (λ (l : Left). l.heard) (left w n));
+            };
+          };
+          images = images w n;
+          faults_are = ap (λ (l : Left). l.faults) (left w n);
+          handed = handed-four (last w n) (ap (λ (l : Left). l.handed) (left w n) ∙ U.handed.count)
+              (ap (λ (l : Left). l.providers) (left w n));
+          past_text = same w n;
+        }));
+  }
+
+  -- what follows where it goes by these turns and the last one, and leaves this
+  abbrev pub GoesSo : List Record → List Turn → Turn → Type 0 → Type 0
+  GoesSo after turns final Follows =
+      ((w : State) (n : ℕ) → AreFitTurns (begun_with (start w) n kind own) [] 1 turns) →
+      ((w : State) (n : ℕ) → FitsStep (at_end turns w n) 1 final) →
+      ((w : State) (n : ℕ) → left_by (after_step (at_end turns w n) 1 final)
+      (job_of (at_end turns w n).jobs 1) ≡ seen_as area after new heard w.handed) →
+      ((w : State) (n : ℕ) → SamePast area kind own answer rs
+      (after_step (at_end turns w n) 1 final).journal old.disk new.disk) → Follows
+
+  -- so does one that ends by a turn
+  pub turns-so : (after : List Record) (turns : List Turn) (final : Turn) → told final ≡ Ended answer →
+      ((w : State) → IsJustOpened w area rs 1 0 old.providers → see w.bytes ≡ w.bytes) → MayBegin →
+      EachImage new.disk (λ image. StandsActive image area after) →
+      GoesSo after turns final (RunsAlone area rs kind own answer old new heard)
+  turns-so after turns final is sees may images fit goes left =
+      alone-so after turns (λ w n. after_step (at_end turns w n) 1 final) sees may
+      (λ w n. stand-so new.disk (after_step (at_end turns w n) 1 final) (job_of (at_end turns w n).jobs 1)
+      (seen_as area after new heard w.handed) (left w n) images) fit
+      (λ w n. ends-by (at_end turns w n) n final answer is (goes w n)) left
+
+-- ---- a job over the file of one byte
+
+-- the file
+abbrev pub kept : File
+kept = record { name = named; id = 1; size = 1; profile = 0 }
+
+-- it has its byte in a state just opened
 pub byte-held : (area : Area) (rs : List Record) (w : State) {ps : List Provider} →
-    IsJustOpened w area rs 1 0 ps →
-    file_of rs named ≡ Some (record { name = named; id = 1; size = 1; profile = 0 }) → length (w.bytes 1) ≡ 1
-byte-held area rs w V file = (V.at_rest.rest.files named (record {
-  name = named;
-  id = 1;
-  size = 1;
-  profile =
-      0;
-})
+    file_of rs named ≡ Some kept → IsJustOpened w area rs 1 0 ps → one_byte w.bytes ≡ w.bytes
+byte-held area rs w file V = one_byte-is w.bytes (V.at_rest.rest.files named kept
     (sym (file-alike w.journal w.records named V.at_rest.rest.journal.alike)
     ∙ (ap (λ l. file_of l named) V.journal ∙ file))).1
 
--- so too where the file of one byte is in effect
-pub alone-byte : (area : Area) (rs : List Record) (p q r s : Provider) (kind : Kind) (own : Option ℕ) (answer
-    : Answer)
-    (old new : Seen) (heard : List Entry) → old.disk_faults ≤ 0 → old.providers ≡ (p ∷ q ∷ r ∷ s ∷ []) →
-    file_of rs named ≡ Some (record { name = named; id = 1; size = 1; profile = 0 }) →
-    IsSpelledKind kind → MayName kind own →
-    ((w : State) (n : ℕ) → w.handed ≡ 4 →
-    RanAlone area rs kind own answer old new heard 0 (formed area rs (one_byte w.bytes) p q r s w) n) →
-    RunsAlone area rs kind own answer old new heard
-alone-byte area rs p q r s kind own answer old new heard before same file spelled may ran = record {
-  faults = 0;
-  before = before;
-  ran = λ w n V. let U : IsJustOpened w area rs 1 0 (p ∷ q ∷ r ∷ s ∷ [])
-      = subst (λ ps. IsJustOpened w area rs 1 0 ps) same V in
-      ran-alike w U.at_rest area rs kind own answer old new heard 0 n spelled may
-      (subst (λ u. RanAlone area rs kind own answer old new heard 0 u n)
-      (form-is area rs (one_byte w.bytes) p q r s w (one_byte-is w.bytes (byte-held area rs w U file)) U)
-      (ran w n U.handed.count));
-}
+-- the state before, spelled out
+abbrev pub before : List Record → Seen → State → State
+before rs old w = spelled A rs (one_byte w.bytes) old.providers w
 
--- what a job leaves that runs alone
-pub left-so : (records : List Record) (kind : Kind) (own : Option ℕ) (answer : Answer) (old new : Seen)
-    (heard : List Entry) → IsSpelledKind kind → MayName kind own → (opened : IsOpened old records) →
-    length new.providers ≡ length old.providers →
-    RunsAlone opened.area records kind own answer old new heard →
-    LeftAlone opened.area records kind own answer old new heard
-left-so records kind own answer old new heard spelled named opened same runs =
-    left-alone records kind own answer old new heard spelled named
-    (λ w last n O r. jobs-leave kind own w last n answer heard spelled named O r) opened same runs
-
--- ---- a job from a state spelled out
-
--- its turns go, it ends so, and what is seen is that of its last state
-pub record EndsSo (area : Area) (kind : Kind) (own : Option ℕ) (turns : List Turn) (answer : Answer) (old new
-    : Seen)
-    (heard : List Entry) (v : State) (n : ℕ) (last : State) (EndsBy : Type 0) : Type 0 where
-  pub fit : AreFitTurns (begun_with v n kind own) [] v.next_job turns
-  pub ends : EndsBy
-  pub heard_is : heard_by (job_of (after_turns v n kind own turns).jobs v.next_job) ≡ heard
-  pub images : StandsForState new.disk last
-  pub faults_are : last.disk_faults ≡ new.disk_faults
-  pub count : v.handed ≡ 4 → last.handed ≡ length new.providers
-  pub each : (j : ℕ) → j < length new.providers → slice_get new.providers j ≡ Some (last.providers j)
-  pub past_text : SamePast area kind own answer v.journal last.journal old.disk new.disk
-
--- a job that goes so runs alone
-pub ran-so : (area : Area) (rs : List Record) (bytes : ℕ →
-    List ℕ) (p q r s : Provider) (w : State) (n : ℕ) (kind : Kind)
-    (own : Option ℕ) (turns : List Turn) (answer : Answer) (old new : Seen) (heard : List Entry)
-    (last : State) → w.handed ≡ 4 → refusal_over area rs kind own ≡ None →
-    EndsSo area kind own turns answer old new heard (formed area rs bytes p q r s w) n last
-    (Happens 8 n (after_turns (formed area rs bytes p q r s w) n kind own turns) (Step 1) (Ended answer)
-    last) →
-    RanAlone area rs kind own answer old new heard 0 (formed area rs bytes p q r s w) n
-ran-so area rs bytes p q r s w n kind own turns answer old new heard last count begins E = record {
-  last = last;
-  runs = subst (λ h. RunsJob (formed area rs bytes p q r s w) n kind own answer h last) E.heard_is
-      (runs-so (formed area rs bytes p q r s w) n kind own turns answer last refl
-      (refusal-alone (formed area rs bytes p q r s w) kind own ∙ begins) E.fit E.ends);
-  images = E.images;
-  faults_are = E.faults_are;
-  handed = record { count = E.count count; each = E.each };
-  past_text = E.past_text;
-}
-
--- so does one that ends by a turn
-pub turned-so : (area : Area) (rs : List Record) (bytes : ℕ →
-    List ℕ) (p q r s : Provider) (w : State) (n : ℕ) (kind : Kind)
-    (own : Option ℕ) (turns : List Turn) (final : Turn) (answer : Answer) (old new : Seen)
-    (heard : List Entry) → told final ≡ Ended answer → w.handed ≡ 4 → refusal_over area rs kind own ≡ None →
-    EndsSo area kind own turns answer old new heard (formed area rs bytes p q r s w) n
-    (after_step (after_turns (formed area rs bytes p q r s w) n kind own turns) 1 final)
-    (FitsStep (after_turns (formed area rs bytes p q r s w) n kind own turns) 1 final) →
-    RanAlone area rs kind own answer old new heard 0 (formed area rs bytes p q r s w) n
-turned-so area rs bytes p q r s w n kind own turns final answer old new heard is count begins E =
-    (let at_end : State = after_turns (formed area rs bytes p q r s w) n kind own turns in
-    ran-so area rs bytes p q r s w n kind own turns answer old new heard (after_step at_end 1 final) count
-    begins
-    (record {
-      fit = E.fit;
-      ends = subst (λ o. Happens 8 n at_end (Step 1) o (after_step at_end 1 final)) is
-          (goes-so 8 n at_end 1 final E.ends);
-      heard_is = E.heard_is;
-      images = E.images;
-      faults_are = E.faults_are;
-      count = E.count;
-      each = E.each;
-      past_text = E.past_text;
-    }))
-
--- and so it does from each state just opened
-pub turns-run : (area : Area) (rs : List Record) (p q r s : Provider) (kind : Kind) (own : Option ℕ) (turns :
-    List Turn)
-    (final : Turn) (answer : Answer) (old new : Seen) (heard : List Entry) → told final ≡ Ended answer →
-    old.disk_faults ≤ 0 → old.providers ≡ (p ∷ q ∷ r ∷ s ∷ []) → refusal_over area rs kind own ≡ None →
-    IsSpelledKind kind → MayName kind own → ((w : State) (n : ℕ) →
-    EndsSo area kind own turns answer old new heard (formed area rs w.bytes p q r s w) n
-    (after_step (after_turns (formed area rs w.bytes p q r s w) n kind own turns) 1 final)
-    (FitsStep (after_turns (formed area rs w.bytes p q r s w) n kind own turns) 1 final)) →
-    RunsAlone area rs kind own answer old new heard
-turns-run area rs p q r s kind own turns final answer old new heard is before same begins spelled may E =
-    alone-over area rs p q r s kind own answer old new heard before same spelled may
-    (λ w n count. turned-so area rs w.bytes p q r s w n kind own turns final answer old new heard is count
-    begins
-    (E w n))
-
--- so it does where the file of one byte is in effect, of no put with a profile of its own
-pub byte-run : (area : Area) (rs : List Record) (p q r s : Provider) (kind : Kind) (turns : List Turn) (final
-    : Turn)
-    (answer : Answer) (old new : Seen) (heard : List Entry) → told final ≡ Ended answer →
-    old.disk_faults ≤ 0 → old.providers ≡ (p ∷ q ∷ r ∷ s ∷ []) →
-    file_of rs named ≡ Some (record { name = named; id = 1; size = 1; profile = 0 }) →
-    refusal_over area rs kind None ≡ None → IsSpelledKind kind →
-    ((w : State) (n : ℕ) → EndsSo area kind None turns answer old new heard
-    (formed area rs (one_byte w.bytes) p q r s w) n
-    (after_step (after_turns (formed area rs (one_byte w.bytes) p q r s w) n kind None turns) 1 final)
-    (FitsStep (after_turns (formed area rs (one_byte w.bytes) p q r s w) n kind None turns) 1 final)) →
-    RunsAlone area rs kind None answer old new heard
-byte-run area rs p q r s kind turns final answer old new heard is before same file begins spelled E =
-    alone-byte area rs p q r s kind None answer old new heard before same file spelled (MayName.none refl)
-    (λ w n count. turned-so area rs (one_byte w.bytes) p q r s w n kind None turns final answer old new heard
-    is
-    count begins (E w n))
-
--- a command ends so whose job ran alone
-pub alone-ends : (rs : List Record) (kind : Kind) (answer : Answer) (old new : Seen) (end : Ending) →
-    (opened : IsOpened old rs) → length new.providers ≡ length old.providers → IsSpelledKind kind →
-    refusal_over opened.area rs kind None ≡ None →
-    RunsAlone opened.area rs kind None answer old new end.heard →
+-- a job ends so whose run is this
+pub job-ends : {rs : List Record} {kind : Kind} {own : Option ℕ} {answer : Answer} {old new : Seen}
+    {end : Ending} (opened : IsOpened old rs) → length new.providers ≡ length old.providers →
+    IsSpelledKind kind → MayName kind own → refusal_over opened.area rs kind own ≡ None →
+    RunsAlone opened.area rs kind own answer old new end.heard →
     EndsByAnswer (text_of (setup_in_effect rs).tolerance kind answer) answer old new end →
-    AnswersAlone kind old new end
-alone-ends rs kind answer old new end opened same spelled begins alone ends =
-    AnswersAlone.begun rs opened (AnswersJob.ended answer begins alone
-    (left-so rs kind None answer old new end.heard spelled (MayName.none refl) opened same alone) ends)
+    AnswersJob kind own opened.area rs old new end
+job-ends {rs} {kind} {own} {answer} {old} {new} {end} opened same named may begins runs ends =
+    AnswersJob.ended answer begins runs (left-alone rs kind own answer old new end.heard named may
+    (λ w last n O r. jobs-leave kind own w last n answer end.heard named may O r) opened same runs) ends
 
--- a put of the byte ends so whose job ran alone, where its source is at its end
-pub put-ends : (rs : List Record) (name : List ℕ) (own : Option ℕ) (answer : Answer) (old new : Seen)
-    (end : Ending) → (opened : IsOpened old rs) → length new.providers ≡ length old.providers →
-    AreBytes name →
-    is_unknown own ≡ false → MayName (PutJob name byte) own → ReadsFront old.source new.source byte →
-    IfSome new.source (λ left. left ≡ []) → refusal_over opened.area rs (PutJob name byte) own ≡ None →
-    RunsAlone opened.area rs (PutJob name byte) own answer old new end.heard →
-    EndsByAnswer (text_of (setup_in_effect rs).tolerance (PutJob name byte) answer) answer old new end →
-    AnswersPut name own old new end
-put-ends rs name own answer old new end opened same spelled known may read whole begins alone ends =
-    AnswersPut.begun rs byte opened known read (omega arith)
-    (AnswersJob.ended answer begins alone
-    (left-so rs (PutJob name byte) own answer old new end.heard (spelled, refl) may opened same alone) ends)
-    (λ m. whole)
+-- a job runs alone over the file of one byte, and its command ends so
+pub record Run (area : Area) (rs : List Record) (kind : Kind) (answer : Answer) (old new : Seen)
+    (end : Ending) : Type 0 where
+  pub alone : RunsAlone area rs kind None answer old new end.heard
+  pub answers : AnswersAlone kind old new end × SameSource old new
+
+-- it is not refused, ends by this turn, and finds and leaves four providers, and the source
+abbrev pub BeginsSo : Area → List Record → Kind → Turn → Answer → Seen → Seen → Type 0
+BeginsSo area rs kind final answer old new = (told final ≡ Ended answer) × (old.disk_faults ≡ 0)
+    × (old.providers ≡ each (provider_at old.providers)) × (length new.providers ≡ 4)
+    × (file_of rs named ≡ Some kept) × (refusal_over area rs kind None ≡ None) × IsSpelledKind kind
+    × SameSource old new
+
+-- a job runs so that goes by these turns and the last one from each state over the store
+pub ran : {rs : List Record} {kind : Kind} {answer : Answer} {old new : Seen} {end : Ending}
+    (after : List Record) (turns : List Turn) (final : Turn) (opened : IsOpened old rs) →
+    BeginsSo opened.area rs kind final answer old new →
+    EachImage new.disk (λ image. StandsActive image opened.area after) →
+    EndsByAnswer (text_of (setup_in_effect rs).tolerance kind answer) answer old new end →
+    GoesSo opened.area rs kind None answer old new end.heard one_byte after turns final
+    (Run opened.area rs kind answer old new end)
+ran {rs} {kind} {answer} {old} {new} {end} after turns final opened begins images ends fit goes left same =
+    (let alone = turns-so opened.area rs kind None answer old new end.heard one_byte after turns final
+    begins.0 (λ w V. byte-held opened.area rs w begins.4 V)
+    (begins.1, begins.2, begins.5, begins.6, MayName.none refl) images fit goes left same in record {
+      alone = alone;
+      answers = (
+        AnswersAlone.begun rs opened (job-ends opened (begins.3 ∙ sym (ap length begins.2)) begins.6
+            (MayName.none refl) begins.5 alone ends),
+        begins.7,
+      );
+    })
+
+-- ---- how it goes
+
+-- a turn that answers more fits, and so do those before it
+pub turn : {Z X Y : Type 0} {more : Z} → X → Y → (more ≡ more) × ((true ≡ true) × ((true ≡ true) × X)) × Y
+turn x y = (refl, (refl, (refl, x)), y)
+
+-- a record of a job comes next, the last one, behind these
+pub next : {own earlier after : List Record} {entry : Record} (done : List Record) →
+    own ≡ done ++ entry ∷ [] → after ≡ reverse done ++ earlier → IsNextRecord own earlier after entry
+next done parts is = record { done = done; rest = []; parts = parts; after_is = is }
+
+-- past it the disk reads as before
+pub behind : {kind : Kind} {earlier after : List Record} {old new : Option Cells} (entry : Record) →
+    IsNext kind None earlier after entry →
+    option_map (past A (entry ∷ after)) new ≡ option_map (past A (entry ∷ after)) old →
+    SameBehind A kind None earlier after old new
+behind entry is same = record { next = Some entry; is_next = is; same = same }

@@ -1,230 +1,174 @@
--- Puts of one byte, from every state that was just opened.
-use Rattle.std.proofs.Common.{◌≡◌, [], ◌∷◌, Some, None, refl, inl, inr, arith}
-use Rattle.record_defs.specs.Areas.{A}
-use Rattle.record_defs.specs.Records.{PutStart, PutDone}
-use Rattle.record_defs.specs.Spellings.{spelling}
-use Rattle.machine_defs.specs.Jobs.{PutJob}
-use Rattle.machine_defs.specs.Actions.{actions_of}
-use Rattle.machine_defs.specs.Answers.{Put, ProviderFault, DiskFault, Memory}
-use Rattle.machine_defs.specs.Examples.{empty_provider}
-use Rattle.machine_defs.specs.States.{setup_in}
-use Rattle.command_defs.specs.Forms.{PutUnder, PutAt}
-use Rattle.command_defs.specs.Refusals.{refusal_over}
-use Rattle.command_defs.specs.Jobs.{RunsAlone}
-use Rattle.command_defs.specs.Commands.{Answers}
-use Rattle.lone_laws.specs.Walked.{MayName}
-use Rattle.damage_run.specs.Schedule.{byte}
-use Rattle.command_laws.specs.Instances.{other_name, ends}
-use Rattle.command_runs.specs.Devices.{named, four_records, byte_records, byte_upgraded_records, holds, silent, to_put, byte_stored, put_failed, put_cut, put_torn, put_unmade, all_hidden, to_put_other, stored_other, to_put_own, stored_own}
-use Rattle.made_runs.specs.Turns.{Goes, Gives, StoreFails, Cut}
-use Rattle.command_runs.proofs.Stores.{put-old, put-new, failed-new, cut-new, no_room-new, hidden-fresh, to_put_other-sure, stored_other-sure, to_put_own-sure, stored_own-sure}
-use Rattle.command_runs.proofs.Begins.{put_begins, own_begins}
-use Rattle.command_runs.proofs.Torn.{torn-image}
-use Rattle.command_runs.proofs.Made.{turns-run, ran-so, alone-over, put-ends, four-each}
+-- Puts of one byte, from every state that was just opened; one leaves a disk whose last gate is loose.
+use Rattle.std.specs.Prelude.{IfSome}
+use Rattle.std.proofs.Common.{◌⊎◌, ℕ, true, List, [], ◌∷◌, ◌++◌, take, refl, ap, sym, subst, inl, inr, ◌≡◌, false, length, Option, Some, None, arith}
+use Rattle.std.proofs.lemmas.Bool.{false≢true}
+use Rattle.device_defs.proofs.Lasting.{reads-firm}
+use Rattle.device_defs.proofs.PickLaws.{IsImage-reads}
+use Rattle.journal_core.proofs.CellLemmas.{IsImage-firm}
+use Rattle.journal_core.proofs.ImageLemmas.{either-after}
+use Rattle.command_runs.specs.Words.{Cells, firm, Stopped, IsImage, EachImage, PutDone, Record, PutStart, spelling, magic, text, before_gate, A, IsSwitched, entries, StandsActive, Area, then_told, PutJob, actions_of, Answer, Put, ProviderFault, DiskFault, Memory, Ended, AreBytes, setup_in, RunsAlone, EndsByAnswer, text_of, IsOpened, setup_in_effect, is_unknown, refusal_over, Seen, provider_at, AnswersPut, MayName, byte, other_name, ends, Turn, Goes, Gives, StoreFails, Cut, told}
+use Rattle.command_runs.specs.Devices.{started_records, byte_records, each, named, four_records, both_records, byte_upgraded_records, byte_own_records, to_put, byte_stored, put_failed, put_cut, put_torn, put_unmade, all_hidden, to_put_other, stored_other, to_put_own, stored_own}
+use Rattle.command_runs.proofs.Stores.{started-fit, four-fit, byte-fit, both-fit, own-fit, put-old, hidden-fresh, to_put_other-sure, to_put_own-sure}
+use Rattle.command_runs.proofs.Shape.{stands_for}
+use Rattle.command_runs.proofs.Begins.{put_begins}
+use Rattle.command_runs.proofs.Made.{GoesSo, after_turns, spelled, ends-by, alone-so, turns-so, job-ends, next, behind}
 
--- ---- a put that is done
+-- the last record with its closed gate
+abbrev last_entry : List ℕ
+last_entry = spelling (PutDone 1 1) ++ 0 ∷ []
 
-pub stored-runs : RunsAlone A four_records (PutJob named byte) None Put to_put byte_stored []
+-- the disk
+abbrev cells : Cells
+cells = firm (before_gate started_records) ++ (1, true) ∷ firm last_entry
+
+-- its front names the first area
+switched : (image : List ℕ) → IsImage cells image → IsSwitched image A
+unfolding spelling
+switched image is = record {
+  switch = 49;
+  front = ap (take 8)
+      (IsImage-firm magic (firm (entries started_records) ++ (1, true) ∷ firm last_entry) image is).1;
+  names = refl;
+}
+
+-- each image of it stands for the records with the put's last one or without it
+pub torn-image : (image : List ℕ) → IsImage cells image →
+    StandsActive image A started_records ⊎ StandsActive image A byte_records
+unfolding spelling
+torn-image image is = elim (either-after A started_records (PutDone 1 1) started-fit.all refl 3 cells
+    ([], refl) image is) [
+      | inl h ↦ inl (record { active = switched image is; holds = h })
+      | inr h ↦ inr (record { active = switched image is; holds = h })
+    ]
+
+-- any byte may stand there
+gate-image : (a b : List ℕ) (g x : ℕ) → IsImage (firm a ++ (g, true) ∷ firm b) (a ++ x ∷ b)
+gate-image [] b g x =
+    (λ e. absurd (false≢true (sym e)), subst (IsImage (firm b)) (reads-firm b) (IsImage-reads (firm b)))
+gate-image (y ∷ a) b g x = (λ e. refl, gate-image a b g x)
+
+-- a stop may leave the gate closed
+pub stopped-closed : Stopped cells (firm (before_gate started_records ++ 0 ∷ last_entry))
+stopped-closed = (
+  before_gate started_records ++ 0 ∷ last_entry,
+  gate-image (before_gate started_records) last_entry 1 0,
+  refl,
+)
+
+-- or open: the disk then reads the put's last record
+pub stopped-open : Stopped cells (firm (text byte_records))
+unfolding spelling
+stopped-open = (text byte_records, gate-image (before_gate started_records) last_entry 1 1, refl)
+
+-- a put of the byte runs alone, and its command ends so
+pub record PutRun (area : Area) (rs : List Record) (name : List ℕ) (own : Option ℕ) (answer : Answer)
+    (old new : Seen) (status : ℕ) : Type 0 where
+  pub alone : RunsAlone area rs (PutJob name byte) own answer old new []
+  pub answers : AnswersPut name own old new (ends status)
+
+-- it may begin, reads its source to the end, and finds and leaves four providers
+abbrev Finds : Area → List Record → List ℕ → Option ℕ → Seen → Seen → Type 0
+Finds area rs name own old new = (old.disk_faults ≡ 0) × (old.providers ≡ each (provider_at old.providers))
+    × (refusal_over area rs (PutJob name byte) own ≡ None) × AreBytes name × (is_unknown own ≡ false)
+    × (length new.providers ≡ length old.providers) × (old.source ≡ then_told byte new.source)
+    × IfSome new.source (λ left. left ≡ [])
+
+module _ {rs : List Record} {name : List ℕ} {own : Option ℕ} {answer : Answer} {old new : Seen}
+    {status : ℕ} (may : MayName (PutJob name byte) own) where
+  -- its command ends so
+  ends-so : (opened : IsOpened old rs) → Finds opened.area rs name own old new →
+      EndsByAnswer (text_of (setup_in_effect rs).tolerance (PutJob name byte) answer) answer old new
+      (ends status) → RunsAlone opened.area rs (PutJob name byte) own answer old new [] →
+      PutRun opened.area rs name own answer old new status
+  ends-so opened finds ends alone = record {
+    alone = alone;
+    answers = AnswersPut.begun rs byte opened finds.4 (record { are_bytes = refl; front = finds.6 })
+        (omega arith) (job-ends opened finds.5 (finds.3, refl) may finds.2 alone ends) (λ m. finds.7);
+  }
+
+  -- one that ends by a turn
+  put : (after : List Record) (turns : List Turn) (final : Turn) → told final ≡ Ended answer →
+      (opened : IsOpened old rs) → Finds opened.area rs name own old new →
+      EachImage new.disk (λ image. StandsActive image opened.area after) →
+      EndsByAnswer (text_of (setup_in_effect rs).tolerance (PutJob name byte) answer) answer old new
+      (ends status) → GoesSo opened.area rs (PutJob name byte) own answer old new [] (λ bytes. bytes) after
+      turns final (PutRun opened.area rs name own answer old new status)
+  put after turns final is opened finds images ends fit goes left same = ends-so opened finds ends
+      (turns-so opened.area rs (PutJob name byte) own answer old new [] (λ bytes. bytes) after turns final is
+      (λ w V. refl) (finds.0, finds.1, finds.2, (finds.3, refl), may) images fit goes left same)
+
+-- a put is done
+pub stored : PutRun A four_records named None Put to_put byte_stored 0
 unfolding setup_in actions_of spelling
-stored-runs = turns-run A four_records empty_provider empty_provider empty_provider empty_provider
-    (PutJob named byte) None (Goes 12 ∷ []) (Gives Put) Put to_put byte_stored []
-    refl (omega arith) refl put_begins (refl, refl) (MayName.none refl) (λ w n. record {
-      fit = (refl, refl, tt);
-      ends = (refl, (refl, tt));
-      heard_is = refl;
-      images = λ image is. inl (inl (put-new.images image is));
-      faults_are = refl;
-      count = λ e. e;
-      each = four-each byte_stored.providers _ refl refl refl refl;
-      past_text = refl;
-    })
-
--- it ends with status 0
-pub stored : Answers (PutUnder named) to_put byte_stored (ends 0)
-stored = put-ends four_records named None Put to_put byte_stored (ends 0) put-old.known.opened refl refl refl
-    (MayName.none refl) (record { are_bytes = refl; front = refl }) refl put_begins stored-runs
+stored = put (MayName.none refl) byte_records (Goes 12 ∷ []) (Gives Put) refl put-old.known.opened
+    (refl, refl, put_begins, refl, refl, refl, refl, refl) (stands_for byte-fit)
     (record { written = inl (refl, refl); place = refl })
+    (λ w n. (refl, refl, tt)) (λ w n. (refl, (refl, tt))) (λ w n. refl) (λ w n. refl)
 
--- ---- a put whose first store fails
-
-pub failed-runs : RunsAlone A four_records (PutJob named byte) None (ProviderFault 0) to_put put_failed []
+-- its first store fails, at provider 0
+pub failed : PutRun A four_records named None (ProviderFault 0) to_put put_failed 13
 unfolding setup_in actions_of spelling
-failed-runs = turns-run A four_records empty_provider empty_provider empty_provider empty_provider
-    (PutJob named byte) None (Goes 4 ∷ []) (StoreFails 0) (ProviderFault 0) to_put
-    put_failed [] refl (omega arith) refl put_begins (refl, refl) (MayName.none refl) (λ w n. record {
-      fit = (refl, refl, tt);
-      ends = (refl, (refl, refl));
-      heard_is = refl;
-      images = λ image is. inl (inl (failed-new.images image is));
-      faults_are = refl;
-      count = λ e. e;
-      each = four-each put_failed.providers _ refl refl refl refl;
-      past_text = refl;
-    })
-
--- it ends with status 13, at provider 0
-pub failed : Answers (PutUnder named) to_put put_failed (ends 13)
-failed = put-ends four_records named None (ProviderFault 0) to_put put_failed (ends 13) put-old.known.opened
-    refl refl refl (MayName.none refl) (record { are_bytes = refl; front = refl }) refl put_begins failed-runs
+failed = put (MayName.none refl) started_records (Goes 4 ∷ []) (StoreFails 0) refl put-old.known.opened
+    (refl, refl, put_begins, refl, refl, refl, refl, refl) (stands_for started-fit)
     (record { status_is = refl; place = refl; sink = refl })
+    (λ w n. (refl, refl, tt)) (λ w n. (refl, (refl, refl))) (λ w n. refl) (λ w n. refl)
 
--- ---- a put that a fault of the disk cuts off at its last move
-
-pub cut-runs : RunsAlone A four_records (PutJob named byte) None DiskFault to_put put_cut []
+-- a fault of the disk cuts it off at its last move
+pub cut : PutRun A four_records named None DiskFault to_put put_cut 12
 unfolding setup_in actions_of spelling
-cut-runs = turns-run A four_records empty_provider empty_provider empty_provider empty_provider
-    (PutJob named byte) None (Goes 11 ∷ []) Cut DiskFault to_put put_cut []
-    refl (omega arith) refl put_begins (refl, refl) (MayName.none refl) (λ w n. record {
-      fit = (refl, refl, tt);
-      ends = (refl, (refl, refl));
-      heard_is = refl;
-      images = λ image is. inr
-          (inl (record { doubt = _; in_doubt = refl; stands = cut-new.images image is }));
-      faults_are = refl;
-      count = λ e. e;
-      each = four-each put_cut.providers _ refl refl refl refl;
-      past_text = record {
-        next = Some (PutDone 1 1);
-        is_next = record { done = PutStart 1 named ∷ []; rest = []; parts = refl; after_is = refl };
-        same = refl;
-      };
-    })
-
--- it ends with status 12
-pub cut : Answers (PutUnder named) to_put put_cut (ends 12)
-cut = put-ends four_records named None DiskFault to_put put_cut (ends 12) put-old.known.opened refl refl refl
-    (MayName.none refl) (record { are_bytes = refl; front = refl }) refl put_begins cut-runs
+cut = put (MayName.none refl) byte_records (Goes 11 ∷ []) Cut refl put-old.known.opened
+    (refl, refl, put_begins, refl, refl, refl, refl, refl) (stands_for byte-fit)
     (record { status_is = refl; place = refl; sink = refl })
+    (λ w n. (refl, refl, tt)) (λ w n. (refl, (refl, refl))) (λ w n. refl)
+    (λ w n. behind (PutDone 1 1) (next (PutStart 1 named ∷ []) refl refl) refl)
 
--- ---- the same, and its gate is left loose
-
-pub torn-runs : RunsAlone A four_records (PutJob named byte) None DiskFault to_put put_torn []
+-- so it is where it leaves the gate of its last record loose
+pub torn : PutRun A four_records named None DiskFault to_put put_torn 12
 unfolding setup_in actions_of spelling
-torn-runs = turns-run A four_records empty_provider empty_provider empty_provider empty_provider
-    (PutJob named byte) None (Goes 11 ∷ []) Cut DiskFault to_put put_torn []
-    refl (omega arith) refl put_begins (refl, refl) (MayName.none refl) (λ w n. record {
-      fit = (refl, refl, tt);
-      ends = (refl, (refl, refl));
-      heard_is = refl;
-      images = λ image is. elim (torn-image image is) [
-        | inl h ↦ inl (inl h)
-        | inr h ↦ inr (inl (record { doubt = _; in_doubt = refl; stands = h }))
-      ];
-      faults_are = refl;
-      count = λ e. e;
-      each = four-each put_torn.providers _ refl refl refl refl;
-      past_text = record {
-        next = Some (PutDone 1 1);
-        is_next = record { done = PutStart 1 named ∷ []; rest = []; parts = refl; after_is = refl };
-        same = refl;
-      };
-    })
-
--- it ends with status 12
-pub torn : Answers (PutUnder named) to_put put_torn (ends 12)
-torn = put-ends four_records named None DiskFault to_put put_torn (ends 12) put-old.known.opened refl refl
-    refl
-    (MayName.none refl) (record { are_bytes = refl; front = refl }) refl put_begins torn-runs
+torn = ends-so (MayName.none refl) put-old.known.opened
+    (refl, refl, put_begins, refl, refl, refl, refl, refl)
     (record { status_is = refl; place = refl; sink = refl })
+    (alone-so A four_records (PutJob named byte) None DiskFault to_put put_torn [] (λ bytes. bytes)
+    byte_records (Goes 11 ∷ []) _ (λ w V. refl)
+    (refl, refl, put_begins, (refl, refl), MayName.none refl) (λ w n image is. elim (torn-image image is) [
+      | inl h ↦ inl (inl h)
+      | inr h ↦ inr (inl (record { doubt = _; in_doubt = refl; stands = h }))
+    ]) (λ w n. (refl, refl, tt))
+    (λ w n. ends-by (after_turns (spelled A four_records w.bytes to_put.providers w) n (PutJob named byte)
+    None (Goes 11 ∷ [])) n Cut DiskFault refl (refl, (refl, refl))) (λ w n. refl)
+    (λ w n. behind (PutDone 1 1) (next (PutStart 1 named ∷ []) refl refl) refl))
 
--- ---- a put that finds no memory at its first move
-
-pub unmade-runs : RunsAlone A four_records (PutJob named byte) None Memory to_put put_unmade []
+-- it finds no memory at its first move
+pub unmade : PutRun A four_records named None Memory to_put put_unmade 70
 unfolding setup_in actions_of spelling
-unmade-runs = alone-over A four_records empty_provider empty_provider empty_provider empty_provider
-    (PutJob named byte) None Memory to_put put_unmade [] (omega arith) refl (refl, refl) (MayName.none refl)
-    (λ w n count. ran-so A four_records w.bytes empty_provider empty_provider empty_provider empty_provider w
-    n
-    (PutJob named byte) None [] Memory to_put put_unmade [] _ count put_begins (record {
-      fit = tt;
-      ends = (0, omega arith, refl);
-      heard_is = refl;
-      images = λ image is. inl (inl (no_room-new.images image is));
-      faults_are = refl;
-      count = λ e. e;
-      each = four-each put_unmade.providers _ refl refl refl refl;
-      past_text = record { next = None; is_next = tt; same = refl };
-    }))
-
--- it ends with status 70
-pub unmade : Answers (PutUnder named) to_put put_unmade (ends 70)
-unmade = put-ends four_records named None Memory to_put put_unmade (ends 70) put-old.known.opened refl refl
-    refl
-    (MayName.none refl) (record { are_bytes = refl; front = refl }) refl put_begins unmade-runs
+unmade = ends-so (MayName.none refl) put-old.known.opened
+    (refl, refl, put_begins, refl, refl, refl, refl, refl)
     (record { status_is = refl; place = refl; sink = refl })
+    (alone-so A four_records (PutJob named byte) None Memory to_put put_unmade [] (λ bytes. bytes)
+    four_records [] _ (λ w V. refl) (refl, refl, put_begins, (refl, refl), MayName.none refl)
+    (λ w n image is. inl (inl (stands_for four-fit image is))) (λ w n. tt) (λ w n. (0, omega arith, refl))
+    (λ w n. refl) (λ w n. record { next = None; is_next = tt; same = refl }))
 
--- ---- a put over devices that tell nothing
-
-hidden-runs : RunsAlone A four_records (PutJob named byte) None Put all_hidden all_hidden []
+-- a put over devices that tell nothing
+pub hidden : PutRun A four_records named None Put all_hidden all_hidden 0
 unfolding setup_in actions_of spelling
-hidden-runs = turns-run A four_records silent silent silent silent (PutJob named byte) None (Goes 12 ∷ [])
-    (Gives Put) Put all_hidden all_hidden [] refl (omega arith) refl put_begins (refl, refl) (MayName.none
-    refl)
-    (λ w n. record {
-      fit = (refl, refl, tt);
-      ends = (refl, (refl, tt));
-      heard_is = refl;
-      images = tt;
-      faults_are = refl;
-      count = λ e. e;
-      each = four-each all_hidden.providers _ refl refl refl refl;
-      past_text = refl;
-    })
-
--- it ends with status 0
-pub hidden : Answers (PutUnder named) all_hidden all_hidden (ends 0)
-hidden = put-ends four_records named None Put all_hidden all_hidden (ends 0) hidden-fresh refl refl refl
-    (MayName.none refl) (record { are_bytes = refl; front = refl }) tt put_begins hidden-runs
+hidden = put (MayName.none refl) byte_records (Goes 12 ∷ []) (Gives Put) refl hidden-fresh
+    (refl, refl, put_begins, refl, refl, refl, refl, tt) tt
     (record { written = inl (refl, refl); place = refl })
+    (λ w n. (refl, refl, tt)) (λ w n. (refl, (refl, tt))) (λ w n. refl) (λ w n. refl)
 
--- ---- a put of another file
-
-other-begins : refusal_over A byte_records (PutJob other_name byte) None ≡ None
-other-begins = refl
-
-other-runs : RunsAlone A byte_records (PutJob other_name byte) None Put to_put_other stored_other []
+-- a put of another file
+pub other : PutRun A byte_records other_name None Put to_put_other stored_other 0
 unfolding setup_in actions_of spelling
-other-runs = turns-run A byte_records (holds 0) (holds 1) (holds 2) (holds 3) (PutJob other_name byte) None
-    (Goes 12 ∷ []) (Gives Put) Put to_put_other stored_other [] refl (omega arith) refl
-    other-begins (refl, refl) (MayName.none refl) (λ w n. record {
-      fit = (refl, refl, tt);
-      ends = (refl, (refl, tt));
-      heard_is = refl;
-      images = λ image is. inl (inl (stored_other-sure.images image is));
-      faults_are = refl;
-      count = λ e. e;
-      each = four-each stored_other.providers _ refl refl refl refl;
-      past_text = refl;
-    })
-
--- it ends with status 0
-pub other : Answers (PutUnder other_name) to_put_other stored_other (ends 0)
-other = put-ends byte_records other_name None Put to_put_other stored_other (ends 0)
-    to_put_other-sure.known.opened refl refl refl (MayName.none refl)
-    (record { are_bytes = refl; front = refl }) refl other-begins other-runs
+other = put (MayName.none refl) both_records (Goes 12 ∷ []) (Gives Put) refl to_put_other-sure.known.opened
+    (refl, refl, refl, refl, refl, refl, refl, refl) (stands_for both-fit)
     (record { written = inl (refl, refl); place = refl })
+    (λ w n. (refl, refl, tt)) (λ w n. (refl, (refl, tt))) (λ w n. refl) (λ w n. refl)
 
--- ---- a put of another file with a profile of its own, over the upgraded store
-
-pub own-runs : RunsAlone A byte_upgraded_records (PutJob other_name byte) (Some 1) Put to_put_own stored_own
-    []
+-- a put of another file with a profile of its own, over the upgraded store
+pub own : PutRun A byte_upgraded_records other_name (Some 1) Put to_put_own stored_own 0
 unfolding setup_in actions_of spelling
-own-runs = turns-run A byte_upgraded_records (holds 0) (holds 1) (holds 2) (holds 3) (PutJob other_name byte)
-    (Some 1) (Goes 12 ∷ []) (Gives Put) Put to_put_own stored_own [] refl (omega arith) refl
-    own_begins (refl, refl) (MayName.put other_name byte refl) (λ w n. record {
-      fit = (refl, refl, tt);
-      ends = (refl, (refl, tt));
-      heard_is = refl;
-      images = λ image is. inl (inl (stored_own-sure.images image is));
-      faults_are = refl;
-      count = λ e. e;
-      each = four-each stored_own.providers _ refl refl refl refl;
-      past_text = refl;
-    })
-
--- it ends with status 0
-pub own : Answers (PutAt other_name 1) to_put_own stored_own (ends 0)
-own = put-ends byte_upgraded_records other_name (Some 1) Put to_put_own stored_own (ends 0)
-    to_put_own-sure.known.opened refl refl refl (MayName.put other_name byte refl)
-    (record { are_bytes = refl; front = refl }) refl own_begins own-runs
-    (record { written = inl (refl, refl); place = refl })
+own = put {own = Some 1} (MayName.put other_name byte refl) byte_own_records (Goes 12 ∷ []) (Gives Put) refl
+    to_put_own-sure.known.opened (refl, refl, refl, refl, refl, refl, refl, refl)
+    (stands_for own-fit) (record { written = inl (refl, refl); place = refl })
+    (λ w n. (refl, refl, tt)) (λ w n. (refl, (refl, tt))) (λ w n. refl) (λ w n. refl)

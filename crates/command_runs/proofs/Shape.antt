@@ -1,36 +1,40 @@
 -- States whose vault was just opened over four providers, spelled out; and stores that are known.
-use Rattle.std.proofs.Common.{◌≡◌, ◌≢◌, ℕ, ◌≤◌, ◌==◌, true, false, List, [], ◌∷◌, length, Some, None, refl, ap, sym, subst, ◌∙◌, inl, inr, arith}
+use Rattle.std.proofs.Common.{◌≡◌, ◌≢◌, ℕ, zero, suc, ◌<◌, ◌≤◌, ◌==◌, true, false, List, [], ◌∷◌, length, Some, None, refl, ap, sym, subst, ◌∙◌, inl, inr, arith}
 use Rattle.std.specs.Prelude.{IsTrue, if◌then◌else◌}
 use Rattle.std.specs.List.{list_all}
 use Rattle.std.proofs.lemmas.Bool.{cases_Bool, eqb-true}
-use Rattle.device_defs.specs.Cells.{reads, firm}
-use Rattle.device_defs.specs.Providers.{Provider}
-use Rattle.record_defs.specs.Records.{Record, is_in_grammar, largest_journal}
-use Rattle.record_defs.specs.Journal.{text}
-use Rattle.record_defs.specs.Acceptance.{AreAccepted}
-use Rattle.record_defs.specs.Areas.{Area, A, end_in, StandsActive}
-use Rattle.machine_defs.specs.States.{State, with_provider}
 use Rattle.machine_defs.proofs.JobLists.{cond_true, cond_false}
-use Rattle.device_defs.specs.Images.{EachImage}
 use Rattle.device_defs.proofs.Lasting.{reads-firm, image-firm}
 use Rattle.record_defs.proofs.AreaLaws.{text-active}
-use Rattle.command_defs.specs.Seen.{Seen}
-use Rattle.command_defs.specs.Opens.{setup_in_effect}
-use Rattle.opening_defs.specs.Opened.{IsJustOpened}
 use Rattle.job_laws.proofs.Alike.{plain}
-use Rattle.command_laws.specs.After.{IsSure}
-use Rattle.command_laws.proofs.Knowing.{IsGood, known-good}
+use Rattle.command_laws.proofs.Knowing.{known-good}
+use Rattle.command_runs.specs.Words.{firm, Provider, Record, is_in_grammar, largest_journal, text, AreAccepted, Area, A, end_in, StandsActive, State, with_provider, IsImage, EachImage, Seen, setup_in_effect, IsJustOpened, IsSure}
 
--- ---- the providers
+-- ---- of four providers
+
+-- of each number
+pub always : (P : ℕ → Type 0) → P 0 → P 1 → P 2 → P 3 → ((j : ℕ) → P (suc (suc (suc (suc j))))) →
+    (j : ℕ) → P j
+always P a b c d e zero = a
+always P a b c d e (suc zero) = b
+always P a b c d e (suc (suc zero)) = c
+always P a b c d e (suc (suc (suc zero))) = d
+always P a b c d e (suc (suc (suc (suc j)))) = e j
+
+-- of each number below four
+pub four : (P : ℕ → Type 0) → P 0 → P 1 → P 2 → P 3 → (j : ℕ) → j < 4 → P j
+four P a b c d = always (λ j. j < 4 → P j) (λ l. a) (λ l. b) (λ l. c) (λ l. d)
+    (λ j l. absurd (omega (arith, l)))
 
 -- these four, and others behind them
 abbrev pub over : (ℕ → Provider) → Provider → Provider → Provider → Provider → ℕ → Provider
 over ps p q r s = with_provider (with_provider (with_provider (with_provider ps 3 s) 2 r) 1 q) 0 p
 
-same_at : (ps : ℕ → Provider) (j : ℕ) (p : Provider) → p ≡ ps j → (k : ℕ) → with_provider ps j p k ≡ ps k
-same_at ps j p e k = elim (cases_Bool (k == j)) [
-  | inl t ↦ cond_true (k == j) p (ps k) t ∙ (e ∙ ap ps (sym (eqb-true k j t)))
-  | inr f ↦ cond_false (k == j) p (ps k) f
+same_at : {X : Type 0} (f : ℕ → X) (j : ℕ) (x : X) → x ≡ f j → (k : ℕ) →
+    (if k == j then x else f k) ≡ f k
+same_at f j x e k = elim (cases_Bool (k == j)) [
+  | inl t ↦ cond_true (k == j) x (f k) t ∙ (e ∙ ap f (sym (eqb-true k j t)))
+  | inr n ↦ cond_false (k == j) x (f k) n
 ]
 
 -- what is there twice is one thing
@@ -62,14 +66,7 @@ one_long (x ∷ y ∷ ys) h = absurd (omega (arith, h))
 
 -- bytes whose object 1 has one byte are these
 pub one_byte-is : (bytes : ℕ → List ℕ) → length (bytes 1) ≡ 1 → one_byte bytes ≡ bytes
-one_byte-is bytes h = λ i id. (at id) i
-  where
-    at : (id : ℕ) → one_byte bytes id ≡ bytes id
-    at id = elim (cases_Bool (id == 1)) [
-      | inl t ↦ cond_true (id == 1) (first_of (bytes 1) ∷ []) (bytes id) t
-          ∙ (one_long (bytes 1) h ∙ ap bytes (sym (eqb-true id 1 t)))
-      | inr f ↦ cond_false (id == 1) (first_of (bytes 1) ∷ []) (bytes id) f
-    ]
+one_byte-is bytes h = λ i id. same_at bytes 1 (first_of (bytes 1) ∷ []) (one_long (bytes 1) h) id i
 
 -- ---- the state
 
@@ -137,38 +134,35 @@ pub record AreFitIn (area : Area) (rs : List Record) : Type 0 where
   pub accepted : AreAccepted rs
   pub room : end_in area rs ≤ largest_journal
 
--- in the first area
-abbrev pub AreFit : List Record → Type 0
-AreFit rs = AreFitIn A rs
+-- each image of a disk of bytes that stand for them stands for them too
+pub stands : {area : Area} {rs : List Record} (bytes : List ℕ) → StandsActive bytes area rs →
+    (image : List ℕ) → IsImage (firm bytes) image → StandsActive image area rs
+stands {area} {rs} bytes active image is =
+    subst (λ l. StandsActive l area rs) (sym (image-firm bytes image is)) active
 
--- a disk of bytes that stand for them reads such
-pub here-good : (area : Area) (rs : List Record) (bytes : List ℕ) → AreFitIn area rs →
-    StandsActive bytes area rs → IsGood (setup_in_effect rs) (reads (firm bytes)) area rs
-here-good area rs bytes fit stands = record {
-  some = fit.some;
-  accepted = fit.accepted;
-  room = fit.room;
-  setup = refl;
-  stands = subst (λ l. StandsActive l area rs) (sym (reads-firm bytes)) stands;
-}
+-- so it is of their text in the first area
+pub stands_for : {rs : List Record} → AreFitIn A rs → (image : List ℕ) → IsImage (firm (text rs)) image →
+    StandsActive image A rs
+stands_for {rs} fit = stands (text rs) (text-active rs fit.all)
 
--- and each image of the disk stands for them
-pub images-fit : (s : Seen) (area : Area) (rs : List Record) (bytes : List ℕ) → s.disk ≡ Some (firm bytes) →
-    StandsActive bytes area rs → EachImage s.disk (λ image. StandsActive image area rs)
-images-fit s area rs bytes is stands =
-    subst (λ told. EachImage told (λ image. StandsActive image area rs)) (sym is)
-    (λ image has. subst (λ l. StandsActive l area rs) (sym (image-firm bytes image has)) stands)
-
--- devices with such a disk are known
+-- devices with a disk of bytes that stand for them are known
 abbrev pub sure_in : (s : Seen) (area : Area) (rs : List Record) (bytes : List ℕ) → AreFitIn area rs →
     s.disk ≡ Some (firm bytes) → StandsActive bytes area rs →
     (setup_in_effect rs).n ≤ length s.providers → IsSure s rs
-sure_in s area rs bytes fit is stands few = record {
-  known = known-good (setup_in_effect rs) s (firm bytes) area rs is (here-good area rs bytes fit stands) few;
-  images = images-fit s area rs bytes is stands;
+sure_in s area rs bytes fit is active few = record {
+  known = known-good (setup_in_effect rs) s (firm bytes) area rs is
+      (record {
+        some = fit.some;
+        accepted = fit.accepted;
+        room = fit.room;
+        setup = refl;
+        stands = subst (λ l. StandsActive l area rs) (sym (reads-firm bytes)) active;
+      }) few;
+  images = subst (λ told. EachImage told (λ image. StandsActive image area rs)) (sym is)
+      (stands bytes active);
 }
 
 -- so are those whose disk has their text in the first area
-abbrev pub sure : (s : Seen) (rs : List Record) → AreFit rs → s.disk ≡ Some (firm (text rs)) →
+abbrev pub sure : (s : Seen) (rs : List Record) → AreFitIn A rs → s.disk ≡ Some (firm (text rs)) →
     (setup_in_effect rs).n ≤ length s.providers → IsSure s rs
 sure s rs fit is few = sure_in s A rs (text rs) fit is (text-active rs fit.all) few

@@ -9,16 +9,9 @@
 --   to_put_source source       == before a put of such a source
 --   put_given_up               == after the put of the first one: its start is in effect
 --   put_too_long source        == after the put of a source that is too long
-use Rattle.std.specs.Prelude.{ℕ, zero, suc, ◌+◌, List, [], ◌∷◌, length, take, drop, replicate}
-use Rattle.column_defs.specs.Columns.{columns}
-use Rattle.device_defs.specs.Providers.{Provider}
-use Rattle.record_defs.specs.Records.{largest_file}
-use Rattle.record_defs.specs.Examples.{four}
-use Rattle.machine_defs.specs.Examples.{empty_provider}
-use Rattle.machine_defs.specs.Setups.{object_of, stripes_of}
-use Rattle.command_defs.specs.Seen.{Seen}
-use Rattle.made_runs.specs.Steps.{stored}
-use Rattle.command_runs.specs.Devices.{reading_devices, with_source, four_records, started_records, none_hold}
+use Rattle.std.specs.Prelude.{ℕ, zero, suc, ◌+◌, List, length, take, drop, replicate}
+use Rattle.command_runs.specs.Words.{columns, Provider, largest_file, four, empty_provider, object_of, stripes_of, Seen, stored}
+use Rattle.command_runs.specs.Devices.{each, reading_devices, with_source, four_records, started_records, none_hold}
 
 -- so many bytes
 abbrev pub sevens : ℕ → List ℕ
@@ -44,9 +37,7 @@ holds_stripes bytes j (suc t) =
 
 -- a store that was set up once so many stripes of a put are stored
 abbrev pub storing : List ℕ → ℕ → Seen
-storing bytes t = reading_devices started_records
-    (holds_stripes bytes 0 t ∷ holds_stripes bytes 1 t ∷ holds_stripes bytes 2 t ∷ holds_stripes bytes 3 t
-    ∷ [])
+storing bytes t = reading_devices started_records (each (λ j. holds_stripes bytes j t))
 
 -- before a put: a store without files, and these bytes in the source
 abbrev pub to_put_source : List ℕ → Seen

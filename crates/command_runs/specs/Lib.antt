@@ -1,3 +1,4 @@
+pub mod Words
 pub mod Devices
 pub mod Lone
 pub mod GivenUp

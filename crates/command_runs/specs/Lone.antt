@@ -6,13 +6,7 @@
 --   ScrubsSomewhere answer              == from some state whose vault was just opened a scrub runs to this
 --                                          answer
 use Rattle.std.specs.Prelude.{ℕ, List, Option}
-use Rattle.machine_defs.specs.Jobs.{Kind}
-use Rattle.machine_defs.specs.Answers.{Answer}
-use Rattle.machine_defs.specs.Heard.{Entry}
-use Rattle.machine_defs.specs.States.{State}
-use Rattle.command_defs.specs.JobRuns.{RunsJob}
-use Rattle.command_defs.specs.Scrubs.{RunsScrub}
-use Rattle.opening_defs.specs.Opened.{IsOpenAtRest}
+use Rattle.command_runs.specs.Words.{Kind, Answer, Entry, State, RunsJob, RunsScrub, IsOpenAtRest}
 
 -- from some state just opened a job runs to its end
 pub record RunsSomewhere (kind : Kind) (own : Option ℕ) (answer : Answer) (heard : List Entry) : Type 0 where

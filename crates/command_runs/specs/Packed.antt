@@ -10,18 +10,9 @@
 --   fetched_hold           == the providers once each was fetched from
 --   got_packed filling     == after a get of the file then
 --   pack_call, get_packed  == the two calls, one after the other
-use Rattle.std.specs.Prelude.{◌≡◌, ℕ, ◌-◌, ◌^◌, List, [], ◌∷◌, ◌++◌, length, Some}
-use Rattle.device_defs.specs.Cells.{firm}
-use Rattle.device_defs.specs.Providers.{Provider}
-use Rattle.record_defs.specs.Records.{Record}
-use Rattle.record_defs.specs.Areas.{magic_front, entries}
+use Rattle.std.specs.Prelude.{◌≡◌, ℕ, ◌-◌, ◌^◌, List, [], ◌∷◌, ◌++◌, Some, length}
 use Rattle.record_defs.specs.Packed.{packed}
-use Rattle.command_defs.specs.Forms.{GetOf, PackJournal}
-use Rattle.command_defs.specs.Lines.{packed_line}
-use Rattle.command_defs.specs.Seen.{Seen}
-use Rattle.command_laws.specs.Instances.{with_sink, ends}
-use Rattle.command_laws.specs.Pieces.{Call}
-use Rattle.damage_run.specs.Schedule.{byte}
+use Rattle.command_runs.specs.Words.{firm, Provider, Record, magic_front, entries, GetOf, PackJournal, packed_line, Seen, with_sink, ends, Call, byte}
 use Rattle.command_runs.specs.Devices.{named, byte_upgraded_records, upgraded_kept, holds, fetched, own_blocks_heard, ends_hearing}
 
 -- the packed records

@@ -1,17 +1,9 @@
 //! Puts that are given up behind their begins, given outright: how they end, and laws that have them as
 //! instances.
 ghost use Rattle.std.specs.Prelude.{◌≡◌, ◌⊎◌, ℕ, ◌+◌, ◌<◌, List, length, None};
-ghost use Rattle.record_defs.specs.Areas.{A};
-ghost use Rattle.record_defs.specs.Records.{largest_file};
-ghost use Rattle.machine_defs.specs.Events.{AreBytes};
-ghost use Rattle.command_defs.specs.Forms.{PutUnder};
-ghost use Rattle.command_defs.specs.Commands.{Answers};
-ghost use Rattle.command_defs.specs.GivenUp.{after_begin, PartRuns, PartLeft};
+ghost use Rattle.command_runs.specs.Words.{A, largest_file, AreBytes, PutUnder, Answers, after_begin, PartRuns, PartLeft, put_refusal, GivesUpPut, FaultsHaveCauses, IsSure, ends};
 ghost use Rattle.command_runs.specs.Devices.{named, four_records};
 ghost use Rattle.command_runs.specs.GivenUp.{sevens, long, first_stripe, to_put_source, put_given_up, put_too_long};
-ghost use Rattle.command_laws.specs.Ends.{put_refusal, GivesUpPut, FaultsHaveCauses};
-ghost use Rattle.command_laws.specs.After.{IsSure};
-ghost use Rattle.command_laws.specs.Instances.{ends};
 
 use command_laws::after::done_commands_leave_known_stores;
 use command_laws::ends::{faults_have_causes, refusals_are_exact};
@@ -35,6 +27,7 @@ pub fn a_given_up_put_leaves_a_known_store()
     ensures known { IsSure put_given_up (after_begin four_records named) }
     ensures cause { FaultsHaveCauses (to_put_source long) put_given_up (ends 14) }
 {
+    a_put_is_given_up();
     cut_sources_leave();
     done_commands_leave_known_stores();
     faults_have_causes();

@@ -1,32 +1,12 @@
 //! What the laws on commands say of the commands given outright: each premise is met, and the law is called.
 ghost use Rattle.std.specs.Prelude.{◌≡◌, ◌⊎◌, ◌==◌, ◌&&◌, ◌<◌, ℕ, false, not, List, [], ◌∷◌, length, replicate, Some, None};
 ghost use Rattle.hail_field.specs.Shape.{IsShape};
-ghost use Rattle.code_defs.specs.Points.{upto};
-ghost use Rattle.code_defs.specs.DispersalCode.{AcceptsNone};
-ghost use Rattle.column_defs.specs.Verdicts.{is_flagged};
-ghost use Rattle.device_defs.specs.Cells.{firm};
-ghost use Rattle.record_defs.specs.Areas.{A};
-ghost use Rattle.record_defs.specs.Records.{Record, is_setup};
-ghost use Rattle.machine_defs.specs.Jobs.{PutJob, GetJob, DropJob, AuditJob, RepairJob, UpgradeJob};
-ghost use Rattle.machine_defs.specs.Answers.{Put, Got, Dropped, Audited, Repaired, Upgraded, Scrubbed, Lost, ProviderFault, DiskFault, Memory};
-ghost use Rattle.machine_defs.specs.Refusals.{RepairDue, NothingDue, BadProfile, OldVersion, NewVersion};
-ghost use Rattle.command_defs.specs.Forms.{PutUnder, GetOf, DropOf, ListAll, RepairAll, UpgradeJournal, ScrubAll};
-ghost use Rattle.command_defs.specs.Keys.{IsKeyForm};
-ghost use Rattle.opening_defs.specs.Journals.{journal_read, IsBadStart, IsBadInit, IsSetUpAlready};
-ghost use Rattle.command_defs.specs.Inits.{setup_with};
-ghost use Rattle.command_defs.specs.Lines.{stored_line, upgraded_line};
-ghost use Rattle.command_defs.specs.Refusals.{refusal_over};
-ghost use Rattle.command_defs.specs.GivenUp.{after_begin};
-ghost use Rattle.command_defs.specs.Audits.{HearsRounds, CountsHeard};
-ghost use Rattle.command_laws.specs.Ends.{IsKnown, IsWholePut, IsDropped, IsAudited, IsRepaired, IsUpgraded, IsScrubbed, FaultsHaveCauses, EndsInOrder, GivesUnlessMemory, HoldsFile, put_refusal, ran_to, after_put, after_audit, after_repair, after_upgrade};
-ghost use Rattle.command_laws.specs.Kept.{FailsToPut, FailsToRepair, FailsToScrub, LosesFile, LosesRepair, LosesScrub, LeavesImages};
-ghost use Rattle.command_laws.specs.After.{IsSure, IsThen, HasRightFile};
+ghost use Rattle.command_runs.specs.Words.{upto, AcceptsNone, is_flagged, firm, A, Record, is_setup, PutJob, GetJob, DropJob, AuditJob, RepairJob, UpgradeJob, Put, Got, Dropped, Audited, Repaired, Upgraded, Scrubbed, Lost, ProviderFault, DiskFault, Memory, RepairDue, NothingDue, BadProfile, OldVersion, NewVersion, PutUnder, GetOf, DropOf, ListAll, RepairAll, UpgradeJournal, ScrubAll, IsKeyForm, journal_read, IsBadStart, IsBadInit, IsSetUpAlready, setup_with, stored_line, upgraded_line, refusal_over, after_begin, HearsRounds, CountsHeard, IsKnown, IsWholePut, IsDropped, IsAudited, IsRepaired, IsUpgraded, IsScrubbed, FaultsHaveCauses, EndsInOrder, GivesUnlessMemory, HoldsFile, put_refusal, ran_to, after_put, after_audit, after_repair, after_upgrade, FailsToPut, FailsToRepair, FailsToScrub, LosesFile, LosesRepair, LosesScrub, LeavesImages, IsSure, IsThen, HasRightFile, counts, byte, key_text, other_name, ends};
 ghost use Rattle.command_runs.specs.Lone.{RunsSomewhere, ScrubsSomewhere};
 ghost use Rattle.command_runs.specs.Devices.{with_source, named, four_records, byte_records, byte_audited_records, good_numbers, bad_numbers, to_put, byte_stored, put_failed, put_cut, put_torn, put_gone, drop_cut, audit_cut, repair_cut, byte_kept, dropped, all_lost, found_lost, due_lost, repair_lost, no_blocks, damaged, byte_audited, answers_heard, due, repaired, repair_failed, mended, got, own_blocks_heard, seen_after_drop, disk_failed, scrambled, all_hidden, hidden_fetched, both_records, stored_other, byte_upgraded_records, byte_own_records, byte_upgraded, upgrade_cut, to_put_own, stored_own, two_damaged, symbols_off, blocks_off, scrubbed, scrub_failed, robbed_later, got_later, later_heard, ends_at, ends_hearing};
-ghost use Rattle.damage_run.specs.Points.{counts};
-ghost use Rattle.damage_run.specs.Schedule.{byte};
-ghost use Rattle.command_laws.specs.Instances.{key_text, other_name, ends};
 
+use crate::refused::{commands_end_early, inits_are_refused};
+use crate::runs::commands_end;
 use command_laws::after::{
     audits_in_effect_count_what_they_heard, done_commands_leave_known_stores, files_stay,
     gets_tell_what_stands, put_files_are_got, stores_stay_known,
@@ -57,6 +37,7 @@ pub fn jobs_leave_what_is_said()
     ensures failed_scrub { FailsToScrub two_damaged scrub_failed (ends_at 13 0) }
     ensures lost_scrub { LosesScrub all_lost found_lost (ends 4) }
 {
+    commands_end();
     puts_store_the_source();
     drops_take_the_file_away();
     audits_count_what_they_hear();
@@ -83,6 +64,7 @@ pub fn upgrades_bring_profiles()
     ensures second { HasRightFile stored_own (after_put byte_upgraded_records other_name 1 (Some 1))
         other_name byte (λ j. false) }
 {
+    commands_end();
     upgrades_end_well();
     own_profiles_are_taken();
     puts_store_the_source();
@@ -116,6 +98,8 @@ pub fn statuses_have_their_causes()
     ensures lost_scrub { EndsInOrder ScrubAll all_lost found_lost (ends 4)
         ⊎ LosesScrub all_lost found_lost (ends 4) }
 {
+    commands_end();
+    commands_end_early();
     faults_have_causes();
     unopened_stores_are_told();
     refusals_are_exact();
@@ -134,6 +118,7 @@ pub fn inits_have_their_causes()
     ensures bad_journal { (9 < length (journal_read (firm (replicate 12 0))))
         × IsBadInit (journal_read (firm (replicate 12 0))) 0 }
 {
+    inits_are_refused();
     init_refusals_are_exact();
 }
 
@@ -162,6 +147,7 @@ pub fn cut_commands_leave_known_stores()
     ensures failed { IsSure put_failed (after_begin four_records named) }
     ensures scrub { IsSure scrub_failed byte_records }
 {
+    commands_end();
     stores_stay_known();
     files_stay();
     audits_in_effect_count_what_they_heard();
@@ -179,6 +165,8 @@ pub fn damage_is_mended()
     ensures swept { GivesUnlessMemory byte robbed_later got_later (ends_hearing 0 later_heard) }
     ensures dropped { ((ends 3).status ≡ 3) ⊎ ((ends 3).status ≡ 70) }
 {
+    commands_end();
+    commands_end_early();
     put_files_are_got();
 }
 
@@ -198,6 +186,7 @@ pub fn files_stay_right()
         × CountsHeard (ran_to (after_audit byte_records 0 counts) byte_records damaged byte_audited
         answers_heard) 1 0 counts }
 {
+    commands_end();
     files_stay();
     audits_in_effect_count_what_they_heard();
 }
@@ -213,6 +202,7 @@ pub fn few_bad_providers_do_no_harm()
         (record { name = named; id = 1; size = 1; profile = 0 }) 2 }
     ensures complete { GivesUnlessMemory byte mended got (ends_hearing 0 own_blocks_heard) }
 {
+    commands_end();
     repairs_write_anew();
     scrubs_sweep();
     gets_tell_what_stands();

@@ -1,23 +1,6 @@
 //! Packs of the store with the file, given outright, and a get from the packed store.
 ghost use Rattle.std.specs.Prelude.{◌≡◌, ◌⊎◌, ℕ, false, List, [], ◌∷◌, Some, None};
-ghost use Rattle.record_defs.specs.Records.{Record};
-ghost use Rattle.record_defs.specs.Areas.{A};
-ghost use Rattle.machine_defs.specs.Answers.{Packed, DiskFault};
-ghost use Rattle.machine_defs.specs.Refusals.{OldVersion};
-ghost use Rattle.machine_defs.specs.Runs.{Moment, IsRun, now};
-ghost use Rattle.machine_defs.specs.States.{State};
-ghost use Rattle.command_defs.specs.Forms.{GetOf, PackJournal};
-ghost use Rattle.command_defs.specs.Commands.{Answers};
-ghost use Rattle.command_defs.specs.Lines.{packed_line};
-ghost use Rattle.command_defs.specs.Packs.{PacksAlone, PackedAlone};
-ghost use Rattle.command_defs.specs.Refusals.{pack_refusal_over};
-ghost use Rattle.command_defs.specs.Seen.{IsRefused};
-ghost use Rattle.command_laws.specs.After.{IsSure, IsThen, HasRightFile};
-ghost use Rattle.command_laws.specs.Ends.{IsKnown, IsPacked, EndsInOrder, GivesUnlessMemory, SameHolds};
-ghost use Rattle.command_laws.specs.Kept.{LeavesImages, SameFetches};
-ghost use Rattle.command_laws.specs.Instances.{ends};
-ghost use Rattle.command_laws.specs.Pieces.{IsStore, AreCalls};
-ghost use Rattle.damage_run.specs.Schedule.{byte};
+ghost use Rattle.command_runs.specs.Words.{Record, A, Packed, DiskFault, OldVersion, Moment, IsRun, now, State, GetOf, PackJournal, Answers, packed_line, PacksAlone, PackedAlone, pack_refusal_over, IsRefused, IsSure, IsThen, HasRightFile, IsKnown, IsPacked, EndsInOrder, GivesUnlessMemory, SameHolds, LeavesImages, SameFetches, ends, IsStore, AreCalls, byte};
 ghost use Rattle.command_runs.specs.Devices.{named, byte_upgraded_records, byte_records, upgraded_kept, byte_kept, disk_failed, own_blocks_heard, ends_hearing};
 ghost use Rattle.command_runs.specs.Packed.{IsFilling, packed_records, packed_kept, packed_store, got_packed, pack_call, get_packed};
 
@@ -81,6 +64,7 @@ pub fn packs_leave_what_is_said()
     ensures file { (filling : List ℕ) → IsFilling filling
         → HasRightFile (packed_store filling) packed_records named byte (λ j. false) }
 {
+    packs_end();
     packs_end_well();
     refusals_are_exact();
     reads_leave_what_is_held();

@@ -1,10 +1,7 @@
 //! Commands over devices that end before a job of theirs begins, given outright.
 ghost use Rattle.std.specs.Prelude.{[], ◌∷◌, Some, None};
-ghost use Rattle.command_defs.specs.Forms.{RowOf, InitWith, PutUnder, PutAt, GetOf, ListAll, AuditAll, RepairAll, UpgradeJournal};
-ghost use Rattle.command_defs.specs.Line.{values_line, no_row_line};
-ghost use Rattle.command_defs.specs.Commands.{Answers};
+ghost use Rattle.command_runs.specs.Words.{RowOf, InitWith, PutUnder, PutAt, GetOf, ListAll, AuditAll, RepairAll, UpgradeJournal, values_line, no_row_line, Answers, with_sink, key_text, other_name, ends};
 ghost use Rattle.command_runs.specs.Devices.{with_source, named, good_numbers, bad_numbers, to_put, put_unmade, byte_kept, upgraded_kept, due, seen_after_drop, disk_failed, deserted, scrambled, all_hidden};
-ghost use Rattle.command_laws.specs.Instances.{with_sink, key_text, other_name, ends};
 
 /// Faults of the disk, the sink and the source, and want of memory; a disk that reads no journal, and too few
 /// providers; begins that are refused, also of puts that name a profile and of a second upgrade; a row that

@@ -1,8 +1,6 @@
 //! Commands over devices that run a job, given outright.
-ghost use Rattle.command_defs.specs.Forms.{PutUnder, PutAt, GetOf, DropOf, AuditAll, RepairAll, UpgradeJournal, ScrubAll};
-ghost use Rattle.command_defs.specs.Commands.{Answers};
+ghost use Rattle.command_runs.specs.Words.{PutUnder, PutAt, GetOf, DropOf, AuditAll, RepairAll, UpgradeJournal, ScrubAll, Answers, other_name, ends};
 ghost use Rattle.command_runs.specs.Devices.{named, all_hidden, hidden_fetched, to_put_other, stored_other, ends_hearing, to_put, byte_stored, put_failed, put_cut, put_torn, put_unmade, drop_cut, audit_cut, repair_cut, byte_kept, dropped, all_lost, found_lost, due_lost, repair_lost, no_blocks, damaged, byte_audited, answers_heard, due, repaired, repair_failed, mended, got, own_blocks_heard, byte_upgraded, upgrade_cut, to_put_own, stored_own, two_damaged, scrubbed, scrub_failed, swept, robbed_later, got_later, later_heard, ends_at};
-ghost use Rattle.command_laws.specs.Instances.{other_name, ends};
 
 /// Puts: one that is done; one whose first store fails; two that a fault of the disk cuts off at their last
 /// move, with the record in doubt, of which one leaves its gate loose; one that finds no memory; one of

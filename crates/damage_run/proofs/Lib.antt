@@ -1,9 +1,7 @@
 pub mod Values
 pub mod Run
-pub mod CalmRun
 pub mod Points
-pub mod InRepair
-pub mod LostGet
 pub mod Told
-pub mod ReadOver
+pub mod CalmRun
+pub mod LostGet
 pub mod SecondLoss

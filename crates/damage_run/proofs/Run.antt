@@ -1,23 +1,16 @@
--- The run, computed from its instructions, and what its schedule writes.
-use Rattle.std.proofs.Common.{ℕ, List, [], ◌∷◌, Some, None, refl, sym, arith}
+-- The run, computed from its instructions, and what its schedule writes. What proofs of runs cite is passed
+-- on.
+use Rattle.std.proofs.Common.{◌≡◌, ℕ, ◌<◌, ◌^◌, List, [], ◌∷◌, Some, None, option_map, refl, sym, arith}
 use Rattle.std.specs.Fmt.{digits}
-use Rattle.std.specs.Option.{option_map}
-use Rattle.record_defs.specs.Records.{AuditStart, AuditDone}
 use Rattle.device_defs.specs.Providers.{without_block}
-use Rattle.machine_defs.specs.Jobs.{PutJob, GetJob, AuditJob, RepairJob}
-use Rattle.machine_defs.specs.Actions.{actions_of}
-use Rattle.machine_defs.specs.Answers.{Put, Got, Audited, Repaired}
-use Rattle.machine_defs.specs.Events.{Begin, Lose, Replaced}
-use Rattle.machine_defs.specs.States.{State, setup_in}
-use Rattle.machine_defs.specs.Runs.{Moment, IsRun}
 use Rattle.machine_defs.specs.Transcripts.{CarriesOut}
-use Rattle.machine_defs.specs.Examples.{set_up}
 use Rattle.made_runs.specs.Steps.{called}
-use Rattle.made_runs.specs.Turns.{Goes, Works, Notes, Came, Heard, Gives}
-use Rattle.made_runs.specs.Instructions.{Instruction, Turned, Turns, Begins, Reopens, Comes, run_of, AreFit}
-use Rattle.made_runs.proofs.Instructions.{are-run}
+pub use Rattle.made_runs.proofs.Instructions.{are-run}
+pub use Rattle.run_laws.proofs.FirstHalf.{first_run}
 use Rattle.made_runs.proofs.Written.{carries}
-use Rattle.second_half_laws.proofs.ByteSteps.{block_sized, block, symbols, byte_back, own_work}
+pub use Rattle.second_half_laws.proofs.ByteSteps.{block_sized, block, symbols, byte_back, own_work}
+pub use Rattle.second_half_laws.proofs.ByteTold.{starts}
+use Rattle.damage_run.specs.Words.{AuditStart, AuditDone, sized, PutJob, GetJob, AuditJob, RepairJob, actions_of, Put, Got, Audited, Repaired, Begin, Lose, Replaced, State, setup_in, Moment, IsRun, set_up, Goes, Works, Notes, Came, Heard, Gives, Instruction, Turned, Turns, Begins, Reopens, Comes, run_of, AreFit}
 use Rattle.damage_run.specs.Schedule.{name, byte, schedule, written_lines}
 use Rattle.damage_run.specs.Points.{counts}
 use Rattle.damage_run.proofs.Values.{without_two_give, without_zero_give, right, same_first, no_answer, sums, judged}
@@ -33,9 +26,8 @@ put = Turns 1 (Gives Put ∷ Goes 12 ∷ []) ∷ Begins (Begin (PutJob name byte
 
 -- a get begins and makes its fetches, and a block is lost
 abbrev pub damaged : List Instruction
-damaged = Comes (Lose 2 1 0) Replaced (lose 2)
-    ∷ Turned 2 (Came (Some (block 3))) ∷ Turned 2 (Came (Some (block 2)))
-    ∷ Turned 2 (Came (Some (block 1))) ∷ Turned 2 (Came (Some (block 0)))
+damaged = Comes (Lose 2 1 0) Replaced (lose 2) ∷ Turned 2 (Came (Some (block 3)))
+    ∷ Turned 2 (Came (Some (block 2))) ∷ Turned 2 (Came (Some (block 1))) ∷ Turned 2 (Came (Some (block 0)))
     ∷ Begins (Begin (GetJob name)) ∷ put
 
 -- an audit begins, and the get ends beside it
@@ -59,114 +51,63 @@ got_again = Turns 5 (Gives (Got byte) ∷ Works symbols ∷ Came (Some (block 3)
     ∷ Came (Some (block 1)) ∷ Came None ∷ []) ∷ Begins (Begin (GetJob name))
     ∷ Comes (Lose 0 1 0) Replaced (lose 0) ∷ repaired
 
+-- a number of a job fits its type
+pub few : (1 < 2 ^ 32) × (2 < 2 ^ 32) × (3 < 2 ^ 32) × (4 < 2 ^ 32) × (5 < 2 ^ 32)
+    × (6 < 2 ^ 32) × (7 < 2 ^ 32)
+few = omega arith
+
+-- so does each block of the byte its size
+pub sizes : (Some (block 0) ≡ sized 6 (Some (block 0))) × (Some (block 1) ≡ sized 6 (Some (block 1)))
+    × (Some (block 2) ≡ sized 6 (Some (block 2))) × (Some (block 3) ≡ sized 6 (Some (block 3)))
+sizes = (block_sized 0, block_sized 1, block_sized 2, block_sized 3)
+
+-- two facts, one behind the other
+infixr 4 ◌and◌
+pub ◌and◌ : {A B : Type 0} → A → B → A × B
+◌and◌ a b = (a, b)
+
 -- they can be carried out
+fit_damaged : AreFit 8 set_up damaged
+unfolding setup_in actions_of
+fit_damaged = (omega arith, (_, ((λ x. refl, λ x. refl), refl), refl)) and assumption (few, sizes)
+
 pub fit_read : AreFit 8 set_up read
 unfolding setup_in actions_of
-fit_read = (
-  (omega arith, ((refl, (refl, byte_back)), ((refl, (refl, own_work)), tt))),
-  (
-    (omega arith, (refl, (refl, refl))),
-    (
-      (tt, refl, refl),
-      (
-        ((omega arith, omega arith, omega arith), (_, ((λ x. refl, λ x. refl), refl), refl)),
-        (
-          (omega arith, (refl, (refl, block_sized 3))),
-          (
-            (omega arith, (refl, (refl, block_sized 2))),
-            (
-              (omega arith, (refl, (refl, block_sized 1))),
-              (
-                (omega arith, (refl, (refl, block_sized 0))),
-                (
-                  (refl, refl, refl),
-                  (
-                    (omega arith, ((refl, (refl, tt)), (refl, tt))),
-                    (((refl, refl), refl, refl), ((refl, refl), tt)),
-                  ),
-                ),
-              ),
-            ),
-          ),
-        ),
-      ),
-    ),
-  ),
-)
+fit_read = assumption (few, byte_back, own_work) and assumption few and (assumption) and fit_damaged
 
-fit_repaired : AreFit 8 set_up repaired
+fit_audited : AreFit 8 set_up audited
 unfolding setup_in actions_of
-fit_repaired = (
+fit_audited = (
   (
     omega arith,
     (
-      (refl, (refl, refl)),
+      (refl, (refl, (refl, (sums, (sums, judged, refl), refl)))),
       (
         refl,
         (
-          (refl, (refl, without_two_give)),
+          (refl, (refl, (sums, (sums, (sums, judged, refl), refl), refl))),
           (
-            (refl, (refl, block_sized 3)),
-            ((refl, (refl, refl)), ((refl, (refl, block_sized 1)), ((refl, (refl, block_sized 0)), tt))),
-          ),
-        ),
-      ),
-    ),
-  ),
-  (
-    (tt, refl, refl),
-    (
-      (
-        omega arith,
-        (
-          (refl, (refl, (refl, (sums, (sums, judged, refl), refl)))),
-          (
-            refl,
+            (refl, (refl, same_first _ _ refl)),
             (
-              (refl, (refl, (sums, (sums, (sums, judged, refl), refl), refl))),
-              (
-                (refl, (refl, same_first _ _ refl)),
-                (
-                  (refl, (refl, sym (no_answer _ refl))),
-                  (
-                    (refl, (refl, same_first _ _ refl)),
-                    ((refl, (refl, same_first _ _ refl)), (refl, tt)),
-                  ),
-                ),
-              ),
+              (refl, (refl, sym (no_answer _ refl))),
+              ((refl, (refl, same_first _ _ refl)), ((refl, (refl, same_first _ _ refl)), (refl, tt))),
             ),
           ),
         ),
       ),
-      fit_read,
     ),
   ),
+  fit_read,
 )
+
+pub fit_repaired : AreFit 8 set_up repaired
+unfolding setup_in actions_of
+fit_repaired = assumption (few, sizes, without_two_give) and (assumption) and fit_audited
 
 pub fit : AreFit 8 set_up got_again
 unfolding setup_in actions_of
-fit = (
-  (
-    omega arith,
-    (
-      (refl, (refl, byte_back)),
-      (
-        (refl, (refl, without_zero_give)),
-        (
-          (refl, (refl, block_sized 3)),
-          ((refl, (refl, block_sized 2)), ((refl, (refl, block_sized 1)), ((refl, (refl, refl)), tt))),
-        ),
-      ),
-    ),
-  ),
-  (
-    (refl, refl, refl),
-    (
-      ((omega arith, omega arith, omega arith), (_, ((λ x. refl, λ x. refl), refl), refl)),
-      fit_repaired,
-    ),
-  ),
-)
+fit = assumption (few, sizes, byte_back, without_zero_give) and (assumption)
+    and (omega arith, (_, ((λ x. refl, λ x. refl), refl), refl)) and fit_repaired
 
 -- the run
 abbrev pub moments : List Moment

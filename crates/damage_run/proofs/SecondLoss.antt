@@ -1,71 +1,56 @@
--- At the repair's end the audit's begin is a mark, and the run goes on.
-use Rattle.std.specs.Prelude.{◌≡◌, Bool, true, false, List, [], ◌∷◌, ◌++◌, take, drop}
-use Rattle.std.proofs.Common.{refl, sym, subst, inl, inr, arith}
-use Rattle.column_defs.specs.Verdicts.{is_flagged}
-use Rattle.machine_defs.specs.Actions.{actions_of}
-use Rattle.machine_defs.specs.Answers.{Got, Repaired}
-use Rattle.machine_defs.specs.Calm.{since, relies}
-use Rattle.machine_defs.specs.Jobs.{Kind, AuditJob}
-use Rattle.machine_defs.specs.Runs.{Moment, first_moments}
-use Rattle.machine_defs.specs.States.{setup_in}
-use Rattle.machine_defs.specs.Untouched.{Relies, NoneUnderWay, given_up, ended}
-use Rattle.machine_defs.specs.Examples.{set_up}
-use Rattle.machine_defs.proofs.Damaged.{calm_back, scrubs_back, missed_back}
-use Rattle.machine_defs.proofs.Untouched.{run_back}
-use Rattle.made_runs.specs.Instructions.{run_of}
-use Rattle.second_half_laws.specs.Flagging.{IsAudit, FindsAll}
-use Rattle.second_half_laws.specs.Marks.{IsMark}
-use Rattle.second_half_laws.specs.MarkedRuns.{IsCalmRun}
-use Rattle.second_half_laws.specs.Mended.{IsMended}
+-- A get over a damaged store is one; at the repair's end the audit's begin is a mark, and the run goes on;
+-- and a block is lost while the repair's record is in doubt.
+use Rattle.std.proofs.Common.{◌≤◌, List, [], ◌∷◌, take, drop, refl, arith}
+use Rattle.machine_defs.specs.Untouched.{given_up, ended}
+use Rattle.machine_defs.proofs.Damaged.{missed_back}
+use Rattle.second_half_laws.proofs.ByteTold.{is_told}
 use Rattle.second_half_laws.proofs.InRuns.{calm_marked}
-use Rattle.damage_run.specs.Schedule.{byte}
-use Rattle.damage_run.specs.Points.{counts}
-use Rattle.damage_run.specs.ReadOver.{damaged}
-use Rattle.damage_run.specs.SecondLoss.{MovesMark}
+use Rattle.damage_run.specs.Words.{actions_of, Got, Repaired, Lose, Replaced, setup_in, Moment, first_moments, Relies, NoneUnderWay, set_up, run_of, IsMended, IsCalmRun}
+use Rattle.damage_run.specs.Points.{byte, at, counts}
+use Rattle.damage_run.specs.SecondLoss.{IsReadOver, MovesMark}
 use Rattle.damage_run.proofs.Run as instructions
-use Rattle.damage_run.proofs.Run.{moments, is_run}
-use Rattle.damage_run.proofs.CalmRun.{outright}
+use Rattle.damage_run.proofs.Run.{lose, moments, is_run, fit_read, are-run, first_run, starts}
+use Rattle.damage_run.proofs.CalmRun.{tell, calm-run, found, finds, run_repaired, older, later, auditing}
+pub use Rattle.damage_run.proofs.CalmRun.{to_audit, to_repair, repair_end, repairing, repair_begin}
 use Rattle.damage_run.proofs.Points.{last_of}
-use Rattle.damage_run.proofs.ReadOver.{stored, begin, end, gaps}
-use Rattle.damage_run.proofs.Told.{no_scrub, no_damage, no_begin, unbegun_all, no_begun}
+use Rattle.damage_run.proofs.Told.{mine, no_scrub, none_reads, unbegun_all, no_begun}
 
--- up to the loss, to the get's end, to the audit's end and to the repair's
-abbrev pub older : List Moment
-older = run_of set_up instructions.damaged
+-- ---- the get over a damaged store
+
+-- the put, and up to the end of the get
+abbrev pub stored : List Moment
+stored = run_of set_up instructions.put
 
 abbrev to_get : List Moment
 to_get = run_of set_up instructions.read
 
-abbrev pub to_audit : List Moment
-to_audit = run_of set_up instructions.audited
+-- the get's begin and its end, and between them its fetches, the loss, the audit's begin and a step of it,
+-- and the get's work
+abbrev pub begin : Moment
+begin = last_of (first_moments 16 to_get)
 
-abbrev to_repair : List Moment
-to_repair = run_of set_up instructions.repaired
+abbrev pub end : Moment
+end = last_of to_get
 
--- the audit's begin up to the repair's end, and what comes after it
-abbrev pub repair_end : Moment
-repair_end = last_of to_repair
+abbrev pub gaps : List Moment
+gaps = take 8 (drop 1 to_get)
 
-abbrev pub repairing : List Moment
-repairing = take 10 (drop 1 to_repair)
+pub is_read : IsReadOver stored gaps begin end
+unfolding setup_in actions_of
+is_read = (let one : 1 ≤ 1 = omega arith in assumption (
+  starts,
+  tell,
+  are-run 8 set_up instructions.read fit_read,
+  is_told,
+  no_begun 2 gaps refl,
+  mine 2,
+  one,
+))
 
-abbrev pub repair_begin : Moment
-repair_begin = last_of (drop 11 to_repair)
-
-abbrev audit_end : Moment
-audit_end = last_of to_audit
-
-abbrev auditing : List Moment
-auditing = take 14 (drop 1 to_audit)
-
-abbrev audit_begin : Moment
-audit_begin = last_of (drop 15 to_audit)
+-- ---- the mark at the repair's end
 
 abbrev pub recent : List Moment
 recent = take 28 to_repair
-
-abbrev pub later : List Moment
-later = take 8 moments
 
 is_mended : IsMended older to_repair
 unfolding setup_in actions_of
@@ -74,9 +59,9 @@ is_mended = record {
   repairing = repairing;
   repair_begin = repair_begin;
   between = [];
-  audit_end = audit_end;
+  audit_end = last_of to_audit;
   auditing = auditing;
-  audit_begin = audit_begin;
+  audit_begin = last_of (drop 15 to_audit);
   split = refl;
   number = 1;
   undecided = 0;
@@ -95,91 +80,48 @@ is_mended = record {
   repaired = refl;
 }
 
--- a job is an audit, as a test
-is_audit : Kind → Bool
-is_audit AuditJob = true
-is_audit kind = false
-
-audits : (kind : Kind) → IsAudit kind → is_audit kind ≡ true
-unfolding is_audit
-audits AuditJob on = refl
-audits kind on = absurd on
-
-finds_all : FindsAll (setup_in repair_end.state).tolerance damaged to_repair
-unfolding setup_in actions_of is_audit
-finds_all = record {
-  later = repair_end ∷ (repairing ++ repair_begin ∷ []);
-  end = audit_end;
-  auditing = auditing;
-  begin = audit_begin;
-  older = older;
-  split = refl;
-  audit = 3;
-  number = 1;
-  undecided = 0;
-  counts = counts;
-  begin_event = refl;
-  begun = refl;
-  end_event = refl;
-  ended = refl;
-  none_numbered = no_begun 3 auditing refl;
-  none_before = no_begin is_audit IsAudit audits older refl;
-  none_beside = no_begin is_audit IsAudit audits auditing refl;
-  none_later = no_begin is_audit IsAudit audits (repair_end ∷ (repairing ++ repair_begin ∷ [])) refl;
-  flags = λ j h. elim h [
-    | inl e ↦ subst (λ i. is_flagged (setup_in repair_end.state).tolerance counts i ≡ true) (sym e) refl
-    | inr none ↦ absurd none
-  ];
-}
-
 -- no get or repair runs behind the put, nor once the get and the repair have ended
-under_put : NoneUnderWay Relies stored
-unfolding setup_in actions_of
-under_put = unbegun_all Relies (take 14 stored) (first_moments 1 stored)
-    (no_begin relies Relies (λ kind on. on) (take 14 stored) refl)
-    (given_up (last_of (first_moments 1 stored)) [] tt)
-
 under_get : NoneUnderWay Relies to_get
 unfolding setup_in actions_of
-under_get = ended end begin gaps stored 2 (Got byte) refl refl
-    (no_begin relies Relies (λ kind on. on) gaps refl) refl under_put
+under_get = ended end begin gaps stored 2 (Got byte) refl refl (none_reads gaps refl) refl
+    (unbegun_all Relies (take 14 stored) (first_moments 1 stored) (none_reads (take 14 stored) refl)
+    (given_up (last_of (first_moments 1 stored)) [] tt))
 
 under_repair : NoneUnderWay Relies to_repair
 unfolding setup_in actions_of
 under_repair = ended repair_end repair_begin repairing to_audit 4 (Repaired 1) refl refl
-    (no_begin relies Relies (λ kind on. on) repairing refl) refl
-    (unbegun_all Relies (take 12 to_audit) to_get
-    (no_begin relies Relies (λ kind on. on) (take 12 to_audit) refl) under_get)
-
-calm_run : IsCalmRun 8 set_up to_repair
-unfolding setup_in actions_of
-calm_run = record {
-  clean = outright.clean;
-  tell = outright.tell;
-  run = run_back 8 set_up later to_repair is_run;
-  calm = calm_back relies (since set_up) later to_repair outright.calm;
-  scrubs = scrubs_back (since set_up) later to_repair outright.scrubs;
-  found = missed_back set_up later to_repair outright.found;
-}
-
-mark_is : since set_up to_repair ≡ 21
-unfolding setup_in actions_of
-mark_is = refl
+    (none_reads repairing refl) refl (unbegun_all Relies (take 12 to_audit) to_get
+    (none_reads (take 12 to_audit) refl) under_get)
 
 pub moves : MovesMark later recent older
-unfolding setup_in actions_of is_audit
-moves = (let h = calm_marked 8 set_up to_repair calm_run in record {
-  tell = outright.tell;
-  few_damaged = (no_damage 2 to_repair refl, omega arith);
-  finds = finds_all;
-  unaudited = no_begin is_audit IsAudit audits older refl;
-  calm = calm_run;
-  mended = is_mended;
-  marked = h;
-  moment = subst (IsMark set_up to_repair) mark_is h.marks.0;
-  none = under_repair;
-  run = is_run;
-  scrubs = no_scrub moments refl;
-  damages = no_damage 0 (later ++ recent) refl;
-  few = omega arith;
-})
+unfolding setup_in actions_of
+moves = (let calm = calm-run to_repair run_repaired refl refl (missed_back set_up later to_repair found) in
+    let h = calm_marked 8 set_up to_repair calm in record {
+      tell = tell;
+      few_damaged = (assumption (mine 2), omega arith);
+      finds = finds;
+      unaudited = assumption;
+      calm = calm;
+      mended = is_mended;
+      marked = h;
+      moment = h.marks.0;
+      none = under_repair;
+      run = is_run;
+      scrubs = no_scrub moments refl;
+      damages = assumption (mine 0);
+      few = omega arith;
+    })
+
+-- ---- the loss while the repair's record is in doubt
+
+abbrev pub robbed_moments : List Moment
+robbed_moments =
+    record { event = Lose 2 1 0; outcome = Replaced; state = lose 2 (at 47 moments) }
+    ∷ first_moments 47 moments
+
+-- the run up to there, with one more loss, is calm, and its audit missed no damage
+pub robbed_calm : IsCalmRun 8 set_up robbed_moments
+unfolding setup_in actions_of
+robbed_calm = calm-run robbed_moments
+    (omega arith, (_, ((λ x. refl, λ x. refl), refl), refl), first_run 8 set_up 47 moments is_run) refl refl
+    (tt, missed_back set_up (take 10 moments) (first_moments 47 moments) found)

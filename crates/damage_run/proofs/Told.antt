@@ -1,69 +1,46 @@
 -- What the events of moments tell, as tests of them.
-use Rattle.std.specs.Prelude.{◌≡◌, ℕ, ◌==◌, Bool, true, false, not, List, [], ◌∷◌, ◌++◌}
-use Rattle.std.specs.List.{list_all}
-use Rattle.std.proofs.Common.{refl, ap, sym, ◌∙◌, inl}
-use Rattle.std.proofs.lemmas.Bool.{and_parts, eq-eqb, eqb-true, false≢true, not-true}
-use Rattle.machine_defs.specs.Jobs.{Kind, PutJob}
-use Rattle.machine_defs.specs.Events.{Event, Begin, BeginAt, BeginScrub, Alter, Lose, Begun, Outcome}
-use Rattle.machine_defs.specs.Runs.{Moment}
+use Rattle.std.proofs.Common.{◌≡◌, ℕ, ◌==◌, ◌&&◌, Bool, true, false, not, List, [], ◌∷◌, ◌++◌, refl, ap, sym, ◌∙◌, inl, arith}
+use Rattle.std.proofs.lemmas.Bool.{and_parts, false≢true}
+use Rattle.algebra_laws.specs.Lists.{In}
 use Rattle.machine_defs.specs.Began.{NoneBegan}
-use Rattle.machine_defs.specs.Untouched.{IsBeginFor, NoneBeganFor, NoneUnderWay, unbegun}
-use Rattle.machine_defs.specs.Damaged.{IsAmong, DamagesOnly}
-use Rattle.second_half_laws.specs.MarkedRuns.{BeginsNoScrub}
+use Rattle.machine_defs.specs.Untouched.{unbegun}
+use Rattle.damage_run.specs.Words.{Kind, Event, Begin, BeginScrub, Begun, Outcome, Moment, relies, Relies, NoneBeganFor, NoneUnderWay, BeginsNoScrub}
+
+-- each moment passes a test of it and of those before it
+abbrev pub all_pass : (Moment → List Moment → Bool) → List Moment → Bool
+all_pass test [] = true
+all_pass test (m ∷ ms) = test m ms && all_pass test ms
+
+-- what the test says of one more moment holds of moments that pass it
+pub each : (test : Moment → List Moment → Bool) (P : List Moment → Type 0) → P [] →
+    ((m : Moment) (ms : List Moment) → test m ms ≡ true → P ms → P (m ∷ ms)) → (ms : List Moment) →
+    all_pass test ms ≡ true → P ms
+each test P none more [] h = none
+each test P none more (m ∷ ms) h =
+    (let p = and_parts (test m ms) (all_pass test ms) h in more m ms p.0 (each test P none more ms p.1))
 
 -- no scrub begins
-abbrev is_scrub : Event → Bool
-is_scrub BeginScrub = true
-is_scrub e = false
+abbrev pub is_other : Event → Bool
+is_other BeginScrub = false
+is_other e = true
 
-pub no_scrub : (ms : List Moment) → list_all (λ (m : Moment). not (is_scrub m.event)) ms ≡ true →
-    BeginsNoScrub ms
-no_scrub [] h = tt
-no_scrub (m ∷ ms) h =
-    (let p = and_parts (not (is_scrub m.event)) (list_all (λ (m : Moment). not (is_scrub m.event)) ms) h in (
-      λ e. false≢true (sym (not-true (is_scrub m.event) p.0) ∙ ap is_scrub e),
-      no_scrub ms p.1,
-    ))
+pub no_scrub : (ms : List Moment) → all_pass (λ m older. is_other m.event) ms ≡ true → BeginsNoScrub ms
+no_scrub = each (λ m older. is_other m.event) BeginsNoScrub tt
+    (λ m ms t rest. (λ e. false≢true (ap is_other (sym e) ∙ t), rest))
 
--- no provider but this is damaged
-abbrev spares : ℕ → Event → Bool
-spares j (Alter provider object stripe place symbol) = provider == j
-spares j (Lose provider object stripe) = provider == j
-spares j e = true
+-- a provider is among those of whom it is the only one
+pub mine : (j : ℕ) → In j (j ∷ [])
+mine j = inl refl
 
-pub no_damage : (j : ℕ) (ms : List Moment) → list_all (λ (m : Moment). spares j m.event) ms ≡ true →
-    DamagesOnly (j ∷ []) ms
-no_damage j [] h = tt
-no_damage j (m ∷ ms) h =
-    (let p = and_parts (spares j m.event) (list_all (λ (m : Moment). spares j m.event) ms) h in
-    (among m.event p.0, no_damage j ms p.1))
-  where
-    among : (e : Event) → spares j e ≡ true → IsAmong (j ∷ []) e
-    among (Alter p o s k x) h = inl (eqb-true p j h)
-    among (Lose p o s) h = inl (eqb-true p j h)
-    among e h = tt
+-- no get and no repair begins
+abbrev pub reads : Event → Bool
+reads (Begin kind) = relies kind
+reads e = false
 
--- no job of a kind that passes a test begins
-abbrev begins : (Kind → Bool) → Event → Bool
-begins test (Begin kind) = test kind
-begins test (BeginAt profile n bytes) = test (PutJob n bytes)
-begins test e = false
-
-module _ (test : Kind → Bool) (Meant : Kind → Type 0)
-    (tested : (kind : Kind) → Meant kind → test kind ≡ true) where
-  begun_not : (e : Event) → not (begins test e) ≡ true → IsBeginFor Meant e → ⊥
-  begun_not (Begin kind) h on = false≢true (sym (not-true (test kind) h) ∙ tested kind on)
-  begun_not (BeginAt profile n bytes) h on =
-      false≢true (sym (not-true (test (PutJob n bytes)) h) ∙ tested (PutJob n bytes) on)
-  begun_not e h on = on
-
-  pub no_begin : (ms : List Moment) → list_all (λ (m : Moment). not (begins test m.event)) ms ≡ true →
-      NoneBeganFor Meant ms
-  no_begin [] h = tt
-  no_begin (m ∷ ms) h =
-      (let p = and_parts (not (begins test m.event))
-      (list_all (λ (m : Moment). not (begins test m.event)) ms) h in
-      (λ on n is. begun_not m.event p.0 on, no_begin ms p.1))
+pub none_reads : (ms : List Moment) → all_pass (λ m older. not (reads m.event)) ms ≡ true →
+    NoneBeganFor Relies ms
+none_reads = each (λ m older. not (reads m.event)) (NoneBeganFor Relies) tt
+    (λ m ms t rest. (λ on n is. grind arith, rest))
 
 -- behind moments of which none began one
 pub unbegun_all : (Meant : Kind → Type 0) (xs ms : List Moment) → NoneBeganFor Meant xs →
@@ -73,17 +50,11 @@ unbegun_all Meant (x ∷ xs) ms none free =
     unbegun x (xs ++ ms) none.0 (unbegun_all Meant xs ms none.1 free)
 
 -- no job begins with the number
-abbrev is_begun : ℕ → Outcome → Bool
-is_begun number (Begun job) = job == number
-is_begun number r = false
+abbrev pub is_apart : ℕ → Outcome → Bool
+is_apart number (Begun job) = not (job == number)
+is_apart number r = true
 
-pub no_begun : (number : ℕ) (ms : List Moment) →
-    list_all (λ (m : Moment). not (is_begun number m.outcome)) ms ≡ true → NoneBegan number ms
-no_begun number [] h = tt
-no_begun number (m ∷ ms) h =
-    (let p = and_parts (not (is_begun number m.outcome))
-    (list_all (λ (m : Moment). not (is_begun number m.outcome)) ms) h in (
-      λ e. false≢true (sym (not-true (is_begun number m.outcome) p.0)
-          ∙ (ap (is_begun number) e ∙ eq-eqb number number refl)),
-      no_begun number ms p.1,
-    ))
+pub no_begun : (number : ℕ) (ms : List Moment) → all_pass (λ m older. is_apart number m.outcome) ms ≡ true →
+    NoneBegan number ms
+no_begun number = each (λ m older. is_apart number m.outcome) (NoneBegan number) tt
+    (λ m ms t rest. (λ e. grind arith, rest))

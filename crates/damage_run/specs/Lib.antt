@@ -1,4 +1,4 @@
+pub mod Words
 pub mod Schedule
 pub mod Points
-pub mod ReadOver
 pub mod SecondLoss

@@ -4,66 +4,51 @@
 --   Runs w number kind place    == a job of this number and kind runs, and has come to this place in its
 --                                  actions
 --   InDoubt w entry             == a record is in doubt, and a job made it
+--   IsEvent ms k event outcome  == event k is this one, with this outcome
 --   EndsBy ms k number answer   == event k is a step that ends the job so
 --   IsDamaged w j               == provider j is wrong for a file in effect
 --   without_two stripe          == the own blocks of a stripe of the file, but for that of provider 2,
 --                                  which is absent
 --   HasPoints ms                == what runs, ends, is in doubt, takes effect and is wrong in the run, and
 --                                  when
-use Rattle.std.specs.Prelude.{◌≡◌, ℕ, suc, true, List, [], ◌∷◌, Some, None}
-use Rattle.column_defs.specs.Columns.{columns}
-use Rattle.column_defs.specs.Opened.{SeenBlock}
-use Rattle.record_defs.specs.Records.{Record, PutDone, AuditDone, RepairDone}
-use Rattle.record_defs.specs.Table.{File, due_of}
-use Rattle.machine_defs.specs.Setups.{object_of}
-use Rattle.machine_defs.specs.Jobs.{Kind, PutJob, GetJob, AuditJob, RepairJob, Job, job_of}
-use Rattle.machine_defs.specs.Answers.{Answer, Put, Got}
-use Rattle.machine_defs.specs.Events.{Step, Ended}
-use Rattle.machine_defs.specs.States.{State, Doubt, file_in}
-use Rattle.machine_defs.specs.Runs.{Moment, now, first_moments, came}
-use Rattle.machine_defs.specs.Calm.{since}
-use Rattle.machine_defs.specs.Missed.{is_wrong_now}
-use Rattle.machine_defs.specs.Examples.{set_up}
-use Rattle.record_defs.specs.Examples.{four}
-use Rattle.damage_run.specs.Schedule.{name, byte}
+use Rattle.std.specs.Prelude.{◌≡◌, ℕ, suc, true, List, [], ◌∷◌, Some, None, is_some}
+use Rattle.std.specs.Option.{option_map}
+use Rattle.damage_run.specs.Words.{Record, PutDone, AuditDone, RepairDone, File, due_of, four, columns, SeenBlock, object_of, Kind, PutJob, GetJob, AuditJob, RepairJob, Job, job_of, Answer, Put, Got, Event, Step, Outcome, Ended, State, Doubt, file_in, Moment, now, first_moments, came, since, is_wrong_now, set_up}
+pub use Rattle.damage_run.specs.Schedule.{name, byte}
 
 -- the state after the first events
 abbrev pub at : ℕ → List Moment → State
 at k ms = now set_up (first_moments k ms)
 
 -- a job runs
-pub record Runs (w : State) (number : ℕ) (kind : Kind) (place : ℕ) : Type 0 where
-  pub job : Job
-  pub runs : job_of w.jobs number ≡ Some job
-  pub kind_is : job.kind ≡ kind
-  pub place_is : job.place ≡ place
+abbrev pub Runs : State → ℕ → Kind → ℕ → Type 0
+Runs w number kind place = (option_map (λ (job : Job). job.kind) (job_of w.jobs number) ≡ Some kind)
+    × (option_map (λ (job : Job). job.place) (job_of w.jobs number) ≡ Some place)
 
 -- a record is in doubt
-pub record InDoubt (w : State) (entry : Record) : Type 0 where
-  pub doubt : Doubt
-  pub in_doubt : w.doubt ≡ Some doubt
-  pub entry_is : doubt.entry ≡ entry
-  pub job : Job
-  pub maker : doubt.maker ≡ Some job
+abbrev pub InDoubt : State → Record → Type 0
+InDoubt w entry = (option_map (λ (d : Doubt). d.entry) w.doubt ≡ Some entry)
+    × (option_map (λ (d : Doubt). is_some d.maker) w.doubt ≡ Some true)
 
--- an event is a step that ends a job
-pub record EndsBy (ms : List Moment) (k number : ℕ) (answer : Answer) : Type 0 where
+-- an event, and what came of it
+pub record IsEvent (ms : List Moment) (k : ℕ) (what : Event) (how : Outcome) : Type 0 where
   pub moment : Moment
   pub is : first_moments (suc k) ms ≡ moment ∷ first_moments k ms
-  pub event : moment.event ≡ Step number
-  pub outcome : moment.outcome ≡ Ended answer
+  pub event : moment.event ≡ what
+  pub outcome : moment.outcome ≡ how
+
+-- an event is a step that ends a job
+abbrev pub EndsBy : List Moment → ℕ → ℕ → Answer → Type 0
+EndsBy ms k number answer = IsEvent ms k (Step number) (Ended answer)
 
 -- a provider is wrong for a file in effect
-pub record IsDamaged (w : State) (j : ℕ) : Type 0 where
-  pub file : File
-  pub in_effect : file_in w name ≡ Some file
-  pub wrong : is_wrong_now w file j ≡ true
+abbrev pub IsDamaged : State → ℕ → Type 0
+IsDamaged w j = option_map (λ (file : File). is_wrong_now w file j) (file_in w name) ≡ Some true
 
 -- the own blocks of a stripe, but for that of provider 2
 abbrev pub without_two : ℕ → List SeenBlock
-without_two stripe =
-    Some (columns (object_of four 1) byte 0 stripe) ∷ Some (columns (object_of four 1) byte 1 stripe) ∷ None
-    ∷ Some (columns (object_of four 1) byte 3 stripe) ∷ []
+without_two s = Some (columns (object_of four 1) byte 0 s) ∷ Some (columns (object_of four 1) byte 1 s) ∷ None
+    ∷ Some (columns (object_of four 1) byte 3 s) ∷ []
 
 -- the counts of the audit
 abbrev pub counts : List ℕ

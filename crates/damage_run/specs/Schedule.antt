@@ -7,17 +7,9 @@
 --                    jobs run at once; the run is calm, and no audit missed damage
 use Rattle.std.specs.Prelude.{◌≡◌, ℕ, List, [], ◌∷◌, length, codes}
 use Rattle.std.specs.List.{flat_map}
-use Rattle.machine_defs.specs.Jobs.{PutJob, GetJob, AuditJob, RepairJob}
-use Rattle.machine_defs.specs.Events.{Begin, Step, Lose, Reopen}
-use Rattle.machine_defs.specs.States.{IsStart}
-use Rattle.machine_defs.specs.Runs.{Moment, IsRun, now, first_moments}
-use Rattle.machine_defs.specs.Calm.{IsCalm, since, relies}
-use Rattle.machine_defs.specs.Scrubs.{AreScrubsCalm}
-use Rattle.machine_defs.specs.Missed.{NoneMissed}
-use Rattle.machine_defs.specs.Halves.{AllTell}
 use Rattle.machine_defs.specs.Lines.{line}
 use Rattle.machine_defs.specs.Transcripts.{Instruction, Once, RunJob, CarriesOut}
-use Rattle.machine_defs.specs.Examples.{set_up}
+use Rattle.damage_run.specs.Words.{PutJob, GetJob, AuditJob, RepairJob, Begin, Step, Lose, Reopen, IsStart, Moment, IsRun, now, first_moments, IsCalm, since, relies, AreScrubsCalm, NoneMissed, AllTell, set_up}
 
 -- the file: its name is "a"
 abbrev pub name : List ℕ
@@ -31,24 +23,10 @@ byte = 111 ∷ []
 -- begins, and the get ends while it runs; the audit ends; a repair; a block of provider 0 is lost; and
 -- another get.
 abbrev pub schedule : List Instruction
-schedule = RunJob 5
-    ∷ Once (Begin (GetJob name))
-    ∷ Once (Lose 0 1 0)
-    ∷ RunJob 4
-    ∷ Once (Begin RepairJob)
-    ∷ RunJob 3
-    ∷ RunJob 2
-    ∷ Once (Step 3)
-    ∷ Once (Begin AuditJob)
-    ∷ Once (Lose 2 1 0)
-    ∷ Once (Step 2)
-    ∷ Once (Step 2)
-    ∷ Once (Step 2)
-    ∷ Once (Step 2)
-    ∷ Once (Begin (GetJob name))
-    ∷ RunJob 1
-    ∷ Once (Begin (PutJob name byte))
-    ∷ Once Reopen ∷ []
+schedule = RunJob 5 ∷ Once (Begin (GetJob name)) ∷ Once (Lose 0 1 0) ∷ RunJob 4 ∷ Once (Begin RepairJob)
+    ∷ RunJob 3 ∷ RunJob 2 ∷ Once (Step 3) ∷ Once (Begin AuditJob) ∷ Once (Lose 2 1 0)
+    ∷ Once (Step 2) ∷ Once (Step 2) ∷ Once (Step 2) ∷ Once (Step 2) ∷ Once (Begin (GetJob name))
+    ∷ RunJob 1 ∷ Once (Begin (PutJob name byte)) ∷ Once Reopen ∷ []
 
 -- all that they write
 abbrev pub written_lines : List ℕ

@@ -1,21 +1,28 @@
--- After the repair another provider may be damaged, told by events.
+-- Damage, told by events: a get over a damaged store, and another provider that is damaged after the repair.
 --
---   damaged_later            == the provider that is damaged after the audit's begin
+--   damaged, damaged_later  == the provider that is damaged, and the one that is so after the audit's begin
+--   IsReadOver ms gaps c g  == behind a put, of the damaged providers one alone, and a get that ended with
+--                              the bytes that were put
 --   MovesMark later recent older  == behind the older moments an audit and its repair, at whose end the
 --                               audit's begin is a mark; and the run goes on
 use Rattle.std.specs.Prelude.{ℕ, ◌≤◌, List, [], ◌∷◌, ◌++◌, length}
-use Rattle.machine_defs.specs.States.{setup_in}
-use Rattle.machine_defs.specs.Runs.{Moment, IsRun, now}
-use Rattle.machine_defs.specs.Calm.{since}
-use Rattle.machine_defs.specs.Halves.{AllTell}
-use Rattle.machine_defs.specs.Untouched.{Relies, NoneBeganFor, NoneUnderWay}
-use Rattle.machine_defs.specs.Damaged.{DamagesOnly}
-use Rattle.machine_defs.specs.Examples.{set_up}
-use Rattle.second_half_laws.specs.Marks.{IsMark}
-use Rattle.second_half_laws.specs.MarkedRuns.{BeginsNoScrub, IsMarkedRun, IsCalmRun}
-use Rattle.second_half_laws.specs.Mended.{IsMended}
-use Rattle.second_half_laws.specs.Flagging.{IsAudit, FindsAll}
-use Rattle.damage_run.specs.ReadOver.{damaged}
+use Rattle.run_laws.specs.Stories.{Stored, GetEnds}
+use Rattle.damage_run.specs.Words.{Got, IsStart, setup_in, Moment, IsRun, now, since, DamagesOnly, Relies, NoneBeganFor, NoneUnderWay, AllTell, set_up, IsAudit, FindsAll, IsMark, IsMended, BeginsNoScrub, IsMarkedRun, IsCalmRun}
+use Rattle.damage_run.specs.Schedule.{name, byte}
+
+-- the provider that is damaged
+abbrev pub damaged : List ℕ
+damaged = 2 ∷ []
+
+-- a put, and a get while a block of provider 2 is lost
+pub record IsReadOver (ms gaps : List Moment) (c g : Moment) : Type 0 where
+  pub clean : IsStart set_up
+  pub tell : AllTell set_up
+  pub run : IsRun 8 set_up (g ∷ (gaps ++ c ∷ ms))
+  pub stored : Stored ms name byte
+  pub got : GetEnds c gaps g 2 name (Got byte)
+  pub damages : DamagesOnly damaged (g ∷ (gaps ++ c ∷ ms))
+  pub few : length damaged ≤ (setup_in (now set_up (g ∷ (gaps ++ c ∷ ms)))).b
 
 -- the provider that is damaged after the audit's begin
 abbrev pub damaged_later : List ℕ

@@ -1,30 +1,20 @@
 //! A run, given outright.
 ghost use Rattle.std.specs.Prelude.{◌≡◌, ℕ, ◌≤◌, List, [], ◌∷◌};
 ghost use Rattle.hail_field.specs.Shape.{IsShape};
-ghost use Rattle.code_defs.specs.Points.{upto};
 ghost use Rattle.code_defs.specs.Profiles.{profile_of};
-ghost use Rattle.column_defs.specs.Opened.{OpensFile, block_at};
 ghost use Rattle.column_defs.specs.Forgeries.{count_of, IsRow};
 ghost use Rattle.machine_defs.specs.Events.{AreBytes};
-ghost use Rattle.machine_defs.specs.Setups.{object_of};
-ghost use Rattle.machine_defs.specs.Runs.{Moment, IsRun, now};
-ghost use Rattle.machine_defs.specs.Answers.{Lost};
-ghost use Rattle.machine_defs.specs.Damaged.{AsksDamageOf};
-ghost use Rattle.machine_defs.specs.Halves.{FirstHalf, SecondHalf};
-ghost use Rattle.machine_defs.specs.Examples.{set_up};
-ghost use Rattle.record_defs.specs.Examples.{four};
-ghost use Rattle.headline.specs.Headline.{Headline};
-ghost use Rattle.damage_run.specs.Schedule.{byte, schedule, IsOutright};
-ghost use Rattle.damage_run.specs.ReadOver.{IsReadOver};
-ghost use Rattle.damage_run.specs.SecondLoss.{MovesMark};
-ghost use Rattle.damage_run.specs.Points.{without_two, EndsBy, InDoubt, IsDamaged, HasPoints};
-ghost use Rattle.second_half_laws.specs.MarkedRuns.{IsCalmRun};
-ghost use Rattle.record_defs.specs.Records.{RepairDone};
 ghost use Rattle.second_half_laws.specs.FewWrong.{is_wrong_seen};
+ghost use Rattle.headline.specs.Headline.{Headline};
+ghost use Rattle.damage_run.specs.Words.{RepairDone, four, upto, OpensFile, block_at, object_of, Lost, Moment, IsRun, now, AsksDamageOf, FirstHalf, SecondHalf, set_up, IsCalmRun};
+ghost use Rattle.damage_run.specs.Schedule.{byte, schedule, IsOutright};
+ghost use Rattle.damage_run.specs.Points.{without_two, EndsBy, InDoubt, IsDamaged, HasPoints};
+ghost use Rattle.damage_run.specs.SecondLoss.{IsReadOver, MovesMark};
 
 /// A run of 57 events at limit 8, and both halves of it: a put; a get and an audit that run at once; a lost
 /// block that the audit finds and a repair restores; another lost block, and a get over it. Two providers
 /// were damaged in all, where one may be wrong.
+#[tactic(auto, using(headline::proofs::Parts::headline, crate::proofs::CalmRun::outright))]
 pub fn damage_is_found_and_repaired()
     ensures run { (ms : List Moment) × IsOutright ms }
     ensures halves { (ms : List Moment) → IsOutright ms
@@ -33,12 +23,14 @@ pub fn damage_is_found_and_repaired()
 
 /// The premises of the laws over runs are met: of the same moments, where a put, a get, an audit and a repair
 /// run, end, are in doubt and take effect, where damage is, and which moment is the mark.
+#[tactic(auto, using(crate::proofs::CalmRun::outright, crate::proofs::Points::points))]
 pub fn premises_are_met()
     ensures { (ms : List Moment) × IsOutright ms × HasPoints ms }
 {}
 
 /// So are those of the laws on what blocks open to: of the file's four blocks one is absent, and the others
 /// open to the file.
+#[tactic(auto, using(crate::proofs::Values::opens_file, crate::proofs::Values::few_seen))]
 pub fn blocks_with_one_absent_open()
     ensures opens { OpensFile (object_of four 1) 1 without_two byte }
     ensures few { count_of (λ j. is_wrong_seen (object_of four 1) byte j 0 (block_at (without_two 0) j))
@@ -64,6 +56,7 @@ pub fn a_get_is_lost()
 
 /// And so are those of the laws on events: up to the end of the first get, one provider alone was damaged; and
 /// the whole schedule names two for damage.
+#[tactic(auto, using(crate::proofs::SecondLoss::is_read))]
 pub fn a_damaged_store_is_read()
     ensures read { (ms : List Moment) × (gaps : List Moment) × (c : Moment) × (g : Moment)
         × IsReadOver ms gaps c g }

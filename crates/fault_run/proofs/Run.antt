@@ -1,21 +1,12 @@
 -- The run, computed from its instructions.
 use Rattle.std.proofs.Common.{List, [], ◌∷◌, Some, refl, inl, inr, arith}
-use Rattle.record_defs.specs.Records.{AuditDone}
-use Rattle.machine_defs.specs.Jobs.{PutJob, GetJob, DropJob, AuditJob}
-use Rattle.machine_defs.specs.Actions.{actions_of}
-use Rattle.machine_defs.specs.Answers.{Put, Got, Dropped, Audited}
 use Rattle.machine_defs.specs.Refusals as refusal
-use Rattle.machine_defs.specs.Events.{Begin, Step, Reopen, Continue, Refused, Closed, Continued}
-use Rattle.machine_defs.specs.States.{State, setup_in, given_up, continued}
-use Rattle.machine_defs.specs.Runs.{Moment, IsRun}
-use Rattle.machine_defs.specs.Examples.{set_up}
-use Rattle.made_runs.specs.Turns.{Goes, Works, Notes, Came, Heard, NoneCame, Gives, LosesOne, StoreFails, Cut, faulted}
-use Rattle.made_runs.specs.Instructions.{Instruction, Turns, Fails, Begins, Reopens, Stops, Comes, run_of, AreFit}
-use Rattle.made_runs.proofs.Instructions.{are-run}
-use Rattle.second_half_laws.proofs.ByteSteps.{block_sized, block, symbols, byte_back, own_work}
-use Rattle.damage_run.specs.Schedule.{name, byte}
-use Rattle.damage_run.specs.Points.{counts}
+use Rattle.machine_defs.specs.States.{given_up, continued}
+use Rattle.made_runs.specs.Turns.{faulted}
+use Rattle.damage_run.specs.Words.{AuditDone, PutJob, GetJob, DropJob, AuditJob, actions_of, Got, Dropped, Audited, Begin, Step, Reopen, Continue, Refused, Closed, Continued, State, setup_in, Moment, IsRun, set_up, Goes, Works, Notes, Came, Heard, NoneCame, Gives, LosesOne, StoreFails, Cut, Instruction, Turns, Fails, Begins, Reopens, Stops, Comes, run_of, AreFit}
+use Rattle.damage_run.specs.Points.{name, byte, counts}
 use Rattle.damage_run.proofs.Values.{right, same_first, sums, judged}
+use Rattle.damage_run.proofs.Run.{put, ◌and◌, few, sizes, are-run, block, symbols, byte_back, own_work}
 use Rattle.damage_run.proofs.LostGet.{loses_row}
 use Rattle.fault_run.specs.Faults.{other}
 
@@ -32,25 +23,21 @@ abbrev cut_off : List Instruction
 cut_off = Turns 4 (Cut ∷ Goes 7 ∷ []) ∷ Begins (Begin (PutJob other []))
     ∷ Turns 3 (StoreFails 0 ∷ Goes 4 ∷ []) ∷ Begins (Begin (PutJob other byte))
     ∷ Turns 2 (LosesOne 0 0 ∷ Came (Some (block 3)) ∷ Came (Some (block 2)) ∷ NoneCame ∷ NoneCame ∷ [])
-    ∷ Begins (Begin (GetJob name))
-    ∷ Turns 1 (Gives Put ∷ Goes 12 ∷ []) ∷ Begins (Begin (PutJob name byte)) ∷ Reopens ∷ []
+    ∷ Begins (Begin (GetJob name)) ∷ put
 
 -- refusals, a stop, reopenings, and a get
 abbrev opened_again : List Instruction
-opened_again = Turns 5
-    (Gives (Got byte) ∷ Works symbols ∷ Came (Some (block 3)) ∷ Came (Some (block 2)) ∷ Came (Some (block 1))
-    ∷ Came (Some (block 0)) ∷ [])
-    ∷ Begins (Begin (GetJob name))
+opened_again = Turns 5 (Gives (Got byte) ∷ Works symbols ∷ Came (Some (block 3)) ∷ Came (Some (block 2))
+    ∷ Came (Some (block 1)) ∷ Came (Some (block 0)) ∷ []) ∷ Begins (Begin (GetJob name))
     ∷ Comes (Begin (GetJob name)) (Refused refusal.Memory) same ∷ Reopens
     ∷ Comes Reopen (Refused refusal.DiskFault) unread ∷ Stops []
     ∷ Comes (Begin (GetJob name)) (Refused refusal.MustReopen) same ∷ cut_off
 
 -- an audit, one of whose asks fails
 abbrev audited : List Instruction
-audited = Turns 6
-    (Gives (Audited 1 0 counts) ∷ Goes 3 ∷ Notes (AuditDone 1 0 counts) ∷ Heard (right 3) ∷ [])
-    ∷ Fails 6 ∷ Turns 6 (Heard (right 1) ∷ Heard (right 0) ∷ Goes 4 ∷ [])
-    ∷ Begins (Begin AuditJob) ∷ opened_again
+audited = Turns 6 (Gives (Audited 1 0 counts) ∷ Goes 3 ∷ Notes (AuditDone 1 0 counts) ∷ Heard (right 3) ∷ [])
+    ∷ Fails 6 ∷ Turns 6 (Heard (right 1) ∷ Heard (right 0) ∷ Goes 4 ∷ []) ∷ Begins (Begin AuditJob)
+    ∷ opened_again
 
 -- a drop, one of whose removals fails, and a later call of the program
 abbrev instructions : List Instruction
@@ -61,127 +48,40 @@ instructions = Comes (Step 1) Closed same ∷ Comes Continue Continued continued
 -- all can be carried out
 fit_cut : AreFit 8 set_up cut_off
 unfolding setup_in actions_of
-fit_cut = (
-  (omega arith, ((refl, (refl, refl)), (refl, tt))),
-  (
-    ((refl, refl), refl, refl),
-    (
-      (omega arith, ((refl, (refl, refl)), (refl, tt))),
-      (
-        ((refl, refl), refl, refl),
-        (
-          (
-            omega arith,
-            (
-              (refl, (refl, (refl, loses_row))),
-              (
-                (refl, (refl, block_sized 3)),
-                (
-                  (refl, (refl, block_sized 2)),
-                  ((refl, (refl, tt)), ((refl, (refl, tt)), tt)),
-                ),
-              ),
-            ),
-          ),
-          (
-            (refl, refl, refl),
-            (
-              (omega arith, ((refl, (refl, tt)), (refl, tt))),
-              (((refl, refl), refl, refl), ((refl, refl), tt)),
-            ),
-          ),
-        ),
-      ),
-    ),
-  ),
-)
+fit_cut = assumption few and (assumption) and assumption few and (assumption)
+    and (omega arith, ((refl, (refl, (refl, loses_row))), assumption sizes)) and (assumption)
+    and assumption few
 
 fit_again : AreFit 8 set_up opened_again
 unfolding setup_in actions_of
-fit_again = (
-  (
-    omega arith,
-    (
-      (refl, (refl, byte_back)),
-      (
-        (refl, (refl, own_work)),
-        (
-          (refl, (refl, block_sized 3)),
-          (
-            (refl, (refl, block_sized 2)),
-            ((refl, (refl, block_sized 1)), ((refl, (refl, block_sized 0)), tt)),
-          ),
-        ),
-      ),
-    ),
-  ),
-  (
-    (refl, refl, refl),
-    (
-      (refl, (refl, inr refl, refl)),
-      (
-        (refl, refl),
-        (
-          (tt, (2, omega arith, λ low. omega arith, refl)),
-          (
-            refl,
-            ((refl, (refl, inl refl, refl)), fit_cut),
-          ),
-        ),
-      ),
-    ),
-  ),
-)
+fit_again = assumption (few, sizes, byte_back, own_work) and (assumption) and (refl, (refl, inr refl, refl))
+    and (assumption) and (tt, (2, omega arith, λ low. omega arith, refl)) and (assumption)
+    and (refl, (refl, inl refl, refl)) and fit_cut
 
 fit_audited : AreFit 8 set_up audited
 unfolding setup_in actions_of
 fit_audited = (
+  omega arith,
   (
-    omega arith,
+    (refl, (refl, (refl, (sums, (sums, judged, refl), (sums, refl, refl))))),
     (
-      (refl, (refl, (refl, (sums, (sums, judged, refl), (sums, refl, refl))))),
+      refl,
       (
-        refl,
-        (
-          (refl, (refl, (sums, (sums, (sums, judged, refl), (sums, refl, refl)), refl))),
-          ((refl, (refl, same_first _ _ refl)), tt),
-        ),
+        (refl, (refl, (sums, (sums, (sums, judged, refl), (sums, refl, refl)), refl))),
+        ((refl, (refl, same_first _ _ refl)), tt),
       ),
     ),
   ),
-  (
-    (omega arith, refl),
-    (
-      (omega arith, ((refl, (refl, same_first _ _ refl)), ((refl, (refl, same_first _ _ refl)), (refl, tt)))),
-      ((tt, refl, refl), fit_again),
-    ),
-  ),
-)
+) and assumption few
+    and (
+      omega arith,
+      ((refl, (refl, same_first _ _ refl)), ((refl, (refl, same_first _ _ refl)), (refl, tt))),
+    ) and (assumption) and fit_again
 
 fit : AreFit 8 set_up instructions
 unfolding setup_in actions_of
-fit = (
-  (omega arith, refl),
-  (
-    (tt, refl),
-    (
-      (omega arith, ((refl, (refl, tt)), tt)),
-      (
-        (omega arith, refl),
-        (
-          (omega arith, (refl, tt)),
-          (
-            (refl, refl, refl),
-            (
-              (tt, (refl, inl refl, refl)),
-              fit_audited,
-            ),
-          ),
-        ),
-      ),
-    ),
-  ),
-)
+fit = assumption few and (assumption) and assumption few and assumption few and assumption few
+    and (assumption) and (tt, (refl, inl refl, refl)) and fit_audited
 
 -- the run
 abbrev pub moments : List Moment

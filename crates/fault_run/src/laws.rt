@@ -1,31 +1,15 @@
 //! What laws about faults say of the run given outright: each premise is met, and the law is called.
 ghost use Rattle.std.specs.Prelude.{◌≡◌, ◌⊎◌, ◌<◌, ℕ, List, Some, true, false};
-ghost use Rattle.record_defs.specs.Table.{next_id, next_audit};
-ghost use Rattle.column_defs.specs.Columns.{columns};
-ghost use Rattle.machine_defs.specs.Deeds.{HasStored, HasAsked, told_block};
-ghost use Rattle.machine_defs.specs.Answers.{Lost};
-ghost use Rattle.machine_defs.specs.Halves.{FirstHalf, SecondHalf};
-ghost use Rattle.machine_defs.specs.Heard.{heard_in, heard_by, given_to};
-ghost use Rattle.machine_defs.specs.States.{State};
-ghost use Rattle.machine_defs.specs.Survival.{IsKept};
-ghost use Rattle.machine_defs.specs.Runs.{Moment, first_moments, now, is_replaced_since};
-ghost use Rattle.machine_defs.specs.Jobs.{Job};
-ghost use Rattle.machine_defs.specs.Failures.{OfDisk, OfStores, OfOthers, count_in, RoseBy};
-ghost use Rattle.machine_defs.specs.Scrubs.{scrubbed, AreScrubsCalm, IsScrubCalm};
-ghost use Rattle.upgrade_run.specs.Schedule.{HasAll, thing};
 ghost use Rattle.machine_defs.specs.Refusals as refusal;
-ghost use Rattle.machine_defs.specs.Halves.{IsGetRefusal};
-ghost use Rattle.machine_defs.specs.Examples.{set_up};
-ghost use Rattle.headline.specs.Headline.{Headline};
-ghost use Rattle.second_half_laws.specs.Whole.{PutIsWhole, AuditIsWhole};
 ghost use Rattle.second_half_laws.specs.Damage.{IsReplaced, RoseSince};
 ghost use Rattle.second_half_laws.specs.Own.{IsExact};
-ghost use Rattle.second_half_laws.specs.MarkedRuns.{IsMarkedRun};
 ghost use Rattle.second_half_laws.specs.Sharp.{IsLostByFaults};
-ghost use Rattle.damage_run.specs.Schedule.{name, byte};
-ghost use Rattle.damage_run.specs.Points.{at, counts};
-ghost use Rattle.fault_run.specs.Faults.{IsFaulty};
-ghost use Rattle.fault_run.specs.Met.{HasFaults};
+ghost use Rattle.second_half_laws.specs.Whole.{PutIsWhole, AuditIsWhole};
+ghost use Rattle.headline.specs.Headline.{Headline};
+ghost use Rattle.damage_run.specs.Words.{next_id, next_audit, columns, Job, Lost, State, Moment, now, first_moments, is_replaced_since, scrubbed, AreScrubsCalm, IsScrubCalm, HasStored, HasAsked, told_block, IsKept, heard_in, heard_by, given_to, OfDisk, OfStores, OfOthers, count_in, RoseBy, FirstHalf, SecondHalf, IsGetRefusal, set_up, IsMarkedRun};
+ghost use Rattle.damage_run.specs.Points.{name, byte, at, counts};
+ghost use Rattle.upgrade_run.specs.Schedule.{HasAll, thing};
+ghost use Rattle.fault_run.specs.Faults.{IsFaulty, HasFaults};
 
 use headline::laws::every_run_keeps_the_headline;
 use machine_defs::laws::{
@@ -58,6 +42,7 @@ pub fn failed_calls_raise_counts()
 
 /// The begins of a get that are refused are so for causes that may be; the get that is lost, is so by faults,
 /// and what it was not given was not replaced, but not given for a fault.
+#[tactic(auto, using(crate::proofs::Points::run_to))]
 pub fn gets_are_refused_or_lost_by_faults()
     ensures must_reopen { (ms : List Moment) → IsFaulty ms → HasFaults ms → IsGetRefusal refusal.MustReopen }
     ensures no_memory { (ms : List Moment) → IsFaulty ms → HasFaults ms → IsGetRefusal refusal.Memory }
@@ -128,6 +113,7 @@ pub fn a_finished_scrub_is_a_mark()
 
 /// The numbers that the first put has stored under and the audit has asked under are below the next ones, and
 /// no other put and no other audit used them; the audit whose end is in flight is whole.
+#[tactic(auto, using(run_laws::proofs::FirstHalf::first_run))]
 pub fn numbers_are_drawn_once()
     ensures object { (ms : List Moment) → IsFaulty ms → HasFaults ms → 1 < next_id (at 7 ms).records }
     ensures audit { (ms : List Moment) → IsFaulty ms → HasFaults ms → 1 < next_audit (at 54 ms).records }

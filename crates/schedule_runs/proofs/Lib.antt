@@ -1,11 +1,3 @@
-pub mod Left
 pub mod Going
-pub mod Stopped
-pub mod Text
-pub mod BadLine
-pub mod Upgraded
-pub mod UpgradedText
-pub mod Scrubbed
-pub mod ScrubbedText
-pub mod Packed
-pub mod PackedText
+pub mod Read
+pub mod Runs

@@ -15,19 +15,7 @@
 use Rattle.std.specs.Prelude.{ℕ, ◌-◌, List, [], ◌∷◌, ◌++◌, map, replicate, Some, ◌⊎◌}
 use Rattle.code_defs.specs.Points.{upto}
 use Rattle.device_defs.specs.Cells.{firm}
-use Rattle.record_defs.specs.Records.{Record}
-use Rattle.record_defs.specs.Areas.{Area, base_of, magic_front, switch_of, entries}
-use Rattle.record_defs.specs.Table.{File}
-use Rattle.machine_defs.specs.Runs.{Moment, now}
-use Rattle.machine_defs.specs.States.{State}
-use Rattle.machine_defs.specs.Halves.{SecondHalf}
-use Rattle.machine_defs.specs.Scrubs.{IsScrubCalm}
-use Rattle.machine_defs.specs.Survival.{NeverTakenOut, IsKept}
-use Rattle.command_defs.specs.Seen.{Seen, Ending}
-use Rattle.vault_open.specs.Devices.{Devices, devices}
-use Rattle.hail_replay.specs.Answers.{IsUndone, devices_of_seen}
-use Rattle.hail_replay.specs.Starts.{called_behind}
-use Rattle.hail_top.specs.Carried.{RunGoesOn}
+use Rattle.schedule_runs.specs.Words.{Record, Area, base_of, magic_front, switch_of, entries, File, Moment, now, State, SecondHalf, IsScrubCalm, NeverTakenOut, IsKept, Seen, Ending, Devices, devices, IsUndone, devices_of_seen, called_behind, RunGoesOn}
 
 -- zeros up to where the text of an area begins, behind the byte that names it
 unfoldable pub zeros_to : Area → List ℕ

@@ -1,14 +1,15 @@
 -- Schedules as texts, and what carries them out: one with damage, an audit, a repair, a stop and gets; one
 -- with an upgrade, a put with a profile of its own, and a get; one in which a scrub comes before the get; and
--- one in which a pack does.
+-- one in which a pack does. Commands have the newest first.
 --
---   stopped_schedule  == the commands of the run with damage, and then a stop, a reopening and a get, the
---                        newest first
+--   IsRunOf schedule written k job ms
+--                     == these moments carry out a schedule and write these bytes, from a start of four
+--                        providers; event k is the last, and ends a get with the file
+--   stopped_schedule  == the commands of the run with damage, and then a stop, a reopening and a get
 --   stopped_written   == all that they write
 --   stopped_text      == the text that spells them
 --   bad_text          == a text whose second line has too many words
---   IsStoppedRun ms   == these moments carry it out, from a start of four providers; the last of them gives
---                        the file
+--   IsStoppedRun ms   == these moments carry it out
 --   upgraded_schedule, upgraded_written, upgraded_text
 --                     == the same of an upgrade, of which one step is told apart, a put at profile 1, and
 --                        a get
@@ -23,22 +24,22 @@
 --   IsPackedRun ms    == these moments carry it out; at their end the packed journal stands in the second area
 use Rattle.std.specs.Prelude.{◌≡◌, ℕ, true, false, List, [], ◌∷◌, ◌++◌, codes, Some}
 use Rattle.std.specs.List.{flat_map}
-use Rattle.record_defs.specs.Areas.{B}
-use Rattle.record_defs.specs.Packed.{packed}
-use Rattle.record_defs.specs.Table.{File, version_of}
 use Rattle.machine_defs.specs.Answers.{Got}
 use Rattle.machine_defs.specs.Events.{Begin, BeginAt, BeginScrub, BeginPack, Step, Alter, Stop, Reopen}
-use Rattle.machine_defs.specs.Examples.{set_up}
 use Rattle.machine_defs.specs.Jobs.{GetJob, UpgradeJob}
 use Rattle.machine_defs.specs.Lines.{line}
-use Rattle.machine_defs.specs.Runs.{Moment, IsRun, now, is_replaced_since}
-use Rattle.machine_defs.specs.Scrubs.{scrubbed, IsScrubCalm}
-use Rattle.machine_defs.specs.States.{IsStart, setup_in, file_in}
-use Rattle.machine_defs.specs.Transcripts.{Instruction, Once, RunJob, CarriesOut}
-use Rattle.damage_run.specs.Schedule.{name, byte, schedule, written_lines}
 use Rattle.damage_run.specs.Points.{EndsBy}
+use Rattle.schedule_runs.specs.Words.{B, packed, File, version_of, set_up, Moment, IsRun, now, is_replaced_since, scrubbed, IsScrubCalm, IsStart, setup_in, file_in, Instruction, Once, RunJob, CarriesOut, name, byte, schedule, written_lines}
 
--- the commands, the newest first
+-- these moments carry out a schedule, and the last of them gives the file
+pub record IsRunOf (schedule : List Instruction) (written : List ℕ) (k job : ℕ)
+    (ms : List Moment) : Type 0 where
+  pub clean : IsStart set_up
+  pub run : IsRun 8 set_up ms
+  pub carried_out : CarriesOut schedule ms written
+  pub last : EndsBy ms k job (Got byte)
+
+-- the commands with the stop
 abbrev pub stopped_schedule : List Instruction
 stopped_schedule = RunJob 6 ∷ Once (Begin (GetJob name)) ∷ Once Reopen ∷ Once (Stop []) ∷ schedule
 
@@ -60,13 +61,10 @@ abbrev pub bad_text : List ℕ
 bad_text = flat_map line (codes "reopen" ∷ codes "lose 2 1 0 2 1 0" ∷ [])
 
 -- these moments carry it out
-pub record IsStoppedRun (ms : List Moment) : Type 0 where
-  pub clean : IsStart set_up
-  pub run : IsRun 8 set_up ms
-  pub carried_out : CarriesOut stopped_schedule ms stopped_written
-  pub last : EndsBy ms 65 6 (Got byte)
+abbrev pub IsStoppedRun : List Moment → Type 0
+IsStoppedRun ms = IsRunOf stopped_schedule stopped_written 65 6 ms
 
--- the commands of the upgrade, the put and the get, the newest first
+-- the commands of the upgrade, the put and the get
 abbrev pub upgraded_schedule : List Instruction
 upgraded_schedule = RunJob 3 ∷ Once (Begin (GetJob name)) ∷ RunJob 2 ∷ Once (BeginAt 1 name byte)
     ∷ RunJob 1 ∷ Once (Step 1) ∷ Once (Begin UpgradeJob) ∷ Once Reopen ∷ []
@@ -87,15 +85,12 @@ upgraded_file = record { name = name; id = 1; size = 1; profile = 1 }
 
 -- these moments carry it out; at their end the file has a profile of its own
 pub record IsUpgradedRun (ms : List Moment) : Type 0 where
-  pub clean : IsStart set_up
-  pub run : IsRun 8 set_up ms
-  pub carried_out : CarriesOut upgraded_schedule ms upgraded_written
+  pub goes : IsRunOf upgraded_schedule upgraded_written 27 3 ms
   pub version : version_of (now set_up ms).records ≡ 2
   pub own_profile : file_in (now set_up ms) name ≡ Some upgraded_file
   pub other_profile : (setup_in (now set_up ms)).profile ≡ 0
-  pub last : EndsBy ms 27 3 (Got byte)
 
--- the commands of the upgrade, the put, the alteration, the scrub and the get, the newest first
+-- the commands of the upgrade, the put, the alteration, the scrub and the get
 abbrev pub scrubbed_schedule : List Instruction
 scrubbed_schedule = RunJob 4 ∷ Once (Begin (GetJob name)) ∷ RunJob 3 ∷ Once (Step 3) ∷ Once BeginScrub
     ∷ Once (Alter 0 1 0 0 5) ∷ RunJob 2 ∷ Once (BeginAt 1 name byte) ∷ RunJob 1 ∷ Once (Step 1)
@@ -115,16 +110,13 @@ scrubbed_text = flat_map line (codes "reopen" ∷ codes "begin upgrade" ∷ code
 
 -- these moments carry it out; counted from the scrub's begin, at event 22, no provider was replaced
 pub record IsScrubbedRun (ms : List Moment) : Type 0 where
-  pub clean : IsStart set_up
-  pub run : IsRun 8 set_up ms
-  pub carried_out : CarriesOut scrubbed_schedule ms scrubbed_written
+  pub goes : IsRunOf scrubbed_schedule scrubbed_written 36 4 ms
   pub calm : IsScrubCalm set_up ms
   pub mark : scrubbed set_up ms ≡ 22
   pub altered : is_replaced_since 21 0 ms ≡ true
   pub unaltered : is_replaced_since 22 0 ms ≡ false
-  pub last : EndsBy ms 36 4 (Got byte)
 
--- the commands of the upgrade, the put, the pack and the get, the newest first
+-- the commands of the upgrade, the put, the pack and the get
 abbrev pub packed_schedule : List Instruction
 packed_schedule = RunJob 4 ∷ Once (Begin (GetJob name)) ∷ RunJob 3 ∷ Once (Step 3) ∷ Once BeginPack
     ∷ RunJob 2 ∷ Once (BeginAt 1 name byte) ∷ RunJob 1 ∷ Once (Step 1) ∷ Once (Begin UpgradeJob)
@@ -144,9 +136,6 @@ packed_text = flat_map line (codes "reopen" ∷ codes "begin upgrade" ∷ codes 
 
 -- these moments carry it out; the packed records stand in the second area, and the history is as before
 pub record IsPackedRun (ms : List Moment) : Type 0 where
-  pub clean : IsStart set_up
-  pub run : IsRun 8 set_up ms
-  pub carried_out : CarriesOut packed_schedule ms packed_written
+  pub goes : IsRunOf packed_schedule packed_written 33 4 ms
   pub area : (now set_up ms).area ≡ B
   pub journal : (now set_up ms).journal ≡ packed (now set_up ms).records
-  pub last : EndsBy ms 33 4 (Got byte)

@@ -1,34 +1,16 @@
 //! What a replay and a trial suppose of their devices is met, and what they promise is used.
 ghost use Rattle.std.specs.Prelude.{◌≡◌, ◌⊎◌, ℕ, List, [], IsSome, reverse};
 ghost use Rattle.std.specs.List.{AllByRecursion};
-ghost use Rattle.command_defs.specs.Seen.{Seen, Ending, sinking};
-ghost use Rattle.machine_defs.specs.Examples.{set_up};
-ghost use Rattle.machine_defs.specs.Halves.{SecondHalf};
-ghost use Rattle.machine_defs.specs.Runs.{Moment, now, IsRun};
-ghost use Rattle.machine_defs.specs.Scrubs.{scrubbed};
-ghost use Rattle.machine_defs.specs.States.{State, IsStart};
-ghost use Rattle.machine_defs.specs.Transcripts.{Instruction};
-ghost use Rattle.hail_client.specs.Examples.{fresh};
-ghost use Rattle.hail_client.specs.Start.{start_of};
-ghost use Rattle.schedule_text.specs.Schedules.{IsSchedule, IsFirstBadLine};
 ghost use Rattle.schedule_text.specs.Spelling.{CanBeSpelled};
-ghost use Rattle.hail_replay.specs.Starts.{AreLeft};
 ghost use Rattle.hail_replay.specs.Replayed.{Replays};
-ghost use Rattle.hail_replay.specs.Answers.{DoesSchedule, DoesTrial, devices_of_seen};
 ghost use Rattle.hail_replay.specs.Trials.{RunsTrial, RunsTo};
 ghost use Rattle.trial_maker.specs.Trials.{trial_commands};
-ghost use Rattle.hail_top.specs.Carried.{KeepsTheHeadline};
 ghost use Rattle.second_half_laws.specs.Own.{IsExact};
-ghost use Rattle.damage_run.specs.Schedule.{name, IsOutright};
-ghost use Rattle.fault_run.specs.Faults.{other, IsFaulty};
+ghost use Rattle.schedule_runs.specs.Words.{Seen, Ending, sinking, set_up, SecondHalf, Moment, now, IsRun, scrubbed, State, IsStart, Instruction, fresh, start_of, IsSchedule, IsFirstBadLine, AreLeft, DoesSchedule, DoesTrial, devices_of_seen, KeepsTheHeadline, name, IsOutright, other, IsFaulty};
 ghost use Rattle.schedule_runs.specs.Left.{devices_left, GoesOnWith, KeepsItsFile, KeepsSecondHalf};
 ghost use Rattle.schedule_runs.specs.Schedule.{stopped_schedule, stopped_text, bad_text, IsStoppedRun, upgraded_schedule, upgraded_text, upgraded_file, IsUpgradedRun, scrubbed_schedule, scrubbed_text, IsScrubbedRun, packed_schedule, packed_text, IsPackedRun};
-ghost use Rattle.vault.specs.Devices.{devices_seen};
 
 use hail_client::laws::a_fresh_disk_has_a_start;
-use headline::laws::every_run_keeps_the_headline;
-use machine_defs::laws::acknowledged_files_survive;
-use state_laws::laws::runs_are_sound;
 
 /// Each run has left devices that tell, whatever area its journal is in: those of its last state. So have the
 /// run of no event, over a disk before its first use, and the runs given outright: one with damage, an
@@ -41,7 +23,6 @@ pub fn runs_leave_devices()
     ensures damaged { (ms : List Moment) × IsOutright ms × AreLeft set_up ms (devices_left (now set_up ms)) }
     ensures faulty { (ms : List Moment) × IsFaulty ms × AreLeft set_up ms (devices_left (now set_up ms)) }
 {
-    runs_are_sound();
     a_fresh_disk_has_a_start();
 }
 
@@ -57,10 +38,7 @@ pub fn a_schedule_has_its_run()
         × ((old new : Seen) (end : Ending) → devices_of_seen old ≡ devices_left (now set_up ms) →
         KeepsTheHeadline old new end
         → KeepsItsFile set_up ms name (record { name = name; id = 1; size = 1; profile = 0 }) old new end) }
-{
-    runs_leave_devices();
-    acknowledged_files_survive();
-}
+{}
 
 /// So it is of a text with an upgrade, a put at a profile of its own, and a get, which gives the file; and
 /// the file keeps its profile.
@@ -71,10 +49,7 @@ pub fn an_upgrade_has_its_run()
     ensures used { (ms : List Moment) × IsUpgradedRun ms
         × ((old new : Seen) (end : Ending) → devices_of_seen old ≡ devices_left (now set_up ms) →
         KeepsTheHeadline old new end → KeepsItsFile set_up ms name upgraded_file old new end) }
-{
-    runs_leave_devices();
-    acknowledged_files_survive();
-}
+{}
 
 /// So it is of a text with the same upgrade and put, an altered symbol, a scrub that finds and mends it, and a
 /// get. The run is calm, counted from the scrub's begin, so the second half holds of it by scrubs, whatever
@@ -88,10 +63,7 @@ pub fn a_scrub_has_its_run()
     ensures used { (ms : List Moment) × IsScrubbedRun ms
         × ((old new : Seen) (end : Ending) → devices_of_seen old ≡ devices_left (now set_up ms) →
         KeepsTheHeadline old new end → KeepsSecondHalf set_up ms old new end) }
-{
-    runs_leave_devices();
-    every_run_keeps_the_headline();
-}
+{}
 
 /// So it is of a text with the same upgrade and put, a pack, and a get, which gives the file out of the second
 /// area.
@@ -102,10 +74,7 @@ pub fn a_pack_has_its_run()
     ensures used { (ms : List Moment) × IsPackedRun ms
         × ((old new : Seen) (end : Ending) → devices_of_seen old ≡ devices_left (now set_up ms) →
         KeepsTheHeadline old new end → KeepsItsFile set_up ms name upgraded_file old new end) }
-{
-    runs_leave_devices();
-    acknowledged_files_survive();
-}
+{}
 
 /// So a replay or a trial over the devices that a run has left does nothing, or goes on with that very run,
 /// and the headline holds of the whole.
@@ -138,5 +107,4 @@ pub fn commands_go_on_with_them()
         × RunsTo start ms (trial_commands number) end.heard (devices_of_seen new)) }
 {
     runs_leave_devices();
-    acknowledged_files_survive();
 }

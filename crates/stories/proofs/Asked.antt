@@ -1,77 +1,77 @@
--- What the laws ask for beside the runs.
-use Rattle.std.proofs.Common.{◌≡◌, ℕ, zero, suc, List, [], ◌∷◌, length, Some, None, refl, subst, arith}
-use Rattle.std.specs.Prelude.{slice_get, IsSome, Bool}
+-- What the instances ask for beside their runs.
+use Rattle.std.proofs.Common.{◌≡◌, ℕ, zero, suc, Bool, List, [], ◌∷◌, String, length, Some, None, refl, subst, arith}
+use Rattle.std.specs.Prelude.{IsSome}
+use Rattle.std.specs.declared.alloc.Global.{Global}
 use Rattle.device_defs.specs.Providers.{Provider}
-use Rattle.machine_defs.specs.Examples.{empty_provider}
-use Rattle.command_defs.specs.Seen.{Seen, NoCountFalls, provider_at}
-use Rattle.command_laws.specs.After.{IsSteady}
-use Rattle.command_laws.proofs.Samples.{never-rises}
-use Rattle.command_runs.specs.Devices.{none_hold, damaged}
-use Rattle.command_runs.specs.Packed.{packed_kept, got_packed}
-use Rattle.hail_client.specs.Start.{TellAll}
+use Rattle.command_defs.specs.Commands.{Answers}
+use Rattle.command_runs.proofs.Meets.{never}
+use Rattle.command_runs.proofs.Shape.{always, four, from_some}
+use Rattle.hail_client.proofs.Fresh.{is-start, are-devices}
+use Rattle.hail_top.proofs.Words.{command-words}
+use Rattle.stories.specs.Words.{Cells, Record, empty_provider, IsFresh, Command, IsForm, Seen, Ending, NoCountFalls, provider_at, IsSteady, none_hold, damaged, packed_kept, got_packed, start_of, TellAll, devices_of_seen, AreLeft, AnswersWords, InitsOn}
 use Rattle.stories.specs.Instances.{damaged_got}
 
 -- ---- counts
 
 -- no provider has counted a fault
-abbrev pub AreIdle : List Provider → Type 0
+abbrev AreIdle : List Provider → Type 0
 AreIdle [] = Unit {0}
 AreIdle (p ∷ ps) = (p.store_faults ≡ 0) × (p.other_faults ≡ 0) × AreIdle ps
 
-stores-none : (ps : List Provider) → AreIdle ps → (j : ℕ) → (provider_at ps j).store_faults ≡ 0
-stores-none [] idle zero = refl
-stores-none [] idle (suc j) = refl
-stores-none (p ∷ ps) idle zero = idle.0
-stores-none (p ∷ ps) idle (suc j) = stores-none ps idle.2 j
+none-counted : (ps : List Provider) → AreIdle ps → (j : ℕ) →
+    ((provider_at ps j).store_faults ≡ 0) × ((provider_at ps j).other_faults ≡ 0)
+none-counted [] idle zero = (refl, refl)
+none-counted [] idle (suc j) = (refl, refl)
+none-counted (p ∷ ps) idle zero = (idle.0, idle.1)
+none-counted (p ∷ ps) idle (suc j) = none-counted ps idle.2 j
 
-others-none : (ps : List Provider) → AreIdle ps → (j : ℕ) → (provider_at ps j).other_faults ≡ 0
-others-none [] idle zero = refl
-others-none [] idle (suc j) = refl
-others-none (p ∷ ps) idle zero = idle.1
-others-none (p ∷ ps) idle (suc j) = others-none ps idle.2 j
+-- nor has another device, and no provider comes or goes
+abbrev pub IsIdle : Seen → Seen → Type 0
+IsIdle old new = AreIdle old.providers × (length new.providers ≡ length old.providers) × (old.disk_faults ≡ 0)
+    × (old.source_faults ≡ 0) × (old.sink_faults ≡ 0)
 
 -- where none was counted, no count falls
-pub falls : (old new : Seen) → AreIdle old.providers → length new.providers ≡ length old.providers →
-    old.disk_faults ≡ 0 → old.source_faults ≡ 0 → old.sink_faults ≡ 0 → NoCountFalls old new
-falls old new idle handed disk source sink = record {
-  disk = omega (arith, disk);
-  handed = handed;
-  stores = λ j. (let e = stores-none old.providers idle j in omega (arith, e));
-  others = λ j. (let e = others-none old.providers idle j in omega (arith, e));
-  source = omega (arith, source);
-  sink = omega (arith, sink);
+pub falls : (old new : Seen) → IsIdle old new → NoCountFalls old new
+falls old new idle = record {
+  disk = omega (arith, idle.2);
+  handed = idle.1;
+  stores = λ j. (let e = (none-counted old.providers idle.0 j).0 in omega (arith, e));
+  others = λ j. (let e = (none-counted old.providers idle.0 j).1 in omega (arith, e));
+  source = omega (arith, idle.3);
+  sink = omega (arith, idle.4);
 }
 
--- none of four counted any
-pub four-idle : AreIdle none_hold
-four-idle = (refl, refl, (refl, refl, (refl, refl, (refl, refl, tt))))
+-- then words that spell a command are answered as it is
+pub answered : ((words : List (String Global)) (command other : Command) → IsForm words command →
+    IsForm words other → command ≡ other) → (words : List (String Global)) (command : Command)
+    {old new : Seen} {end : Ending} → IsForm words command → Answers command old new end →
+    InitsOn command old new end → IsIdle old new → AnswersWords words old new end
+answered once words command {old} {new} {end} spells answers inits idle = command-words words command old new
+    end spells (λ other also. once words command other spells also) answers inits (falls old new idle)
 
--- ---- providers
+-- ---- devices
 
-told-at : (j : ℕ) (p : Provider) → slice_get none_hold j ≡ Some p → empty_provider ≡ p
-told-at zero p is = (let e : Some empty_provider ≡ Some p = is in cc)
-told-at (suc zero) p is = (let e : Some empty_provider ≡ Some p = is in cc)
-told-at (suc (suc zero)) p is = (let e : Some empty_provider ≡ Some p = is in cc)
-told-at (suc (suc (suc zero))) p is = (let e : Some empty_provider ≡ Some p = is in cc)
-told-at (suc (suc (suc (suc j)))) p is = absurd (let e : None ≡ Some p = is in cc)
+-- those with a disk before its first use are left by the run of no event
+pub first-left : (s : Seen) (cells : Cells) (rs : List Record) → s.disk ≡ Some cells → IsFresh cells rs →
+    AreLeft (start_of (devices_of_seen s) rs) [] (devices_of_seen s)
+first-left s cells rs told fresh = record {
+  starts = is-start (devices_of_seen s) cells rs told fresh;
+  run = tt;
+  devices = are-devices (devices_of_seen s) cells rs told fresh;
+}
 
 -- each of those that hold nothing tells
 pub none-tell : TellAll none_hold
-none-tell j p is = subst (λ (x : Provider). IsSome x.held) (told-at j p is) refl
+none-tell = always _ told told told told (λ j p is. absurd (let e : None ≡ Some p = is in cc))
+  where
+    told : (p : Provider) → Some empty_provider ≡ Some p → IsSome p.held
+    told p is = subst (λ (x : Provider). IsSome x.held) (from_some empty_provider p is) refl
 
 -- the get over the store in which one block is lost raises no count of failed calls
 pub damaged-steady : (spoilt : ℕ → Bool) → IsSteady 4 spoilt damaged damaged_got
-damaged-steady spoilt zero l s rose = never-rises 0 (omega arith) rose
-damaged-steady spoilt (suc zero) l s rose = never-rises 0 (omega arith) rose
-damaged-steady spoilt (suc (suc zero)) l s rose = never-rises 0 (omega arith) rose
-damaged-steady spoilt (suc (suc (suc zero))) l s rose = never-rises 0 (omega arith) rose
-damaged-steady spoilt (suc (suc (suc (suc j)))) l s rose = absurd (omega (arith, l))
+damaged-steady spoilt = four _ (λ s. never) (λ s. never) (λ s. never) (λ s. never)
 
 -- so does the get from the packed store
 pub packed-steady : (filling : List ℕ) (spoilt : ℕ → Bool) →
     IsSteady 4 spoilt (packed_kept filling) (got_packed filling)
-packed-steady filling spoilt zero l s rose = never-rises 0 (omega arith) rose
-packed-steady filling spoilt (suc zero) l s rose = never-rises 0 (omega arith) rose
-packed-steady filling spoilt (suc (suc zero)) l s rose = never-rises 0 (omega arith) rose
-packed-steady filling spoilt (suc (suc (suc zero))) l s rose = never-rises 0 (omega arith) rose
-packed-steady filling spoilt (suc (suc (suc (suc j)))) l s rose = absurd (omega (arith, l))
+packed-steady filling spoilt = four _ (λ s. never) (λ s. never) (λ s. never) (λ s. never)

@@ -1,13 +1,7 @@
 mod Went
-mod Carried
 mod Said
 mod Puts
 mod Gets
-mod Other
 mod Asked
-mod Counting
-mod ByteText
-mod ByteRun
 mod ByteReplay
 mod DamagedGet
-mod Packed

@@ -1,20 +1,12 @@
 -- What a text says of a put and of a get behind it is so.
 use Rattle.std.proofs.Common.{◌≡◌, ℕ, ◌<◌, ◌^◌, List, ◌∷◌, ◌++◌, length, Option, Some, sym, ap, subst, ◌∙◌, arith}
 use Rattle.std.proofs.lemmas.List.{append_cancel_left}
-use Rattle.device_defs.specs.Told.{told_then}
-use Rattle.machine_defs.specs.Answers.{Answer, Put}
-use Rattle.machine_defs.specs.Events.{Event, Step, Begun, Ended, IsSpelled}
-use Rattle.machine_defs.specs.Lines.{lines_of}
-use Rattle.machine_defs.specs.Runs.{Moment, now, IsRun}
-use Rattle.machine_defs.specs.States.{State}
-use Rattle.machine_defs.specs.Transcripts.{Instruction, CarriesOut}
-use Rattle.machine_defs.proofs.Given.{run_part}
-use Rattle.line_laws.specs.Read.{lines_of_all}
-use Rattle.line_laws.specs.Told.{IsToldAnswer, AsksForOneLine, WritesOneLine, IsOfLines}
+use Rattle.machine_defs.proofs.Untouched.{run_back}
 use Rattle.line_laws.proofs.Happened.{happened}
 use Rattle.line_laws.proofs.LastLines.{last-told}
 use Rattle.line_laws.proofs.OfLines.{joined, outcome-lines}
 use Rattle.line_laws.proofs.Read.{written-lines, text-behind}
+use Rattle.stories.specs.Words.{told_then, Answer, Put, Event, Step, Begun, Ended, IsSpelled, lines_of, Moment, now, IsRun, State, Instruction, CarriesOut, lines_of_all, IsToldAnswer, AsksForOneLine, WritesOneLine, IsOfLines}
 use Rattle.stories.specs.Said.{SaysPut, SaysGot}
 
 -- what was written behind what a sink had taken
@@ -61,7 +53,7 @@ module _ (limit : ℕ) (start : State) where
       (joined front (lines_of begin.outcome) whole (outcome-lines begin.outcome))
       (joined other (lines_of (Begun job)) ahead (outcome-lines (Begun job))) same in
       let first = last-told begin.outcome (Begun job) front other
-      (one-line-by begin older event begun asks (run_part limit start steps (begin ∷ older) run.2))
+      (one-line-by begin older event begun asks (run_back limit start steps (begin ∷ older) run.2))
       (short end (steps ++ begin ∷ older) job ended run) whole ahead last.0 in
       (first.0, first.1, last.1)
 
@@ -82,7 +74,7 @@ module _ (limit : ℕ) (start : State) where
       (three-lines S.front (lines_of (Begun p)) (lines_of (Ended Put)) S.whole (outcome-lines (Begun p))
       (outcome-lines (Ended Put))) S.text_is in
       let two = two-said begin end steps older event p Put front S.front
-      (run_part limit start later (end ∷ (steps ++ begin ∷ older)) run) begun asks ended tt whole S.whole
+      (run_back limit start later (end ∷ (steps ++ begin ∷ older)) run) begun asks ended tt whole S.whole
       B.0 in
       (two.1, two.2)
 

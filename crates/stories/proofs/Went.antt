@@ -1,22 +1,12 @@
 -- A replay of status 0, and devices that were not touched.
-use Rattle.std.proofs.Common.{◌≡◌, ℕ, ◌+◌, List, [], ◌++◌, reverse, Some, ap, sym, subst, ◌∙◌, inl, inr, arith}
+use Rattle.std.proofs.Common.{◌≡◌, ℕ, ◌+◌, ◌<◌, List, [], ◌++◌, reverse, Some, ap, sym, subst, ◌∙◌, inl, inr, arith}
 use Rattle.std.specs.Prelude.{IsSome}
 use Rattle.std.proofs.lemmas.List.{append-nil, reverse-reverse}
-use Rattle.device_defs.specs.Told.{told_then}
-use Rattle.machine_defs.specs.Runs.{Moment, now}
-use Rattle.machine_defs.specs.Stands.{StandsForState}
 use Rattle.opening_defs.specs.Opened.{AreHanded}
-use Rattle.machine_defs.specs.States.{State}
-use Rattle.machine_defs.specs.Transcripts.{Instruction, CarriesOut}
-use Rattle.command_defs.specs.Forms.{Numbers}
-use Rattle.command_defs.specs.Seen.{Seen, Ending, sinking}
 use Rattle.command_defs.specs.Sinking.{Sinking, WritesLine}
-use Rattle.schedule_text.specs.Schedules.{IsSchedule}
-use Rattle.hail_replay.specs.Answers.{longest_schedule, devices_of_seen, DoesSchedule, AnswersReplay}
-use Rattle.hail_replay.specs.Replayed.{Replays}
+use Rattle.schedule_text.proofs.Texts.{AreLines-once}
 use Rattle.hail_replay.proofs.EndsWell.{whole}
-use Rattle.hail_replay.specs.Starts.{AreLeft}
-use Rattle.hail_top.specs.InitRuns.{InitsDevices}
+use Rattle.stories.specs.Words.{told_then, Moment, now, StandsForState, State, Instruction, CarriesOut, Numbers, Seen, Ending, sinking, lines, IsSchedule, longest_schedule, devices_of_seen, AnswersReplay, Replays, AreLeft, InitsDevices}
 use Rattle.stories.specs.Went.{WentOn}
 
 -- at status 0 all lines were written
@@ -26,43 +16,44 @@ lines-out lines status sink ok (inl h) = h.1
 lines-out lines status sink ok (inr (inl h)) = absurd (let e : 0 ≡ 15 = sym ok ∙ h.1 in omega arith)
 lines-out lines status sink ok (inr (inr h)) = absurd (let e : 0 ≡ 70 = sym ok ∙ h.0 in omega arith)
 
-module _ (one : (text : List ℕ) (commands others : List Instruction) → IsSchedule text commands →
-    IsSchedule text others → commands ≡ others)
-    (text : List ℕ) (commands : List Instruction) (start : State) (ms : List Moment) (old new : Seen)
+-- a replay of status 0 has done all its commands
+pub done-all : (start : State) (ms : List Moment) (commands : List Instruction) (old new : Seen)
+    (end : Ending) → end.status ≡ 0 → AreLeft start ms (devices_of_seen old) →
+    Replays start ms commands end.status (sinking old new) end.heard (devices_of_seen new) →
+    WentOn start ms commands old new end
+done-all start ms commands old new end ok left R =
+    (let all : commands ≡ reverse R.done =
+    R.order ∙ (ap (λ l. reverse R.done ++ l) (R.whole ok) ∙ append-nil (reverse R.done)) in
+    let done : R.done ≡ reverse commands = sym (reverse-reverse R.done) ∙ ap reverse (sym all) in
+    record {
+      later = R.later;
+      lines = R.lines;
+      carried_out = subst (λ cs. CarriesOut cs R.later R.lines) done R.carries.carried_out;
+      written = lines-out R.lines end.status (sinking old new) ok R.wrote;
+      left = record { starts = left.starts; run = R.carries.run; devices = R.carries.last };
+      heard = R.carries.heard_is;
+      headline = R.carries.headline;
+    })
+
+-- so has one that read a text which spells these
+module _ (text : List ℕ) (commands : List Instruction) (start : State) (ms : List Moment) (old new : Seen)
     (end : Ending) (source : old.source ≡ Some text) (spells : IsSchedule text commands)
     (ok : end.status ≡ 0) (told : IsSome old.disk) (left : AreLeft start ms (devices_of_seen old)) where
-  went : (t : List ℕ) → t ≡ text → DoesSchedule t old new end → WentOn start ms commands old new end
-  went t is does =
-      (let R : Replays start ms does.commands end.status (sinking old new) end.heard (devices_of_seen new) =
-      does.runs start ms told left in
-      let same : does.commands ≡ commands = one text does.commands commands
-      (subst (λ l. IsSchedule l does.commands) is does.schedule) spells in
-      let all : reverse R.done ≡ commands = sym (append-nil (reverse R.done))
-      ∙ (ap (λ l. reverse R.done ++ l) (sym (R.whole ok)) ∙ (sym R.order ∙ same)) in
-      let done : R.done ≡ reverse commands = sym (reverse-reverse R.done) ∙ ap reverse all in
-      record {
-        later = R.later;
-        lines = R.lines;
-        carried_out = subst (λ cs. CarriesOut cs R.later R.lines) done R.carries.carried_out;
-        written = lines-out R.lines end.status (sinking old new) ok R.wrote;
-        left = record { starts = left.starts; run = R.carries.run; devices = R.carries.last };
-        heard = R.carries.heard_is;
-        headline = R.carries.headline;
-      })
+  other : (status : ℕ) → 0 < status → end.status ≡ status → WentOn start ms commands old new end
+  other status l is = absurd (let e : 0 ≡ status = sym ok ∙ is in omega arith)
 
   pub went-on : AnswersReplay old new end → WentOn start ms commands old new end
-  went-on h = elim h [
-    | AnswersReplay.source_fault rose reads undone ↦
-        absurd (let e : 0 ≡ 14 = sym ok ∙ undone.status_is in omega arith)
-    | AnswersReplay.too_long front reads long undone ↦
-        absurd (let e : 0 ≡ 16 = sym ok ∙ undone.status_is in omega arith)
-    | AnswersReplay.bad_line t number reads few first undone ↦
-        absurd (let e : 0 ≡ 19 = sym ok ∙ undone.status_is in omega arith)
-    | AnswersReplay.no_memory reads undone ↦
-        absurd (let e : 0 ≡ 70 = sym ok ∙ undone.status_is in omega arith)
-    | AnswersReplay.done t reads few does ↦ went t
-        (whole (longest_schedule + 1) text t old.source new.source source reads (omega (arith, few))) does
-  ]
+  went-on (AnswersReplay.source_fault rose reads undone) = other 14 (omega arith) undone.status_is
+  went-on (AnswersReplay.too_long front reads long undone) = other 16 (omega arith) undone.status_is
+  went-on (AnswersReplay.bad_line t number reads few first undone) = other 19 (omega arith) undone.status_is
+  went-on (AnswersReplay.no_memory reads undone) = other 70 (omega arith) undone.status_is
+  went-on (AnswersReplay.done t reads few does) =
+      (let is : t ≡ text = whole (longest_schedule + 1) text t old.source new.source source reads
+      (omega (arith, few)) in
+      subst (λ cs. WentOn start ms cs old new end)
+      (AreLines-once (lines text) does.commands commands
+      (subst (λ l. IsSchedule l does.commands) is does.schedule) spells)
+      (done-all start ms does.commands old new end ok left (does.runs start ms told left)))
 
 -- devices that are as they were are left by the same run
 pub left-same : (start : State) (ms : List Moment) (old new : Seen) → new.disk ≡ old.disk →

@@ -20,24 +20,8 @@
 --                              == where the put came to `job` and `put`, each image of the disk has a file of
 --                                 so many bytes under the name; and it did where what was written says so
 use Rattle.std.specs.Prelude.{◌≡◌, ◌⊎◌, ◌≤◌, ℕ, List, ◌∷◌, ◌++◌, Option, Some, length}
-use Rattle.device_defs.specs.Images.{EachImage}
-use Rattle.device_defs.specs.Told.{told_then}
-use Rattle.record_defs.specs.Table.{File}
-use Rattle.machine_defs.specs.Answers.{Answer, Put, Got}
-use Rattle.machine_defs.specs.Events.{Begin, Reopen, Begun, Ended}
-use Rattle.machine_defs.specs.Heard.{HoldsForgery}
-use Rattle.machine_defs.specs.Jobs.{GetJob}
-use Rattle.machine_defs.specs.Lines.{lines_of}
-use Rattle.machine_defs.specs.Runs.{Moment, now}
-use Rattle.machine_defs.specs.States.{State, setup_in, file_in, file_object}
-use Rattle.machine_defs.specs.Transcripts.{Instruction, Once, RunJob}
-use Rattle.run_laws.specs.Stories.{Stored, GetEnds}
-use Rattle.second_half_laws.specs.Sharp.{IsLostByFaults}
-use Rattle.command_defs.specs.Seen.{Seen, Ending}
 use Rattle.schedule_text.specs.Events.{put_command}
-use Rattle.hail_client.specs.Stands.{ImageHasFile}
-use Rattle.hail_replay.specs.Answers.{devices_of_seen}
-use Rattle.hail_replay.specs.Starts.{AreLeft}
+use Rattle.stories.specs.Words.{EachImage, told_then, File, Answer, Put, Got, Begin, Reopen, Begun, Ended, HoldsForgery, GetJob, lines_of, Moment, now, State, setup_in, file_in, file_object, Instruction, Once, RunJob, Stored, GetEnds, IsLostByFaults, Seen, Ending, ImageHasFile, devices_of_seen, AreLeft}
 use Rattle.stories.specs.Said.{SaysPut, SaysGot}
 
 -- a store is opened, and a file put, behind any commands

@@ -9,21 +9,10 @@
 --   damaged_got           == what a get leaves over the store in which one block is lost
 --   three_heard           == what it heard
 --   other_byte            == another byte
-use Rattle.std.specs.Prelude.{ℕ, List, [], ◌∷◌, codes, Some, None}
+use Rattle.std.specs.Prelude.{ℕ, List, [], ◌∷◌, map, codes, Some, None}
 use Rattle.std.specs.List.{flat_map}
-use Rattle.machine_defs.specs.Events.{Begin}
-use Rattle.machine_defs.specs.Examples.{empty_provider}
-use Rattle.machine_defs.specs.Heard.{Entry}
-use Rattle.machine_defs.specs.Jobs.{GetJob, Fetched}
-use Rattle.machine_defs.specs.Lines.{line}
-use Rattle.machine_defs.specs.States.{State}
-use Rattle.machine_defs.specs.Transcripts.{Instruction, Once, RunJob}
-use Rattle.command_defs.specs.Seen.{Seen, Ending}
-use Rattle.command_laws.specs.Instances.{with_sink}
-use Rattle.command_runs.specs.Devices.{with_source, reading_devices, four_records, byte_records, none_hold, holds, fetched, named, own_block, heard, ends_hearing}
-use Rattle.damage_run.specs.Schedule.{byte}
-use Rattle.hail_client.specs.Start.{start_of}
-use Rattle.hail_replay.specs.Answers.{devices_of_seen}
+use Rattle.code_defs.specs.Points.{upto}
+use Rattle.stories.specs.Words.{Begin, empty_provider, Entry, GetJob, Fetched, line, State, Instruction, Once, RunJob, Seen, Ending, with_sink, with_source, reading_devices, four_records, byte_records, none_hold, holds, fetched, named, own_block, heard, ends_hearing, byte, start_of, devices_of_seen}
 
 -- the text: a file of one byte is put and got
 abbrev pub byte_text : List ℕ
@@ -50,11 +39,7 @@ behind_byte = with_sink (reading_devices byte_records
 
 -- job 2 heard each provider's own block
 abbrev pub byte_heard : List Entry
-byte_heard =
-    record { job = 2; given = Fetched 0 1 0 (Some (own_block 0)) }
-    ∷ record { job = 2; given = Fetched 1 1 0 (Some (own_block 1)) }
-    ∷ record { job = 2; given = Fetched 2 1 0 (Some (own_block 2)) }
-    ∷ record { job = 2; given = Fetched 3 1 0 (Some (own_block 3)) } ∷ []
+byte_heard = map (λ j. record { job = 2; given = Fetched j 1 0 (Some (own_block j)) }) (upto 4)
 
 -- how the replay ends
 abbrev pub byte_end : Ending

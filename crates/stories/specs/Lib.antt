@@ -1,3 +1,4 @@
+pub mod Words
 pub mod Went
 pub mod Said
 pub mod Files

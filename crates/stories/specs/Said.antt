@@ -7,12 +7,7 @@
 --                                  began, and ended with this answer
 use Rattle.std.specs.Prelude.{◌≡◌, ℕ, List, ◌++◌, length}
 use Rattle.std.specs.List.{AllByRecursion}
-use Rattle.machine_defs.specs.Answers.{Answer, Put}
-use Rattle.machine_defs.specs.Events.{Outcome, Begun, Ended}
-use Rattle.machine_defs.specs.Lines.{lines_of}
-use Rattle.machine_defs.specs.Transcripts.{Instruction}
-use Rattle.line_laws.specs.Read.{lines_of_all, AskForOneLine}
-use Rattle.line_laws.specs.Told.{IsToldAnswer, IsToldByLine, IsOfLines}
+use Rattle.stories.specs.Words.{Answer, Put, Outcome, Begun, Ended, lines_of, Instruction, lines_of_all, AskForOneLine, IsToldAnswer, IsToldByLine, IsOfLines}
 
 -- a text says that a put ended well, and has a line for each command behind it
 pub record SaysPut (text : List ℕ) (p : ℕ) (middle : List Instruction) : Type 0 where

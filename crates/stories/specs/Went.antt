@@ -3,15 +3,8 @@
 --   WentOn start ms commands old new end == the commands were done behind a later call of the program, and
 --                                           their lines are what was written
 use Rattle.std.specs.Prelude.{◌≡◌, ℕ, List, ◌++◌, reverse}
-use Rattle.device_defs.specs.Told.{told_then}
-use Rattle.machine_defs.specs.Heard.{heard_in}
-use Rattle.machine_defs.specs.Runs.{Moment}
-use Rattle.machine_defs.specs.States.{State}
-use Rattle.machine_defs.specs.Transcripts.{Instruction, CarriesOut}
-use Rattle.command_defs.specs.Seen.{Seen, Ending}
 use Rattle.headline.specs.Headline.{Headline}
-use Rattle.hail_replay.specs.Answers.{devices_of_seen}
-use Rattle.hail_replay.specs.Starts.{AreLeft, called_behind}
+use Rattle.stories.specs.Words.{told_then, heard_in, Moment, State, Instruction, CarriesOut, Seen, Ending, devices_of_seen, AreLeft, called_behind}
 
 -- the commands were done, and their lines are what was written
 pub record WentOn (start : State) (ms : List Moment) (commands : List Instruction) (old new : Seen)

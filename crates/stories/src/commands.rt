@@ -1,21 +1,8 @@
 //! A file over several commands: who may be damaged between them, and who can make a get give other bytes.
 ghost use Rattle.std.specs.Prelude.{◌≡◌, ◌≢◌, ◌≤◌, ◌<◌, ◌&&◌, ℕ, Bool, List, String, Option, Some, not, true, false, is_some, length};
 ghost use Rattle.std.specs.declared.alloc.Global.{Global};
-ghost use Rattle.column_defs.specs.Verdicts.{is_flagged};
 ghost use Rattle.device_defs.specs.Faults.{Rose};
-ghost use Rattle.device_defs.specs.Told.{told_then};
-ghost use Rattle.machine_defs.specs.Events.{AreBytes};
-ghost use Rattle.machine_defs.specs.Heard.{HoldsForgery};
-ghost use Rattle.record_defs.specs.Records.{Record};
-ghost use Rattle.record_defs.specs.Table.{next_audit};
-ghost use Rattle.command_defs.specs.Forms.{GetOf, AuditAll, RepairAll, UpgradeJournal, ScrubAll, PackJournal, IsForm};
-ghost use Rattle.command_defs.specs.Jobs.{IsTold};
-ghost use Rattle.command_defs.specs.Lines.{audit_lines};
-ghost use Rattle.command_defs.specs.Opens.{setup_in_effect, object_in_effect};
-ghost use Rattle.command_defs.specs.Seen.{Seen, Ending, provider_at};
-ghost use Rattle.command_laws.specs.After.{Follows, HasRightFile, IsUntouched, IsSteady, spoilt_below};
-ghost use Rattle.command_laws.specs.Ends.{IsDone, IsKnown, GivesUnlessMemory, put_of};
-ghost use Rattle.hail_top.specs.Answered.{AnswersWords};
+ghost use Rattle.stories.specs.Words.{is_flagged, told_then, AreBytes, HoldsForgery, Record, next_audit, GetOf, AuditAll, RepairAll, UpgradeJournal, ScrubAll, PackJournal, IsForm, IsTold, audit_lines, setup_in_effect, object_in_effect, Seen, Ending, provider_at, Follows, HasRightFile, IsUntouched, IsSteady, spoilt_below, IsDone, IsKnown, GivesUnlessMemory, put_of, AnswersWords};
 
 use command_laws::after::{
     done_commands_leave_known_stores, files_stay, gets_tell_what_stands, put_files_are_got,

@@ -1,30 +1,8 @@
 //! Instances: what the laws of the other modules suppose, met by values.
 ghost use Rattle.std.specs.Prelude.{◌≡◌, ◌≢◌, ◌≤◌, ◌<◌, ◌==◌, ◌&&◌, ◌++◌, ℕ, not, true, false, List, [], ◌∷◌, length, String, Some, None, is_some, reverse};
 ghost use Rattle.std.specs.declared.alloc.Global.{Global};
-ghost use Rattle.column_defs.specs.Verdicts.{is_flagged};
-ghost use Rattle.machine_defs.specs.Damaged.{DamagesOnly, AsksDamageOf};
-ghost use Rattle.machine_defs.specs.Events.{AreBytes, Begun, Ended};
-ghost use Rattle.machine_defs.specs.Answers.{Put, Got};
-ghost use Rattle.machine_defs.specs.Halves.{AllTell};
-ghost use Rattle.machine_defs.specs.Untouched.{NoneAsksOn};
-ghost use Rattle.command_defs.specs.Forms.{PutUnder, GetOf, AuditAll, RepairAll, UpgradeJournal, ScrubAll, PackJournal, IsForm};
-ghost use Rattle.command_defs.specs.Jobs.{IsTold};
-ghost use Rattle.command_defs.specs.Lines.{audit_lines};
-ghost use Rattle.command_defs.specs.Opens.{setup_in_effect};
-ghost use Rattle.command_defs.specs.Seen.{provider_at};
-ghost use Rattle.command_laws.specs.After.{Follows, HasRightFile, IsUntouched, IsSteady, spoilt_below};
-ghost use Rattle.command_laws.specs.Ends.{IsKnown};
-ghost use Rattle.command_laws.specs.Instances.{ends};
-ghost use Rattle.command_runs.specs.Devices.{named, four_records, byte_records, to_put, byte_stored, damaged, byte_audited, answers_heard, due, repaired, mended, got, own_blocks_heard, swept, robbed_later, got_later, later_heard, byte_kept, byte_upgraded, upgraded_kept, ends_hearing};
-ghost use Rattle.command_runs.specs.Packed.{IsFilling, packed_kept, packed_store, got_packed};
 ghost use Rattle.damage_run.specs.Points.{counts};
-ghost use Rattle.damage_run.specs.Schedule.{byte};
-ghost use Rattle.record_defs.specs.Table.{next_audit};
-ghost use Rattle.schedule_text.specs.Schedules.{IsSchedule};
-ghost use Rattle.hail_replay.specs.Answers.{devices_of_seen};
-ghost use Rattle.hail_replay.specs.Forms.{IsReplayForm};
-ghost use Rattle.hail_replay.specs.Starts.{AreLeft};
-ghost use Rattle.hail_top.specs.Answered.{AnswersWords};
+ghost use Rattle.stories.specs.Words.{is_flagged, DamagesOnly, AsksDamageOf, AreBytes, Begun, Ended, Put, Got, AllTell, NoneAsksOn, PutUnder, GetOf, AuditAll, RepairAll, UpgradeJournal, ScrubAll, PackJournal, IsForm, IsTold, audit_lines, setup_in_effect, provider_at, Follows, HasRightFile, IsUntouched, IsSteady, spoilt_below, IsKnown, ends, named, four_records, byte_records, to_put, byte_stored, damaged, byte_audited, answers_heard, due, repaired, mended, got, own_blocks_heard, swept, robbed_later, got_later, later_heard, byte_kept, byte_upgraded, upgraded_kept, ends_hearing, IsFilling, packed_kept, packed_store, got_packed, byte, next_audit, IsSchedule, devices_of_seen, IsReplayForm, AreLeft, AnswersWords};
 ghost use Rattle.stories.specs.Files.{put_of, got_behind, IsGot};
 ghost use Rattle.stories.specs.Said.{SaysPut, SaysGot};
 ghost use Rattle.stories.specs.Instances.{byte_text, byte_lines, get_of_byte, before_byte, behind_byte, byte_end, first_state, damaged_got, three_heard, other_byte};
@@ -32,10 +10,6 @@ ghost use Rattle.stories.specs.Instances.{byte_text, byte_lines, get_of_byte, be
 use command_runs::packs::packs_end;
 use command_runs::runs::commands_end;
 use command_words::laws::words_spell_one_command;
-use hail_client::laws::told_providers_tell;
-use machine_defs::laws::commands_begin_none;
-use run_laws::laws::what_was_put_is_got;
-use state_laws::laws::runs_are_sound;
 
 /// Words that spell a replay, over a store that was set up, where the source has a schedule that puts a file
 /// of one byte and gets it: it ends with status 0. The devices before it are left by the run of no event; all
@@ -55,12 +29,7 @@ pub fn a_byte_is_put_and_got()
         × SaysGot byte_lines 1 2 [] (Got byte) × ((before : List ℕ) × SaysPut before 1 []) }
     ensures calm { AllTell first_state × DamagesOnly [] []
         × AsksDamageOf [] ([] ++ put_of [] named byte None 1) }
-{
-    runs_are_sound();
-    told_providers_tell();
-    commands_begin_none();
-    what_was_put_is_got();
-}
+{}
 
 /// A put of that file, and a get by the next command, where provider 2 has lost its block in between. Both
 /// end with status 0, and the get writes the byte.

@@ -1,30 +1,15 @@
 //! Each command goes on with the run that left its devices.
 ghost use Rattle.std.specs.Prelude.{◌≡◌, ◌++◌, ℕ, List, [], String, Option, Some, true, is_some};
 ghost use Rattle.std.specs.declared.alloc.Global.{Global};
-ghost use Rattle.machine_defs.specs.Runs.{Moment, now};
-ghost use Rattle.machine_defs.specs.States.{State};
-ghost use Rattle.machine_defs.specs.Transcripts.{Instruction};
-ghost use Rattle.command_defs.specs.Forms.{Command, Numbers, RowOf, InitWith, GetOf, IsForm};
-ghost use Rattle.command_defs.specs.Seen.{Seen, Ending};
-ghost use Rattle.command_laws.specs.Ends.{opens_store};
-ghost use Rattle.command_laws.specs.Instances.{held_name, empty_devices, ends};
 ghost use Rattle.command_laws.specs.Pieces.{IsCall};
-ghost use Rattle.schedule_text.specs.Schedules.{IsSchedule};
-ghost use Rattle.hail_client.specs.Start.{start_of};
-ghost use Rattle.hail_replay.specs.Answers.{devices_of_seen};
-ghost use Rattle.hail_replay.specs.Examples.{list_before, list_behind, ended_with};
-ghost use Rattle.hail_replay.specs.Forms.{IsFormOf, IsReplayForm};
-ghost use Rattle.hail_replay.specs.Starts.{AreLeft};
 ghost use Rattle.hail_replay.specs.declared.forms.Form.{Form};
-ghost use Rattle.hail_top.specs.Answered.{AnswersWords};
+ghost use Rattle.stories.specs.Words.{Moment, now, State, Instruction, Command, Numbers, RowOf, InitWith, GetOf, IsForm, Seen, Ending, opens_store, held_name, empty_devices, ends, IsSchedule, start_of, devices_of_seen, list_before, list_behind, ended_with, IsFormOf, IsReplayForm, AreLeft, AnswersWords};
 ghost use Rattle.stories.specs.Went.{WentOn};
 
 use command_laws::instances::there_are_answers;
 use command_laws::pieces::{commands_are_runs, forms_are_spelled};
 use command_words::laws::words_spell_one_command;
-use hail_client::laws::there_is_a_start;
 use hail_replay::laws::a_list_is_replayed;
-use schedule_text::laws::schedule_has_one_reading;
 use state_laws::laws::runs_are_sound;
 
 /// The devices that a command leaves, at any status, over devices that a run has left are left by a run again:
@@ -62,9 +47,7 @@ pub fn replays_go_on()
         → IsReplayForm words → old.source ≡ Some text → IsSchedule text commands → end.status ≡ 0
         → is_some old.disk ≡ true → AreLeft start ms (devices_of_seen old)
         → WentOn start ms commands old new end }
-{
-    schedule_has_one_reading();
-}
+{}
 
 /// Instances: words that spell a replay, where the source has `list` and the disk is empty, and words that
 /// spell a get of a name, where nothing is set up. Both are answered; devices with an empty disk are left by
@@ -79,6 +62,5 @@ pub fn a_list_and_a_get_go_on()
 {
     a_list_is_replayed();
     there_are_answers();
-    there_is_a_start();
     words_spell_one_command();
 }

@@ -1,24 +1,13 @@
 //! A file over a replay: what is put is got, and survives every stop.
 ghost use Rattle.std.specs.Prelude.{◌≡◌, ◌++◌, ℕ, List, String, Option, Some, true, is_some, reverse};
 ghost use Rattle.std.specs.declared.alloc.Global.{Global};
-ghost use Rattle.machine_defs.specs.Damaged.{DamagesOnly, AsksDamageOf};
-ghost use Rattle.machine_defs.specs.Halves.{AllTell};
-ghost use Rattle.machine_defs.specs.Runs.{Moment};
-ghost use Rattle.machine_defs.specs.States.{State};
-ghost use Rattle.machine_defs.specs.Transcripts.{Instruction};
-ghost use Rattle.machine_defs.specs.Untouched.{NoneAsksOn};
-ghost use Rattle.command_defs.specs.Seen.{Seen, Ending};
-ghost use Rattle.schedule_text.specs.Schedules.{IsSchedule};
-ghost use Rattle.hail_replay.specs.Answers.{devices_of_seen};
-ghost use Rattle.hail_replay.specs.Forms.{IsReplayForm};
-ghost use Rattle.hail_replay.specs.Starts.{AreLeft};
-ghost use Rattle.hail_top.specs.Answered.{AnswersWords};
+ghost use Rattle.stories.specs.Words.{DamagesOnly, AsksDamageOf, AllTell, Moment, State, Instruction, NoneAsksOn, Seen, Ending, IsSchedule, devices_of_seen, IsReplayForm, AreLeft, AnswersWords};
 ghost use Rattle.stories.specs.Files.{put_of, got_behind, IsGot, IsGotWhole, Survives};
 
 use crate::laws::replays_go_on;
 use hail_client::laws::images_of_devices;
-use machine_defs::laws::{commands_begin_none, commands_damage_only};
-use run_laws::laws::{stored_files_are_kept, what_was_put_is_got};
+use machine_defs::laws::commands_damage_only;
+use run_laws::laws::stored_files_are_kept;
 use second_half_laws::laws::{few_damaged_providers_leave_runs_calm, stored_files_are_got};
 use state_laws::laws::runs_are_sound;
 
@@ -36,8 +25,6 @@ pub fn what_is_put_is_got()
         → AreLeft start ms (devices_of_seen old) → IsGot middle start old new end p g name bytes }
 {
     replays_go_on();
-    commands_begin_none();
-    what_was_put_is_got();
 }
 
 /// While at most b providers are damaged, what is put is got whole: where the alter and lose events of the
@@ -55,9 +42,7 @@ pub fn few_damaged_providers_do_no_harm()
         → IsGotWhole middle start old new end p g ps name bytes }
 {
     replays_go_on();
-    commands_begin_none();
     commands_damage_only();
-    what_was_put_is_got();
     few_damaged_providers_leave_runs_calm();
     stored_files_are_got();
 }
@@ -75,7 +60,6 @@ pub fn what_is_put_survives()
         → Survives middle start old new p name bytes }
 {
     replays_go_on();
-    commands_begin_none();
     stored_files_are_kept();
     runs_are_sound();
     images_of_devices();

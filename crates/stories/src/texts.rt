@@ -1,24 +1,7 @@
 //! A file over a replay, read from two texts: the schedule's, and what was written.
 ghost use Rattle.std.specs.Prelude.{◌≡◌, ◌⊎◌, ◌≤◌, ◌++◌, ℕ, List, ◌∷◌, String, Option, Some, true, is_some, length, reverse};
 ghost use Rattle.std.specs.declared.alloc.Global.{Global};
-ghost use Rattle.device_defs.specs.Images.{EachImage};
-ghost use Rattle.record_defs.specs.Table.{File};
-ghost use Rattle.machine_defs.specs.Answers.{Answer, Got};
-ghost use Rattle.machine_defs.specs.Damaged.{DamagesOnly, AsksDamageOf};
-ghost use Rattle.machine_defs.specs.Halves.{AllTell};
-ghost use Rattle.machine_defs.specs.Heard.{HoldsForgery};
-ghost use Rattle.machine_defs.specs.Runs.{Moment, now};
-ghost use Rattle.machine_defs.specs.States.{State, setup_in, file_in, file_object};
-ghost use Rattle.machine_defs.specs.Transcripts.{Instruction};
-ghost use Rattle.machine_defs.specs.Untouched.{NoneAsksOn};
-ghost use Rattle.command_defs.specs.Seen.{Seen, Ending};
-ghost use Rattle.schedule_text.specs.Schedules.{IsSchedule};
-ghost use Rattle.second_half_laws.specs.Sharp.{IsLostByFaults};
-ghost use Rattle.hail_client.specs.Stands.{ImageHasFile};
-ghost use Rattle.hail_replay.specs.Answers.{devices_of_seen};
-ghost use Rattle.hail_replay.specs.Forms.{IsReplayForm};
-ghost use Rattle.hail_replay.specs.Starts.{AreLeft};
-ghost use Rattle.hail_top.specs.Answered.{AnswersWords};
+ghost use Rattle.stories.specs.Words.{EachImage, File, Answer, Got, DamagesOnly, AsksDamageOf, AllTell, HoldsForgery, Moment, now, State, setup_in, file_in, file_object, Instruction, NoneAsksOn, Seen, Ending, IsSchedule, IsLostByFaults, ImageHasFile, devices_of_seen, IsReplayForm, AreLeft, AnswersWords};
 ghost use Rattle.stories.specs.Files.{put_of, got_behind, IsGot, IsGotWhole};
 ghost use Rattle.stories.specs.Said.{SaysPut, SaysGot};
 

@@ -1,31 +1,16 @@
 -- The run, computed from its instructions, and what it comes to.
-use Rattle.std.proofs.Common.{◌≡◌, ℕ, suc, List, [], ◌∷◌, Some, None, refl, sym, inl, inr, arith}
-use Rattle.record_defs.specs.Records.{Version}
-use Rattle.record_defs.specs.Examples.{four}
-use Rattle.record_defs.specs.Packed.{packed}
+use Rattle.std.proofs.Common.{ℕ, ◌+◌, ◌<◌, ◌==◌, List, [], ◌∷◌, ◌++◌, map, flat_map, slice_index, Some, None, option_map, if◌then◌else◌, refl, ap, sym, inl, inr, arith}
 use Rattle.record_defs.specs.Areas.{other_area}
-use Rattle.std.specs.Option.{option_map}
+use Rattle.record_defs.specs.Packed.{packed}
 use Rattle.device_defs.specs.Providers.{with_symbol}
-use Rattle.machine_defs.specs.Jobs.{GetJob, UpgradeJob, Fetched}
-use Rattle.machine_defs.specs.Actions.{Store, End, actions_of}
-use Rattle.machine_defs.specs.Answers.{Put, Got, Upgraded}
-use Rattle.machine_defs.specs.Events.{Begin, BeginAt, BeginScrub, BeginPack, Alter, Replaced, Stop, Stopped}
 use Rattle.machine_defs.specs.Openings.{reread}
-use Rattle.machine_defs.specs.States.{State, setup_in}
-use Rattle.machine_defs.specs.Runs.{Moment, first_moments}
-use Rattle.machine_defs.specs.Examples.{set_up}
 use Rattle.made_runs.specs.Steps.{called}
-use Rattle.made_runs.specs.Turns.{Goes, Works, Notes, Came, Gives}
-use Rattle.made_runs.specs.Sweeps.{Brings, Opens, Mends, Finds, Moves}
-use Rattle.made_runs.specs.Instructions.{Instruction, Turned, Turns, Swept, Sweeps, Begins, Reopens, Comes, run_of, AreFit}
-use Rattle.made_runs.proofs.Instructions.{are-run}
-use Rattle.column_defs.specs.Columns.{column_of_symbols}
-use Rattle.machine_defs.specs.Alone.{differs}
-use Rattle.machine_defs.specs.Given.{block_given}
+use Rattle.damage_run.specs.Words.{Version, upto, GetJob, UpgradeJob, Action, Store, End, actions_of, Put, Got, Upgraded, Scrubbed, Begin, BeginAt, BeginScrub, BeginPack, Step, Alter, Stop, Begun, Ended, Replaced, Stopped, State, setup_in, Moment, set_up, Goes, Works, Notes, Came, Gives, Brings, Opens, Mends, Finds, Moves, Instruction, Turned, Turns, Swept, Sweeps, Begins, Reopens, Comes, run_of, AreFit}
 use Rattle.damage_run.specs.Schedule.{name, byte}
-use Rattle.damage_run.proofs.Points.{last_of}
-use Rattle.upgrade_run.specs.Schedule.{HasAll, thing}
-use Rattle.upgrade_run.proofs.Values.{symbols, byte_back, block, length-block, block_sized, own_sized, altered, length-altered, differs_0, differs_not, damaged_give, all_give, one_store, one_symbol, one_block}
+use Rattle.damage_run.proofs.Run.{◌and◌, few, are-run, starts}
+use Rattle.damage_run.proofs.Points.{is-event}
+use Rattle.upgrade_run.specs.Schedule.{HasAll}
+use Rattle.upgrade_run.proofs.Values.{symbols, byte_back, block, length-block, block_sized, own_sized, altered, length-altered, all_off, damaged_give, all_give}
 
 -- one symbol of a block that provider 0 holds is altered
 abbrev alter : State → State
@@ -62,139 +47,51 @@ packed_too = Reopens ∷ Comes (Stop []) Stopped pack_stays
 -- they can be carried out
 pub fit_put : AreFit 8 set_up put
 unfolding setup_in actions_of
-fit_put = (
-  (omega arith, ((refl, (refl, tt)), (refl, tt))),
-  (
-    ((omega arith, (refl, refl)), refl, refl),
-    (
-      (omega arith, ((refl, (refl, tt)), (refl, tt))),
-      (
-        (omega arith, (refl, (refl, refl))),
-        ((tt, refl, refl), ((refl, refl), tt)),
-      ),
-    ),
-  ),
-)
-
--- how many symbols of each provider differ in the stripe that the scrub opens
-abbrev off : ℕ → ℕ
-off j = differs (block_given (Fetched 3 1 0 (Some (block 3)) ∷ Fetched 2 1 0 (Some (block 2))
-    ∷ Fetched 1 1 0 (Some (block 1)) ∷ Fetched 0 1 0 (Some altered) ∷ []) 1 0 j)
-    (column_of_symbols thing symbols j 0)
-
--- one of provider 0, and no other
-abbrev Differ : Type 0 → Type 0
-Differ A = off 0 ≡ 1 → off 1 ≡ 0 → off 2 ≡ 0 → off 3 ≡ 0 → A
-
--- so it is of whatever supposes it
-they_do : {A : Type 0} → Differ A → A
-they_do f = f differs_0 (differs_not 1) (differs_not 2) (differs_not 3)
+fit_put = (let small : 1 < 256 = omega arith in assumption (few, small))
 
 pub fit_swept : AreFit 8 set_up swept
 unfolding setup_in actions_of
 fit_swept = (
+  omega arith,
   (
-    omega arith,
+    (refl, (refl, (refl, sym (ap (map (λ n. 0 + n)) all_off), sym (ap (map found) all_off)))),
     (
-      (refl, (refl, (refl, sym (they_do (one_symbol off)), sym (they_do (one_block off))))),
-      (
-        (refl, (refl, tt)),
-        (
-          (refl, (refl, (damaged_give, they_do (one_store off)))),
-          ((refl, (refl, own_sized 3)), ((refl, (refl, own_sized 2)), ((refl, (refl, own_sized 1)), tt))),
-        ),
-      ),
+      (refl, (refl, tt)),
+      ((refl, (refl, (damaged_give, ap todo all_off))), assumption (own_sized 1, own_sized 2, own_sized 3)),
     ),
   ),
-  (
-    (omega arith, (refl, (refl, block_sized altered length-altered))),
-    (
-      (tt, refl, refl),
-      (
-        (
-          (omega arith, omega arith, omega arith, omega arith, omega arith),
-          (_, ((λ x. (let e = length-block 0 in omega (arith, e)), λ x. refl), refl), refl),
-        ),
-        fit_put,
-      ),
-    ),
-  ),
-)
+) and assumption (few, block_sized altered length-altered) and (assumption)
+    and (omega arith, (_, ((λ x. (let e = length-block 0 in omega (arith, e)), λ x. refl), refl), refl))
+    and fit_put
+  where
+    found : ℕ → ℕ
+    found n = 0 + (if n == 0 then 0 else 1)
+
+    todo : List ℕ → List Action
+    todo ds =
+        flat_map (λ j. if slice_index ds j == 0 then [] else Store j 1 0 ∷ []) (upto 4) ++ End ∷ []
 
 fit : AreFit 8 set_up (get 5 packed_too)
 unfolding setup_in actions_of
-fit = (
-  (
-    omega arith,
-    (
-      (refl, (refl, byte_back)),
-      (
-        (refl, (refl, all_give)),
-        (
-          (refl, (refl, own_sized 3)),
-          (
-            (refl, (refl, own_sized 2)),
-            ((refl, (refl, own_sized 1)), ((refl, (refl, own_sized 0)), tt)),
-          ),
-        ),
-      ),
-    ),
-  ),
-  (
-    (refl, refl, refl),
-    (
-      (refl, refl),
-      (
-        (refl, (_, _, inr (refl, refl, refl), inl refl)),
-        (
-          (omega arith, ((refl, (refl, tt)), ((refl, (refl, tt)), ((refl, (refl, tt)), tt)))),
-          ((tt, refl, refl), fit_swept),
-        ),
-      ),
-    ),
-  ),
-)
+fit = assumption (few, own_sized 0, own_sized 1, own_sized 2, own_sized 3, byte_back, all_give)
+    and (assumption) and (assumption) and (refl, (_, _, inr (refl, refl, refl), inl refl)) and assumption few
+    and (assumption) and fit_swept
 
 -- the run
 abbrev pub moments : List Moment
 moments = run_of set_up (get 5 packed_too)
 
--- event k
-abbrev event_at : ℕ → Moment
-event_at k = last_of (first_moments (suc k) moments)
-
 -- all that the second version of the journal brings happens in the run
 pub outright : HasAll moments
 unfolding setup_in actions_of
-outright = record {
-  clean = record {
-    records = inr (four, refl, refl);
-    journal = refl;
-    first_area = refl;
-    unswitched = refl;
-    none_alone = refl;
-    jobs = refl;
-    first_job = refl;
-    append = refl;
-    doubt = refl;
-    closed = refl;
-    unbarred = refl;
-  };
-  run = are-run 8 set_up (get 5 packed_too) fit;
-  events = refl;
-  upgraded = record { moment = event_at 6; is = refl; event_is = refl; outcome_is = refl };
-  version = refl;
-  named = record { moment = event_at 7; is = refl; event_is = refl; outcome_is = refl };
-  put = record { moment = event_at 20; is = refl; event_is = refl; outcome_is = refl };
-  own_profile = refl;
-  other_profile = refl;
-  damaged = record { moment = event_at 21; is = refl; event_is = refl; outcome_is = refl };
-  scrubbed = record { moment = event_at 29; is = refl; event_is = refl; outcome_is = refl };
-  mended = refl;
-  third_move = record { alone = refl; switching = refl; area = refl; journal = refl };
-  stopped = record { moment = event_at 34; is = refl; event_is = refl; outcome_is = refl };
-  packed_is = refl;
-  area = refl;
-  history = refl;
-  got = record { moment = event_at 42; is = refl; event_is = refl; outcome_is = refl };
-}
+outright = assumption (
+  starts,
+  are-run 8 set_up (get 5 packed_too) fit,
+  is-event moments 6 (Step 1) (Ended Upgraded) refl refl refl,
+  is-event moments 7 (BeginAt 1 name byte) (Begun 2) refl refl refl,
+  is-event moments 20 (Step 2) (Ended Put) refl refl refl,
+  is-event moments 21 (Alter 0 1 0 0 5) Replaced refl refl refl,
+  is-event moments 29 (Step 3) (Ended (Scrubbed 1 (1 ∷ 0 ∷ 0 ∷ 0 ∷ []) (1 ∷ 0 ∷ 0 ∷ 0 ∷ []))) refl refl refl,
+  is-event moments 34 (Stop []) Stopped refl refl refl,
+  is-event moments 42 (Step 5) (Ended (Got byte)) refl refl refl,
+)

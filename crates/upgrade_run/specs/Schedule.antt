@@ -4,23 +4,12 @@
 --   stored_records  == the records of an upgrade and of the put, the newest first
 --   HasAll ms       == these moments are a run from a start of four providers, at limit 8, in which all that
 --                      the second version brings happens
-use Rattle.std.specs.Prelude.{◌≡◌, ℕ, suc, true, List, [], ◌∷◌, length, Some}
-use Rattle.column_defs.specs.Objects.{Object}
-use Rattle.column_defs.specs.Columns.{columns}
-use Rattle.record_defs.specs.Records.{Record, SetUp, PutStart, PutDoneIn, Version}
-use Rattle.record_defs.specs.Table.{version_of}
-use Rattle.record_defs.specs.Packed.{packed}
+use Rattle.std.specs.Prelude.{◌≡◌, true, List, [], ◌∷◌, length, Some}
 use Rattle.record_defs.specs.Areas.{A, B}
-use Rattle.record_defs.specs.Examples.{four}
-use Rattle.machine_defs.specs.Setups.{profiled, object_of}
-use Rattle.machine_defs.specs.Answers.{Put, Got, Upgraded, Scrubbed}
-use Rattle.machine_defs.specs.Events.{Event, BeginAt, Alter, Stop, Step, Outcome, Begun, Replaced, Stopped, Ended}
-use Rattle.machine_defs.specs.States.{State, IsStart, Packing, setup_in, file_in}
-use Rattle.machine_defs.specs.Runs.{Moment, IsRun, now, first_moments}
-use Rattle.machine_defs.specs.Deeds.{told_block}
-use Rattle.machine_defs.specs.Examples.{set_up}
-use Rattle.damage_run.specs.Schedule.{name, byte}
-use Rattle.damage_run.specs.Points.{at}
+use Rattle.record_defs.specs.Packed.{packed}
+use Rattle.machine_defs.specs.States.{Packing}
+use Rattle.damage_run.specs.Words.{Record, SetUp, PutStart, PutDoneIn, Version, version_of, four, Object, columns, object_of, profiled, Put, Got, Upgraded, Scrubbed, BeginAt, Step, Alter, Stop, Begun, Ended, Replaced, Stopped, State, IsStart, file_in, setup_in, Moment, IsRun, told_block, set_up}
+use Rattle.damage_run.specs.Points.{name, byte, at, IsEvent}
 
 -- the object of the file, at a profile of its own
 abbrev pub thing : Object
@@ -29,13 +18,6 @@ thing = object_of (profiled four 1) 1
 -- the records of an upgrade and of the put, the newest first
 abbrev pub stored_records : List Record
 stored_records = PutDoneIn 1 1 1 ∷ PutStart 1 name ∷ Version ∷ SetUp four ∷ []
-
--- an event with what came of it
-pub record IsEvent (ms : List Moment) (k : ℕ) (event : Event) (outcome : Outcome) : Type 0 where
-  pub moment : Moment
-  pub is : first_moments (suc k) ms ≡ moment ∷ first_moments k ms
-  pub event_is : moment.event ≡ event
-  pub outcome_is : moment.outcome ≡ outcome
 
 -- a pack has made its third move, and not its fourth: the byte that names the area may name either
 pub record IsInThirdMove (w : State) : Type 0 where

@@ -1,71 +1,30 @@
 use Rattle.std.proofs.Common.{[], None, refl, inl, inr, false, arith}
-use Rattle.machine_defs.specs.Jobs.{PutJob, AuditJob}
-use Rattle.command_defs.specs.Forms.{PutUnder, AuditAll}
-use Rattle.command_defs.specs.Puts.{put_records}
-use Rattle.command_defs.specs.Audits.{audit_records}
-use Rattle.command_runs.specs.Devices.{named, four_records, byte_records, both_records, byte_audited_records, to_put, byte_stored, to_put_other, stored_other, damaged, byte_audited, answers_heard, due, repaired, two_damaged, scrubbed, scrub_failed, ends_hearing, ends_at}
-use Rattle.damage_run.specs.Points.{counts}
-use Rattle.damage_run.specs.Schedule.{byte}
-use Rattle.command_laws.specs.Instances.{other_name, ends}
-use Rattle.command_runs.proofs.Puts.{stored as put, other as other_put}
-use Rattle.command_runs.proofs.Audits.{done as audit}
-use Rattle.command_runs.proofs.Repairs.{done as repair}
-use Rattle.command_runs.proofs.DoneScrub.{answers as scrub, fails-answers as failed_scrub}
-use Rattle.command_runs.proofs.Stores.{put-old, damaged-sure, audited-new, due-sure, to_put_other-sure, two_damaged-sure}
-use Rattle.command_runs.proofs.Meets.{second, none-tell, three-tell, due-file, damaged-file, kept-file, repair-steady, other-name, two-file, two-tell, scrub-steady, failed_scrub-steady}
+use Rattle.command_runs.specs.Words.{counts, byte, PutJob, AuditJob, audit_records, PutUnder, AuditAll, put_records, other_name}
+use Rattle.command_runs.specs.Devices.{named, byte_records, both_records, byte_audited_records, byte_audited}
+use Rattle.command_runs.proofs.Meets.{grown, stays, calm, second, due-file, damaged-file, repair-steady, right-file, other-name, two-file, whole, yes}
+use Rattle.command_runs.proofs.Shape.{four, sure}
+use Rattle.command_runs.proofs.Stores.{put-old, damaged-sure, due-sure, to_put_other-sure, two_damaged-sure, audited-fit}
 use Rattle.command_runs.proofs.laws.files_stay_right.Goals as goal
 
-pub returns-clause-put : goal.returns-clause-put
-returns-clause-put c = c.files_stay.ensures.put named byte None four_records (λ j. false) to_put byte_stored
-    (ends 0) put (inl refl) put-old.known refl (λ j l s. none-tell j l)
-
-pub returns-clause-audit : goal.returns-clause-audit
-returns-clause-audit c =
-    c.files_stay.ensures.reads AuditAll named byte byte_records byte_audited_records second damaged
-    byte_audited (ends_hearing 0 answers_heard) audit refl damaged-file
-    (inr (inl (record {
-      kind = AuditJob;
-      of_command = refl;
-      own = audit_records byte_records 0 counts;
-      are_own = (0, counts, refl);
-      count = 2;
-      whole = λ l. tt;
-      after_is = refl;
-    })))
-
-pub returns-clause-other : goal.returns-clause-other
-returns-clause-other c = c.files_stay.ensures.others
-    (PutUnder other_name) named byte byte_records both_records (λ j. false) to_put_other stored_other
-    (ends 0) other_put
-    other-name to_put_other-sure.known kept-file
-    (inr (inl (record {
-      kind = PutJob other_name byte;
-      of_command = (byte, [], record { are_bytes = refl; front = refl }, omega arith, refl);
-      own = put_records byte_records other_name 1 None;
-      are_own = refl;
-      count = 2;
-      whole = λ l. (record { are_bytes = refl; front = refl }, refl);
-      after_is = refl;
-    })))
-
-pub returns-clause-repair : goal.returns-clause-repair
-returns-clause-repair c = c.files_stay.ensures.repair named byte byte_audited_records
-    (record { number = 1; counts = counts }) second due repaired (ends 0) repair
-    (inl refl) due-sure.known refl due-file
-    (repair-steady second) (omega arith) (λ j l f. three-tell j l)
-
-pub returns-clause-heard : goal.returns-clause-heard
-returns-clause-heard c =
-    c.audits_in_effect_count_what_they_heard.ensures byte_records 0 counts damaged byte_audited byte_audited
-    (ends_hearing 0 answers_heard) audit damaged-sure
-    (record { disk = inl refl; handed = refl }) audited-new.known
-
-pub returns-clause-scrub : goal.returns-clause-scrub
-returns-clause-scrub c = c.files_stay.ensures.scrub named byte byte_records second (λ j. false) two_damaged
-    scrubbed (ends 0) scrub (inl refl) two_damaged-sure.known two-file scrub-steady (omega arith)
-    (λ j l s. two-tell j l)
-
-pub returns-clause-failed_scrub : goal.returns-clause-failed_scrub
-returns-clause-failed_scrub c = c.files_stay.ensures.scrub_harms_none named byte byte_records second
-    two_damaged scrub_failed (ends_at 13 0) failed_scrub two_damaged-sure.known two-file failed_scrub-steady
-    (omega arith)
+pub returns : goal.returns
+returns c = let e = c.commands_end.ensures in let stay = c.files_stay.ensures in record {
+  put = stay.put named byte None _ (λ j. false) _ _ _ e.put (inl refl) put-old.known refl
+      (four _ yes yes yes yes);
+  audit = stay.reads AuditAll named byte byte_records byte_audited_records second _ _ _ e.audit refl
+      damaged-file (inr (inl (grown AuditJob (audit_records byte_records 0 counts) 2 refl (0, counts, refl)
+      (λ l. tt) refl)));
+  other = stay.others (PutUnder other_name) named byte byte_records both_records (λ j. false) _ _ _
+      e.other_put other-name to_put_other-sure.known (right-file refl whole)
+      (inr (inl (grown (PutJob other_name byte) (put_records byte_records other_name 1 None) 2
+      (byte, [], record { are_bytes = refl; front = refl }, omega arith, refl) refl
+      (λ l. (record { are_bytes = refl; front = refl }, refl)) refl)));
+  repair = stay.repair named byte _ (record { number = 1; counts = counts }) second _ _ _ e.repair (inl refl)
+      due-sure.known refl due-file (repair-steady second) (omega arith) (four _ yes yes yes yes);
+  scrub = stay.scrub named byte _ second (λ j. false) _ _ _ e.scrub (inl refl) two_damaged-sure.known two-file
+      (four _ calm calm calm calm) (omega arith) (four _ yes yes yes yes);
+  failed_scrub = stay.scrub_harms_none named byte _ second _ _ _ e.failed_scrub two_damaged-sure.known
+      two-file (four _ calm calm calm calm) (omega arith);
+  heard = c.audits_in_effect_count_what_they_heard.ensures byte_records 0 counts _ _ byte_audited _ e.audit
+      damaged-sure (stays refl refl)
+      (sure byte_audited byte_audited_records audited-fit refl (omega arith)).known;
+}

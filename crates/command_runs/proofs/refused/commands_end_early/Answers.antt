@@ -1,57 +1,58 @@
-use Rattle.command_runs.proofs.Refusals.{disk-fault, sink-fault, source-fault, no-memory, bad-journal, too-few, repair-due, nothing-due, bad-name, bad-profile, old-version, new-version, gone, lost-row, hidden-list, hidden-repair, hidden-get}
-use Rattle.command_runs.proofs.DoneRow.{done-row}
+use Rattle.std.proofs.Common.{[], ◌∷◌, Some, refl, ap, inl, arith}
+use Rattle.column_laws.proofs.Worked.{example-shape}
+use Rattle.machine_defs.specs.Refusals as refusal
+use Rattle.command_laws.proofs.Samples.{same-disk}
+use Rattle.command_runs.specs.Words.{A, values_line, Unstarted, AnswersPut, AnswersList}
+use Rattle.command_runs.specs.Devices.{four_records, byte_records, byte_audited_records, byte_upgraded_records, dropped_records, seen_after_drop}
+use Rattle.command_runs.proofs.Refusals.{quiet, refused, put-refused, sink-fault, long, no_magic, none_accepted, sevens, only-sevens, touches, unlisted}
+use Rattle.command_runs.proofs.Shape.{sure}
+use Rattle.command_runs.proofs.Stores.{put-old, stored-sure, due-sure, upgraded_kept-sure, byte-fit, dropped-fit, hidden}
 use Rattle.command_runs.proofs.refused.commands_end_early.Goals as goal
 
-pub returns-clause-disk_fault : goal.returns-clause-disk_fault
-returns-clause-disk_fault c = disk-fault
-
-pub returns-clause-sink_fault : goal.returns-clause-sink_fault
-returns-clause-sink_fault c = sink-fault
-
-pub returns-clause-source_fault : goal.returns-clause-source_fault
-returns-clause-source_fault c = source-fault
-
-pub returns-clause-no_memory : goal.returns-clause-no_memory
-returns-clause-no_memory c = no-memory
-
-pub returns-clause-bad_journal : goal.returns-clause-bad_journal
-returns-clause-bad_journal c = bad-journal
-
-pub returns-clause-too_few : goal.returns-clause-too_few
-returns-clause-too_few c = too-few
-
-pub returns-clause-repair_due : goal.returns-clause-repair_due
-returns-clause-repair_due c = repair-due
-
-pub returns-clause-nothing_due : goal.returns-clause-nothing_due
-returns-clause-nothing_due c = nothing-due
-
-pub returns-clause-bad_name : goal.returns-clause-bad_name
-returns-clause-bad_name c = bad-name
-
-pub returns-clause-bad_profile : goal.returns-clause-bad_profile
-returns-clause-bad_profile c = bad-profile
-
-pub returns-clause-old_version : goal.returns-clause-old_version
-returns-clause-old_version c = old-version
-
-pub returns-clause-new_version : goal.returns-clause-new_version
-returns-clause-new_version c = new-version
-
-pub returns-clause-gone : goal.returns-clause-gone
-returns-clause-gone c = gone
-
-pub returns-clause-done_row : goal.returns-clause-done_row
-returns-clause-done_row c = done-row
-
-pub returns-clause-lost_row : goal.returns-clause-lost_row
-returns-clause-lost_row c = lost-row
-
-pub returns-clause-hidden_list : goal.returns-clause-hidden_list
-returns-clause-hidden_list c = hidden-list
-
-pub returns-clause-hidden_repair : goal.returns-clause-hidden_repair
-returns-clause-hidden_repair c = hidden-repair
-
-pub returns-clause-hidden_get : goal.returns-clause-hidden_get
-returns-clause-hidden_get c = hidden-get
+pub returns : goal.returns
+returns c = record {
+  disk_fault = unlisted (Unstarted.disk_fault (λ low. omega arith) (quiet refl refl refl)) (refl, refl);
+  sink_fault = sink-fault;
+  source_fault = AnswersPut.source_fault four_records put-old.known.opened refl (λ low. omega arith)
+      (same-disk four_records) (record { bytes = []; front = refl; few = omega arith })
+      (quiet refl refl refl);
+  no_memory = unlisted (Unstarted.no_memory (quiet refl refl refl)) (refl, refl);
+  bad_journal = unlisted (Unstarted.bad_journal 0 (long, inl (no_magic, refl)) (quiet refl refl refl))
+      (refl, refl);
+  too_few = unlisted (Unstarted.too_few_providers A byte_records stored-sure.known.opened.read (omega arith)
+      (same-disk byte_records) (quiet refl refl refl)) (refl, refl);
+  repair_due = refused refusal.RepairDue due-sure.known.opened refl (same-disk byte_audited_records);
+  nothing_due = refused refusal.NothingDue stored-sure.known.opened refl (same-disk byte_records);
+  bad_name = put-refused _ _ refusal.BadName refl refl;
+  bad_profile = AnswersPut.bad_profile four_records put-old.known.opened refl (same-disk four_records)
+      (refl, refl) (quiet refl refl refl);
+  old_version = put-refused _ _ refusal.OldVersion refl refl;
+  new_version = refused refusal.NewVersion upgraded_kept-sure.known.opened refl
+      (same-disk byte_upgraded_records);
+  gone = refused refusal.NoSuchName
+      (sure seen_after_drop dropped_records dropped-fit refl (omega arith)).known.opened refl
+      (same-disk dropped_records);
+  done_row = (
+    record {
+      no_shape = λ no. absurd (no example-shape);
+      lost = λ shape none. absurd (none (7 ∷ []) sevens);
+      held = λ shape p a. inl (refl, ap (λ values. Some (values_line values)) (only-sevens p a));
+    },
+    touches,
+  );
+  lost_row = (
+    record {
+      no_shape = λ no. absurd (no example-shape);
+      lost = λ shape none. inl (refl, refl);
+      held = λ shape p accepted. absurd (none_accepted p accepted);
+    },
+    touches,
+  );
+  hidden_list = (
+    AnswersList.listed byte_records (hidden byte-fit (omega arith))
+        (record { written = inl (refl, refl); place = refl; heard = refl; disk = refl; providers = refl }),
+    (refl, refl),
+  );
+  hidden_repair = refused refusal.NothingDue (hidden byte-fit (omega arith)) refl refl;
+  hidden_get = refused refusal.NoSuchName (hidden byte-fit (omega arith)) refl refl;
+}

@@ -1,20 +1,22 @@
-use Rattle.command_runs.proofs.Refusals.{init-bad-setup, init-too-few, init-source-fault, init-bad-key, init-already, init-bad-journal}
+use Rattle.std.proofs.Common.{[], refl, inl, arith}
+use Rattle.command_runs.specs.Words.{A, four, AnswersInit, InitsDisk, key_text}
+use Rattle.command_runs.specs.Devices.{byte_records}
+use Rattle.command_runs.proofs.Refusals.{quiet, long, no_magic, long_journal, no_key, key-form, key-read}
+use Rattle.command_runs.proofs.Stores.{stored-sure}
 use Rattle.command_runs.proofs.refused.inits_are_refused.Goals as goal
 
-pub returns-clause-bad_setup : goal.returns-clause-bad_setup
-returns-clause-bad_setup c = init-bad-setup
-
-pub returns-clause-too_few : goal.returns-clause-too_few
-returns-clause-too_few c = init-too-few
-
-pub returns-clause-source_fault : goal.returns-clause-source_fault
-returns-clause-source_fault c = init-source-fault
-
-pub returns-clause-bad_key : goal.returns-clause-bad_key
-returns-clause-bad_key c = init-bad-key
-
-pub returns-clause-already : goal.returns-clause-already
-returns-clause-already c = init-already
-
-pub returns-clause-bad_journal : goal.returns-clause-bad_journal
-returns-clause-bad_journal c = init-bad-journal
+pub returns : goal.returns
+returns c = record {
+  bad_setup = AnswersInit.bad_setup refl (refl, refl) (quiet refl refl refl);
+  too_few = AnswersInit.too_few_providers refl (omega arith) (refl, refl) (quiet refl refl refl);
+  source_fault = AnswersInit.source_fault refl (omega arith) (λ low. omega arith)
+      (record { bytes = []; front = refl; few = omega arith }) (quiet refl refl refl);
+  bad_key = AnswersInit.bad_key [] refl (omega arith)
+      (record { are_bytes = refl; front = refl; few = omega arith; end = λ l. refl }) no_key
+      (quiet refl refl refl);
+  already = AnswersInit.keyed key_text four.master refl (omega arith) key-read key-form
+      (InitsDisk.already (long_journal, (byte_records, (A, stored-sure.known.opened.read.reads_are.1), tt))
+      (quiet refl refl refl));
+  bad_journal = AnswersInit.keyed key_text four.master refl (omega arith) key-read key-form
+      (InitsDisk.bad_journal 0 (long, inl (inl (no_magic, refl))) (quiet refl refl refl));
+}

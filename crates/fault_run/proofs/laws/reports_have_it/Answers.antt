@@ -1,13 +1,10 @@
-use Rattle.std.proofs.Common.{◌≡◌, sym, subst}
-use Rattle.machine_defs.specs.Heard.{heard_in, heard_by, given_to}
-use Rattle.std.proofs.Common.{Some}
-use Rattle.machine_defs.specs.Runs.{IsRun}
-use Rattle.machine_defs.specs.Examples.{set_up}
-use Rattle.run_laws.proofs.FirstHalf.{first_run}
+use Rattle.std.proofs.Common.{◌≡◌, Some, sym, subst}
+use Rattle.damage_run.proofs.Run.{first_run}
+use Rattle.damage_run.specs.Words.{IsRun, heard_in, heard_by, given_to, set_up}
 use Rattle.fault_run.proofs.laws.reports_have_it.Goals as goal
 
 pub returns : goal.returns
-returns c = λ ms f h. (let r = h.reported in
+returns c ms f h = (let r = h.reported in
     subst (λ all. given_to r.job.number (heard_in set_up all) ≡ given_to r.job.number (heard_by (Some r.job)))
     (sym r.split)
     (c.reports_have_what_jobs_heard.ensures.given 8 set_up h.after_get r.before r.moment r.job f.clean

@@ -1,52 +1,32 @@
-use Rattle.std.proofs.Common.{List, refl}
-use Rattle.std.specs.Prelude.{take}
-use Rattle.machine_defs.specs.Examples.{set_up}
-use Rattle.machine_defs.specs.Actions.{actions_of}
-use Rattle.machine_defs.specs.States.{setup_in}
-use Rattle.machine_defs.specs.Runs.{Moment, now, first_moments}
-use Rattle.damage_run.specs.Schedule.{name}
-use Rattle.damage_run.proofs.Points.{last_of}
-use Rattle.fault_run.proofs.Points.{never_by_test}
-use Rattle.schedule_runs.specs.Left.{devices_left}
-use Rattle.schedule_runs.specs.Schedule.{upgraded_file}
-use Rattle.schedule_runs.proofs.Going.{goes-on, keeps-file}
-use Rattle.schedule_runs.proofs.Packed.{packed_moments, is_packed}
-use Rattle.schedule_runs.proofs.PackedText.{spells, fits}
+use Rattle.std.proofs.Common.{refl}
+use Rattle.std.specs.Prelude.{reverse}
+use Rattle.damage_run.specs.Words.{actions_of, setup_in, set_up}
+use Rattle.schedule_runs.specs.Words.{lines, name}
+use Rattle.schedule_runs.specs.Schedule.{upgraded_file, packed_schedule, packed_text}
+use Rattle.schedule_runs.proofs.Going.{left-of, keeps}
+use Rattle.schedule_runs.proofs.Read.{read, are-lines}
+use Rattle.schedule_runs.proofs.Runs.{packed_moments, is_packed}
 use Rattle.schedule_runs.proofs.laws.a_pack_has_its_run.Goals as goal
 
 pub returns-clause-spells : goal.returns-clause-spells
-returns-clause-spells c = spells
-
-pub returns-clause-fits : goal.returns-clause-fits
-returns-clause-fits c = fits
+unfolding read
+returns-clause-spells c = are-lines (lines packed_text) (reverse packed_schedule) refl
 
 pub returns-clause-run : goal.returns-clause-run
-returns-clause-run c = (
-  packed_moments,
-  is_packed,
-  c.runs_leave_devices.ensures.each set_up packed_moments is_packed.clean is_packed.run,
-)
+returns-clause-run c =
+    (packed_moments, is_packed, left-of set_up packed_moments is_packed.goes.clean is_packed.goes.run)
 
 pub returns-clause-used : goal.returns-clause-used
 unfolding setup_in actions_of
 returns-clause-used c = (
   packed_moments,
   is_packed,
-  λ old new end is keeps.
-      keeps-file c.acknowledged_files_survive.ensures set_up after_put (first_moments 19 packed_moments)
-      (last_of (first_moments 20 packed_moments)) name upgraded_file old new end is_packed.clean
+  keeps packed_moments 14 19 name upgraded_file is_packed.goes.clean is_packed.goes.run refl
       (record {
         version = 2;
         done = refl;
         profiled = λ first. absurd (cc first);
         started = refl;
         named = refl;
-      })
-      (never_by_test name after_put refl) (λ d e. cc)
-      (goes-on set_up packed_moments (devices_left (now set_up packed_moments)) old new end
-      (c.runs_leave_devices.ensures.each set_up packed_moments is_packed.clean is_packed.run) refl
-      is keeps),
+      }) refl (λ d e. cc),
 )
-  where
-    after_put : List Moment
-    after_put = take 14 packed_moments

@@ -1,5 +1,4 @@
-use Rattle.command_defs.specs.Forms.{GetOf, ScrubAll}
-use Rattle.command_laws.specs.Ends.{put_of}
+use Rattle.stories.specs.Words.{GetOf, ScrubAll, put_of}
 use Rattle.stories.proofs.commands.all_others_may_go_after_a_scrub.Goals as goal
 
 pub returns : goal.returns

@@ -1,7 +1,17 @@
-use Rattle.std.proofs.Common.{◌∙◌, arith}
-use Rattle.command_defs.specs.Forms.{GetOf}
-use Rattle.stories.proofs.Other.{other-bytes}
+use Rattle.std.proofs.Common.{◌∙◌, arith, ◌≡◌, ◌≢◌, ◌⊎◌, ℕ, true, List, ◌++◌, Option, None, Some, sym, inl, inr}
+use Rattle.std.specs.Prelude.{is_some}
+use Rattle.std.proofs.lemmas.Bool.{false≢true}
+use Rattle.std.proofs.lemmas.List.{append_cancel_left}
+use Rattle.stories.specs.Words.{told_then, GetOf}
 use Rattle.stories.proofs.commands.colluders_are_the_forgery.Goals as goal
+
+-- of what was written and something else the latter, where other bytes were written
+other-bytes : {P : Type 0} (old new : Option (List ℕ)) (bytes other : List ℕ) → is_some old ≡ true →
+    bytes ≢ other → new ≡ told_then old other → (new ≡ told_then old bytes) ⊎ P → P
+other-bytes None new bytes other tells differ is e = absurd (false≢true tells)
+other-bytes (Some xs) new bytes other tells differ is (inl same) = absurd (differ
+    (append_cancel_left xs bytes other (let e : Some (xs ++ bytes) ≡ Some (xs ++ other) = sym same ∙ is in cc)))
+other-bytes (Some xs) new bytes other tells differ is (inr p) = p
 
 pub returns : goal.returns
 returns c =

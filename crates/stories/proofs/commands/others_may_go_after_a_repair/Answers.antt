@@ -1,5 +1,4 @@
-use Rattle.command_defs.specs.Forms.{GetOf, AuditAll, RepairAll}
-use Rattle.command_laws.specs.Ends.{put_of}
+use Rattle.stories.specs.Words.{GetOf, AuditAll, RepairAll, put_of}
 use Rattle.stories.proofs.commands.others_may_go_after_a_repair.Goals as goal
 
 pub returns : goal.returns

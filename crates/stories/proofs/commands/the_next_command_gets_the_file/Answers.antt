@@ -1,5 +1,4 @@
-use Rattle.command_defs.specs.Forms.{GetOf}
-use Rattle.command_laws.specs.Ends.{put_of}
+use Rattle.stories.specs.Words.{GetOf, put_of}
 use Rattle.stories.proofs.commands.the_next_command_gets_the_file.Goals as goal
 
 pub returns : goal.returns

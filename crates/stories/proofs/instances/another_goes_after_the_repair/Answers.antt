@@ -1,28 +1,20 @@
 use Rattle.std.proofs.Common.{refl, inl, arith}
-use Rattle.command_defs.specs.Forms.{GetOf, AuditAll, RepairAll}
-use Rattle.command_runs.specs.Devices.{named}
 use Rattle.command_runs.proofs.Meets.{first, second, three-tell, robbed-untouched, repair-steady, get-steady, flagged-second}
-use Rattle.hail_top.proofs.Words.{command-words}
-use Rattle.stories.proofs.Asked.{falls, four-idle}
+use Rattle.stories.specs.Words.{GetOf, AuditAll, RepairAll, named}
+use Rattle.stories.proofs.Asked.{answered}
 use Rattle.stories.proofs.instances.another_goes_after_the_repair.Goals as goal
 
 pub returns-clause-audit : goal.returns-clause-audit
-returns-clause-audit c = λ words spells.
-    command-words words AuditAll _ _ _ spells
-    (λ other also. c.words_spell_one_command.ensures words AuditAll other spells also)
-    c.commands_end.ensures.audit tt (falls _ _ four-idle refl refl refl refl)
+returns-clause-audit c = λ words spells. answered c.words_spell_one_command.ensures words AuditAll spells
+    c.commands_end.ensures.audit tt assumption
 
 pub returns-clause-repair : goal.returns-clause-repair
-returns-clause-repair c = λ words spells.
-    command-words words RepairAll _ _ _ spells
-    (λ other also. c.words_spell_one_command.ensures words RepairAll other spells also)
-    c.commands_end.ensures.repair tt (falls _ _ four-idle refl refl refl refl)
+returns-clause-repair c = λ words spells. answered c.words_spell_one_command.ensures words RepairAll spells
+    c.commands_end.ensures.repair tt assumption
 
 pub returns-clause-get : goal.returns-clause-get
-returns-clause-get c = λ words spells.
-    command-words words (GetOf named) _ _ _ spells
-    (λ other also. c.words_spell_one_command.ensures words (GetOf named) other spells also)
-    c.commands_end.ensures.get tt (falls _ _ four-idle refl refl refl refl)
+returns-clause-get c = λ words spells. answered c.words_spell_one_command.ensures words (GetOf named) spells
+    c.commands_end.ensures.get tt assumption
 
 pub returns-clause-between : goal.returns-clause-between
 returns-clause-between c = (

@@ -1,22 +1,16 @@
 use Rattle.std.proofs.Common.{refl, inl, arith}
-use Rattle.command_defs.specs.Forms.{GetOf, ScrubAll}
-use Rattle.command_runs.specs.Devices.{named}
 use Rattle.command_runs.proofs.Meets.{three-tell, robbed-untouched, swept-steady, swept-untouched, later-steady}
-use Rattle.hail_top.proofs.Words.{command-words}
-use Rattle.stories.proofs.Asked.{falls, four-idle}
+use Rattle.stories.specs.Words.{GetOf, ScrubAll, named}
+use Rattle.stories.proofs.Asked.{answered}
 use Rattle.stories.proofs.instances.another_goes_after_the_scrub.Goals as goal
 
 pub returns-clause-scrub : goal.returns-clause-scrub
-returns-clause-scrub c = λ words spells.
-    command-words words ScrubAll _ _ _ spells
-    (λ other also. c.words_spell_one_command.ensures words ScrubAll other spells also)
-    c.commands_end.ensures.swept tt (falls _ _ four-idle refl refl refl refl)
+returns-clause-scrub c = λ words spells. answered c.words_spell_one_command.ensures words ScrubAll spells
+    c.commands_end.ensures.swept tt assumption
 
 pub returns-clause-get : goal.returns-clause-get
-returns-clause-get c = λ words spells.
-    command-words words (GetOf named) _ _ _ spells
-    (λ other also. c.words_spell_one_command.ensures words (GetOf named) other spells also)
-    c.commands_end.ensures.later_get tt (falls _ _ four-idle refl refl refl refl)
+returns-clause-get c = λ words spells. answered c.words_spell_one_command.ensures words (GetOf named) spells
+    c.commands_end.ensures.later_get tt assumption
 
 pub returns-clause-between : goal.returns-clause-between
 returns-clause-between c = (

@@ -1,8 +1,5 @@
 use Rattle.std.proofs.Common.{inl, inr, [], ◌∷◌, ◌++◌, subst, sym, append_assoc, arith}
-use Rattle.hail_replay.specs.Answers.{devices_of_seen}
-use Rattle.hail_replay.specs.Starts.{AreLeft, call_from}
-use Rattle.machine_defs.specs.Runs.{now}
-use Rattle.command_defs.specs.Forms.{RowOf, InitWith}
+use Rattle.stories.specs.Words.{devices_of_seen, AreLeft, call_from, now, RowOf, InitWith}
 use Rattle.stories.proofs.Went.{left-same, init-left}
 use Rattle.stories.proofs.laws.commands_leave_devices.Goals as goal
 

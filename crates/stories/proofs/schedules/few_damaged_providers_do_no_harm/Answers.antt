@@ -1,9 +1,7 @@
 use Rattle.std.proofs.Common.{◌++◌, subst}
 use Rattle.std.proofs.lemmas.List.{reverse-reverse}
 use Rattle.std.specs.Prelude.{reverse}
-use Rattle.machine_defs.specs.Damaged.{DamagesOnly}
-use Rattle.machine_defs.specs.Transcripts.{CarriesOut}
-use Rattle.hail_replay.specs.Starts.{called_behind}
+use Rattle.stories.specs.Words.{DamagesOnly, CarriesOut, called_behind}
 use Rattle.stories.specs.Files.{put_of, got_behind}
 use Rattle.stories.proofs.Gets.{is-got}
 use Rattle.stories.proofs.schedules.few_damaged_providers_do_no_harm.Goals as goal
@@ -15,8 +13,7 @@ returns c =
     (let all = got_behind (middle ++ put_of front name bytes own p) name g in
     let W = c.replays_go_on.ensures words text (reverse all) start ms old new end answers form source spells
     ok told left in
-    let P = is-got c.commands_begin_none.ensures.commands c.commands_begin_none.ensures.steps
-    c.what_was_put_is_got.ensures front middle name bytes own p g start ms old new end asks W in
+    let P = is-got front middle name bytes own p g start ms old new end asks W in
     let G = P.0 in
     let damages = subst (DamagesOnly ps) P.1
     (c.commands_damage_only.ensures.both ps W.later (called_behind start ms)

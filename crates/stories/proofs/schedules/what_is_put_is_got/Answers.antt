@@ -8,8 +8,7 @@ pub returns : goal.returns
 returns c =
     λ words text front middle name bytes own p g start ms old new end answers form source spells asks ok told
     left.
-    (is-got c.commands_begin_none.ensures.commands c.commands_begin_none.ensures.steps
-    c.what_was_put_is_got.ensures front middle name bytes own p g start ms old new end asks
+    (is-got front middle name bytes own p g start ms old new end asks
     (c.replays_go_on.ensures words text
     (reverse (got_behind (middle ++ put_of front name bytes own p) name g)) start ms old new end answers form
     source spells ok told left)).0

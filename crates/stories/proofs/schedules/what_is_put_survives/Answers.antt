@@ -1,9 +1,7 @@
 use Rattle.std.proofs.Common.{◌++◌, sym, subst, arith}
 use Rattle.std.proofs.lemmas.List.{reverse-reverse}
 use Rattle.std.specs.Prelude.{reverse}
-use Rattle.machine_defs.specs.Transcripts.{CarriesOut}
-use Rattle.hail_replay.specs.Answers.{devices_of_seen}
-use Rattle.hail_replay.specs.Starts.{called_behind}
+use Rattle.stories.specs.Words.{CarriesOut, devices_of_seen, called_behind}
 use Rattle.stories.specs.Files.{put_of, PutsFile}
 use Rattle.stories.specs.Said.{SaysPut}
 use Rattle.stories.proofs.Puts.{puts-file}
@@ -18,8 +16,7 @@ returns c =
     let W = c.replays_go_on.ensures words text (reverse all) start ms old new end answers form source spells
     ok told left in
     let put : PutsFile middle (W.later ++ called_behind start ms) W.lines p name bytes =
-    puts-file c.commands_begin_none.ensures.commands c.commands_begin_none.ensures.steps front middle name
-    bytes own p W.later (called_behind start ms) W.lines
+    puts-file front middle name bytes own p W.later (called_behind start ms) W.lines
     (subst (λ cs. CarriesOut cs W.later W.lines) (reverse-reverse all) W.carried_out) asks start
     W.left.run in
     record {
