@@ -1,4 +1,5 @@
 ghost use Rattle.std.specs.Prelude.{◌≡◌, ◌∷◌, ◌<◌, ◌≤◌, ◌-◌, ◌^◌, ◌||◌, None, Some, not, nat_le, length, List, ℕ, IfOk, IfErr, OnOk, OnErr, IsTrue};
+ghost use Rattle.std.specs.Option.{option_map};
 ghost use Rattle.record_defs.specs.Records.{is_name, largest_file};
 ghost use Rattle.machine_defs.specs.Actions.{actions_left};
 ghost use Rattle.machine_defs.specs.Begins.{refusal_of_begin, beginning};
@@ -8,8 +9,9 @@ ghost use Rattle.machine_defs.specs.Jobs.{Kind, PutJob};
 ghost use Rattle.machine_defs.specs.Refusals as refusal;
 ghost use Rattle.machine_defs.specs.Refusals.{Cause, first_refusal};
 ghost use Rattle.machine_defs.specs.States.{State, setup_in};
+ghost use Rattle.vault_table.specs.Values.{file_of_entry};
 ghost use Rattle.vault_core.specs.Carried.{CoreIs, IsKindOf, refusal_of};
-ghost use Rattle.vault_core.specs.Wished.{profile_named, IsShort};
+ghost use Rattle.vault_core.specs.Wished.{file_named, profile_named, IsShort};
 ghost use Rattle.vault_open.specs.Devices.{Devices};
 ghost use Rattle.vault.specs.AtHand.{hand_of, KeepsStreams};
 ghost use Rattle.vault.specs.Running.{IsSameDesk};
@@ -21,6 +23,7 @@ use crate::desk::Desk;
 use crate::tasks::{Running, StreamTask, Task};
 use record_codec::Name;
 use vault_core::{BeginFault, Wish};
+use vault_table::Entry;
 
 impl Desk {
     /// The name of these bytes, or why a put, a get or a drop of it does not begin.
@@ -90,10 +93,17 @@ impl Desk {
     }
 
     /// Takes a job in with what it works with, where its begin is accepted. Conditions: a number is left for
-    /// the job, a put has at most 2^22 bytes, and the job is no stream.
-    pub(crate) fn admit(&mut self, wish: Wish, task: Task) -> Result<u32, BeginFault>
+    /// the job, a put has at most 2^22 bytes, the file is the one that the core finds, and the job is no
+    /// stream.
+    pub(crate) fn admit(
+        &mut self,
+        wish: Wish,
+        file: Option<Entry>,
+        task: Task,
+    ) -> Result<u32, BeginFault>
         requires number { self.old.core.next_job < 2 ^ 32 - 1 }
         requires size { IsShort wish }
+        requires file { option_map file_of_entry file ≡ file_named self.old.core.table wish }
         requires none_at_hand { hand_of task ≡ None }
         ensures machine { (w : State) (d : Devices) (moment : ℕ) (kind : Kind) → DeskStands self.old d w
             → IsKindOf wish kind → IsSpelledKind kind
@@ -108,7 +118,7 @@ impl Desk {
             drop(task);
             return Err(BeginFault::Memory);
         }
-        match self.core.begin(wish) {
+        match self.core.begin(wish, file) {
             Ok(number) => {
                 self.jobs.push_reserved(Running { number, task });
                 Ok(number)

@@ -1,5 +1,5 @@
 //! The area of the disk that a desk's journal stands in, and its pack into the other one.
-ghost use Rattle.std.specs.Prelude.{◌≡◌, ℕ, [], false, None, Some, IfOk, IfErr, IfSome};
+ghost use Rattle.std.specs.Prelude.{◌≡◌, [], false, None, Some, IfOk, IfErr, IfSome};
 ghost use Rattle.std.specs.Option.{option_map};
 ghost use Rattle.journal_core.specs.Texts.{StandsFirm};
 ghost use Rattle.journal_pack.specs.Packs.{moves_of, WritesText};

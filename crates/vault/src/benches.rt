@@ -1,4 +1,4 @@
-ghost use Rattle.std.specs.Prelude.{◌≡◌, ◌≤◌, ◌^◌, ◌∷◌, ℕ, List, true, position, IfOk, OnOk, OnErr, IsErrOf, IsErr};
+ghost use Rattle.std.specs.Prelude.{◌≡◌, ◌≤◌, ◌^◌, ◌∷◌, ℕ, true, position, IfOk, OnOk, OnErr, IsErrOf, IsErr};
 ghost use Rattle.std.specs.List.{list_any};
 ghost use Rattle.code_defs.specs.Profiles.{profile_of};
 ghost use Rattle.code_points.specs.Profile.{plain_profile};

@@ -1,5 +1,5 @@
 //! The files in effect as a scrub takes them.
-ghost use Rattle.std.specs.Prelude.{◌≡◌, IfOk};
+ghost use Rattle.std.specs.Prelude.{IfOk};
 ghost use Rattle.std.specs.List.{AllZip};
 ghost use Rattle.record_defs.specs.Table.{files_of};
 ghost use Rattle.machine_defs.specs.Begins.{pin_all};

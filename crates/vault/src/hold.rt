@@ -1,5 +1,5 @@
 //! What a vault does for what runs alone beside its jobs.
-ghost use Rattle.std.specs.Prelude.{◌≡◌, ◌<◌, ◌-◌, ◌^◌, ◌≤◌, ◌+◌, ℕ, true, None, Some, Err, IfOk, OnOk, OnErr, IsErr, IsErrOf, is_some};
+ghost use Rattle.std.specs.Prelude.{◌≡◌, ◌<◌, ◌-◌, ◌^◌, ◌≤◌, ℕ, true, None, Some, Err, IfOk, OnOk, OnErr, IsErr, IsErrOf, is_some};
 ghost use Rattle.machine_defs.specs.Alone.{new_scrub};
 ghost use Rattle.machine_defs.specs.States.{State, setup_in};
 ghost use Rattle.hail_scrub.specs.Stands.{ScrubIs};

@@ -78,7 +78,7 @@ impl Desk {
             bench,
             at_hand: None,
         };
-        self.admit(wish, Task::Put(task))
+        self.admit(wish, None, Task::Put(task))
     }
 
     /// Takes in a get of the file of a name.
@@ -90,13 +90,14 @@ impl Desk {
         ensures streams { OnOk result (KeepsStreams self.old.core self.new.core) }
     {
         let name = self.checked_name(name)?;
-        let Some(file) = self.core.table().find(&name) else {
+        let wish = Wish::Get { name };
+        let Some(file) = self.core.file_named(&wish) else {
             return Err(BeginFault::NoSuchName);
         };
         let length = file.length.min(LARGEST_FILE);
         let bench = self.bench_for(file.id, length, file.profile)?;
         match GetTask::new(self.alloc, self.core.next_job(), bench) {
-            Ok(task) => self.admit(Wish::Get { name }, Task::Get(task)),
+            Ok(task) => self.admit(wish, Some(file), Task::Get(task)),
             Err(_) => Err(BeginFault::Memory),
         }
     }
@@ -110,7 +111,9 @@ impl Desk {
         ensures streams { OnOk result (KeepsStreams self.old.core self.new.core) }
     {
         let name = self.checked_name(name)?;
-        self.admit(Wish::Drop { name }, Task::Drop)
+        let wish = Wish::Drop { name };
+        let file = self.core.file_named(&wish);
+        self.admit(wish, file, Task::Drop)
     }
 
     /// Takes in an audit.
@@ -125,7 +128,7 @@ impl Desk {
         let n = self.setup.n;
         let asks = files * (usize::from(self.setup.rounds) * usize::from(n));
         match AuditTask::new(self.alloc, self.core.next_job(), n, asks) {
-            Ok(task) => self.admit(Wish::Audit, Task::Audit(task)),
+            Ok(task) => self.admit(Wish::Audit, None, Task::Audit(task)),
             Err(_) => Err(BeginFault::Memory),
         }
     }
@@ -139,7 +142,7 @@ impl Desk {
         ensures streams { OnOk result (KeepsStreams self.old.core self.new.core) }
     {
         let task = self.repair_task()?;
-        self.admit(Wish::Repair, Task::Repair(task))
+        self.admit(Wish::Repair, None, Task::Repair(task))
     }
 
     /// Takes in an upgrade.
@@ -150,6 +153,6 @@ impl Desk {
         ensures unchanged { OnErr result (IsSameDesk self.old self.new) }
         ensures streams { OnOk result (KeepsStreams self.old.core self.new.core) }
     {
-        self.admit(Wish::Upgrade, Task::Upgrade)
+        self.admit(Wish::Upgrade, None, Task::Upgrade)
     }
 }

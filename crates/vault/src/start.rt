@@ -1,4 +1,4 @@
-ghost use Rattle.std.specs.Prelude.{◌≡◌, ℕ, List, IfSome, IfOk, IfErr, OnOk, IsErrOf, true};
+ghost use Rattle.std.specs.Prelude.{◌≡◌, List, IfSome, IfOk, IfErr, OnOk, IsErrOf};
 ghost use Rattle.std.specs.Option.{option_map};
 ghost use Rattle.device_defs.specs.Disks.{synced};
 ghost use Rattle.device_defs.specs.Faults.{HasCause};

@@ -1,8 +1,10 @@
 ghost use Rattle.std.specs.Prelude.{◌≡◌, ◌≢◌, ◌<◌, ◌≤◌, ◌+◌, ◌-◌, ◌^◌, ◌∷◌, ◌++◌, [], ℕ, length, sum_by, None, Some, OnOk, OnErr, IfErr, IfOk};
+ghost use Rattle.std.specs.Option.{option_map};
 ghost use Rattle.machine_defs.specs.Jobs.{Kind, aim_of};
 ghost use Rattle.machine_defs.specs.Events.{IsSpelledKind};
 ghost use Rattle.machine_defs.specs.States.{State};
 ghost use Rattle.machine_defs.specs.Begins.{refusal_of_begin};
+ghost use Rattle.vault_table.specs.Values.{file_of_entry};
 ghost use Rattle.vault_core.specs.declared.wish.BeginFault.TheVariants as fault;
 ghost use Rattle.vault_core.specs.Carried.{CoreIs, IsKindOf, IsAimOf, IsShortAim, refusal_of, job_begun};
 ghost use Rattle.record_defs.specs.Records.{largest_journal};
@@ -10,7 +12,7 @@ ghost use Rattle.vault_core.specs.Parts.{core_job, IsJobKept, MayBegin};
 ghost use Rattle.vault_core.specs.Streams.{IsTold};
 ghost use Rattle.vault_core.specs.Reserves.{reserved_of};
 ghost use Rattle.vault_core.specs.View.{HasLoneUpgrade, told_in, HasNoStream};
-ghost use Rattle.vault_core.specs.Wished.{profile_named, IsShort};
+ghost use Rattle.vault_core.specs.Wished.{file_named, profile_named, IsShort};
 ghost use Rattle.vault_core.specs.Making.{starts_for, admitted, AreMore};
 
 use crate::job::Job;
@@ -18,14 +20,15 @@ use crate::made::make_job;
 use crate::own::Core;
 use crate::wish::{BeginFault, Wish};
 use stream_model::Memory;
-use vault_table::Table;
+use vault_table::{Entry, Table};
 
 impl Core {
-    /// Begins a job, or says why not, and then nothing changes. Conditions: a number is left for the job, and
-    /// a put has at most 2^22 bytes.
-    pub fn begin(&mut self, wish: Wish) -> Result<u32, BeginFault>
+    /// Begins a job, or says why not, and then nothing changes. Conditions: a number is left for the job, a
+    /// put has at most 2^22 bytes, and the file is the one that `file_named` finds.
+    pub fn begin(&mut self, wish: Wish, file: Option<Entry>) -> Result<u32, BeginFault>
         requires number { self.old.next_job < 2 ^ 32 - 1 }
         requires size { IsShort wish }
+        requires file { option_map file_of_entry file ≡ file_named self.old.table wish }
         ensures begun { (w : State) (kind : Kind) (moment : ℕ) → CoreIs self.old w → IsKindOf wish kind
             → IsSpelledKind kind →
             OnOk result (CoreIs self.new (job_begun w moment kind (profile_named wish))) }
@@ -40,13 +43,19 @@ impl Core {
         ensures streams { HasNoStream self.old → HasNoStream self.new }
         ensures told { (number : ℕ) → told_in self.new.jobs number ≡ told_in self.old.jobs number }
     {
-        self.start_job(wish, None)
+        self.start_job(wish, file, None)
     }
 
     /// Begins a job, or a stream that stands for each put of its name of at most 2^22 bytes.
-    pub(crate) fn start_job(&mut self, wish: Wish, told: Option<u32>) -> Result<u32, BeginFault>
+    pub(crate) fn start_job(
+        &mut self,
+        wish: Wish,
+        file: Option<Entry>,
+        told: Option<u32>,
+    ) -> Result<u32, BeginFault>
         requires number { self.old.next_job < 2 ^ 32 - 1 }
         requires size { IsShort wish }
+        requires file { option_map file_of_entry file ≡ file_named self.old.table wish }
         requires told { MayBegin told wish }
         ensures begun { (w : State) (kind : Kind) (moment : ℕ) → CoreIs self.old w → IsAimOf told wish kind
             → IsShortAim (aim_of kind) → IsSpelledKind kind →
@@ -62,7 +71,7 @@ impl Core {
         ensures unchanged { OnErr result (self.new ≡ self.old) }
         ensures setup { self.new.setup ≡ self.old.setup }
     {
-        if let Some(fault) = self.refusal(&wish) {
+        if let Some(fault) = self.refusal(&wish, &file) {
             return Err(fault);
         }
         match make_job(
@@ -70,6 +79,7 @@ impl Core {
             &self.table,
             &self.setup,
             wish,
+            file,
             told,
             self.next_job,
         ) {

@@ -4,9 +4,9 @@ ghost use Rattle.std.specs.Option.{option_map};
 ghost use Rattle.std.specs.List.{list_any};
 ghost use Rattle.record_codec.specs.Entries.{entry_of, IsInGrammar};
 ghost use Rattle.vault_core.specs.declared.pinned.Pinned.{Pinned as PinnedFile};
-ghost use Rattle.vault_core.specs.Coming.{seen_action, action_next, entry_of_job, written_as, is_last_ask, is_idle, is_move, provider_of};
+ghost use Rattle.vault_core.specs.Coming.{seen_action, action_next, entry_of_job, written_as, is_idle, is_move, provider_of};
 ghost use Rattle.vault_core.specs.Rest.{call_of, rest_of};
-ghost use Rattle.vault_core.specs.Parts.{core_job, plan_kept, sums_kept, IsSet, IsSteadyJob, IsJobKept, has_append};
+ghost use Rattle.vault_core.specs.Parts.{core_job, sums_kept, IsSet, IsSteadyJob, IsJobKept, has_append};
 ghost use Rattle.vault_core.specs.Wished.{aim_of_wish};
 
 use crate::action::Action;

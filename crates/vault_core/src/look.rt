@@ -1,9 +1,9 @@
-ghost use Rattle.std.specs.Prelude.{◌≡◌, ◌+◌, ◌<◌, ◌≤◌, ◌^◌, ◌||◌, List, ℕ, Option, None, Some, length, IsTrue, true, false, IfSome, IsSome, if◌then◌else◌, nat_le, ◌∷◌, []};
+ghost use Rattle.std.specs.Prelude.{◌≡◌, ◌+◌, ◌<◌, ◌≤◌, ◌^◌, ◌||◌, ℕ, Option, None, Some, length, IsTrue, true, false, IfSome, IsSome, if◌then◌else◌, nat_le, ◌∷◌, []};
 ghost use Rattle.std.specs.Option.{option_map};
 ghost use Rattle.record_defs.specs.Records.{record_size};
 ghost use Rattle.machine_defs.specs.Jobs.{job_of};
 ghost use Rattle.machine_defs.specs.Actions.{WriteBody};
-ghost use Rattle.vault_table.specs.Values.{setup_of_pair};
+ghost use Rattle.vault_table.specs.Values.{setup_of_pair, file_of_entry};
 ghost use Rattle.machine_defs.specs.States.{State, setup_in};
 ghost use Rattle.machine_defs.specs.Left.{most_left};
 ghost use Rattle.machine_defs.specs.Sights.{sight_of, is_shut};
@@ -16,7 +16,7 @@ ghost use Rattle.vault_core.specs.Coming.{seen_next, waits_or_acts, next_in, lef
 ghost use Rattle.vault_core.specs.Reserves.{Reserves};
 ghost use Rattle.vault_core.specs.Parts.{core_job, IsJobKept};
 ghost use Rattle.vault_core.specs.Carried.{CoreIs, refusal_of, IsNextOf, IsEntryOf};
-ghost use Rattle.vault_core.specs.Wished.{aim_of_wish, profile_named};
+ghost use Rattle.vault_core.specs.Wished.{aim_of_wish, file_named, profile_named};
 
 use crate::action::{Action, Next};
 use crate::job::Job;
@@ -26,7 +26,7 @@ use crate::refusal::some_upgrade;
 use crate::wish::{BeginFault, Wish};
 use key_schedule::Master;
 use record_codec::{Counts, Record, Setup};
-use vault_table::Table;
+use vault_table::{Entry, Table};
 
 /// How many jobs run at a time.
 pub const MOST_JOBS: usize = 8;
@@ -67,6 +67,16 @@ impl Core {
         ensures { result.now ≡ self.now.table }
     {
         &self.table
+    }
+
+    /// The file in effect under the name of a get or a drop; None of any other wish.
+    pub fn file_named(&self, wish: &Wish) -> Option<Entry>
+        ensures { option_map file_of_entry result ≡ file_named self.now.table wish.now }
+    {
+        match wish {
+            Wish::Get { name } | Wish::Drop { name } => self.table.find(name),
+            _ => None,
+        }
     }
 
     /// Why the begin of a put, a get or a drop would be refused before its words are looked at: `MustReopen`

@@ -16,7 +16,7 @@ ghost use Rattle.vault_core.specs.View.{core_pins, flag_at};
 ghost use Rattle.vault_core.specs.Targets.{targets_of, stripes_in, turns_for, tasks_made};
 ghost use Rattle.vault_core.specs.Rest.{rewrites_from};
 ghost use Rattle.vault_core.specs.Parts.{IsJobKept, is_rewriter};
-ghost use Rattle.vault_core.specs.Wished.{HasName, IsShort, profile_named};
+ghost use Rattle.vault_core.specs.Wished.{HasName, IsShort, file_named, profile_named};
 ghost use Rattle.vault_core.specs.Making.{pin_of_file, pins_for, size_of_turn, other_actions, most_at, appends_for, cursor_on, cursor_first, IsMade};
 
 use crate::cursor::{Cursor, Move, Spot};
@@ -124,11 +124,17 @@ impl Core {
 }
 
 /// The files that a job works on.
-fn pinned_for(alloc: Global, table: &Table, wish: &Wish) -> Result<Vec<Pinned>, Memory>
+fn pinned_for(
+    alloc: Global,
+    table: &Table,
+    wish: &Wish,
+    file: Option<Entry>,
+) -> Result<Vec<Pinned>, Memory>
+    requires { option_map file_of_entry file ≡ file_named table.now wish.now }
     ensures { IfOk result (λ pinned. pinned.items ≡ pins_for table.now wish.now) }
 {
     match wish {
-        Wish::Get { name } => pin_one(alloc, table.find(name)),
+        Wish::Get { .. } => pin_one(alloc, file),
         Wish::Audit | Wish::Repair => pin_all(alloc, table),
         _ => Ok(Vec::new(alloc)),
     }
@@ -379,12 +385,14 @@ pub fn make_job(
     table: &Table,
     setup: &Setup,
     wish: Wish,
+    file: Option<Entry>,
     told: Option<u32>,
     number: u32,
 ) -> Result<Job, Memory>
     requires primary { 1 ≤ setup.now.l }
     requires some { 4 ≤ setup.now.n }
     requires few { setup.now.n ≤ 16 }
+    requires file { option_map file_of_entry file ≡ file_named table.now wish }
     requires named { HasName wish }
     requires short { IsShort wish }
     requires known { (key : List ℕ)
@@ -396,7 +404,7 @@ pub fn make_job(
 {
     let due = table.due();
     let flagged = flags(&due, setup.tolerance);
-    let pinned = pinned_for(alloc, table, &wish)?;
+    let pinned = pinned_for(alloc, table, &wish, file)?;
     let profile = profile_for(setup, &wish);
     let tasks = tasks_of(alloc, setup, &wish, profile, &pinned)?;
     let Some(left) = most_actions(&wish, &tasks, &flagged, setup.n) else {

@@ -6,9 +6,10 @@ ghost use Rattle.machine_defs.specs.Jobs.{Kind, aim_of};
 ghost use Rattle.machine_defs.specs.States.{State};
 ghost use Rattle.machine_defs.specs.Begins.{refusal_of_begin};
 ghost use Rattle.machine_defs.specs.Sights.{puts_name, is_check, is_put_or_check, is_upgrade, is_name_among, is_busy, is_crowded_for, is_full};
+ghost use Rattle.vault_table.specs.Values.{file_of_entry};
 ghost use Rattle.vault_core.specs.declared.job.Job.{Job as JobData};
 ghost use Rattle.vault_core.specs.Carried.{CoreIs, IsAimOf, IsShortAim, refusal_of};
-ghost use Rattle.vault_core.specs.Wished.{aim_of_wish, profile_named, HasName, IsShort};
+ghost use Rattle.vault_core.specs.Wished.{aim_of_wish, file_named, profile_named, HasName, IsShort};
 ghost use Rattle.vault_core.specs.Reserves.{room_behind};
 ghost use Rattle.vault_core.specs.Refusing.{sight_in, aims_kept, taken_names, refusal_in};
 
@@ -18,7 +19,7 @@ use crate::own::Core;
 use crate::room::{reserved, sizes};
 use crate::wish::{BeginFault, Wish};
 use record_codec::Name;
-use vault_table::Table;
+use vault_table::{Entry, Table};
 
 /// How many files can be in effect.
 pub const MOST_FILES: usize = 1024;
@@ -203,7 +204,8 @@ impl Core {
     }
 
     /// The first refusal that applies to a wish.
-    fn first_refusal(&self, wish: &Wish) -> Option<BeginFault>
+    fn first_refusal(&self, wish: &Wish, file: &Option<Entry>) -> Option<BeginFault>
+        requires { option_map file_of_entry file.now ≡ file_named self.now.table wish.now }
         ensures { HasName wish.now → IsShort wish.now →
             option_map refusal_of result ≡ refusal_in self.now wish.now }
     {
@@ -225,12 +227,8 @@ impl Core {
                     }
                 }
             }
-            Wish::Get { name } | Wish::Drop { name } => {
-                when(
-                    self.table.find(name).is_none(),
-                    BeginFault::NoSuchName,
-                    full,
-                )
+            Wish::Get { .. } | Wish::Drop { .. } => {
+                when(file.is_none(), BeginFault::NoSuchName, full)
             }
             Wish::Audit => when(self.table.due().is_some(), BeginFault::RepairDue, full),
             Wish::Repair => when(self.table.due().is_none(), BeginFault::NothingDue, full),
@@ -239,13 +237,14 @@ impl Core {
     }
 
     /// The first refusal that applies to a wish, or to a stream, which is that of the machine.
-    pub(crate) fn refusal(&self, wish: &Wish) -> Option<BeginFault>
+    pub(crate) fn refusal(&self, wish: &Wish, file: &Option<Entry>) -> Option<BeginFault>
+        requires { option_map file_of_entry file.now ≡ file_named self.now.table wish.now }
         ensures sight { IsShort wish.now → option_map refusal_of result ≡ refusal_in self.now wish.now }
         ensures machine { (told : Option ℕ) (w : State) (kind : Kind) → CoreIs self.now w
             → IsAimOf told wish.now kind → IsShort wish.now → IsShortAim (aim_of kind) →
             option_map refusal_of result ≡ refusal_of_begin 8 w kind (profile_named wish.now) }
     {
         read_name(wish);
-        self.first_refusal(wish)
+        self.first_refusal(wish, file)
     }
 }

@@ -1,5 +1,5 @@
 //! The room that the records of jobs take in the journal.
-ghost use Rattle.std.specs.Prelude.{◌≡◌, ◌≤◌, ◌*◌, ◌+◌, ◌==◌, ℕ, sum, if◌then◌else◌};
+ghost use Rattle.std.specs.Prelude.{◌≡◌, ◌≤◌, ◌*◌, ◌+◌, ◌==◌, sum, if◌then◌else◌};
 ghost use Rattle.vault_core.specs.Reserves.{sizes_of, room_behind};
 
 use crate::job::Job;

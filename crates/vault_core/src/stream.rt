@@ -1,7 +1,7 @@
 //! Streams: puts that are given their files stripe by stripe.
 ghost use Rattle.std.specs.Prelude.{◌≡◌, ◌≢◌, ◌<◌, ◌≤◌, ◌+◌, ◌-◌, ◌^◌, ℕ, List, None, Some, true, false, length, map, is_some, slice_get, OnOk, OnErr, IfOk, IfErr};
 ghost use Rattle.record_defs.specs.Records.{largest_file, Setup as SetupData};
-ghost use Rattle.machine_defs.specs.Jobs.{Kind, PutJob, Job as MachineJob, job_of};
+ghost use Rattle.machine_defs.specs.Jobs.{PutJob, Job as MachineJob, job_of};
 ghost use Rattle.machine_defs.specs.Events.{IsSpelledKind};
 ghost use Rattle.machine_defs.specs.States.{State, ended};
 ghost use Rattle.machine_defs.specs.Begins.{refusal_of_begin};
@@ -146,6 +146,7 @@ impl Core {
                 length: LARGEST_FILE,
                 profile,
             },
+            None,
             Some(0),
         )
     }

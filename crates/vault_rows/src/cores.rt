@@ -161,7 +161,10 @@ fn start(core: &mut Core, wish: Option<Wish>) -> Result<u32, BeginFault>
     requires { IfSome wish (λ w. IsShort w) }
 {
     match wish {
-        Some(wish) if core.next_job() <= 1000 => core.begin(wish),
+        Some(wish) if core.next_job() <= 1000 => {
+            let file = core.file_named(&wish);
+            core.begin(wish, file)
+        }
         _ => Err(BeginFault::BadName),
     }
 }

@@ -1,4 +1,4 @@
-use Rattle.std.proofs.Common.{Result, ℕ, sym, subst, ◌∙◌, ◌∷◌, ◌≡◌, Some, None}
+use Rattle.std.proofs.Common.{Result, ℕ, ap, sym, subst, ◌∙◌, ◌∷◌, ◌≡◌, Some, None}
 use Rattle.machine_defs.specs.Jobs.{GetJob}
 use Rattle.vault_core.specs.declared.wish.BeginFault.{BeginFault}
 use Rattle.vault_core.specs.declared.wish.BeginFault.TheVariants as fault
@@ -28,7 +28,7 @@ returns-in_default-clause-machine c = λ w d moment stands.
     let name = c.args.name.now in
     let kind = GetJob name in
     let none : find_file v.core.table.files name ≡ None =
-    sym (c.in_default.ensures ∙ (λ i. find_file (c.table.ensures i).files (c.in_ok-name.ensures.named i))) in
+    sym (c.in_default.ensures ∙ ap (find_file v.core.table.files) c.in_ok-name.ensures.named) in
     turned_down v v d w moment kind None stands fault.NoSuchName
     (aims-counted w (name_cause name ∷ causes_of_name w kind name)
     ∙ (c.in_ok-name.ensures.free w (name_cause name ∷ causes_of_name w kind name) stands.core
@@ -40,7 +40,7 @@ returns-in-Ok-clause-machine c =
     let name = c.args.name.now in
     let file = file_of_entry c.in-Some.file in
     let some : find_file v.core.table.files name ≡ Some file =
-    sym (c.in-Some.ensures ∙ (λ i. find_file (c.table.ensures i).files (c.in_ok-name.ensures.named i))) in
+    sym (c.in-Some.ensures ∙ ap (find_file v.core.table.files) c.in_ok-name.ensures.named) in
     λ w d moment stands.
     get-begun v c.admit.new.self name c.in_ok-name.name file c.in_ok-bench.bench c.in-Ok.task c.admit.result
     c.min-length.result c.next_job.result c.in_ok-name.ensures.named c.in_ok-name.ensures.bytes some c.min-length.ensures
