@@ -1,10 +1,6 @@
 -- What runs alone, whose steps are computed: scrubs of the file of one byte and packs of a journal, from
 -- every state that was just opened; and a get from a packed store.
-use Rattle.std.specs.Prelude.{if◌then◌else◌, slice_index, replicate, is_some}
-use Rattle.std.specs.List.{flat_map}
-use Rattle.std.specs.Option.{option_map}
-use Rattle.std.proofs.Common.{◌≡◌, ℕ, ◌+◌, ◌==◌, false, List, [], ◌∷◌, ◌++◌, length, map, Some, None, refl, sym, ◌∙◌, arith, ◌≤◌, true, Option, ap, subst, inl, ◌^◌, length-append}
-use Rattle.std.proofs.lemmas.Bool.{eq-eqb}
+use Rattle.std.proofs.Common.{◌≡◌, ℕ, ◌+◌, ◌==◌, false, List, [], ◌∷◌, ◌++◌, length, map, Some, None, refl, sym, ◌∙◌, arith, ◌≤◌, true, Option, ap, subst, inl, ◌^◌, length-append, if◌then◌else◌, replicate, is_some, flat_map, option_map, eq-eqb}
 use Rattle.std.proofs.lemmas.List.{drop_at, length-replicate}
 use Rattle.code_defs.specs.ServerCode.{differences}
 use Rattle.code_defs.proofs.Codewords.{differences-same}
@@ -17,7 +13,6 @@ use Rattle.column_laws.proofs.RightRows.{given-right, kept-symbol}
 use Rattle.machine_defs.specs.Alone.{differs, new_scrub, unalone, new_pack, barred_pack}
 use Rattle.machine_defs.specs.Given.{block_given}
 use Rattle.machine_defs.specs.Refusals as refusal
-use Rattle.machine_defs.proofs.JobLists.{cond_true}
 use Rattle.job_laws.proofs.Alike.{scrub-alike}
 use Rattle.job_laws.proofs.BeginRefusals.{pack-refusal-of}
 use Rattle.job_laws.proofs.Packs.{packed-alone}
@@ -27,8 +22,8 @@ use Rattle.command_laws.proofs.Samples.{same-disk}
 use Rattle.made_runs.specs.Sweeps.{Sweep, Brings, Opens, Mends, swept_so, swept, FitsSweep, Moves}
 use Rattle.made_runs.specs.Instructions.{with_alone, sweep_run}
 use Rattle.made_runs.proofs.Sweeps.{sweeps-so}
-use Rattle.damage_run.proofs.Values.{thing, shown, all_open, head_is, one_differs, same_size, without_two_give}
-use Rattle.command_runs.specs.Words.{upto, column_of_symbols, is_wrong_block, sized, Store, End, actions_of, Fetched, job_of, GetJob, Kind, byte, firm, synced, EachImage, A, StandsActive, Area, B, four, text, Answer, Scrubbed, Lost, ProviderFault, Packed, DiskFault, Got, Step, More, Ended, Happens, now, State, Scrubbing, setup_in, Packing, IsJustOpened, IsOpenAtRest, Answers, ScrubAll, PackJournal, AreSteps, GoesOnTo, EndsByAnswer, RunsAlone, scrub_text, pack_text, RanScrub, ScrubsAlone, AnswersScrub, Seen, Ending, SameSource, provider_at, called, ends, Record, spelling, RanPack, PacksAlone, AnswersPack, Works, Came, Gives, IsSure, IsChain, Entry, IsOpened}
+use Rattle.damage_run.proofs.Values.{thing, shown, all_open, whole, altered_is, without_two_give}
+use Rattle.command_runs.specs.Words.{upto, column_of_symbols, is_wrong_block, Store, End, actions_of, Fetched, job_of, GetJob, Kind, byte, firm, synced, EachImage, A, StandsActive, Area, B, four, text, Answer, Scrubbed, Lost, ProviderFault, Packed, DiskFault, Got, Step, More, Ended, Happens, now, State, Scrubbing, setup_in, Packing, IsJustOpened, IsOpenAtRest, Answers, ScrubAll, PackJournal, AreSteps, GoesOnTo, EndsByAnswer, RunsAlone, scrub_text, pack_text, RanScrub, ScrubsAlone, AnswersScrub, Seen, Ending, SameSource, provider_at, called, ends, Record, spelling, RanPack, PacksAlone, AnswersPack, Works, Came, Gives, IsSure, IsChain, Entry, IsOpened}
 use Rattle.command_runs.specs.Devices.{own_block, altered_block, each, byte_records, failed_store, two_damaged, symbols_off, blocks_off, scrub_failed, damaged, all_lost, found_lost, ends_at, named, byte_upgraded_records, upgraded_kept, byte_kept, all_hold, holds, own_blocks_heard, disk_failed, ends_hearing}
 use Rattle.command_runs.specs.Packed.{packed_records, IsFilling, named_second, second_text, in_second, packed_kept, packed_store, fetched_hold, got_packed, pack_call, get_packed}
 use Rattle.command_runs.specs.Lone.{RunsSomewhere, ScrubsSomewhere}
@@ -43,29 +38,15 @@ use Rattle.command_runs.proofs.Refusals.{quiet}
 length-block : (j : ℕ) → length (own_block j) ≡ 6
 length-block j = length-column_of_symbols thing (symbols_in thing byte 0) j 0
 
--- the first symbol of provider 0 is the byte
-first-symbol : slice_index (own_block 0) 0 ≡ 111
+-- the altered block keeps its size, and differs in one symbol
+altered-so : (length altered_block ≡ 6) × (differences altered_block (own_block 0) ≡ 1)
 unfolding column_of_symbols symbol_of
-first-symbol = kept-symbol thing byte 0 0 0 (omega arith) (omega arith) (omega arith)
-
-block-is : (rest : List ℕ) × (own_block 0 ≡ 111 ∷ rest)
-block-is = head_is (own_block 0) 5 111 (length-block 0) first-symbol
-
-length-altered : length altered_block ≡ 6
-length-altered = same_size (own_block 0) block-is.0 block-is.1 ∙ length-block 0
-
--- one of its symbols differs
-pub differs-altered : differences altered_block (own_block 0) ≡ 1
-differs-altered = one_differs (own_block 0) block-is.0 block-is.1
-
--- the altered block has the size
-pub altered-sized : Some altered_block ≡ sized 6 (Some altered_block)
-altered-sized = sym (cond_true (length altered_block == 6) (Some altered_block) None
-    (eq-eqb (length altered_block) 6 length-altered))
+altered-so = altered_is (own_block 0) 5 (length-block 0)
+    (kept-symbol thing byte 0 0 0 (omega arith) (omega arith) (omega arith))
 
 -- one symbol is within what is corrected
 pub altered-right : is_wrong_block thing byte 0 0 (Some altered_block) ≡ false
-altered-right = (let e = eq-eqb (length altered_block) 6 length-altered in rw (e, differs-altered) refl)
+altered-right = (let e = eq-eqb (length altered_block) 6 altered-so.0 in rw (e, altered-so.1) refl)
 
 -- with the altered block, and without that of provider 2, the stripe gives the file's symbols
 pub damaged-give : GivesSymbols thing 0
@@ -210,15 +191,15 @@ opening = Opens symbols (Store 0 1 0 ∷ Store 2 1 0 ∷ End ∷ []) ∷ fetchin
 
 opens : (w : State) (n : ℕ) → AreGoing (begun two_damaged w n) opening
 unfolding setup_in
-opens w n = turn (damaged-give, (finds altered_block 1 differs-altered).0)
-    (turn (block_sized 3) (turn refl (turn (block_sized 1) (turn altered-sized tt))))
+opens w n = turn (damaged-give, (finds altered_block 1 altered-so.1).0)
+    (turn (block_sized 3) (turn refl (turn (block_sized 1) (turn (whole altered_block 6 altered-so.0) tt))))
 
 -- it mends both, and ends with status 0
 pub done : Scrub (Scrubbed 1 symbols_off blocks_off) two_damaged devices.scrubbed (ends 0)
 unfolding setup_in
 done = scrub (Mends ∷ Mends ∷ opening) unalone (refl, refl, refl, refl, refl, (refl, refl))
     (record { written = inl (refl, refl); place = refl })
-    (λ w n. let f = finds altered_block 1 differs-altered in
+    (λ w n. let f = finds altered_block 1 altered-so.1 in
     (turn tt (turn tt (opens w n)), (refl, f.1, f.2, refl), refl))
 
 -- its first store fails, and it ends with status 13 and tells the provider

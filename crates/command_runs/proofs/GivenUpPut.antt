@@ -1,8 +1,7 @@
 -- Puts that are given up, from every state that was just opened: what was read is stored stripe by stripe,
 -- and no end is appended.
-use Rattle.std.specs.Prelude.{slice_get, replicate}
 use Rattle.std.specs.List.{flat_map, list_all, range_with_len}
-use Rattle.std.proofs.Common.{◌≡◌, ℕ, zero, suc, ◌+◌, ◌*◌, ◌<◌, ◌≤◌, ◌&&◌, true, List, [], ◌∷◌, ◌++◌, length, take, drop, Option, None, Some, refl, ap, sym, subst, ◌∙◌, inl, inr, arith}
+use Rattle.std.proofs.Common.{◌≡◌, ℕ, zero, suc, ◌+◌, ◌*◌, ◌<◌, ◌≤◌, ◌&&◌, true, List, [], ◌∷◌, ◌++◌, length, take, drop, Option, None, Some, refl, ap, sym, subst, ◌∙◌, inl, inr, arith, slice_get, replicate}
 use Rattle.std.proofs.lemmas.List.{length-take-le, length-replicate, take-append-drop, take-append-le}
 use Rattle.std.proofs.lemmas.List.Folds.{list_all-append}
 use Rattle.record_defs.specs.Examples.{four as setup}
@@ -15,9 +14,8 @@ use Rattle.made_runs.proofs.Steps.{first}
 use Rattle.command_runs.specs.Words.{upto, columns, Rose, Provider, A, largest_file, spelling, PutJob, Job, object_of, stripes_of, Action, Store, End, append_actions, on_each_provider, actions_of, beginning, AreBytes, empty_provider, Moment, now, State, setup_in, with_provider, PutUnder, Seen, provider_at, refusal_over, put_stripe, StopsReading, PartRan, PartRuns, AnswersPut, Answers, MayName, IsSure, put_of, ends, stored, can_go, can_step, gone, stepped, Turn, Goes, gone_by, can_go_by, job_run, AreFitTurns}
 use Rattle.command_runs.specs.Devices.{named, four_records, none_hold}
 use Rattle.command_runs.specs.GivenUp.{sevens, long, first_stripe, longest_part, holds_stripes, storing, to_put_source, put_given_up, put_too_long}
-use Rattle.command_runs.proofs.Shape.{four, over, sure, stands_for}
 use Rattle.command_runs.proofs.Made.{handed-four, begun_with, after_turns, spelled, spelled-is, are-steps}
-use Rattle.command_runs.proofs.Stores.{four-fit, started-fit}
+use Rattle.command_runs.proofs.Stores.{four-fit, started-fit, four, over, sure, stands_for}
 
 -- ---- where the stores stand
 

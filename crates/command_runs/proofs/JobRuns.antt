@@ -6,8 +6,7 @@ use Rattle.second_half_laws.proofs.ByteSteps.{block_sized, symbols, own_work, by
 use Rattle.damage_run.proofs.Values.{without_zero_give, without_two_give, right, same_first, no_answer, sums, judged}
 use Rattle.command_runs.specs.Words.{A, four, Drop, AuditStart, AuditDone, RepairDone, Version, spelling, actions_of, Got, Dropped, Audited, Repaired, Upgraded, Lost, ProviderFault, DiskFault, GetJob, DropJob, AuditJob, RepairJob, UpgradeJob, State, setup_in, counts, byte, ends, Turn, Goes, Works, Notes, Came, Heard, Gives, LosesOne, StoreFails, Cut, AreFitTurns}
 use Rattle.command_runs.specs.Devices.{named, byte_records, dropped_records, byte_audited_records, byte_repaired_records, byte_upgraded_records, own_block, byte_kept, byte_upgraded, upgrade_cut, dropped, drop_cut, damaged, byte_audited, audit_cut, answers_heard, due, repaired, repair_cut, repair_failed, due_lost, repair_lost, mended, got, own_blocks_heard, robbed_later, got_later, later_heard, all_lost, found_lost, all_hidden, hidden_fetched, no_blocks, ends_at, ends_hearing}
-use Rattle.command_runs.proofs.Shape.{stands_for, sure}
-use Rattle.command_runs.proofs.Stores.{byte-fit, dropped-fit, audited-fit, repaired-fit, upgraded-fit, stored-sure, robbed-old, robbed_due-old, damaged-sure, due-sure, mended-sure, hidden}
+use Rattle.command_runs.proofs.Stores.{byte-fit, dropped-fit, audited-fit, repaired-fit, upgraded-fit, stored-sure, robbed-old, robbed_due-old, damaged-sure, due-sure, mended-sure, hidden, stands_for, sure}
 use Rattle.command_runs.proofs.Made.{begun_with, Run, before, ran, turn, next, behind}
 
 -- a provider gives its own block

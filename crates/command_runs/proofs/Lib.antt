@@ -1,4 +1,3 @@
-pub mod Begins
 pub mod Shape
 pub mod Stores
 pub mod Puts

@@ -1,8 +1,6 @@
 -- Jobs that are given by their turns, from every state that was just opened over four providers, and commands
 -- that run them over the file of one byte: the state that is left is computed.
-use Rattle.std.specs.Prelude.{slice_get, reverse}
-use Rattle.std.specs.Option.{option_map}
-use Rattle.std.proofs.Common.{◌≡◌, ◌⊎◌, ℕ, zero, suc, ◌+◌, true, List, [], ◌∷◌, length, ◌++◌, Option, Some, None, refl, ap, sym, subst, ◌∙◌, inl, inr, arith}
+use Rattle.std.proofs.Common.{◌≡◌, ◌⊎◌, ℕ, zero, suc, ◌+◌, true, List, [], ◌∷◌, length, ◌++◌, Option, Some, None, refl, ap, sym, subst, ◌∙◌, inl, inr, arith, slice_get, reverse, option_map}
 use Rattle.std.proofs.lemmas.Bool.{false≢true}
 use Rattle.machine_defs.specs.Stands.{StandsPlain, StandsWithDoubt, StandsSwitched, StandsForState}
 use Rattle.state_laws.proofs.Packs.{file-alike}
@@ -10,9 +8,9 @@ use Rattle.job_laws.proofs.BeginRefusals.{refusal-alone}
 use Rattle.job_laws.proofs.Alike as alike
 use Rattle.job_laws.proofs.Alike.{ran-alike}
 use Rattle.job_laws.proofs.Telling.{left-alone, jobs-leave}
-use Rattle.made_runs.specs.Turns.{AreFitTurns}
 use Rattle.made_runs.proofs.Steps.{first, second, steps}
 use Rattle.made_runs.proofs.Turns.{goes-so}
+use Rattle.made_runs.specs.Turns.{AreFitTurns}
 use Rattle.command_runs.specs.Words.{Cells, EachImage, Provider, Record, Area, A, StandsActive, File, file_of, Kind, Job, job_of, Answer, beginning, Step, Ended, IsSpelledKind, Entry, heard_by, Happens, State, Doubt, Moment, now, AreHanded, IsJustOpened, Seen, Ending, SameSource, provider_at, AreSteps, text_of, IsOpened, setup_in_effect, refusal_over, IsNext, IsNextRecord, SameBehind, SamePast, RanAlone, RunsAlone, EndsByAnswer, AnswersJob, past, AnswersAlone, MayName, can_step, Turn, Goes, Gives, LosesOne, StoreFails, Cut, gone_by, can_go_by, turned, FitsTurn, FitsStep, told, after_step, job_run, is_more}
 use Rattle.command_runs.specs.Devices.{each, named}
 use Rattle.command_runs.proofs.Shape.{four, formed, form-is, one_byte, one_byte-is}

@@ -1,6 +1,5 @@
 -- Puts of one byte, from every state that was just opened; one leaves a disk whose last gate is loose.
-use Rattle.std.specs.Prelude.{IfSome}
-use Rattle.std.proofs.Common.{◌⊎◌, ℕ, true, List, [], ◌∷◌, ◌++◌, take, refl, ap, sym, subst, inl, inr, ◌≡◌, false, length, Option, Some, None, arith}
+use Rattle.std.proofs.Common.{◌⊎◌, ℕ, true, List, [], ◌∷◌, ◌++◌, take, refl, ap, sym, subst, inl, inr, ◌≡◌, false, length, Option, Some, None, arith, IfSome}
 use Rattle.std.proofs.lemmas.Bool.{false≢true}
 use Rattle.device_defs.proofs.Lasting.{reads-firm}
 use Rattle.device_defs.proofs.PickLaws.{IsImage-reads}
@@ -8,9 +7,7 @@ use Rattle.journal_core.proofs.CellLemmas.{IsImage-firm}
 use Rattle.journal_core.proofs.ImageLemmas.{either-after}
 use Rattle.command_runs.specs.Words.{Cells, firm, Stopped, IsImage, EachImage, PutDone, Record, PutStart, spelling, magic, text, before_gate, A, IsSwitched, entries, StandsActive, Area, then_told, PutJob, actions_of, Answer, Put, ProviderFault, DiskFault, Memory, Ended, AreBytes, setup_in, RunsAlone, EndsByAnswer, text_of, IsOpened, setup_in_effect, is_unknown, refusal_over, Seen, provider_at, AnswersPut, MayName, byte, other_name, ends, Turn, Goes, Gives, StoreFails, Cut, told}
 use Rattle.command_runs.specs.Devices.{started_records, byte_records, each, named, four_records, both_records, byte_upgraded_records, byte_own_records, to_put, byte_stored, put_failed, put_cut, put_torn, put_unmade, all_hidden, to_put_other, stored_other, to_put_own, stored_own}
-use Rattle.command_runs.proofs.Stores.{started-fit, four-fit, byte-fit, both-fit, own-fit, put-old, hidden-fresh, to_put_other-sure, to_put_own-sure}
-use Rattle.command_runs.proofs.Shape.{stands_for}
-use Rattle.command_runs.proofs.Begins.{put_begins}
+use Rattle.command_runs.proofs.Stores.{put_begins, started-fit, four-fit, byte-fit, both-fit, own-fit, put-old, hidden-fresh, to_put_other-sure, to_put_own-sure, stands_for}
 use Rattle.command_runs.proofs.Made.{GoesSo, after_turns, spelled, ends-by, alone-so, turns-so, job-ends, next, behind}
 
 -- the last record with its closed gate

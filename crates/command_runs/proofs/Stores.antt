@@ -1,10 +1,11 @@
--- Each store before and after the commands is known.
-use Rattle.std.proofs.Common.{◌≤◌, List, ◌∷◌, refl, arith}
-use Rattle.std.specs.Prelude.{IsTrue}
+-- Each store before and after the commands is known. What proofs cite of Shape is passed on.
+use Rattle.std.proofs.Common.{◌≡◌, None, ◌≤◌, List, ◌∷◌, refl, arith, IsTrue}
 use Rattle.std.specs.List.{list_all}
-use Rattle.command_runs.specs.Words.{AreAccepted, Area, A, end_in, Record, is_in_grammar, largest_journal, IsOpened, setup_in_effect, IsSure}
-use Rattle.command_runs.specs.Devices.{four_records, started_records, byte_records, dropped_records, byte_audited_records, byte_repaired_records, both_records, to_put_other, all_hidden, to_put, byte_stored, byte_kept, all_lost, due_lost, damaged, due, mended, byte_upgraded_records, byte_own_records, upgraded_kept, to_put_own, two_damaged}
-use Rattle.command_runs.proofs.Shape.{AreFitIn, sure}
+use Rattle.record_defs.specs.Examples.{four as setup}
+use Rattle.command_laws.proofs.Chains.{first-begins}
+use Rattle.command_runs.specs.Words.{PutJob, refusal_over, byte, AreAccepted, Area, A, end_in, Record, is_in_grammar, largest_journal, IsOpened, setup_in_effect, IsSure}
+use Rattle.command_runs.specs.Devices.{named, four_records, started_records, byte_records, dropped_records, byte_audited_records, byte_repaired_records, both_records, to_put_other, all_hidden, to_put, byte_stored, byte_kept, all_lost, due_lost, damaged, due, mended, byte_upgraded_records, byte_own_records, upgraded_kept, to_put_own, two_damaged}
+pub use Rattle.command_runs.proofs.Shape.{AreFitIn, formed, four, from_some, over, over-is, stands_for, sure}
 
 -- ---- a journal may hold the records
 
@@ -47,6 +48,10 @@ upgraded-fit = fits refl (refl, byte-fit.accepted) (omega arith)
 -- with a file that has a profile of its own
 pub own-fit : AreFitIn A byte_own_records
 own-fit = fits refl (refl, (refl, upgraded-fit.accepted)) (omega arith)
+
+-- no cause refuses the first put
+pub put_begins : refusal_over A four_records (PutJob named byte) None ≡ None
+put_begins = first-begins A setup named byte refl (omega arith)
 
 -- ---- the stores are sure
 

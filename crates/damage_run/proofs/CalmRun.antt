@@ -1,11 +1,9 @@
 -- The run is calm, and its audit missed no damage.
-use Rattle.std.proofs.Common.{◌≡◌, ℕ, ◌||◌, Bool, true, List, [], ◌∷◌, ◌++◌, Some, None, not, nat_le, take, drop, refl, arith}
+use Rattle.std.proofs.Common.{◌≡◌, ℕ, ◌||◌, Bool, true, List, [], ◌∷◌, ◌++◌, Some, None, not, nat_le, take, drop, refl, arith, leb-true}
 use Rattle.std.specs.List.{list_all}
-use Rattle.std.proofs.lemmas.Bool.{leb-true}
-use Rattle.machine_defs.specs.Calm.{replaced_count}
 use Rattle.second_half_laws.proofs.Finished.{unscrubbed}
 use Rattle.second_half_laws.proofs.Flagging.{flagging_misses_none}
-use Rattle.damage_run.specs.Words.{Job, job_of, actions_of, State, setup_in, Moment, IsRun, first_moments, Mark, IsCalm, since, relies, NoneMissed, AllTell, set_up, run_of, FindsAll, IsCalmRun}
+use Rattle.damage_run.specs.Words.{Job, job_of, actions_of, State, setup_in, Moment, IsRun, first_moments, Mark, IsCalm, since, relies, NoneMissed, AllTell, set_up, run_of, FindsAll, IsCalmRun, replaced_count}
 use Rattle.damage_run.specs.Schedule.{IsOutright}
 use Rattle.damage_run.specs.Points.{counts}
 use Rattle.damage_run.specs.SecondLoss.{damaged}

@@ -2,8 +2,7 @@
 -- where one may be wrong.
 use Rattle.std.proofs.Common.{ℕ, ◌≤◌, List, [], ◌∷◌, Option, Some, None, refl, arith}
 use Rattle.algebra_laws.specs.Poly.{agree as agree_over, is_seen as is_seen_over}
-use Rattle.code_defs.specs.Polynomials.{agree}
-use Rattle.damage_run.specs.Words.{LosesRow, GetJob, actions_of, Begin, Lose, Replaced, setup_in, set_up, Came, LosesOne, Instruction, Turns, Begins, Comes, AreFit}
+use Rattle.damage_run.specs.Words.{LosesRow, GetJob, actions_of, Begin, Lose, Replaced, setup_in, set_up, Came, LosesOne, Instruction, Turns, Begins, Comes, AreFit, agree}
 use Rattle.damage_run.specs.Schedule.{name}
 use Rattle.damage_run.proofs.Values.{thing, shown, all_open}
 use Rattle.damage_run.proofs.Run.{◌and◌, sizes, lose, got_again, fit, block}

@@ -2,7 +2,6 @@
 -- on.
 use Rattle.std.proofs.Common.{◌≡◌, ℕ, ◌<◌, ◌^◌, List, [], ◌∷◌, Some, None, option_map, refl, sym, arith}
 use Rattle.std.specs.Fmt.{digits}
-use Rattle.device_defs.specs.Providers.{without_block}
 use Rattle.machine_defs.specs.Transcripts.{CarriesOut}
 use Rattle.made_runs.specs.Steps.{called}
 pub use Rattle.made_runs.proofs.Instructions.{are-run}
@@ -10,7 +9,7 @@ pub use Rattle.run_laws.proofs.FirstHalf.{first_run}
 use Rattle.made_runs.proofs.Written.{carries}
 pub use Rattle.second_half_laws.proofs.ByteSteps.{block_sized, block, symbols, byte_back, own_work}
 pub use Rattle.second_half_laws.proofs.ByteTold.{starts}
-use Rattle.damage_run.specs.Words.{AuditStart, AuditDone, sized, PutJob, GetJob, AuditJob, RepairJob, actions_of, Put, Got, Audited, Repaired, Begin, Lose, Replaced, State, setup_in, Moment, IsRun, set_up, Goes, Works, Notes, Came, Heard, Gives, Instruction, Turned, Turns, Begins, Reopens, Comes, run_of, AreFit}
+use Rattle.damage_run.specs.Words.{AuditStart, AuditDone, sized, PutJob, GetJob, AuditJob, RepairJob, actions_of, Put, Got, Audited, Repaired, Begin, Lose, Replaced, State, setup_in, Moment, IsRun, set_up, Goes, Works, Notes, Came, Heard, Gives, Instruction, Turned, Turns, Begins, Reopens, Comes, run_of, AreFit, without_block}
 use Rattle.damage_run.specs.Schedule.{name, byte, schedule, written_lines}
 use Rattle.damage_run.specs.Points.{counts}
 use Rattle.damage_run.proofs.Values.{without_two_give, without_zero_give, right, same_first, no_answer, sums, judged}
@@ -77,28 +76,11 @@ fit_read = assumption (few, byte_back, own_work) and assumption few and (assumpt
 
 fit_audited : AreFit 8 set_up audited
 unfolding setup_in actions_of
-fit_audited = (
-  (
-    omega arith,
-    (
-      (refl, (refl, (refl, (sums, (sums, judged, refl), refl)))),
-      (
-        refl,
-        (
-          (refl, (refl, (sums, (sums, (sums, judged, refl), refl), refl))),
-          (
-            (refl, (refl, same_first _ _ refl)),
-            (
-              (refl, (refl, sym (no_answer _ refl))),
-              ((refl, (refl, same_first _ _ refl)), ((refl, (refl, same_first _ _ refl)), (refl, tt))),
-            ),
-          ),
-        ),
-      ),
-    ),
-  ),
-  fit_read,
-)
+fit_audited = (omega arith and (refl, (refl, (refl, (sums, (sums, judged, refl), refl)))) and refl
+    and (refl, (refl, (sums, (sums, (sums, judged, refl), refl), refl)))
+    and (refl, (refl, same_first _ _ refl)) and (refl, (refl, sym (no_answer _ refl)))
+    and (refl, (refl, same_first _ _ refl)) and (refl, (refl, same_first _ _ refl)) and refl and tt)
+    and fit_read
 
 pub fit_repaired : AreFit 8 set_up repaired
 unfolding setup_in actions_of

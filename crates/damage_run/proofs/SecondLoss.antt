@@ -1,11 +1,10 @@
 -- A get over a damaged store is one; at the repair's end the audit's begin is a mark, and the run goes on;
 -- and a block is lost while the repair's record is in doubt.
 use Rattle.std.proofs.Common.{◌≤◌, List, [], ◌∷◌, take, drop, refl, arith}
-use Rattle.machine_defs.specs.Untouched.{given_up, ended}
 use Rattle.machine_defs.proofs.Damaged.{missed_back}
 use Rattle.second_half_laws.proofs.ByteTold.{is_told}
 use Rattle.second_half_laws.proofs.InRuns.{calm_marked}
-use Rattle.damage_run.specs.Words.{actions_of, Got, Repaired, Lose, Replaced, setup_in, Moment, first_moments, Relies, NoneUnderWay, set_up, run_of, IsMended, IsCalmRun}
+use Rattle.damage_run.specs.Words.{actions_of, Got, Repaired, Lose, Replaced, setup_in, Moment, first_moments, Relies, NoneUnderWay, set_up, run_of, IsMended, IsCalmRun, given_up, ended}
 use Rattle.damage_run.specs.Points.{byte, at, counts}
 use Rattle.damage_run.specs.SecondLoss.{IsReadOver, MovesMark}
 use Rattle.damage_run.proofs.Run as instructions

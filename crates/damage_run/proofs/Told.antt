@@ -3,8 +3,7 @@ use Rattle.std.proofs.Common.{◌≡◌, ℕ, ◌==◌, ◌&&◌, Bool, true, fa
 use Rattle.std.proofs.lemmas.Bool.{and_parts, false≢true}
 use Rattle.algebra_laws.specs.Lists.{In}
 use Rattle.machine_defs.specs.Began.{NoneBegan}
-use Rattle.machine_defs.specs.Untouched.{unbegun}
-use Rattle.damage_run.specs.Words.{Kind, Event, Begin, BeginScrub, Begun, Outcome, Moment, relies, Relies, NoneBeganFor, NoneUnderWay, BeginsNoScrub}
+use Rattle.damage_run.specs.Words.{Kind, Event, Begin, BeginScrub, Begun, Outcome, Moment, relies, Relies, NoneBeganFor, NoneUnderWay, BeginsNoScrub, unbegun}
 
 -- each moment passes a test of it and of those before it
 abbrev pub all_pass : (Moment → List Moment → Bool) → List Moment → Bool

@@ -1,21 +1,19 @@
 -- What the providers hold and answer in the run: the blocks of a file of one byte over four providers, one of
 -- which is lost.
-use Rattle.std.proofs.Common.{◌≡◌, ℕ, suc, ◌/◌, ◌<◌, ◌≤◌, true, false, List, [], ◌∷◌, length, Option, Some, None, slice_set, slice_index, refl, ap, sym, subst, ◌∙◌, inl, arith}
+use Rattle.std.proofs.Common.{◌≡◌, ℕ, suc, ◌/◌, ◌<◌, ◌≤◌, ◌==◌, true, false, List, [], ◌∷◌, length, Option, Some, None, slice_set, slice_index, refl, ap, sym, subst, ◌∙◌, inl, arith, eq-eqb}
 use Rattle.algebra_laws.specs.Poly.{agree as agree_over, is_seen as is_seen_over}
 use Rattle.hail_field.proofs.AllNumbers.{nim_laws}
 use Rattle.code_defs.specs.ServerCode.{differences}
 use Rattle.code_defs.proofs.Values.{is_seen-none}
 use Rattle.code_defs.proofs.Codewords.{differences-same}
 use Rattle.column_defs.specs.Challenges.{Challenge, challenge_of, picked_row, sum_over, all_held, honest_answer, right_answer, bare_answer}
-use Rattle.column_defs.specs.Forgeries.{count_of}
-use Rattle.column_defs.specs.Opened.{AllOpen, OpensTo}
 use Rattle.column_defs.specs.Verdicts.{Sums, Judges}
 use Rattle.column_laws.proofs.RightRows.{given-right}
 use Rattle.column_laws.proofs.Worked.{column-right, opens-own}
+use Rattle.machine_defs.proofs.JobLists.{cond_true}
 use Rattle.aggregate.proofs.RightRow.{right_row, IsRightRow-right_row}
-use Rattle.second_half_laws.specs.FewWrong.{is_wrong_seen}
 use Rattle.second_half_laws.proofs.ByteSteps.{block, symbols, byte_back}
-use Rattle.damage_run.specs.Words.{four, upto, value, is_seen, Object, symbols_in, point, is_wrong_block, SeenBlock, OpensFile, GivesSymbols, bare, block_at, object_of}
+use Rattle.damage_run.specs.Words.{four, upto, value, is_seen, Object, symbols_in, point, is_wrong_block, SeenBlock, OpensFile, GivesSymbols, bare, block_at, object_of, sized, count_of, AllOpen, OpensTo, is_wrong_seen}
 use Rattle.damage_run.specs.Points.{byte, without_two, counts}
 
 -- the object of the file
@@ -110,21 +108,20 @@ judged = inl (
   rw (agrees_at 0, agrees_at 1, is_seen-none (value decider (point thing 2)), agrees_at 3) refl,
 )
 
--- ---- a block of which the first symbol is altered
+-- ---- blocks that are fetched, and one of which the first symbol is altered
 
--- what a block begins with, and what stands behind it
-pub head_is : (c : List ℕ) (n x : ℕ) → length c ≡ suc n → slice_index c 0 ≡ x →
-    (rest : List ℕ) × (c ≡ x ∷ rest)
-head_is [] n x size first = absurd (omega (arith, size))
-head_is (y ∷ ys) n x size first = (ys, ap (λ z. z ∷ ys) first)
+-- a block of this size is fetched as it is
+pub whole : (b : List ℕ) (size : ℕ) → length b ≡ size → Some b ≡ sized size (Some b)
+whole b size is = sym (cond_true (length b == size) (Some b) None (eq-eqb (length b) size is))
 
--- one symbol differs
-pub one_differs : (b : List ℕ) (rest : List ℕ) → b ≡ 111 ∷ rest → differences (slice_set b 0 5) b ≡ 1
-one_differs b rest is =
-    subst (λ c. differences (slice_set c 0 5) c ≡ 1) (sym is) (ap suc (differences-same rest))
-
-pub same_size : (b : List ℕ) (rest : List ℕ) → b ≡ 111 ∷ rest → length (slice_set b 0 5) ≡ length b
-same_size b rest is = subst (λ c. length (slice_set c 0 5) ≡ length c) (sym is) refl
+-- a block that begins with the byte keeps its size where its first symbol is altered, and differs there alone
+pub altered_is : (b : List ℕ) (n : ℕ) → length b ≡ suc n → slice_index b 0 ≡ 111 →
+    (length (slice_set b 0 5) ≡ suc n) × (differences (slice_set b 0 5) b ≡ 1)
+altered_is [] n size first = absurd (omega (arith, size))
+altered_is (x ∷ xs) n size first = (
+  size,
+  subst (λ y. differences (5 ∷ xs) (y ∷ xs) ≡ 1) (sym first) (ap suc (differences-same xs)),
+)
 
 -- ---- the file, of blocks one of which is absent
 

@@ -1,12 +1,9 @@
 //! A run, given outright.
-ghost use Rattle.std.specs.Prelude.{◌≡◌, ℕ, ◌≤◌, List, [], ◌∷◌};
+ghost use Rattle.std.specs.Prelude.{◌≡◌, ◌≤◌, List, [], ◌∷◌};
 ghost use Rattle.hail_field.specs.Shape.{IsShape};
 ghost use Rattle.code_defs.specs.Profiles.{profile_of};
-ghost use Rattle.column_defs.specs.Forgeries.{count_of, IsRow};
-ghost use Rattle.machine_defs.specs.Events.{AreBytes};
-ghost use Rattle.second_half_laws.specs.FewWrong.{is_wrong_seen};
 ghost use Rattle.headline.specs.Headline.{Headline};
-ghost use Rattle.damage_run.specs.Words.{RepairDone, four, upto, OpensFile, block_at, object_of, Lost, Moment, IsRun, now, AsksDamageOf, FirstHalf, SecondHalf, set_up, IsCalmRun};
+ghost use Rattle.damage_run.specs.Words.{RepairDone, four, upto, OpensFile, block_at, object_of, Lost, Moment, IsRun, now, AsksDamageOf, FirstHalf, SecondHalf, set_up, IsCalmRun, count_of, IsRow, AreBytes, is_wrong_seen};
 ghost use Rattle.damage_run.specs.Schedule.{byte, schedule, IsOutright};
 ghost use Rattle.damage_run.specs.Points.{without_two, EndsBy, InDoubt, IsDamaged, HasPoints};
 ghost use Rattle.damage_run.specs.SecondLoss.{IsReadOver, MovesMark};
@@ -54,8 +51,8 @@ pub fn a_get_is_lost()
     ensures { (ms : List Moment) × IsRun 8 set_up ms × EndsBy ms 63 6 (Lost 0 0) }
 {}
 
-/// And so are those of the laws on events: up to the end of the first get, one provider alone was damaged; and
-/// the whole schedule names two for damage.
+/// And so are those of the laws on events: up to the end of the first get, one provider alone was damaged;
+/// and the whole schedule names two for damage.
 #[tactic(auto, using(crate::proofs::SecondLoss::is_read))]
 pub fn a_damaged_store_is_read()
     ensures read { (ms : List Moment) × (gaps : List Moment) × (c : Moment) × (g : Moment)

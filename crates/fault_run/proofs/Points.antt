@@ -3,12 +3,11 @@ use Rattle.std.proofs.Common.{◌≡◌, ℕ, suc, Bool, true, false, List, [], 
 use Rattle.std.proofs.lemmas.Bool.{false≢true}
 use Rattle.code_defs.proofs.Values.{is_seen-none}
 use Rattle.machine_defs.specs.Begins.{new_job}
-use Rattle.machine_defs.specs.Failures.{GaveAmiss, HasFailures}
 use Rattle.machine_defs.specs.Given.{block_given, answer_given}
 use Rattle.machine_defs.specs.Steps.{next_action, holder_of}
 use Rattle.machine_defs.proofs.JobLists.{number_of}
 use Rattle.second_half_laws.proofs.Finished.{unscrubbed}
-use Rattle.damage_run.specs.Words.{Record, PutDone, Held, Given, GetJob, Job, job_of, Action, Store, Fetch, Ask, Remove, actions_of, Got, Lost, Event, Begin, Step, Continue, Refused, Ended, State, Append, Doubt, setup_in, Moment, first_moments, scrubbed, Makes, takes_out, NeverTakenOut, NoneContinues, OfOthers, set_up, IsRun, now, Count, count_in, RoseBy, IsMarkedRun}
+use Rattle.damage_run.specs.Words.{Record, PutDone, Held, Given, GetJob, Job, job_of, Action, Store, Fetch, Ask, Remove, actions_of, Got, Lost, Event, Begin, Step, Continue, Refused, Ended, State, Append, Doubt, setup_in, Moment, first_moments, scrubbed, Makes, takes_out, NeverTakenOut, NoneContinues, OfOthers, set_up, IsRun, now, Count, count_in, RoseBy, IsMarkedRun, GaveAmiss, HasFailures}
 use Rattle.damage_run.specs.Points.{name, byte, at}
 use Rattle.damage_run.proofs.CalmRun.{calm_by_test, tell}
 use Rattle.damage_run.proofs.Points.{event_of, is-event}

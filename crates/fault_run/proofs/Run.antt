@@ -2,8 +2,7 @@
 use Rattle.std.proofs.Common.{List, [], ◌∷◌, Some, refl, inl, inr, arith}
 use Rattle.machine_defs.specs.Refusals as refusal
 use Rattle.machine_defs.specs.States.{given_up, continued}
-use Rattle.made_runs.specs.Turns.{faulted}
-use Rattle.damage_run.specs.Words.{AuditDone, PutJob, GetJob, DropJob, AuditJob, actions_of, Got, Dropped, Audited, Begin, Step, Reopen, Continue, Refused, Closed, Continued, State, setup_in, Moment, IsRun, set_up, Goes, Works, Notes, Came, Heard, NoneCame, Gives, LosesOne, StoreFails, Cut, Instruction, Turns, Fails, Begins, Reopens, Stops, Comes, run_of, AreFit}
+use Rattle.damage_run.specs.Words.{AuditDone, PutJob, GetJob, DropJob, AuditJob, actions_of, Got, Dropped, Audited, Begin, Step, Reopen, Continue, Refused, Closed, Continued, State, setup_in, Moment, IsRun, set_up, Goes, Works, Notes, Came, Heard, NoneCame, Gives, LosesOne, StoreFails, Cut, Instruction, Turns, Fails, Begins, Reopens, Stops, Comes, run_of, AreFit, faulted}
 use Rattle.damage_run.specs.Points.{name, byte, counts}
 use Rattle.damage_run.proofs.Values.{right, same_first, sums, judged}
 use Rattle.damage_run.proofs.Run.{put, ◌and◌, few, sizes, are-run, block, symbols, byte_back, own_work}
@@ -60,23 +59,12 @@ fit_again = assumption (few, sizes, byte_back, own_work) and (assumption) and (r
 
 fit_audited : AreFit 8 set_up audited
 unfolding setup_in actions_of
-fit_audited = (
-  omega arith,
-  (
-    (refl, (refl, (refl, (sums, (sums, judged, refl), (sums, refl, refl))))),
-    (
-      refl,
-      (
-        (refl, (refl, (sums, (sums, (sums, judged, refl), (sums, refl, refl)), refl))),
-        ((refl, (refl, same_first _ _ refl)), tt),
-      ),
-    ),
-  ),
-) and assumption few
-    and (
-      omega arith,
-      ((refl, (refl, same_first _ _ refl)), ((refl, (refl, same_first _ _ refl)), (refl, tt))),
-    ) and (assumption) and fit_again
+fit_audited = (omega arith
+    and (refl, (refl, (refl, (sums, (sums, judged, refl), (sums, refl, refl))))) and refl
+    and (refl, (refl, (sums, (sums, (sums, judged, refl), (sums, refl, refl)), refl)))
+    and (refl, (refl, same_first _ _ refl)) and tt) and assumption few
+    and (omega arith and (refl, (refl, same_first _ _ refl)) and (refl, (refl, same_first _ _ refl)) and refl
+    and tt) and (assumption) and fit_again
 
 fit : AreFit 8 set_up instructions
 unfolding setup_in actions_of

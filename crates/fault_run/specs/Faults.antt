@@ -15,9 +15,7 @@
 use Rattle.std.specs.Prelude.{◌≡◌, ℕ, List, [], ◌∷◌, ◌++◌, replicate, suc, ◌<◌, length, Some, None}
 use Rattle.std.specs.List.{Contains}
 use Rattle.machine_defs.specs.Refusals as refusal
-use Rattle.column_defs.specs.Objects.{stripes}
-use Rattle.second_half_laws.specs.Damage.{RoseSince}
-use Rattle.damage_run.specs.Words.{PutJob, GetJob, DropJob, AuditJob, Put, Got, Dropped, Audited, Lost, ProviderFault, DiskFault, Event, Outcome, Begin, Step, Stop, Reopen, Continue, Refused, Opened, Begun, More, Ended, Stopped, Closed, Continued, IsStart, Moment, IsRun, IsCalm, relies, AreScrubsCalm, IsScrubCalm, AllTell, set_up, BeginsNoScrub, Record, PutDone, AuditDone, File, Fetched, Job, job_of, State, Append, object_in, file_in, setup_in, first_moments, came, HasStored, HasAsked, ComesIn, NeverTakenOut, EndsJob, NoneContinues, heard_in, Count, OfDisk, OfStores, OfOthers, IsFailure}
+use Rattle.damage_run.specs.Words.{PutJob, GetJob, DropJob, AuditJob, Put, Got, Dropped, Audited, Lost, ProviderFault, DiskFault, Event, Outcome, Begin, Step, Stop, Reopen, Continue, Refused, Opened, Begun, More, Ended, Stopped, Closed, Continued, IsStart, Moment, IsRun, IsCalm, relies, AreScrubsCalm, IsScrubCalm, AllTell, set_up, BeginsNoScrub, Record, PutDone, AuditDone, File, Fetched, Job, job_of, State, Append, object_in, file_in, setup_in, first_moments, came, HasStored, HasAsked, ComesIn, NeverTakenOut, EndsJob, NoneContinues, heard_in, Count, OfDisk, OfStores, OfOthers, IsFailure, stripes, RoseSince}
 use Rattle.damage_run.specs.Points.{name, byte, counts, at, InDoubt, IsEvent, EndsBy}
 
 -- the name of the second file is "b"

@@ -1,12 +1,11 @@
 //! What laws about faults say of the run given outright: each premise is met, and the law is called.
 ghost use Rattle.std.specs.Prelude.{◌≡◌, ◌⊎◌, ◌<◌, ℕ, List, Some, true, false};
 ghost use Rattle.machine_defs.specs.Refusals as refusal;
-ghost use Rattle.second_half_laws.specs.Damage.{IsReplaced, RoseSince};
 ghost use Rattle.second_half_laws.specs.Own.{IsExact};
 ghost use Rattle.second_half_laws.specs.Sharp.{IsLostByFaults};
 ghost use Rattle.second_half_laws.specs.Whole.{PutIsWhole, AuditIsWhole};
 ghost use Rattle.headline.specs.Headline.{Headline};
-ghost use Rattle.damage_run.specs.Words.{next_id, next_audit, columns, Job, Lost, State, Moment, now, first_moments, is_replaced_since, scrubbed, AreScrubsCalm, IsScrubCalm, HasStored, HasAsked, told_block, IsKept, heard_in, heard_by, given_to, OfDisk, OfStores, OfOthers, count_in, RoseBy, FirstHalf, SecondHalf, IsGetRefusal, set_up, IsMarkedRun};
+ghost use Rattle.damage_run.specs.Words.{next_id, next_audit, columns, Job, Lost, State, Moment, now, first_moments, is_replaced_since, scrubbed, AreScrubsCalm, IsScrubCalm, HasStored, HasAsked, told_block, IsKept, heard_in, heard_by, given_to, OfDisk, OfStores, OfOthers, count_in, RoseBy, FirstHalf, SecondHalf, IsGetRefusal, set_up, IsMarkedRun, IsReplaced, RoseSince};
 ghost use Rattle.damage_run.specs.Points.{name, byte, at, counts};
 ghost use Rattle.upgrade_run.specs.Schedule.{HasAll, thing};
 ghost use Rattle.fault_run.specs.Faults.{IsFaulty, HasFaults};

@@ -1,16 +1,8 @@
 -- Instructions in which no call fails leave all counts of faults.
-use Rattle.std.specs.Prelude.{◌≡◌, ℕ, zero, suc, ◌==◌, true, List, [], ◌∷◌, Option, None, Some}
 use Rattle.std.specs.List.{list_all}
-use Rattle.std.proofs.Common.{refl, ap, sym, ◌∙◌, inl, inr}
+use Rattle.std.proofs.Common.{refl, ap, sym, ◌∙◌, inl, inr, ◌≡◌, ℕ, zero, suc, ◌==◌, true, List, [], ◌∷◌, Option, None, Some}
 use Rattle.std.proofs.lemmas.Bool.{cases_Bool, eqb-true, false≢true}
-use Rattle.device_defs.specs.Providers.{Provider}
-use Rattle.machine_defs.specs.Actions.{Action, WriteBody, SyncBody, WriteGate, SyncGate, Store, Fetch, Ask, Work, Remove, End}
-use Rattle.machine_defs.specs.Events.{Event, Begin, BeginAt, BeginScrub, BeginPack}
-use Rattle.machine_defs.specs.Jobs.{Job, job_of, advanced}
-use Rattle.machine_defs.specs.Appends.{moved, doubted, done_append}
-use Rattle.machine_defs.specs.Runs.{Moment, now}
-use Rattle.machine_defs.specs.States.{State, Append, with_provider, going_on}
-use Rattle.machine_defs.specs.Steps.{next_action}
+use Rattle.made_runs.specs.Words.{Provider, Action, WriteBody, SyncBody, WriteGate, SyncGate, Store, Fetch, Ask, Work, Remove, End, Event, Begin, BeginAt, BeginScrub, BeginPack, Job, job_of, advanced, moved, doubted, done_append, Moment, now, State, Append, with_provider, going_on, next_action}
 use Rattle.machine_defs.proofs.JobLists.{cond_true, cond_false}
 use Rattle.made_runs.specs.Steps.{called, by_flight, acted, gone, gone_on, stepped}
 use Rattle.made_runs.specs.Turns.{Turn, Goes, Works, Notes, Came, Heard, NoneCame, StoreFails, Cut, after, after_next, after_found, gone_by, turned, job_run}

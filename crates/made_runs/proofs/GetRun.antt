@@ -1,16 +1,7 @@
 -- A put of no bytes and a get of it, and a stop before the fourth move of the put's last append: runs that
 -- are computed from their instructions.
-use Rattle.std.specs.Prelude.{List, [], ◌∷◌, codes, None}
-use Rattle.std.proofs.Common.{refl, inl, arith}
-use Rattle.machine_defs.specs.Jobs.{PutJob, GetJob}
-use Rattle.machine_defs.specs.Actions.{actions_of}
-use Rattle.machine_defs.specs.Answers.{Put, Got}
-use Rattle.machine_defs.specs.Events.{Begin, Stop, Stopped}
-use Rattle.machine_defs.specs.States.{State, setup_in}
-use Rattle.machine_defs.specs.Openings.{reread}
-use Rattle.machine_defs.specs.Machine.{Happens}
-use Rattle.machine_defs.specs.Runs.{Moment, IsRun, now}
-use Rattle.machine_defs.specs.Examples.{set_up}
+use Rattle.std.proofs.Common.{refl, inl, arith, List, [], ◌∷◌, codes, None}
+use Rattle.made_runs.specs.Words.{PutJob, GetJob, actions_of, Put, Got, Begin, Stop, Stopped, State, setup_in, reread, Happens, Moment, IsRun, now, set_up}
 use Rattle.made_runs.specs.Turns.{Goes, Gives}
 use Rattle.made_runs.specs.Instructions.{Instruction, Turns, Begins, Reopens, Stops, stopped, run_of, AreFit}
 use Rattle.made_runs.proofs.Instructions.{are-run}

@@ -1,12 +1,6 @@
 -- What instructions make that can be carried out is a run.
-use Rattle.std.specs.Prelude.{◌≡◌, ℕ, zero, suc, ◌<◌, ◌^◌, true, false, List, [], ◌∷◌, length, Option, None, Some}
-use Rattle.std.proofs.Common.{refl, arith, inl, inr}
-use Rattle.std.proofs.lemmas.Bool.{leb-true}
-use Rattle.machine_defs.specs.Events.{Event, Begin, BeginAt, BeginScrub, BeginPack, Begun}
-use Rattle.machine_defs.specs.Machine.{Happens}
-use Rattle.machine_defs.specs.Openings.{reread}
-use Rattle.machine_defs.specs.Runs.{Moment, IsRun, now}
-use Rattle.machine_defs.specs.States.{State, Doubt, Settles, setup_in, given_up}
+use Rattle.std.proofs.Common.{refl, arith, inl, inr, ◌≡◌, ℕ, zero, suc, ◌<◌, ◌^◌, true, false, List, [], ◌∷◌, length, Option, None, Some, leb-true}
+use Rattle.made_runs.specs.Words.{Event, Begin, BeginAt, BeginScrub, BeginPack, Begun, Happens, reread, Moment, IsRun, now, State, Doubt, Settles, setup_in, given_up}
 use Rattle.made_runs.specs.Steps.{can_step}
 use Rattle.made_runs.specs.Turns.{Turn, Goes, gone_by, can_go_by, turned, FitsTurn, job_run}
 use Rattle.made_runs.specs.Sweeps.{Sweep}

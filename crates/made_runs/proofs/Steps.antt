@@ -1,19 +1,8 @@
 -- A step that can be made in which nothing fails happens.
-use Rattle.std.specs.Prelude.{◌≡◌, ℕ, ◌==◌, ◌&&◌, Bool, true, false, not, List, Option, None, Some, is_some}
-use Rattle.std.proofs.Common.{refl, arith, inl}
+use Rattle.std.proofs.Common.{refl, arith, inl, ◌≡◌, ℕ, ◌==◌, ◌&&◌, Bool, true, false, not, List, Option, None, Some, is_some}
 use Rattle.std.proofs.lemmas.Bool.{eqb-true, false≢true}
-use Rattle.column_defs.specs.Challenges.{honest_answer}
-use Rattle.machine_defs.specs.Audits.{asked_challenge}
-use Rattle.device_defs.specs.Providers.{Held, Provider}
-use Rattle.device_defs.specs.ProviderCalls.{FetchGives, AskGives}
-use Rattle.machine_defs.specs.Jobs.{Kind, PutJob, GetJob, DropJob, AuditJob, RepairJob, UpgradeJob, Job, job_of, advanced}
-use Rattle.machine_defs.specs.Actions.{Action, WriteBody, SyncBody, WriteGate, SyncGate, Store, Fetch, Ask, Work, Remove, End}
-use Rattle.machine_defs.specs.Events.{Step, More}
-use Rattle.machine_defs.specs.Machine.{Happens}
-use Rattle.machine_defs.specs.States.{State, Append, Alone, setup_in, worked_object, going_on}
-use Rattle.machine_defs.specs.Appends.{Moves, Writes, IsAt, moved, doubted, done_append}
-use Rattle.machine_defs.specs.Steps.{block_to_store, Acts, ActsOrWaits, StepsOn, StepsJob, StepsOne, StepsOpen, Steps, next_action, holder_of}
-use Rattle.made_runs.specs.Steps.{stored, fetched, removed, block_from, answer_from, can_write, written, is_at, can_act, acted, by_flight, can_go, can_run, can_beside, can_unbarred, can_open, can_step, gone, gone_on, stepped}
+use Rattle.made_runs.specs.Words.{honest_answer, asked_challenge, Held, Provider, FetchGives, AskGives, Kind, PutJob, GetJob, DropJob, AuditJob, RepairJob, UpgradeJob, Job, job_of, advanced, Action, WriteBody, SyncBody, WriteGate, SyncGate, Store, Fetch, Ask, Work, Remove, End, Step, Outcome, More, Happens, State, Append, Alone, setup_in, worked_object, going_on, Moves, Writes, IsAt, moved, doubted, done_append, block_to_store, Acts, ActsOrWaits, StepsOn, StepsJob, StepsOne, StepsOpen, Steps, next_action, holder_of}
+use Rattle.made_runs.specs.Steps.{stored, fetched, removed, block_from, answer_from, can_write, written, is_at, can_act, acted, by_flight, can_go, can_run, is_ready, can_step, gone, gone_on, stepped}
 
 -- of two tests that hold the first does
 pub first : (a b : Bool) → (a && b) ≡ true → a ≡ true
@@ -122,43 +111,49 @@ acts w job (Remove j object) c = (
 )
 acts w job End c = absurd (false≢true c)
 
--- one that need not wait
-free : (w : State) (job : Job) (action : Action) (holder : Option ℕ) →
-    (not (is_some holder) && can_act w job action) ≡ true →
-    ActsOrWaits w job action holder More (acted w job action)
-free w job action None c = acts w job action c
-free w job action (Some h) c = absurd (false≢true c)
+-- an action that need not wait is made as it acts
+pub free : (w new : State) (job : Job) (action : Action) (outcome : Outcome) (holder : Option ℕ) →
+    not (is_some holder) ≡ true → Acts w job action outcome new →
+    ActsOrWaits w job action holder outcome new
+free w new job action outcome None c a = a
+free w new job action outcome (Some h) c a = absurd (false≢true c)
+
+-- where the vault is ready a job's step is its own
+pub ready : (w new : State) (n : ℕ) (outcome : Outcome) → is_ready w ≡ true →
+    StepsJob w (job_of w.jobs n) outcome new → Steps w n w.is_open outcome new
+ready w new n outcome c s = opened w.is_open c
+  where
+    beside : (alone : Option Alone) → not (is_some alone) ≡ true → StepsOne w n alone outcome new
+    beside None c = s
+    beside (Some alone) c = absurd (false≢true c)
+
+    unbarred : (barred : Bool) → (not barred && not (is_some w.alone)) ≡ true →
+        StepsOpen w n barred outcome new
+    unbarred true c = absurd (false≢true c)
+    unbarred false c = beside w.alone c
+
+    opened : (is_open : Bool) → (is_open && (not w.is_barred && not (is_some w.alone))) ≡ true →
+        Steps w n is_open outcome new
+    opened true c = unbarred w.is_barred c
+    opened false c = absurd (false≢true c)
 
 -- a job's next action
 goes : (w : State) (job : Job) (next : Option Action) → can_go w job next ≡ true →
     StepsOn w job next More (gone w job next)
 goes w job None c = absurd (false≢true c)
-goes w job (Some action) c = free w job action (holder_of w.append action) c
+goes w job (Some action) c =
+    (let held = is_some (holder_of w.append action) in
+    free w (acted w job action) job action More (holder_of w.append action)
+    (first (not held) (can_act w job action) c)
+    (acts w job action (second (not held) (can_act w job action) c)))
 
 -- that of a job that runs
 runs : (w : State) (found : Option Job) → can_run w found ≡ true → StepsJob w found More (gone_on w found)
 runs w None c = absurd (false≢true c)
 runs w (Some job) c = goes w job (next_action w job) c
 
--- where nothing runs alone
-beside : (w : State) (n : ℕ) (alone : Option Alone) → can_beside w n alone ≡ true →
-    StepsOne w n alone More (stepped w n)
-beside w n None c = runs w (job_of w.jobs n) c
-beside w n (Some alone) c = absurd (false≢true c)
-
--- and no disk call has failed
-unbarred : (w : State) (n : ℕ) (barred : Bool) → can_unbarred w n barred ≡ true →
-    StepsOpen w n barred More (stepped w n)
-unbarred w n true c = absurd (false≢true c)
-unbarred w n false c = beside w n w.alone c
-
--- in a vault that is open
-opened : (w : State) (n : ℕ) (is_open : Bool) → can_open w n is_open ≡ true →
-    Steps w n is_open More (stepped w n)
-opened w n true c = unbarred w n w.is_barred c
-opened w n false c = absurd (false≢true c)
-
 -- a step that can be made so happens
 pub steps : (limit m : ℕ) (w : State) (n : ℕ) → can_step w n ≡ true →
     Happens limit m w (Step n) More (stepped w n)
-steps limit m w n c = opened w n w.is_open c
+steps limit m w n c = ready w (stepped w n) n More (first (is_ready w) (can_run w (job_of w.jobs n)) c)
+    (runs w (job_of w.jobs n) (second (is_ready w) (can_run w (job_of w.jobs n)) c))

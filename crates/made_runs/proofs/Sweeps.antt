@@ -1,13 +1,7 @@
 -- A step of a scrub or a pack that can go so happens.
-use Rattle.std.specs.Prelude.{◌≡◌, ℕ, zero, suc, ◌==◌, ◌&&◌, Bool, true, false, not, List, [], ◌∷◌, Option, None, Some}
-use Rattle.std.proofs.Common.{refl, arith, inl, ap, sym}
+use Rattle.std.proofs.Common.{refl, arith, inl, ap, sym, ◌≡◌, ℕ, zero, suc, ◌==◌, ◌&&◌, Bool, true, false, not, List, [], ◌∷◌, Option, None, Some}
 use Rattle.std.proofs.lemmas.Bool.{false≢true}
-use Rattle.machine_defs.specs.Actions.{Action, Store, Fetch, Work, End}
-use Rattle.machine_defs.specs.Alone.{opened_scrub, scrubbing, block_to_scrub, Scrubs, StepsScrub, Packs, StepsAlone}
-use Rattle.machine_defs.specs.Events.{Step}
-use Rattle.machine_defs.specs.Machine.{Happens}
-use Rattle.machine_defs.specs.States.{State, Scrub, Pack, Alone, Scrubbing, Packing}
-use Rattle.machine_defs.specs.Steps.{StepsMine, StepsOne, StepsOpen, Steps}
+use Rattle.made_runs.specs.Words.{Action, Store, Fetch, Work, End, opened_scrub, scrubbing, block_to_scrub, Scrubs, StepsScrub, Packs, StepsAlone, Step, Happens, State, Scrub, Pack, Alone, Scrubbing, Packing, StepsMine, StepsOne, StepsOpen, Steps}
 use Rattle.made_runs.specs.Steps.{stored, fetched}
 use Rattle.made_runs.specs.Sweeps.{Sweep, Brings, Opens, Mends, Finds, Moves, Tells, swept_so, FitsScrub, scrubbed_on, FitsPack, packed_on, FitsTodo, after_todo, FitsAlone, after_alone, FitsSweep, swept}
 

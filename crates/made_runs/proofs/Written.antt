@@ -1,13 +1,7 @@
 -- What instructions make carries out their commands and writes their lines.
-use Rattle.std.specs.Prelude.{◌≡◌, ◌≢◌, ℕ, zero, suc, true, not, List, [], ◌∷◌, ◌++◌}
-use Rattle.std.proofs.Common.{refl, ap, sym, ◌∙◌}
+use Rattle.std.proofs.Common.{refl, ap, sym, ◌∙◌, ◌≡◌, ◌≢◌, ℕ, zero, suc, true, not, List, [], ◌∷◌, ◌++◌}
 use Rattle.std.proofs.lemmas.Bool.{false≢true}
-use Rattle.machine_defs.specs.Answers.{Lost, DiskFault, ProviderFault, Scrubbed, Packed}
-use Rattle.machine_defs.specs.Events.{Step, More}
-use Rattle.machine_defs.specs.Lines.{lines_of}
-use Rattle.machine_defs.specs.Runs.{Moment, now}
-use Rattle.machine_defs.specs.States.{State}
-use Rattle.machine_defs.specs.Transcripts.{GoOn, CarriesOut}
+use Rattle.made_runs.specs.Words.{Lost, DiskFault, ProviderFault, Scrubbed, Packed, Step, More, lines_of, Moment, now, State, GoOn, CarriesOut}
 use Rattle.machine_defs.specs.Transcripts as transcripts
 use Rattle.machine_defs.proofs.RunParts.{not_more}
 use Rattle.made_runs.specs.Steps.{stepped}

@@ -5,7 +5,7 @@
 --   AreWell is        == nor in instructions, as far as they are told here: what runs alone is not
 use Rattle.std.specs.Prelude.{◌≡◌, ℕ, Bool, true, false, List, [], ◌∷◌}
 use Rattle.std.specs.List.{list_all}
-use Rattle.machine_defs.specs.States.{State}
+use Rattle.made_runs.specs.Words.{State}
 use Rattle.made_runs.specs.Turns.{Turn, NoneCame, StoreFails, Cut}
 use Rattle.made_runs.specs.Instructions.{Instruction, Turned, Turns, Begins, Reopens, Comes}
 

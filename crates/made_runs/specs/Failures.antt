@@ -3,13 +3,8 @@
 --   can_fail_step w n == the next step of job n can be such a one
 --   failed_step w n   == the state after it
 use Rattle.std.specs.Prelude.{ℕ, ◌+◌, ◌&&◌, Bool, true, false, Option, None, Some}
-use Rattle.device_defs.specs.Providers.{Provider}
-use Rattle.machine_defs.specs.Jobs.{Job, Answered, job_of, advanced, advanced_with}
-use Rattle.machine_defs.specs.Actions.{Action, Ask, Remove}
-use Rattle.machine_defs.specs.States.{State, going_on}
-use Rattle.machine_defs.specs.Steps.{next_action}
-use Rattle.made_runs.specs.Steps.{called}
-use Rattle.made_runs.specs.Turns.{is_ready}
+use Rattle.made_runs.specs.Words.{Provider, Job, Answered, job_of, advanced, advanced_with, Action, Ask, Remove, State, going_on, next_action}
+use Rattle.made_runs.specs.Steps.{called, is_ready}
 
 -- a provider whose call failed
 abbrev pub call_failed : Provider → Provider

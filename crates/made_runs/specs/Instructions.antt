@@ -7,15 +7,8 @@
 --   run_of start is          == the moments of instructions
 --   AreFit limit start is    == each can be carried out
 use Rattle.std.specs.Prelude.{◌≡◌, ℕ, ◌+◌, ◌<◌, ◌^◌, true, false, List, [], ◌∷◌, ◌++◌, length, Option, None, Some, is_some, nat_le}
-use Rattle.record_defs.specs.Table.{setup_of}
-use Rattle.machine_defs.specs.Jobs.{Kind, PutJob}
+use Rattle.made_runs.specs.Words.{setup_of, Kind, PutJob, new_scrub, new_pack, alone_refusal, pack_refusal, Event, Begin, BeginAt, BeginScrub, BeginPack, Step, Stop, Reopen, Outcome, More, Opened, Begun, Stopped, IsSpelled, Happens, reread, Moment, now, State, Alone, Scrubbing, Packing, Doubt, setup_in, given_up, brought}
 use Rattle.machine_defs.specs.Begins.{beginning, refusal_of_begin}
-use Rattle.machine_defs.specs.Alone.{new_scrub, new_pack, alone_refusal, pack_refusal}
-use Rattle.machine_defs.specs.Events.{Event, Begin, BeginAt, BeginScrub, BeginPack, Step, Stop, Reopen, Outcome, More, Opened, Begun, Stopped, IsSpelled}
-use Rattle.machine_defs.specs.Machine.{Happens}
-use Rattle.machine_defs.specs.Openings.{reread}
-use Rattle.machine_defs.specs.Runs.{Moment, now}
-use Rattle.machine_defs.specs.States.{State, Alone, Scrubbing, Packing, Doubt, setup_in, given_up, brought}
 use Rattle.made_runs.specs.Turns.{Turn, told, after_step, FitsStep, FitsTurn, job_run}
 use Rattle.made_runs.specs.Sweeps.{Sweep, swept_so, swept, FitsSweep}
 use Rattle.made_runs.specs.Failures.{failed_step, can_fail_step}

@@ -6,17 +6,7 @@
 -- A step has a choice where it works on a stripe, ends, or writes what an audit counted: Turns has those.
 use Rattle.std.specs.Prelude.{ℕ, ◌==◌, ◌&&◌, Bool, true, false, not, List, length, Option, None, Some, is_some, if◌then◌else◌}
 use Rattle.std.specs.Option.{option_map}
-use Rattle.column_defs.specs.Challenges.{honest_answer}
-use Rattle.record_defs.specs.Records.{Record, PutStart, Drop, AuditStart, RepairDone, Version}
-use Rattle.record_defs.specs.Table.{version_of, next_id, next_audit}
-use Rattle.device_defs.specs.Faults.{one_more}
-use Rattle.device_defs.specs.Providers.{Held, Provider, with_block, without_object, sized}
-use Rattle.machine_defs.specs.Jobs.{Kind, PutJob, GetJob, DropJob, AuditJob, RepairJob, UpgradeJob, Job, Fetched, Answered, job_of, advanced, advanced_with}
-use Rattle.machine_defs.specs.Actions.{Action, WriteBody, SyncBody, WriteGate, SyncGate, Store, Fetch, Ask, Work, Remove, End}
-use Rattle.machine_defs.specs.States.{State, Append, Alone, setup_in, worked_object, going_on, with_provider}
-use Rattle.machine_defs.specs.Audits.{asked_challenge}
-use Rattle.machine_defs.specs.Appends.{is_first_append, done_record, begun_append, moved, doubted, done_append}
-use Rattle.machine_defs.specs.Steps.{block_to_store, next_action, holder_of}
+use Rattle.made_runs.specs.Words.{honest_answer, Record, PutStart, Drop, AuditStart, RepairDone, Version, version_of, next_id, next_audit, one_more, Held, Provider, with_block, without_object, sized, Kind, PutJob, GetJob, DropJob, AuditJob, RepairJob, UpgradeJob, Job, Fetched, Answered, job_of, advanced, advanced_with, Action, WriteBody, SyncBody, WriteGate, SyncGate, Store, Fetch, Ask, Work, Remove, End, State, Append, setup_in, worked_object, going_on, with_provider, asked_challenge, is_first_append, done_record, begun_append, moved, doubted, done_append, block_to_store, next_action, holder_of}
 
 -- ---- calls of a provider that go well
 
@@ -125,24 +115,13 @@ abbrev pub can_run : State → Option Job → Bool
 can_run w None = false
 can_run w (Some job) = can_go w job (next_action w job)
 
--- where nothing runs alone
-abbrev pub can_beside : State → ℕ → Option Alone → Bool
-can_beside w n None = can_run w (job_of w.jobs n)
-can_beside w n (Some alone) = false
-
--- and no disk call has failed
-abbrev pub can_unbarred : State → ℕ → Bool → Bool
-can_unbarred w n true = false
-can_unbarred w n false = can_beside w n w.alone
-
--- in a vault that is open
-abbrev pub can_open : State → ℕ → Bool → Bool
-can_open w n true = can_unbarred w n w.is_barred
-can_open w n false = false
+-- the vault is open, no disk call has failed, and nothing runs alone
+abbrev pub is_ready : State → Bool
+is_ready w = w.is_open && (not w.is_barred && not (is_some w.alone))
 
 -- the next step of a job can be such a one
 abbrev pub can_step : State → ℕ → Bool
-can_step w n = can_open w n w.is_open
+can_step w n = is_ready w && can_run w (job_of w.jobs n)
 
 -- the state after a job's next action
 abbrev pub gone : State → Job → Option Action → State

@@ -5,16 +5,8 @@
 --   FitsSweep w n sweep   == what runs alone has the number n, and its next step can go so
 use Rattle.std.specs.Prelude.{◌≡◌, ℕ, zero, suc, ◌==◌, ◌&&◌, true, not, List, [], ◌∷◌, ◌++◌, map, Option, None, Some}
 use Rattle.code_defs.specs.Points.{upto}
-use Rattle.column_defs.specs.Opened.{GivesSymbols}
+use Rattle.made_runs.specs.Words.{GivesSymbols, FetchGives, Fetched, Action, Store, Fetch, Work, End, scrubbed_object, scrub_stores, opened_scrub, scrubbing, unalone, block_to_scrub, packing, switching, switched, Scrubbed, Packed, Outcome, More, Ended, blocks_given, State, Scrub, Pack, Alone, Scrubbing, Packing, setup_in}
 use Rattle.record_defs.specs.Areas.{text_length}
-use Rattle.device_defs.specs.ProviderCalls.{FetchGives}
-use Rattle.machine_defs.specs.Jobs.{Fetched}
-use Rattle.machine_defs.specs.Actions.{Action, Store, Fetch, Work, End}
-use Rattle.machine_defs.specs.Alone.{scrubbed_object, scrub_stores, opened_scrub, scrubbing, unalone, block_to_scrub, packing, switching, switched}
-use Rattle.machine_defs.specs.Answers.{Scrubbed, Packed}
-use Rattle.machine_defs.specs.Events.{Outcome, More, Ended}
-use Rattle.machine_defs.specs.Given.{blocks_given}
-use Rattle.machine_defs.specs.States.{State, Scrub, Pack, Alone, Scrubbing, Packing, setup_in}
 use Rattle.made_runs.specs.Steps.{called, stored, fetched}
 
 -- how a step of what runs alone goes

@@ -6,23 +6,8 @@
 --   job_run start ms n turns == the moments ms with those of turns of job n before them
 --   AreFitTurns              == after them the job can go so in each, and each answers more
 use Rattle.std.specs.Prelude.{◌≡◌, ℕ, zero, suc, ◌+◌, ◌&&◌, Bool, true, false, not, List, [], ◌∷◌, Option, None, Some, is_some}
-use Rattle.column_defs.specs.Challenges.{honest_answer}
-use Rattle.column_defs.specs.Opened.{GivesSymbols, LosesRow}
-use Rattle.record_defs.specs.Records.{Record}
-use Rattle.device_defs.specs.Faults.{one_more}
-use Rattle.device_defs.specs.Providers.{Provider}
-use Rattle.device_defs.specs.ProviderCalls.{FetchGives, AskGives}
-use Rattle.machine_defs.specs.Audits.{asked_challenge}
-use Rattle.machine_defs.specs.Jobs.{Job, Fetched, Answered, Worked, job_of, advanced_with}
-use Rattle.machine_defs.specs.Actions.{Action, WriteBody, SyncBody, WriteGate, SyncGate, Store, Fetch, Ask, Work, End}
-use Rattle.machine_defs.specs.Answers.{Answer, Lost, DiskFault, ProviderFault}
-use Rattle.machine_defs.specs.Events.{Step, Outcome, More, Ended}
-use Rattle.machine_defs.specs.States.{State, setup_in, worked_object, going_on, ended}
-use Rattle.machine_defs.specs.Given.{blocks_given}
-use Rattle.machine_defs.specs.Appends.{Writes, begun_append, doubted, barred}
-use Rattle.machine_defs.specs.Runs.{Moment, now}
-use Rattle.machine_defs.specs.Steps.{Ends, next_action, holder_of}
-use Rattle.made_runs.specs.Steps.{called, fetched, can_step, stepped, is_at, by_flight}
+use Rattle.made_runs.specs.Words.{honest_answer, GivesSymbols, LosesRow, Record, one_more, Provider, FetchGives, AskGives, asked_challenge, Job, Fetched, Answered, Worked, job_of, advanced_with, Action, WriteBody, SyncBody, WriteGate, SyncGate, Store, Fetch, Ask, Work, End, Answer, Lost, DiskFault, ProviderFault, Step, Outcome, More, Ended, State, setup_in, worked_object, going_on, ended, blocks_given, Writes, begun_append, doubted, barred, Moment, now, Ends, next_action, holder_of}
+use Rattle.made_runs.specs.Steps.{called, fetched, is_ready, can_step, stepped, is_at, by_flight}
 
 -- how steps of a job go
 pub data Turn : Type 0 where
@@ -127,10 +112,6 @@ FitsNext w job (Some action) turn =
 abbrev pub FitsFound : State → Option Job → Turn → Type 0
 FitsFound w None turn = ⊥
 FitsFound w (Some job) turn = FitsNext w job (next_action w job) turn
-
--- a vault is open, no disk call has failed, and nothing runs alone
-abbrev pub is_ready : State → Bool
-is_ready w = w.is_open && (not w.is_barred && not (is_some w.alone))
 
 -- the next step of a job can go so
 abbrev pub FitsStep : State → ℕ → Turn → Type 0

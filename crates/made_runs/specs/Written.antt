@@ -4,10 +4,7 @@
 --   schedule_of is       == the commands of instructions
 --   lines_made start is  == the lines of their moments
 use Rattle.std.specs.Prelude.{ℕ, ◌&&◌, Bool, true, false, not, List, [], ◌∷◌, ◌++◌}
-use Rattle.machine_defs.specs.Events.{Step, Stop, Reopen, Outcome, More}
-use Rattle.machine_defs.specs.Lines.{lines_of}
-use Rattle.machine_defs.specs.Runs.{Moment}
-use Rattle.machine_defs.specs.States.{State}
+use Rattle.made_runs.specs.Words.{Step, Stop, Reopen, Outcome, More, lines_of, Moment, State}
 use Rattle.machine_defs.specs.Transcripts as transcripts
 use Rattle.made_runs.specs.Turns.{Turn, is_more}
 use Rattle.made_runs.specs.Sweeps.{Sweep, Finds, Tells}

@@ -1,13 +1,6 @@
 //! Runs, computed from their instructions.
 ghost use Rattle.std.specs.Prelude.{◌≡◌, List, [], ◌∷◌, ◌++◌, length, codes, Some, None};
-ghost use Rattle.record_defs.specs.Records.{PutDone};
-ghost use Rattle.machine_defs.specs.Jobs.{PutJob, GetJob};
-ghost use Rattle.machine_defs.specs.Events.{Begin, Stop, Reopen, Stopped};
-ghost use Rattle.machine_defs.specs.States.{State, Doubt, file_in};
-ghost use Rattle.machine_defs.specs.Machine.{Happens};
-ghost use Rattle.machine_defs.specs.Runs.{Moment, IsRun, now};
-ghost use Rattle.machine_defs.specs.Transcripts.{Once, RunJob, CarriesOut};
-ghost use Rattle.machine_defs.specs.Examples.{set_up};
+ghost use Rattle.made_runs.specs.Words.{PutDone, PutJob, GetJob, Begin, Stop, Reopen, Stopped, State, Doubt, file_in, Happens, Moment, IsRun, now, Once, RunJob, CarriesOut, set_up};
 
 /// A put of no bytes, and a get of it.
 pub fn stored_is_got()

@@ -1,10 +1,7 @@
 -- In the run with damage no count rises while the repair runs.
 use Rattle.std.proofs.Common.{◌≡◌, ℕ, ◌<◌, refl, arith}
 use Rattle.device_defs.specs.Faults.{Rose, last_count}
-use Rattle.machine_defs.specs.States.{State}
-use Rattle.machine_defs.specs.Runs.{now}
-use Rattle.machine_defs.specs.Examples.{set_up}
-use Rattle.made_runs.specs.Instructions.{run_of}
+use Rattle.damage_run.specs.Words.{State, now, set_up, run_of}
 use Rattle.made_runs.specs.Counts.{SameCounts, AreWell}
 use Rattle.made_runs.proofs.Counts.{called-same, counts-stay}
 use Rattle.damage_run.proofs.Run.{lose, audited, repaired}

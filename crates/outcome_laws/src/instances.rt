@@ -3,15 +3,10 @@ ghost use Rattle.std.specs.Prelude.{◌≡◌, ◌⊎◌, ℕ, List, [], ◌∷�
 ghost use Rattle.record_defs.specs.Table.{Due, due_of};
 ghost use Rattle.column_defs.specs.Verdicts.{Sums};
 ghost use Rattle.machine_defs.specs.Audits.{HasSums};
-ghost use Rattle.machine_defs.specs.States.{setup_in};
-ghost use Rattle.machine_defs.specs.Jobs.{RepairJob};
+ghost use Rattle.damage_run.specs.Words.{setup_in, RepairJob, set_up, Moment, IsRun, now, since, IsMarkedRun};
 ghost use Rattle.machine_defs.specs.Answers.{Repaired, Memory};
 ghost use Rattle.machine_defs.specs.Events.{Begin, Step, Names, Begun, Ended, Listed, Closed};
-ghost use Rattle.machine_defs.specs.Examples.{set_up};
-ghost use Rattle.machine_defs.specs.Runs.{Moment, IsRun, now};
-ghost use Rattle.machine_defs.specs.Calm.{since};
 ghost use Rattle.machine_defs.specs.Began.{NoneBegan};
-ghost use Rattle.second_half_laws.specs.MarkedRuns.{IsMarkedRun};
 ghost use Rattle.damage_run.specs.Schedule.{name, IsOutright};
 ghost use Rattle.damage_run.specs.SecondLoss.{MovesMark};
 ghost use Rattle.outcome_laws.specs.RunEnds.{NoneRose, TellsAudit};

@@ -1,6 +1,5 @@
 -- Each run has left devices; what a command over them does, by its clauses.
-use Rattle.std.proofs.Common.{◌≡◌, ℕ, ◌-◌, IsTrue, List, [], ◌∷◌, ◌++◌, length, refl, ap, sym, ◌∙◌, inl, arith, true, subst, inr, append_assoc}
-use Rattle.std.specs.Prelude.{drop, take, IsSome}
+use Rattle.std.proofs.Common.{◌≡◌, ℕ, ◌-◌, IsTrue, List, [], ◌∷◌, ◌++◌, length, refl, ap, sym, ◌∙◌, inl, arith, true, subst, inr, append_assoc, drop, take, IsSome}
 use Rattle.std.proofs.Math.Seq.{drop-append_seam}
 use Rattle.std.proofs.lemmas.List.{length-replicate}
 use Rattle.std.proofs.lemmas.List.FromFn.{length-map-range_with_len}

@@ -1,6 +1,5 @@
 -- The commands that lines spell, read from left to right as schedule_text reads a line.
-use Rattle.std.specs.Prelude.{◌≡◌, ℕ, List, [], ◌∷◌, Option, None, Some}
-use Rattle.std.proofs.Common.{refl, inl, inr, ◌∙◌}
+use Rattle.std.proofs.Common.{refl, inl, inr, ◌∙◌, ◌≡◌, ℕ, List, [], ◌∷◌, Option, None, Some}
 use Rattle.hex.specs.Hex.{decode_pairs}
 use Rattle.schedule_text.specs.Reading.{numeral_at, number_word_at, profile_at, bytes_at, put_at, get_at, begun_at, begin_at, step_at, run_at, alter_at, lose_at, stop_at, apart_at, behind_at, line_at}
 use Rattle.schedule_text.proofs.Again.{skipped-line, spelled-line}

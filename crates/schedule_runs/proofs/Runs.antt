@@ -1,22 +1,19 @@
 -- The runs that carry the schedules out, computed from their instructions.
-use Rattle.std.proofs.Common.{◌≡◌, ℕ, suc, true, List, [], ◌∷◌, Some, None, refl, ap, sym, ◌∙◌}
+use Rattle.std.proofs.Common.{◌≡◌, ℕ, suc, true, List, [], ◌∷◌, Some, None, refl, ap, sym, ◌∙◌, arith}
 use Rattle.std.specs.Fmt.{digits}
-use Rattle.device_defs.specs.Providers.{sized}
-use Rattle.made_runs.specs.Sweeps.{Tells}
 use Rattle.made_runs.specs.Written.{are_whole, schedule_of, lines_made}
 use Rattle.made_runs.proofs.Instructions.{are-run}
 use Rattle.made_runs.proofs.Written.{carries}
 use Rattle.second_half_laws.proofs.ByteSteps.{block, symbols, byte_back}
 use Rattle.second_half_laws.proofs.ByteTold.{starts}
-use Rattle.damage_run.specs.Words.{GetJob, actions_of, Got, Begin, BeginPack, Step, Ended, setup_in, Moment, now, first_moments, scrubbed, set_up, Works, Came, Gives, Moves, Instruction, Turns, Swept, Sweeps, Begins, Reopens, Stops, run_of, AreFit}
-use Rattle.damage_run.proofs.CalmRun.{calm_by_test}
+use Rattle.damage_run.specs.Words.{GetJob, actions_of, Got, Begin, BeginPack, Step, Ended, setup_in, Moment, now, first_moments, set_up, Works, Came, Gives, Moves, Instruction, Turns, Swept, Sweeps, Begins, Reopens, Stops, run_of, AreFit, sized, Tells}
+use Rattle.damage_run.proofs.Told.{mine}
 use Rattle.damage_run.proofs.Points.{event_of, is-event}
 use Rattle.damage_run.proofs.Run.{got_again, few, sizes, fit}
 use Rattle.damage_run.proofs.Values.{without_zero_give}
 use Rattle.upgrade_run.specs.Schedule.{stored_records}
-use Rattle.upgrade_run.proofs.Run.{put, swept, get, fit_put, fit_swept}
+use Rattle.upgrade_run.proofs.Run.{put, swept, get, fit_put, fit_swept, scrub_calm}
 use Rattle.upgrade_run.proofs.Values.{byte_back as own_back, block as own, own_sized, all_give}
-use Rattle.fault_run.proofs.Mended.{scrubs_calm_by_test}
 use Rattle.schedule_runs.specs.Words.{packed, name, byte}
 use Rattle.schedule_runs.specs.Schedule.{IsRunOf, IsStoppedRun, IsUpgradedRun, IsScrubbedRun, IsPackedRun}
 
@@ -86,8 +83,8 @@ pub is_scrubbed : IsScrubbedRun scrubbed_moments
 unfolding setup_in actions_of digits
 is_scrubbed = assumption (
   carried (get 4 swept) 36 4 fit_scrubbed refl refl refl refl,
-  calm_by_test (scrubbed set_up) scrubbed_moments refl,
-  scrubs_calm_by_test (scrubbed set_up) scrubbed_moments refl,
+  scrub_calm scrubbed_moments (are-run 8 set_up (get 4 swept) fit_scrubbed) (assumption (mine 0))
+      (omega arith),
 )
 
 -- ---- the same behind a pack, of which the first step is told apart

@@ -2,8 +2,8 @@
 --
 --   zeros_to area                               == zeros from behind the byte that names an area up to where
 --                                                  its text begins
---   disk_text area rs                           == a disk with the text of records in an area, which it names,
---                                                  and nothing in the other
+--   disk_text area rs                           == a disk with the text of records in an area, which it
+--                                                  names, and nothing in the other
 --   devices_left w                              == devices of a state: the disk reads the text of its journal
 --                                                  in its area, and no byte of it is loose
 --   DidNothing old new end                      == no event was done

@@ -21,15 +21,14 @@
 --   IsScrubbedRun ms  == these moments carry it out; they are calm, counted from the scrub's begin
 --   packed_schedule, packed_written, packed_text
 --                     == the upgrade and the put, and a pack, of which one step is told apart, and the get
---   IsPackedRun ms    == these moments carry it out; at their end the packed journal stands in the second area
+--   IsPackedRun ms    == these moments carry it out; at their end the packed journal stands in the second
+--                        area
 use Rattle.std.specs.Prelude.{◌≡◌, ℕ, true, false, List, [], ◌∷◌, ◌++◌, codes, Some}
 use Rattle.std.specs.List.{flat_map}
-use Rattle.machine_defs.specs.Answers.{Got}
-use Rattle.machine_defs.specs.Events.{Begin, BeginAt, BeginScrub, BeginPack, Step, Alter, Stop, Reopen}
 use Rattle.machine_defs.specs.Jobs.{GetJob, UpgradeJob}
 use Rattle.machine_defs.specs.Lines.{line}
 use Rattle.damage_run.specs.Points.{EndsBy}
-use Rattle.schedule_runs.specs.Words.{B, packed, File, version_of, set_up, Moment, IsRun, now, is_replaced_since, scrubbed, IsScrubCalm, IsStart, setup_in, file_in, Instruction, Once, RunJob, CarriesOut, name, byte, schedule, written_lines}
+use Rattle.schedule_runs.specs.Words.{Got, Begin, BeginAt, BeginScrub, BeginPack, Step, Alter, Stop, Reopen, B, packed, File, version_of, set_up, Moment, IsRun, now, is_replaced_since, scrubbed, IsScrubCalm, IsStart, setup_in, file_in, Instruction, Once, RunJob, CarriesOut, name, byte, schedule, written_lines}
 
 -- these moments carry out a schedule, and the last of them gives the file
 pub record IsRunOf (schedule : List Instruction) (written : List ℕ) (k job : ℕ)

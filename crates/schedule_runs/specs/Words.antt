@@ -3,6 +3,9 @@ pub use Rattle.record_defs.specs.Areas.{A, Area, B, StandsActive, area_of, base_
 pub use Rattle.record_defs.specs.Packed.{packed}
 pub use Rattle.record_defs.specs.Records.{Record, is_in_grammar}
 pub use Rattle.record_defs.specs.Table.{File, version_of}
+unfoldable pub use Rattle.machine_defs.specs.Actions.{actions_of}
+pub use Rattle.machine_defs.specs.Answers.{Got}
+pub use Rattle.machine_defs.specs.Events.{Alter, Begin, BeginAt, BeginPack, BeginScrub, Reopen, Step, Stop}
 pub use Rattle.machine_defs.specs.Examples.{set_up}
 pub use Rattle.machine_defs.specs.Halves.{AllTell, SecondHalf}
 pub use Rattle.machine_defs.specs.Runs.{IsRun, Moment, first_moments, is_replaced_since, now}

@@ -51,8 +51,8 @@ pub fn an_upgrade_has_its_run()
         KeepsTheHeadline old new end → KeepsItsFile set_up ms name upgraded_file old new end) }
 {}
 
-/// So it is of a text with the same upgrade and put, an altered symbol, a scrub that finds and mends it, and a
-/// get. The run is calm, counted from the scrub's begin, so the second half holds of it by scrubs, whatever
+/// So it is of a text with the same upgrade and put, an altered symbol, a scrub that finds and mends it, and
+/// a get. The run is calm, counted from the scrub's begin, so the second half holds of it by scrubs, whatever
 /// audits missed, and providers are exact; so it does of what a command makes of it that stays calm.
 pub fn a_scrub_has_its_run()
     ensures spells { IsSchedule scrubbed_text (reverse scrubbed_schedule) }
@@ -65,8 +65,8 @@ pub fn a_scrub_has_its_run()
         KeepsTheHeadline old new end → KeepsSecondHalf set_up ms old new end) }
 {}
 
-/// So it is of a text with the same upgrade and put, a pack, and a get, which gives the file out of the second
-/// area.
+/// So it is of a text with the same upgrade and put, a pack, and a get, which gives the file out of the
+/// second area.
 pub fn a_pack_has_its_run()
     ensures spells { IsSchedule packed_text (reverse packed_schedule) }
     ensures fits { AllByRecursion CanBeSpelled (reverse packed_schedule) }

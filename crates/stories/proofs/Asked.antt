@@ -1,11 +1,8 @@
 -- What the instances ask for beside their runs.
-use Rattle.std.proofs.Common.{◌≡◌, ℕ, zero, suc, Bool, List, [], ◌∷◌, String, length, Some, None, refl, subst, arith}
-use Rattle.std.specs.Prelude.{IsSome}
-use Rattle.std.specs.declared.alloc.Global.{Global}
+use Rattle.std.proofs.Common.{◌≡◌, ℕ, zero, suc, Bool, List, [], ◌∷◌, String, length, Some, None, refl, subst, arith, IsSome, Global}
 use Rattle.device_defs.specs.Providers.{Provider}
 use Rattle.command_defs.specs.Commands.{Answers}
-use Rattle.command_runs.proofs.Meets.{never}
-use Rattle.command_runs.proofs.Shape.{always, four, from_some}
+use Rattle.command_runs.proofs.Meets.{never, always, four, from_some}
 use Rattle.hail_client.proofs.Fresh.{is-start, are-devices}
 use Rattle.hail_top.proofs.Words.{command-words}
 use Rattle.stories.specs.Words.{Cells, Record, empty_provider, IsFresh, Command, IsForm, Seen, Ending, NoCountFalls, provider_at, IsSteady, none_hold, damaged, packed_kept, got_packed, start_of, TellAll, devices_of_seen, AreLeft, AnswersWords, InitsOn}
@@ -43,10 +40,10 @@ falls old new idle = record {
 
 -- then words that spell a command are answered as it is
 pub answered : ((words : List (String Global)) (command other : Command) → IsForm words command →
-    IsForm words other → command ≡ other) → (words : List (String Global)) (command : Command)
-    {old new : Seen} {end : Ending} → IsForm words command → Answers command old new end →
-    InitsOn command old new end → IsIdle old new → AnswersWords words old new end
-answered once words command {old} {new} {end} spells answers inits idle = command-words words command old new
+    IsForm words other → command ≡ other) → (command : Command) {old new : Seen} {end : Ending} →
+    Answers command old new end → InitsOn command old new end → IsIdle old new →
+    (words : List (String Global)) → IsForm words command → AnswersWords words old new end
+answered once command {old} {new} {end} answers inits idle words spells = command-words words command old new
     end spells (λ other also. once words command other spells also) answers inits (falls old new idle)
 
 -- ---- devices

@@ -1,14 +1,11 @@
 -- A replay that puts a file of one byte and gets it, over a store that was set up: its run is computed from
 -- the turns of the two jobs.
-use Rattle.std.proofs.Common.{◌≡◌, suc, List, [], ◌∷◌, ◌++◌, ◌≤◌, length, Some, None, refl, ap, sym, subst, ◌∙◌, inl, inr, arith, lit≤}
-use Rattle.std.specs.Prelude.{true, reverse, is_some}
+use Rattle.std.proofs.Common.{◌≡◌, suc, List, [], ◌∷◌, ◌++◌, ◌≤◌, length, Some, None, refl, ap, sym, subst, ◌∙◌, inl, inr, arith, lit≤, true, reverse, is_some}
 use Rattle.std.specs.Fmt.{digits}
 use Rattle.device_defs.proofs.PickLaws.{IsImage-reads}
 use Rattle.journal_core.proofs.Meanings.{one_meaning}
 use Rattle.machine_defs.specs.Machine.{Happens}
 use Rattle.machine_defs.specs.Transcripts.{Instruction as Command}
-use Rattle.made_runs.specs.Turns.{Turn, job_run}
-use Rattle.made_runs.specs.Instructions.{begun_by, moment}
 use Rattle.made_runs.proofs.Instructions.{turns-run}
 use Rattle.made_runs.proofs.Written.{carries}
 use Rattle.second_half_laws.proofs.ByteSteps.{block_sized, symbols, own_work, byte_back}
@@ -18,10 +15,8 @@ use Rattle.state_laws.specs.Sound.{IsSound}
 use Rattle.state_laws.proofs.Events.{events-sound, run-sound}
 use Rattle.job_laws.proofs.BeginRefusals.{refusal-alone}
 use Rattle.command_laws.proofs.GoingOn.{settled, SettlesOn, MaySettle, settled-by}
-use Rattle.damage_run.specs.Words.{Record, Event, PutJob, GetJob, actions_of, Put, Got, Begin, Reopen, Continue, Opened, Begun, Continued, State, setup_in, Moment, IsRun, now, Goes, Works, Came, Gives, Instruction, Turns, Comes, run_of}
-use Rattle.command_runs.proofs.Begins.{put_begins, get_begins}
-use Rattle.command_runs.proofs.Shape.{four, formed, over-is, from_some}
-use Rattle.command_runs.proofs.Stores.{put-old, put-new}
+use Rattle.damage_run.specs.Words.{Record, Event, PutJob, GetJob, actions_of, Put, Got, Begin, Reopen, Continue, Opened, Begun, Continued, State, setup_in, Moment, IsRun, now, Goes, Works, Came, Gives, Instruction, Turns, Comes, run_of, begun_by, moment, Turn, job_run}
+use Rattle.command_runs.proofs.Stores.{put_begins, put-old, put-new, four, formed, over-is, from_some}
 use Rattle.schedule_runs.proofs.Read.{read, are-lines}
 use Rattle.stories.specs.Words.{Cells, reads, firm, text, A, StandsActive, setup_of, empty_provider, lines_of, setup_or_none, continued, CarriesOut, sinking, byte, named, four_records, own_block, lines, IsSchedule, devices_of_seen, AnswersReplay, Replays, AreLeft, called_behind}
 use Rattle.stories.specs.Files.{put_of, got_behind}
@@ -95,7 +90,7 @@ module _ (start : State) (before : List Moment) where
   run-on reopens run = turns-run 8 start get_begun 2 get_turns (omega arith)
       (assumption (byte_back, own_work, block_sized 3, block_sized 2, block_sized 1, block_sized 0)) (
         refl,
-        (refl, refusal-alone (now start stored) (GetJob named) None ∙ get_begins, refl, refl),
+        (refl, refusal-alone (now start stored) (GetJob named) None, refl, refl),
         turns-run 8 start put_begun 1 put_turns (omega arith) (assumption) (
           (refl, refl),
           (refl, refusal-alone opened (PutJob named byte) None ∙ put_begins, refl, refl),

@@ -4,8 +4,7 @@ use Rattle.second_half_laws.proofs.ByteSteps.{block_sized, symbols, byte_back}
 use Rattle.damage_run.specs.Words.{GetJob, actions_of, Got, setup_in, Works, Came, Gives}
 use Rattle.damage_run.proofs.Values.{without_two_give}
 use Rattle.command_runs.proofs.Made.{Run, ran, turn}
-use Rattle.command_runs.proofs.Shape.{stands_for}
-use Rattle.command_runs.proofs.Stores.{byte-fit, damaged-sure}
+use Rattle.command_runs.proofs.Stores.{byte-fit, damaged-sure, stands_for}
 use Rattle.stories.specs.Words.{A, spelling, byte, named, byte_records, own_block, ends_hearing, damaged}
 use Rattle.stories.specs.Instances.{damaged_got, three_heard}
 

@@ -1,7 +1,6 @@
 -- A get behind a put that a replay carried out.
-use Rattle.std.proofs.Common.{◌≡◌, ◌⊎◌, ℕ, List, ◌∷◌, ◌++◌, Option, Some, ap, sym, subst, ◌∙◌, append_assoc}
+use Rattle.std.proofs.Common.{◌≡◌, ◌⊎◌, ℕ, List, ◌∷◌, ◌++◌, Option, Some, ap, sym, subst, ◌∙◌, append_assoc, reverse}
 use Rattle.std.proofs.lemmas.List.{reverse-reverse}
-use Rattle.std.specs.Prelude.{reverse}
 use Rattle.machine_defs.proofs.Untouched.{run_back, steps_begin_none}
 use Rattle.line_laws.proofs.OfLines.{run-lines}
 use Rattle.run_laws.proofs.ByEvents.{put_is_got_later}

@@ -1,6 +1,5 @@
 -- A put behind commands, with commands behind it that begin no put and no drop of its name.
-use Rattle.std.proofs.Common.{◌≡◌, ℕ, List, ◌∷◌, ◌++◌, Option, None, Some, ap, sym, subst, ◌∙◌, inl, inr, append_assoc, [], refl}
-use Rattle.std.proofs.lemmas.List.{append-nil}
+use Rattle.std.proofs.Common.{◌≡◌, ℕ, List, ◌∷◌, ◌++◌, Option, None, Some, ap, sym, subst, ◌∙◌, inl, inr, append_assoc, [], refl, append-nil}
 use Rattle.machine_defs.specs.Began.{GivesUp, IsPutBegin}
 use Rattle.machine_defs.proofs.Untouched.{steps_begin_none, commands_begin_none}
 use Rattle.line_laws.proofs.OfLines.{run-lines}

@@ -1,6 +1,5 @@
 -- A replay of status 0, and devices that were not touched.
-use Rattle.std.proofs.Common.{◌≡◌, ℕ, ◌+◌, ◌<◌, List, [], ◌++◌, reverse, Some, ap, sym, subst, ◌∙◌, inl, inr, arith}
-use Rattle.std.specs.Prelude.{IsSome}
+use Rattle.std.proofs.Common.{◌≡◌, ℕ, ◌+◌, ◌<◌, List, [], ◌++◌, reverse, Some, ap, sym, subst, ◌∙◌, inl, inr, arith, IsSome}
 use Rattle.std.proofs.lemmas.List.{append-nil, reverse-reverse}
 use Rattle.opening_defs.specs.Opened.{AreHanded}
 use Rattle.command_defs.specs.Sinking.{Sinking, WritesLine}

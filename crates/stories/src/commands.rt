@@ -11,8 +11,8 @@ use command_laws::after::{
 use command_laws::ends::gets_give_the_file;
 
 /// A file put by one command, with a profile of its own or without, is got by the next, though at most b
-/// providers were damaged in between, or fail: the get gives the bytes, or finds no memory, unless the disk or
-/// the sink failed. A stop between the two does no harm.
+/// providers were damaged in between, or fail: the get gives the bytes, or finds no memory, unless the disk
+/// or the sink failed. A stop between the two does no harm.
 pub fn the_next_command_gets_the_file()
     ensures { (put get : List (String Global)) (name bytes : List ℕ) (own : Option ℕ)
         (records : List Record) (spoilt : ℕ → Bool) (a b c d : Seen) (first last : Ending)
@@ -29,10 +29,10 @@ pub fn the_next_command_gets_the_file()
     put_files_are_got();
 }
 
-/// After an audit that flags and a repair another b providers may go. A file is put, with a profile of its own
-/// or without; at most b providers are spoilt; an audit is done, and the repair of those whom it flagged, which
-/// tell what they hold. Then any others may be spoilt, at most b with those that were and were not flagged: a
-/// get still gives the bytes, or finds no memory, unless the disk or the sink failed.
+/// After an audit that flags and a repair another b providers may go. A file is put, with a profile of its
+/// own or without; at most b providers are spoilt; an audit is done, and the repair of those whom it flagged,
+/// which tell what they hold. Then any others may be spoilt, at most b with those that were and were not
+/// flagged: a get still gives the bytes, or finds no memory, unless the disk or the sink failed.
 pub fn others_may_go_after_a_repair()
     ensures { (put audit repair get : List (String Global)) (name bytes : List ℕ) (own : Option ℕ)
         (records : List Record) (spoilt : ℕ → Bool) (a b c d e f g h : Seen)
@@ -123,9 +123,9 @@ pub fn packed_files_are_got()
     gets_tell_what_stands();
 }
 
-/// n - b colluding providers are the forgery that the theorem names. Where all providers but b hold the blocks
-/// of another file of the same length under the name's number, a get of status 0 gives that other file, and
-/// what it heard holds a forgery against the one that was put.
+/// n - b colluding providers are the forgery that the theorem names. Where all providers but b hold the
+/// blocks of another file of the same length under the name's number, a get of status 0 gives that other
+/// file, and what it heard holds a forgery against the one that was put.
 pub fn colluders_are_the_forgery()
     ensures { (get : List (String Global)) (name bytes other : List ℕ) (records : List Record)
         (honest : ℕ → Bool) (old new : Seen) (end : Ending)

@@ -1,5 +1,5 @@
 //! Instances: what the laws of the other modules suppose, met by values.
-ghost use Rattle.std.specs.Prelude.{◌≡◌, ◌≢◌, ◌≤◌, ◌<◌, ◌==◌, ◌&&◌, ◌++◌, ℕ, not, true, false, List, [], ◌∷◌, length, String, Some, None, is_some, reverse};
+ghost use Rattle.std.specs.Prelude.{◌≡◌, ◌≢◌, ◌≤◌, ◌<◌, ◌==◌, ◌&&◌, ◌++◌, ℕ, not, true, false, List, [], length, String, Some, None, is_some, reverse};
 ghost use Rattle.std.specs.declared.alloc.Global.{Global};
 ghost use Rattle.damage_run.specs.Points.{counts};
 ghost use Rattle.stories.specs.Words.{is_flagged, DamagesOnly, AsksDamageOf, AreBytes, Begun, Ended, Put, Got, AllTell, NoneAsksOn, PutUnder, GetOf, AuditAll, RepairAll, UpgradeJournal, ScrubAll, PackJournal, IsForm, IsTold, audit_lines, setup_in_effect, provider_at, Follows, HasRightFile, IsUntouched, IsSteady, spoilt_below, IsKnown, ends, named, four_records, byte_records, to_put, byte_stored, damaged, byte_audited, answers_heard, due, repaired, mended, got, own_blocks_heard, swept, robbed_later, got_later, later_heard, byte_kept, byte_upgraded, upgraded_kept, ends_hearing, IsFilling, packed_kept, packed_store, got_packed, byte, next_audit, IsSchedule, devices_of_seen, IsReplayForm, AreLeft, AnswersWords};

@@ -12,10 +12,10 @@ use command_words::laws::words_spell_one_command;
 use hail_replay::laws::a_list_is_replayed;
 use state_laws::laws::runs_are_sound;
 
-/// The devices that a command leaves, at any status, over devices that a run has left are left by a run again:
-/// those of a command over a store by the moments that the machine makes of it, those of an init by none or by
-/// its event, those of a replay or a trial by a later call of the program and its events, and those of a row as
-/// they were.
+/// The devices that a command leaves, at any status, over devices that a run has left are left by a run
+/// again: those of a command over a store by the moments that the machine makes of it, those of an init by
+/// none or by its event, those of a replay or a trial by a later call of the program and its events, and
+/// those of a row as they were.
 pub fn commands_leave_devices()
     ensures stores { (words : List (String Global)) (command : Command) (start : State) (ms : List Moment)
         (old new : Seen) (end : Ending) → AnswersWords words old new end → IsForm words command

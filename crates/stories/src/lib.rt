@@ -1,4 +1,5 @@
-//! What a user may conclude of the program: the sentences of its promise, each from the contract of `hail` alone.
+//! What a user may conclude of the program: the sentences of its promise, each from the contract of `hail`
+//! alone.
 #![tactic(auto)]
 
 pub mod commands;

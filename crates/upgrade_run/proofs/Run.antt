@@ -1,16 +1,15 @@
 -- The run, computed from its instructions, and what it comes to.
-use Rattle.std.proofs.Common.{ℕ, ◌+◌, ◌<◌, ◌==◌, List, [], ◌∷◌, ◌++◌, map, flat_map, slice_index, Some, None, option_map, if◌then◌else◌, refl, ap, sym, inl, inr, arith}
-use Rattle.record_defs.specs.Areas.{other_area}
-use Rattle.record_defs.specs.Packed.{packed}
-use Rattle.device_defs.specs.Providers.{with_symbol}
+use Rattle.std.proofs.Common.{ℕ, ◌+◌, ◌<◌, ◌≤◌, ◌==◌, List, [], ◌∷◌, ◌++◌, map, flat_map, slice_index, Some, None, option_map, if◌then◌else◌, refl, ap, sym, inl, inr, arith}
 use Rattle.machine_defs.specs.Openings.{reread}
 use Rattle.made_runs.specs.Steps.{called}
-use Rattle.damage_run.specs.Words.{Version, upto, GetJob, UpgradeJob, Action, Store, End, actions_of, Put, Got, Upgraded, Scrubbed, Begin, BeginAt, BeginScrub, BeginPack, Step, Alter, Stop, Begun, Ended, Replaced, Stopped, State, setup_in, Moment, set_up, Goes, Works, Notes, Came, Gives, Brings, Opens, Mends, Finds, Moves, Instruction, Turned, Turns, Swept, Sweeps, Begins, Reopens, Comes, run_of, AreFit}
+use Rattle.second_half_laws.proofs.FewDamaged.{few_calm, few_scrubs}
+use Rattle.damage_run.specs.Words.{Version, upto, GetJob, UpgradeJob, Action, Store, End, actions_of, Put, Got, Upgraded, Scrubbed, Begin, BeginAt, BeginScrub, BeginPack, Step, Alter, Stop, Begun, Ended, Replaced, Stopped, State, setup_in, Moment, IsRun, now, scrubbed, IsScrubCalm, DamagesOnly, set_up, Goes, Works, Notes, Came, Gives, Brings, Opens, Mends, Finds, Moves, Instruction, Turned, Turns, Swept, Sweeps, Begins, Reopens, Comes, run_of, AreFit, with_symbol, other_area, packed}
 use Rattle.damage_run.specs.Schedule.{name, byte}
 use Rattle.damage_run.proofs.Run.{◌and◌, few, are-run, starts}
 use Rattle.damage_run.proofs.Points.{is-event}
+use Rattle.damage_run.proofs.Values.{whole}
 use Rattle.upgrade_run.specs.Schedule.{HasAll}
-use Rattle.upgrade_run.proofs.Values.{symbols, byte_back, block, length-block, block_sized, own_sized, altered, length-altered, all_off, damaged_give, all_give}
+use Rattle.upgrade_run.proofs.Values.{symbols, byte_back, block, length-block, own_sized, altered, altered_so, all_off, damaged_give, all_give}
 
 -- one symbol of a block that provider 0 holds is altered
 abbrev alter : State → State
@@ -44,6 +43,14 @@ abbrev packed_too : List Instruction
 packed_too = Reopens ∷ Comes (Stop []) Stopped pack_stays
     ∷ Sweeps 4 (Moves ∷ Moves ∷ Moves ∷ []) ∷ Begins BeginPack ∷ swept
 
+-- where provider 0 alone is damaged, a run is calm, counted from finished scrubs
+pub scrub_calm : (ms : List Moment) → IsRun 8 set_up ms → DamagesOnly (0 ∷ []) ms →
+    1 ≤ (setup_in (now set_up ms)).b → IsScrubCalm set_up ms
+scrub_calm ms run only few = record {
+  jobs = few_calm 8 (scrubbed set_up) set_up (0 ∷ []) starts ms run only (inr few);
+  scrubs = few_scrubs 8 (scrubbed set_up) set_up (0 ∷ []) starts ms run only (inr few);
+}
+
 -- they can be carried out
 pub fit_put : AreFit 8 set_up put
 unfolding setup_in actions_of
@@ -51,16 +58,11 @@ fit_put = (let small : 1 < 256 = omega arith in assumption (few, small))
 
 pub fit_swept : AreFit 8 set_up swept
 unfolding setup_in actions_of
-fit_swept = (
-  omega arith,
-  (
-    (refl, (refl, (refl, sym (ap (map (λ n. 0 + n)) all_off), sym (ap (map found) all_off)))),
-    (
-      (refl, (refl, tt)),
-      ((refl, (refl, (damaged_give, ap todo all_off))), assumption (own_sized 1, own_sized 2, own_sized 3)),
-    ),
-  ),
-) and assumption (few, block_sized altered length-altered) and (assumption)
+fit_swept = (omega arith
+    and (refl, (refl, (refl, sym (ap (map (λ n. 0 + n)) all_off), sym (ap (map found) all_off))))
+    and (refl, (refl, tt)) and (refl, (refl, (damaged_give, ap todo all_off)))
+    and assumption (own_sized 1, own_sized 2, own_sized 3))
+    and assumption (few, whole altered 16 altered_so.0) and (assumption)
     and (omega arith, (_, ((λ x. (let e = length-block 0 in omega (arith, e)), λ x. refl), refl), refl))
     and fit_put
   where

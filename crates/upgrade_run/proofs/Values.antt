@@ -1,21 +1,17 @@
 -- What the providers hold in the run: the blocks of a file of one byte over four providers, of one of which a
 -- symbol is altered.
-use Rattle.std.proofs.Common.{◌≡◌, ℕ, ◌==◌, false, List, [], ◌∷◌, length, take, slice_set, slice_index, Some, None, flat_map, refl, sym, ◌∙◌, arith}
-use Rattle.std.proofs.lemmas.Bool.{eq-eqb}
+use Rattle.std.proofs.Common.{◌≡◌, ℕ, false, List, [], ◌∷◌, length, take, slice_set, Some, flat_map, refl, sym, arith, eq-eqb}
 use Rattle.code_defs.specs.ServerCode.{differences}
 use Rattle.code_defs.proofs.Codewords.{differences-same}
-use Rattle.column_defs.specs.Columns.{column_of_symbols}
-use Rattle.column_defs.specs.Objects.{symbol_of, bytes_of_symbols}
 use Rattle.column_defs.proofs.ColumnLaws.{length-column_of_symbols}
 use Rattle.column_laws.proofs.RightBlocks.{opens-right}
 use Rattle.column_laws.proofs.RightRows.{given-right, kept-symbol}
 use Rattle.column_laws.proofs.Worked.{column-right, opens-own}
-use Rattle.machine_defs.proofs.JobLists.{cond_true}
 use Rattle.run_laws.proofs.SymbolBytes.{bytes_back}
 use Rattle.second_half_laws.proofs.GivesRight.{own_give}
-use Rattle.damage_run.specs.Words.{upto, symbols_in, columns, is_wrong_block, SeenBlock, GivesSymbols, bare, sized}
+use Rattle.damage_run.specs.Words.{upto, symbols_in, columns, is_wrong_block, SeenBlock, GivesSymbols, bare, sized, column_of_symbols, symbol_of, bytes_of_symbols}
 use Rattle.damage_run.specs.Schedule.{byte}
-use Rattle.damage_run.proofs.Values.{head_is, one_differs, same_size}
+use Rattle.damage_run.proofs.Values.{whole, altered_is}
 use Rattle.upgrade_run.specs.Schedule.{thing}
 
 -- the symbols of the only stripe
@@ -34,41 +30,26 @@ block j = columns thing byte j 0
 pub length-block : (j : ℕ) → length (block j) ≡ 16
 length-block j = length-column_of_symbols thing symbols j 0
 
--- a block of this size is fetched as it is
-pub block_sized : (b : List ℕ) → length b ≡ 16 → Some b ≡ sized 16 (Some b)
-block_sized b h = sym (cond_true (length b == 16) (Some b) None (eq-eqb (length b) 16 h))
-
--- so is a provider's own
+-- a provider's own is fetched as it is
 pub own_sized : (j : ℕ) → Some (block j) ≡ sized 16 (Some (block j))
-own_sized j = block_sized (block j) (length-block j)
+own_sized j = whole (block j) 16 (length-block j)
 
--- ---- the first symbol of provider 0 is the byte
+-- ---- the block of provider 0, which begins with the byte, with its first symbol altered
 
-first_symbol : slice_index (block 0) 0 ≡ 111
-unfolding column_of_symbols symbol_of
-first_symbol = kept-symbol thing byte 0 0 0 (omega arith) (omega arith) (omega arith)
-
--- and something stands behind it
-head : (rest : List ℕ) × (block 0 ≡ 111 ∷ rest)
-head = head_is (block 0) 15 111 (length-block 0) first_symbol
-
--- the block with its first symbol altered
 abbrev pub altered : List ℕ
 altered = slice_set (block 0) 0 5
 
--- the altered block has 16 bytes too
-pub length-altered : length altered ≡ 16
-length-altered = same_size (block 0) head.0 head.1 ∙ length-block 0
+-- it keeps its size, and differs in one symbol
+pub altered_so : (length altered ≡ 16) × (differences altered (block 0) ≡ 1)
+unfolding column_of_symbols symbol_of
+altered_so = altered_is (block 0) 15 (length-block 0)
+    (kept-symbol thing byte 0 0 0 (omega arith) (omega arith) (omega arith))
 
--- the opened stripe has one symbol that differs, of provider 0
-pub differs_0 : differences altered (block 0) ≡ 1
-differs_0 = one_differs (block 0) head.0 head.1
-
--- the opened stripe has no other
+-- the opened stripe has no other that differs
 pub all_off : differences altered (block 0) ∷ differences (block 1) (block 1)
     ∷ differences (block 2) (block 2) ∷ differences (block 3) (block 3) ∷ [] ≡ 1 ∷ 0 ∷ 0 ∷ 0 ∷ []
 all_off =
-    rw (differs_0, differences-same (block 1), differences-same (block 2), differences-same (block 3)) refl
+    rw (altered_so.1, differences-same (block 1), differences-same (block 2), differences-same (block 3)) refl
 
 -- ---- what seen blocks open to
 
@@ -76,7 +57,7 @@ abbrev shown : ℕ → SeenBlock
 shown j = Some (bare thing j 0 (block j))
 
 altered_right : is_wrong_block thing byte 0 0 (Some altered) ≡ false
-altered_right = (let e = eq-eqb (length altered) 16 length-altered in rw (e, differs_0) refl)
+altered_right = (let e = eq-eqb (length altered) 16 altered_so.0 in rw (e, altered_so.1) refl)
 
 -- with the altered block the stripe gives the file's symbols
 pub damaged_give : GivesSymbols thing 0 (Some altered ∷ Some (block 1) ∷ Some (block 2) ∷ Some (block 3) ∷ [])

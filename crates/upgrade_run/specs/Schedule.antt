@@ -5,10 +5,7 @@
 --   HasAll ms       == these moments are a run from a start of four providers, at limit 8, in which all that
 --                      the second version brings happens
 use Rattle.std.specs.Prelude.{◌≡◌, true, List, [], ◌∷◌, length, Some}
-use Rattle.record_defs.specs.Areas.{A, B}
-use Rattle.record_defs.specs.Packed.{packed}
-use Rattle.machine_defs.specs.States.{Packing}
-use Rattle.damage_run.specs.Words.{Record, SetUp, PutStart, PutDoneIn, Version, version_of, four, Object, columns, object_of, profiled, Put, Got, Upgraded, Scrubbed, BeginAt, Step, Alter, Stop, Begun, Ended, Replaced, Stopped, State, IsStart, file_in, setup_in, Moment, IsRun, told_block, set_up}
+use Rattle.damage_run.specs.Words.{Record, SetUp, PutStart, PutDoneIn, Version, version_of, four, Object, columns, object_of, profiled, Put, Got, Upgraded, Scrubbed, BeginAt, Step, Alter, Stop, Begun, Ended, Replaced, Stopped, State, IsStart, file_in, setup_in, Moment, IsRun, told_block, set_up, Packing, A, B, packed}
 use Rattle.damage_run.specs.Points.{name, byte, at, IsEvent}
 
 -- the object of the file, at a profile of its own

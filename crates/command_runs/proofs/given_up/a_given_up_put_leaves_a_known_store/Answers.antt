@@ -1,7 +1,4 @@
-use Rattle.std.proofs.Common.{None, refl, ap, false, inl, inr}
-use Rattle.std.specs.Prelude.{is_some, unwrap_or}
-use Rattle.std.specs.Option.{option_map}
-use Rattle.std.proofs.lemmas.Bool.{true≢false}
+use Rattle.std.proofs.Common.{None, refl, ap, false, inl, inr, is_some, unwrap_or, option_map, true≢false}
 use Rattle.command_runs.specs.Words.{PutUnder, IsRefused, provider_at, GivesUpPut, ends}
 use Rattle.command_runs.specs.Devices.{named, four_records}
 use Rattle.command_runs.specs.GivenUp.{long, to_put_source, put_given_up}

@@ -1,10 +1,7 @@
-use Rattle.std.proofs.Common.{None, refl, inl, arith}
-use Rattle.std.specs.Prelude.{not}
+use Rattle.std.proofs.Common.{None, refl, inl, arith, not}
 use Rattle.command_runs.specs.Words.{is_flagged, counts, byte}
 use Rattle.command_runs.specs.Devices.{named}
-use Rattle.command_runs.proofs.Meets.{stays, calm, clash, first, second, due-file, robbed-untouched, repair-steady, get-steady, flagged-second, spared, two-file, later-steady, swept-steady, swept-untouched, never, yes}
-use Rattle.command_runs.proofs.Shape.{four}
-use Rattle.command_runs.proofs.Stores.{put-old, stored-sure, due-sure, two_damaged-sure}
+use Rattle.command_runs.proofs.Meets.{stays, calm, clash, first, second, due-file, robbed-untouched, repair-steady, get-steady, flagged-second, spared, two-file, later-steady, swept-steady, swept-untouched, never, yes, put-old, stored-sure, due-sure, two_damaged-sure, four}
 use Rattle.command_runs.proofs.laws.damage_is_mended.Goals as goal
 
 pub returns : goal.returns

@@ -2,9 +2,7 @@ use Rattle.std.proofs.Common.{None, Some, refl, arith}
 use Rattle.machine_defs.specs.Refusals as refusal
 use Rattle.command_runs.specs.Words.{AuditJob, RepairJob, UpgradeJob, PutUnder, ListAll}
 use Rattle.command_runs.specs.Devices.{named}
-use Rattle.command_runs.proofs.Meets.{never}
-use Rattle.command_runs.proofs.Shape.{always}
-use Rattle.command_runs.proofs.Stores.{put-old, stored-sure, due-sure, upgraded_kept-sure}
+use Rattle.command_runs.proofs.Meets.{never, put-old, stored-sure, due-sure, upgraded_kept-sure, always}
 use Rattle.command_runs.proofs.laws.statuses_have_their_causes.Goals as goal
 
 pub returns : goal.returns

@@ -1,5 +1,4 @@
-use Rattle.std.proofs.Common.{[], ◌∷◌, subst}
-use Rattle.std.proofs.lemmas.List.{append-nil}
+use Rattle.std.proofs.Common.{[], ◌∷◌, subst, append-nil}
 use Rattle.command_runs.specs.Words.{IsRun, now, IsStore}
 use Rattle.command_runs.specs.Devices.{byte_upgraded_records, upgraded_kept}
 use Rattle.command_runs.specs.Packed.{got_packed, pack_call, get_packed}

@@ -3,8 +3,7 @@ use Rattle.record_defs.specs.Areas.{A}
 use Rattle.machine_defs.specs.Refusals as refusal
 use Rattle.command_runs.specs.Devices.{byte_upgraded_records}
 use Rattle.command_runs.specs.Packed.{packed_records}
-use Rattle.command_runs.proofs.Stores.{stored-sure, upgraded_kept-sure}
-use Rattle.command_runs.proofs.Meets.{upgraded-file, never}
+use Rattle.command_runs.proofs.Meets.{upgraded-file, never, stored-sure, upgraded_kept-sure}
 use Rattle.command_runs.proofs.packs.packs_leave_what_is_said.Goals as goal
 
 pub returns : goal.returns

@@ -5,8 +5,7 @@ use Rattle.command_laws.proofs.Samples.{same-disk}
 use Rattle.command_runs.specs.Words.{A, values_line, Unstarted, AnswersPut, AnswersList}
 use Rattle.command_runs.specs.Devices.{four_records, byte_records, byte_audited_records, byte_upgraded_records, dropped_records, seen_after_drop}
 use Rattle.command_runs.proofs.Refusals.{quiet, refused, put-refused, sink-fault, long, no_magic, none_accepted, sevens, only-sevens, touches, unlisted}
-use Rattle.command_runs.proofs.Shape.{sure}
-use Rattle.command_runs.proofs.Stores.{put-old, stored-sure, due-sure, upgraded_kept-sure, byte-fit, dropped-fit, hidden}
+use Rattle.command_runs.proofs.Stores.{put-old, stored-sure, due-sure, upgraded_kept-sure, byte-fit, dropped-fit, hidden, sure}
 use Rattle.command_runs.proofs.refused.commands_end_early.Goals as goal
 
 pub returns : goal.returns

@@ -1,8 +1,5 @@
 use Rattle.std.proofs.Common.{refl}
-use Rattle.machine_defs.specs.Actions.{actions_of}
-use Rattle.machine_defs.specs.States.{setup_in}
-use Rattle.machine_defs.specs.Runs.{now}
-use Rattle.machine_defs.specs.Examples.{set_up}
+use Rattle.made_runs.specs.Words.{actions_of, setup_in, now, set_up}
 use Rattle.made_runs.specs.Instructions.{stopped}
 use Rattle.made_runs.proofs.GetRun.{doubted_moments, doubted_run, stopped_without, stops_with, stops_without}
 use Rattle.made_runs.proofs.runs.stop_settles_either_way.Goals as goal

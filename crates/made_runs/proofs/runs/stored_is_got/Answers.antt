@@ -1,8 +1,6 @@
 use Rattle.std.specs.Fmt.{digits}
 use Rattle.std.proofs.Common.{refl}
-use Rattle.machine_defs.specs.Actions.{actions_of}
-use Rattle.machine_defs.specs.States.{setup_in}
-use Rattle.machine_defs.specs.Examples.{set_up}
+use Rattle.made_runs.specs.Words.{actions_of, setup_in, set_up}
 use Rattle.made_runs.specs.Instructions.{run_of}
 use Rattle.made_runs.proofs.Written.{carries}
 use Rattle.made_runs.proofs.GetRun.{instructions, is_run}

@@ -1,10 +1,7 @@
 use Rattle.std.proofs.Common.{[], refl}
-use Rattle.machine_defs.specs.Actions.{actions_of}
+use Rattle.damage_run.specs.Words.{actions_of, setup_in, Moment, now, set_up}
 use Rattle.machine_defs.specs.Events.{Names, Listed, Closed}
-use Rattle.machine_defs.specs.States.{setup_in}
 use Rattle.record_defs.specs.Table.{files_of}
-use Rattle.machine_defs.specs.Runs.{Moment, now}
-use Rattle.machine_defs.specs.Examples.{set_up}
 use Rattle.damage_run.proofs.Run.{moments, is_run}
 use Rattle.damage_run.proofs.CalmRun.{outright}
 use Rattle.outcome_laws.proofs.instances.a_list_is_given.Goals as goal

@@ -1,9 +1,5 @@
 use Rattle.std.proofs.Common.{refl}
-use Rattle.machine_defs.specs.Actions.{actions_of}
-use Rattle.machine_defs.specs.Answers.{Repaired}
-use Rattle.machine_defs.specs.Calm.{since}
-use Rattle.machine_defs.specs.States.{setup_in}
-use Rattle.machine_defs.specs.Examples.{set_up}
+use Rattle.damage_run.specs.Words.{actions_of, Repaired, since, setup_in, set_up}
 use Rattle.damage_run.proofs.SecondLoss.{to_audit, repair_begin, repairing, repair_end, moves}
 use Rattle.damage_run.proofs.Told.{no_begun}
 use Rattle.outcome_laws.proofs.NoFaults.{none_rose}
@@ -23,6 +19,6 @@ returns c = (
   refl,
   refl,
   none_rose,
-  c.calm_repairs_end_well.ensures.unfailed 8 (since set_up) set_up repairing to_audit repair_end repair_begin 4
-      (Repaired 1) moves.marked refl refl (no_begun 4 repairing refl) refl refl none_rose,
+  c.calm_repairs_end_well.ensures.unfailed 8 (since set_up) set_up repairing to_audit repair_end repair_begin
+      4 (Repaired 1) moves.marked refl refl (no_begun 4 repairing refl) refl refl none_rose,
 )

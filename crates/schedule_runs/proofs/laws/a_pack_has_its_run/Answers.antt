@@ -1,7 +1,5 @@
-use Rattle.std.proofs.Common.{refl}
-use Rattle.std.specs.Prelude.{reverse}
-use Rattle.damage_run.specs.Words.{actions_of, setup_in, set_up}
-use Rattle.schedule_runs.specs.Words.{lines, name}
+use Rattle.std.proofs.Common.{refl, reverse}
+use Rattle.schedule_runs.specs.Words.{actions_of, setup_in, set_up, lines, name}
 use Rattle.schedule_runs.specs.Schedule.{upgraded_file, packed_schedule, packed_text}
 use Rattle.schedule_runs.proofs.Going.{left-of, keeps}
 use Rattle.schedule_runs.proofs.Read.{read, are-lines}
@@ -22,11 +20,6 @@ returns-clause-used c = (
   packed_moments,
   is_packed,
   keeps packed_moments 14 19 name upgraded_file is_packed.goes.clean is_packed.goes.run refl
-      (record {
-        version = 2;
-        done = refl;
-        profiled = λ first. absurd (cc first);
-        started = refl;
-        named = refl;
-      }) refl (λ d e. cc),
+      (record { version = 2; done = refl; profiled = λ e. absurd (cc e); started = refl; named = refl }) refl
+      (λ d e. cc),
 )

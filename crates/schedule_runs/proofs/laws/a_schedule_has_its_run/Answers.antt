@@ -1,8 +1,6 @@
-use Rattle.std.proofs.Common.{[], ◌∷◌, refl, inr}
-use Rattle.std.specs.Prelude.{codes, reverse}
+use Rattle.std.proofs.Common.{[], ◌∷◌, refl, inr, codes, reverse}
 use Rattle.schedule_text.proofs.Again.{line-none}
-use Rattle.damage_run.specs.Words.{Reopen, actions_of, setup_in, set_up}
-use Rattle.schedule_runs.specs.Words.{Once, words, lines, name}
+use Rattle.schedule_runs.specs.Words.{Reopen, actions_of, setup_in, set_up, Once, words, lines, name}
 use Rattle.schedule_runs.specs.Schedule.{stopped_schedule, stopped_text}
 use Rattle.schedule_runs.proofs.Going.{left-of, keeps}
 use Rattle.schedule_runs.proofs.Read.{read, are-lines}

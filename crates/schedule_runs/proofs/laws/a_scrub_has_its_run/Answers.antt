@@ -1,9 +1,7 @@
-use Rattle.std.proofs.Common.{[], refl}
-use Rattle.std.specs.Prelude.{reverse}
+use Rattle.std.proofs.Common.{[], refl, reverse}
 use Rattle.headline.specs.Headline.{Headline}
 use Rattle.headline.proofs.Parts.{headline}
-use Rattle.damage_run.specs.Words.{set_up}
-use Rattle.schedule_runs.specs.Words.{lines}
+use Rattle.schedule_runs.specs.Words.{set_up, lines}
 use Rattle.schedule_runs.specs.Schedule.{scrubbed_schedule, scrubbed_text}
 use Rattle.schedule_runs.proofs.Going.{left-of, goes-with, keeps-half}
 use Rattle.schedule_runs.proofs.Read.{read, are-lines}

@@ -1,5 +1,4 @@
-use Rattle.std.proofs.Common.{◌∙◌, arith, ◌≡◌, ◌≢◌, ◌⊎◌, ℕ, true, List, ◌++◌, Option, None, Some, sym, inl, inr}
-use Rattle.std.specs.Prelude.{is_some}
+use Rattle.std.proofs.Common.{◌∙◌, arith, ◌≡◌, ◌≢◌, ◌⊎◌, ℕ, true, List, ◌++◌, Option, None, Some, sym, inl, inr, is_some}
 use Rattle.std.proofs.lemmas.Bool.{false≢true}
 use Rattle.std.proofs.lemmas.List.{append_cancel_left}
 use Rattle.stories.specs.Words.{told_then, GetOf}
@@ -10,7 +9,8 @@ other-bytes : {P : Type 0} (old new : Option (List ℕ)) (bytes other : List ℕ
     bytes ≢ other → new ≡ told_then old other → (new ≡ told_then old bytes) ⊎ P → P
 other-bytes None new bytes other tells differ is e = absurd (false≢true tells)
 other-bytes (Some xs) new bytes other tells differ is (inl same) = absurd (differ
-    (append_cancel_left xs bytes other (let e : Some (xs ++ bytes) ≡ Some (xs ++ other) = sym same ∙ is in cc)))
+    (append_cancel_left xs bytes other
+    (let e : Some (xs ++ bytes) ≡ Some (xs ++ other) = sym same ∙ is in cc)))
 other-bytes (Some xs) new bytes other tells differ is (inr p) = p
 
 pub returns : goal.returns
@@ -22,6 +22,6 @@ returns c =
     steady (omega (arith, few)) ok in (
       gives,
       other-bytes old.sink new.sink bytes other tells differ gives
-          (c.gets_give_the_file.ensures.forged name bytes records theirs.file old new end A known theirs.in_effect
-          are (same ∙ theirs.size) ok),
+          (c.gets_give_the_file.ensures.forged name bytes records theirs.file old new end A known
+          theirs.in_effect are (same ∙ theirs.size) ok),
     ))

@@ -1,7 +1,5 @@
-use Rattle.std.proofs.Common.{[], ◌∷◌, None, refl, inr}
+use Rattle.std.proofs.Common.{[], ◌∷◌, None, refl, inr, codes, flat_map}
 use Rattle.std.specs.Fmt.{digits}
-use Rattle.std.specs.Prelude.{codes}
-use Rattle.std.specs.List.{flat_map}
 use Rattle.record_defs.specs.Examples.{four}
 use Rattle.hail_client.proofs.Fresh.{start-tells}
 use Rattle.hail_replay.specs.declared.forms.Form.TheVariants as forms
@@ -41,30 +39,21 @@ says = record {
   told = tt;
 }
 
-pub returns-clause-replay : goal.returns-clause-replay
-returns-clause-replay c = λ words spells. form-words words forms.Replay _ _ _
-    (λ command is. no-form words command forms.Replay is spells) spells
-    byte-replayed (falls _ _ assumption)
-
-pub returns-clause-spells : goal.returns-clause-spells
-returns-clause-spells c = spelled
-
-pub returns-clause-survives : goal.returns-clause-survives
-returns-clause-survives c = spelled
-
-pub returns-clause-left : goal.returns-clause-left
-returns-clause-left c = left
-
-pub returns-clause-got : goal.returns-clause-got
-returns-clause-got c =
-    (let G = (is-got [] [] named byte None 1 2 first_state [] before_byte behind_byte byte_end tt
-    (done-all first_state [] _ before_byte behind_byte byte_end refl left
-    (replayed first_state [] left))).0 in
-    let S = G.said [] byte_lines (Got byte) refl refl says in
-    (G, S.0, S.1, S.2, S.3))
-
-pub returns-clause-said : goal.returns-clause-said
-returns-clause-said c = (refl, refl, says, (says.before, says.put))
-
-pub returns-clause-calm : goal.returns-clause-calm
-returns-clause-calm c = (start-tells none_hold none-tell, tt, (tt, (tt, tt)))
+pub returns : goal.returns
+returns c = record {
+  replay = λ words spells. form-words words forms.Replay _ _ _
+      (λ command is. no-form words command forms.Replay is spells) spells
+      byte-replayed (falls _ _ assumption);
+  spells = spelled;
+  survives = spelled;
+  asks = (tt, (λ on. on, tt));
+  left = left;
+  got =
+      (let G = (is-got [] [] named byte None 1 2 first_state [] before_byte behind_byte byte_end tt
+      (done-all first_state [] _ before_byte behind_byte byte_end refl left
+      (replayed first_state [] left))).0 in
+      let S = G.said [] byte_lines (Got byte) refl refl says in
+      (G, S.0, S.1, S.2, S.3));
+  said = (refl, refl, says, (says.before, says.put));
+  calm = (start-tells none_hold none-tell, tt, (tt, (tt, tt)));
+}

@@ -9,14 +9,12 @@ use Rattle.stories.proofs.laws.a_list_and_a_get_go_on.Goals as goal
 empty : IsFresh [] []
 empty = record { firm = refl; stands = inl (refl, refl) }
 
-pub returns-clause-replay : goal.returns-clause-replay
-returns-clause-replay c = λ words spells. form-words words forms.Replay _ _ _
-    (λ command is. no-form words command forms.Replay is spells) spells
-    c.a_list_is_replayed.ensures.replay (falls _ _ assumption)
-
-pub returns-clause-get : goal.returns-clause-get
-returns-clause-get c = λ words spells. answered c.words_spell_one_command.ensures words (GetOf held_name)
-    spells c.there_are_answers.ensures.not_set_up tt assumption
-
-pub returns-clause-left : goal.returns-clause-left
-returns-clause-left c = (first-left list_before [] [] refl empty, first-left empty_devices [] [] refl empty)
+pub returns : goal.returns
+returns c = record {
+  replay = λ words spells. form-words words forms.Replay _ _ _
+      (λ command is. no-form words command forms.Replay is spells) spells
+      c.a_list_is_replayed.ensures.replay (falls _ _ assumption);
+  get = answered c.words_spell_one_command.ensures (GetOf held_name)
+      c.there_are_answers.ensures.not_set_up tt assumption;
+  left = (first-left list_before [] [] refl empty, first-left empty_devices [] [] refl empty);
+}

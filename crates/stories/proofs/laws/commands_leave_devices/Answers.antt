@@ -3,42 +3,38 @@ use Rattle.stories.specs.Words.{devices_of_seen, AreLeft, call_from, now, RowOf,
 use Rattle.stories.proofs.Went.{left-same, init-left}
 use Rattle.stories.proofs.laws.commands_leave_devices.Goals as goal
 
-pub returns-clause-stores : goal.returns-clause-stores
-returns-clause-stores c = λ words command start ms old new end answers form opens told left.
-    (let H = c.commands_are_runs.ensures.call start ms command old new end left.run
-    (record {
-      sound = c.runs_are_sound.ensures 8 start ms (omega arith, omega arith) left.starts left.run;
-      tells = told;
-      images = left.devices.images;
-      faults_are = left.devices.faults;
-      handed = left.devices.providers;
-    }) opens (c.forms_are_spelled.ensures words command form) (answers.answers command form) answers.counts in (
-      H.0,
-      H.1,
-      record {
-        starts = left.starts;
-        run = H.2;
-        devices = record { images = H.3.images; faults = H.3.faults_are; providers = H.3.handed };
-      },
+pub returns : goal.returns
+returns c = record {
+  stores = λ words command start ms old new end answers form opens told left.
+      (let H = c.commands_are_runs.ensures.call start ms command old new end left.run
+      (record {
+        sound = c.runs_are_sound.ensures 8 start ms (omega arith, omega arith) left.starts left.run;
+        tells = told;
+        images = left.devices.images;
+        faults_are = left.devices.faults;
+        handed = left.devices.providers;
+      }) opens (c.forms_are_spelled.ensures words command form) (answers.answers command form)
+      answers.counts in (
+        H.0,
+        H.1,
+        record {
+          starts = left.starts;
+          run = H.2;
+          devices = record { images = H.3.images; faults = H.3.faults_are; providers = H.3.handed };
+        },
+      ));
+  init = λ words numbers start ms old new end answers form told left.
+      init-left start ms old new end numbers told left (answers.inits (InitWith numbers) form);
+  carried = λ words form start ms old new end answers is told left. elim (answers.headline form is) [
+    | inl u ↦ ([], left-same start ms old new u.2.disk u.2.disk_faults u.2.providers left)
+    | inr goes ↦ (let G = goes start ms told left in (
+      G.later ++ call_from (now start ms) ∷ [],
+      subst (λ l. AreLeft start l (devices_of_seen new))
+          (sym (append_assoc G.later (call_from (now start ms) ∷ []) ms))
+          (record { starts = left.starts; run = G.carries.run; devices = G.carries.last }),
     ))
-
-pub returns-clause-init : goal.returns-clause-init
-returns-clause-init c = λ words numbers start ms old new end answers form told left.
-    init-left start ms old new end numbers told left (answers.inits (InitWith numbers) form)
-
-pub returns-clause-carried : goal.returns-clause-carried
-returns-clause-carried c = λ words form start ms old new end answers is told left.
-    elim (answers.headline form is) [
-      | inl u ↦ ([], left-same start ms old new u.2.disk u.2.disk_faults u.2.providers left)
-      | inr goes ↦ (let G = goes start ms told left in (
-        G.later ++ call_from (now start ms) ∷ [],
-        subst (λ l. AreLeft start l (devices_of_seen new))
-            (sym (append_assoc G.later (call_from (now start ms) ∷ []) ms))
-            (record { starts = left.starts; run = G.carries.run; devices = G.carries.last }),
-      ))
-    ]
-
-pub returns-clause-row : goal.returns-clause-row
-returns-clause-row c = λ words n l b symbols start ms old new end answers form left.
-    (let T = (answers.answers (RowOf n l b symbols) form).1 in
-    left-same start ms old new T.disk T.disk_faults T.providers left)
+  ];
+  row = λ words n l b symbols start ms old new end answers form left.
+      (let T = (answers.answers (RowOf n l b symbols) form).1 in
+      left-same start ms old new T.disk T.disk_faults T.providers left);
+}

@@ -1,6 +1,5 @@
-use Rattle.std.proofs.Common.{◌++◌, subst}
+use Rattle.std.proofs.Common.{◌++◌, subst, reverse}
 use Rattle.std.proofs.lemmas.List.{reverse-reverse}
-use Rattle.std.specs.Prelude.{reverse}
 use Rattle.stories.specs.Words.{DamagesOnly, CarriesOut, called_behind}
 use Rattle.stories.specs.Files.{put_of, got_behind}
 use Rattle.stories.proofs.Gets.{is-got}
@@ -23,8 +22,8 @@ returns c =
     record {
       got = G;
       whole = λ how few put_begun put_ended get_begun get_ended.
-          c.stored_files_are_got.ensures.ends 8 (λ moments. 0) start G.before G.gaps G.begin G.last g name bytes
-          how
+          c.stored_files_are_got.ensures.ends 8 (λ moments. 0) start G.before G.gaps G.begin G.last g name
+          bytes how
           (c.few_damaged_providers_leave_runs_calm.ensures.marked 8 start _ ps left.starts tell G.left.run
           damages few)
           (G.put.stored put_begun put_ended) (G.ends how get_begun get_ended);

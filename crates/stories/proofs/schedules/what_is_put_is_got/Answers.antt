@@ -1,5 +1,4 @@
-use Rattle.std.specs.Prelude.{reverse}
-use Rattle.std.proofs.Common.{◌++◌}
+use Rattle.std.proofs.Common.{◌++◌, reverse}
 use Rattle.stories.specs.Files.{put_of, got_behind}
 use Rattle.stories.proofs.Gets.{is-got}
 use Rattle.stories.proofs.schedules.what_is_put_is_got.Goals as goal

@@ -1,6 +1,5 @@
-use Rattle.std.proofs.Common.{◌++◌, sym, subst, arith}
+use Rattle.std.proofs.Common.{◌++◌, sym, subst, arith, reverse}
 use Rattle.std.proofs.lemmas.List.{reverse-reverse}
-use Rattle.std.specs.Prelude.{reverse}
 use Rattle.stories.specs.Words.{CarriesOut, devices_of_seen, called_behind}
 use Rattle.stories.specs.Files.{put_of, PutsFile}
 use Rattle.stories.specs.Said.{SaysPut}
@@ -32,8 +31,8 @@ returns c =
             K.size,
             K.bytes_are,
             c.images_of_devices.ensures (devices_of_seen new) _ name K.file W.left.devices
-                (c.runs_are_sound.ensures 8 start (W.later ++ called_behind start ms) (omega arith, omega arith)
-                left.starts W.left.run) K.kept,
+                (c.runs_are_sound.ensures 8 start (W.later ++ called_behind start ms)
+                (omega arith, omega arith) left.starts W.left.run) K.kept,
           ));
       said = λ taken text taken_is text_said says.
           (let same = written-as old.sink new.sink W.lines taken text W.written taken_is text_said in
