@@ -1,8 +1,11 @@
 // The system's files, of which those that are written keep nothing, and whose calls are counted.
 use std::alloc::Allocator;
 use std::cell::Cell;
-use std::fs::{Files, Metadata, OpenFile, OpenOptions};
-use std::io::{self, Read, Seek, SeekFrom, Write};
+use std::fs::{Files, Metadata, OpenFile, OpenOptions, Permissions};
+use std::io::{self, PipeReader, PipeWriter, Read, Seek, SeekFrom, Write};
+use std::os::unix::io::BorrowedFd;
+use std::os::unix::net::SocketAddr;
+use std::path::PathBuf;
 use std::rc::Rc;
 
 /// The system's files, where a write says yes to all and puts zeros in place of what it was given, which a
@@ -100,6 +103,42 @@ impl<R: Files + Clone + Drop> Files for Forgetful<R> {
 
     fn remove_dir_all<B: Allocator>(&self, alloc: B, path: &str) -> io::Result<()> {
         self.files.remove_dir_all(alloc, path)
+    }
+
+    fn canonicalize<B: Allocator>(&self, alloc: B, path: &str) -> io::Result<PathBuf<B>> {
+        self.files.canonicalize(alloc, path)
+    }
+
+    fn read_link<B: Allocator>(&self, alloc: B, path: &str) -> io::Result<PathBuf<B>> {
+        self.files.read_link(alloc, path)
+    }
+
+    fn hard_link(&self, original: &str, link: &str) -> io::Result<()> {
+        self.files.hard_link(original, link)
+    }
+
+    fn set_permissions(&self, path: &str, permissions: Permissions) -> io::Result<()> {
+        self.files.set_permissions(path, permissions)
+    }
+
+    fn symlink(&self, original: &str, link: &str) -> io::Result<()> {
+        self.files.symlink(original, link)
+    }
+
+    fn pipe(&self) -> io::Result<(PipeReader, PipeWriter)> {
+        self.files.pipe()
+    }
+
+    fn chown(&self, path: &str, user: Option<u32>, group: Option<u32>) -> io::Result<()> {
+        self.files.chown(path, user, group)
+    }
+
+    fn lchown(&self, path: &str, user: Option<u32>, group: Option<u32>) -> io::Result<()> {
+        self.files.lchown(path, user, group)
+    }
+
+    fn bind_unix(&self, socket: BorrowedFd<'_>, address: &SocketAddr) -> io::Result<()> {
+        self.files.bind_unix(socket, address)
     }
 }
 

@@ -1,5 +1,5 @@
-//! Worked rows of devices: streams, the disk and providers, in memory, behind a wire and as real files and
-//! folders.
+//! Worked rows of devices: streams, the disk and providers, in memory, behind a wire and as real files,
+//! folders and pipes.
 #![tactic(auto)]
 
 #[cfg(test)]
@@ -18,6 +18,12 @@ mod folders;
 mod forgetful;
 #[cfg(test)]
 mod given;
+#[cfg(test)]
+mod homes;
+#[cfg(test)]
+mod pipes;
+#[cfg(test)]
+mod places;
 #[cfg(test)]
 mod providers;
 #[cfg(test)]

@@ -1,8 +1,11 @@
 use crate::medium::{Change, Medium, Stays, kept};
 use std::alloc::{Allocator, Global};
 use std::cell::{RefCell, RefMut};
-use std::fs::{Files, Metadata, OpenFile, OpenOptions};
-use std::io::{self, ErrorKind, Read, Seek, SeekFrom, Write};
+use std::fs::{Files, Metadata, OpenFile, OpenOptions, Permissions};
+use std::io::{self, ErrorKind, PipeReader, PipeWriter, Read, Seek, SeekFrom, Write};
+use std::os::unix::io::BorrowedFd;
+use std::os::unix::net::SocketAddr;
+use std::path::PathBuf;
 use std::rc::Rc;
 
 /// A stand-in for the operating system's files, over a medium in memory.
@@ -147,6 +150,42 @@ impl Files for StandIn {
     }
 
     fn remove_dir_all<B: Allocator>(&self, _alloc: B, _path: &str) -> io::Result<()> {
+        Err(not_done())
+    }
+
+    fn canonicalize<B: Allocator>(&self, _alloc: B, _path: &str) -> io::Result<PathBuf<B>> {
+        Err(not_done())
+    }
+
+    fn read_link<B: Allocator>(&self, _alloc: B, _path: &str) -> io::Result<PathBuf<B>> {
+        Err(not_done())
+    }
+
+    fn hard_link(&self, _original: &str, _link: &str) -> io::Result<()> {
+        Err(not_done())
+    }
+
+    fn set_permissions(&self, _path: &str, _permissions: Permissions) -> io::Result<()> {
+        Err(not_done())
+    }
+
+    fn symlink(&self, _original: &str, _link: &str) -> io::Result<()> {
+        Err(not_done())
+    }
+
+    fn pipe(&self) -> io::Result<(PipeReader, PipeWriter)> {
+        Err(not_done())
+    }
+
+    fn chown(&self, _path: &str, _user: Option<u32>, _group: Option<u32>) -> io::Result<()> {
+        Err(not_done())
+    }
+
+    fn lchown(&self, _path: &str, _user: Option<u32>, _group: Option<u32>) -> io::Result<()> {
+        Err(not_done())
+    }
+
+    fn bind_unix(&self, _socket: BorrowedFd<'_>, _address: &SocketAddr) -> io::Result<()> {
         Err(not_done())
     }
 }

@@ -1,7 +1,8 @@
-ghost use Rattle.std.specs.Prelude.{◌+◌, ◌^◌, ◌≤◌};
+ghost use Rattle.std.specs.Prelude.{◌≡◌, ◌<◌, ◌+◌, ◌^◌, ◌≤◌, OnOk};
+ghost use Rattle.journal_core.specs.Appends.{moves_of};
 
 use crate::given::no_other;
-use disk_model::MemDisk;
+use disk_model::{Disk, MemDisk};
 use journal_core::*;
 use record_codec::Record;
 use std::alloc::Global;
@@ -20,6 +21,14 @@ static GIVEN_UP: [Appended; 4] = [
     (&[3], Err(WriteFault::Failed), b"HAILJRN1\x01\x04\x01a\x00"),
 ];
 
+/// Makes a move of an append; true after the last.
+fn turn<D: Disk>(append: &mut Append, disk: &mut D) -> Result<bool, WriteFault>
+    requires { moves_of append.old < 4 }
+    ensures { OnOk result (moves_of append.new ≡ moves_of append.old + 1) }
+{
+    append.turn(disk)
+}
+
 /// Appends the record that these bytes spell at this gate.
 pub fn append(gate: u64, bytes: &[u8], disk: &mut MemDisk) -> Result<bool, WriteFault>
     requires { gate ≤ 2 ^ 23 + 128 }
@@ -27,10 +36,10 @@ pub fn append(gate: u64, bytes: &[u8], disk: &mut MemDisk) -> Result<bool, Write
     match Record::read(bytes) {
         Some((entry, size)) if entry.size() <= 80 && size <= 80 => {
             let mut append = Append::new(gate, &entry);
-            append.turn(disk)?;
-            append.turn(disk)?;
-            append.turn(disk)?;
-            append.turn(disk)
+            turn(&mut append, disk)?;
+            turn(&mut append, disk)?;
+            turn(&mut append, disk)?;
+            turn(&mut append, disk)
         }
         _ => Err(WriteFault::Memory),
     }

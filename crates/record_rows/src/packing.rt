@@ -1,4 +1,4 @@
-ghost use Rattle.std.specs.Prelude.{◌≡◌, ◌⊎◌, ◌^◌, IfSome, IsTrue, OnOk, List};
+ghost use Rattle.std.specs.Prelude.{◌≡◌, ◌<◌, ◌+◌, ◌⊎◌, ◌^◌, IfSome, IsTrue, OnOk, List};
 ghost use Rattle.std.specs.List.{list_all};
 ghost use Rattle.record_defs.specs.Records.{Record as Entry, is_in_grammar};
 ghost use Rattle.record_defs.specs.Acceptance.{AreAccepted};
@@ -150,26 +150,48 @@ fn pack_of(alloc: Global, base: u64, rows: &[&'static [u8]]) -> Option<Pack>
     }
 }
 
+/// Makes a move of a pack; true after the last.
+fn turn<D: Disk>(pack: &mut Pack, disk: &mut D) -> Result<bool, WriteFault>
+    requires { moves_of pack.old < 4 }
+    ensures { OnOk result (moves_of pack.new ≡ moves_of pack.old + 1) }
+{
+    pack.turn(disk)
+}
+
 /// The first three moves of a pack.
-fn three_moves(pack: &mut Pack, disk: &mut MemDisk) -> Result<(), WriteFault>
+fn three_moves<D: Disk>(pack: &mut Pack, disk: &mut D) -> Result<(), WriteFault>
     requires { moves_of pack.old ≡ 0 }
     ensures { OnOk result (moves_of pack.new ≡ 3) }
 {
-    pack.turn(disk)?;
-    pack.turn(disk)?;
-    pack.turn(disk)?;
+    turn(pack, disk)?;
+    turn(pack, disk)?;
+    turn(pack, disk)?;
     Ok(())
 }
 
-/// The bytes of the text of records behind open gates, with a closed gate.
-fn text_of(alloc: Global, rows: &[&'static [u8]]) -> Option<Vec<u8>> {
-    let mut text = Vec::new(alloc);
-    for row in rows {
-        text.push(1).ok()?;
-        text.extend_from_slice(row).ok()?;
-    }
-    text.push(0).ok()?;
-    Some(text)
+/// All four; true where the last is told to be it.
+fn four_moves<D: Disk>(pack: &mut Pack, disk: &mut D) -> Result<bool, WriteFault>
+    requires { moves_of pack.old ≡ 0 }
+{
+    three_moves(pack, disk)?;
+    turn(pack, disk)
+}
+
+/// Packs a journal of these records away from the area that begins at `base`: whether the pack has so many
+/// bytes, and ends.
+fn packs(
+    alloc: Global,
+    base: u64,
+    rows: &[&'static [u8]],
+    size: u64,
+    disk: &mut MemDisk,
+) -> Option<bool>
+    requires { (base ≡ 8) ⊎ (base ≡ 2 ^ 23) }
+{
+    let mut pack = pack_of(alloc, base, rows)?;
+    let has_size = pack.size() == size;
+    let ended = four_moves(&mut pack, disk).ok()?;
+    Some(has_size && ended)
 }
 
 /// Whether these bytes have this part at an offset.
@@ -180,24 +202,29 @@ fn has(bytes: &[u8], at: usize, part: &[u8]) -> bool {
     }
 }
 
+/// Whether these bytes have the text of records at an offset: each behind an open gate, and a closed gate.
+fn has_text(bytes: &[u8], start: usize, rows: &[&'static [u8]]) -> bool {
+    let mut at = start;
+    for row in rows {
+        let record = at.saturating_add(1);
+        if !has(bytes, at, b"\x01") || !has(bytes, record, row) {
+            return false;
+        }
+        at = record.saturating_add(row.len());
+    }
+    has(bytes, at, b"\0")
+}
+
 /// Whether a pack from the first area and then one from the second have these sizes and leave these bytes.
 fn packs_both_ways(alloc: Global, row: &Packed) -> Option<bool> {
     let mut disk = MemDisk::new(alloc, b"HAILJRN1\x00", &[]).ok()?;
-    let text = text_of(alloc, row.1)?;
-    let mut there = pack_of(alloc, 8, row.0)?;
-    let mut back = pack_of(alloc, 8388608, row.0)?;
-    if there.size() != row.2 || back.size() != row.3 {
+    let there = packs(alloc, 8, row.0, row.2, &mut disk)?;
+    if !there || !has(disk.bytes(), 7, b"2") || !has_text(disk.bytes(), 8388608, row.1) {
         return Some(false);
     }
-    three_moves(&mut there, &mut disk).ok()?;
-    let ended = there.turn(&mut disk).ok()?;
-    if !ended || !has(disk.bytes(), 7, b"2") || !has(disk.bytes(), 8388608, &text) {
-        return Some(false);
-    }
-    three_moves(&mut back, &mut disk).ok()?;
-    let ended = back.turn(&mut disk).ok()?;
+    let back = packs(alloc, 8388608, row.0, row.3, &mut disk)?;
     let bytes = disk.bytes();
-    Some(ended && has(bytes, 7, b"1") && has(bytes, 8, &text) && bytes.len() == row.4)
+    Some(back && has(bytes, 7, b"1") && has_text(bytes, 8, row.1) && bytes.len() == row.4)
 }
 
 /// The place of the first journal that is packed otherwise, if any.
@@ -251,9 +278,7 @@ fn a_stop_at_the_switch_leaves_one_of_the_two(rt: HostRuntime) {
 /// What is read once a record is appended behind a packed journal, in the second area.
 fn read_behind_a_pack(alloc: Global) -> Option<Result<(u64, u64, usize), u64>> {
     let mut disk = MemDisk::new(alloc, b"HAILJRN1\x00", &[]).ok()?;
-    let mut pack = pack_of(alloc, 8, &TWO_PUTS)?;
-    three_moves(&mut pack, &mut disk).ok()?;
-    pack.turn(&mut disk).ok()?;
+    packs(alloc, 8, &TWO_PUTS, 89, &mut disk)?;
     append(8388696, b"\x04\x09notes.txt", &mut disk).ok()?;
     Some(active_of(alloc, disk.bytes()))
 }

@@ -31,6 +31,12 @@ pub fn is_line(line: Result<Bytes, Memory>, wanted: &str) -> bool {
 /// The digits of a key: the bytes 0 to 30 and 255.
 pub const KEY: &str = "000102030405060708090A0b0c0d0e0f101112131415161718191a1b1C1d1eFf";
 
+/// Its bytes.
+pub const KEY_BYTES: [u8; 32] = [
+    0, 1, 2, 3, 4, 5, 6, 7, 8, 9, 10, 11, 12, 13, 14, 15, 16, 17, 18, 19, 20, 21, 22, 23, 24, 25,
+    26, 27, 28, 29, 30, 255,
+];
+
 /// The setup of four providers, one of them primary and one of them bad, as its record.
 pub const SETUP: [u8; 41] = [
     1, 4, 1, 1, 0, 1, 1, 0, 0, 0, 0, 0, 0, 0, 0, 0, 0, 0, 0, 0, 0, 0, 0, 0, 0, 0, 0, 0, 0, 0, 0, 0,

@@ -46,8 +46,8 @@ static ROWS: [Row; 8] = [
     Row {
         disk: &[],
         fails: &[],
-        schedule: "begin upgrade\nrun 1\nbegin pack\nbegin pack\nbegin scrub\nbegin put a 00\nbegin get a/b\nbegin audit\nrun 1\nrun 2\nbegin get a\n",
-        lines: "job 1\nupgraded\njob 2\nrefused Busy\nrefused Busy\nrefused Busy\nrefused Busy\nrefused Busy\nrefused NoSuchJob\npacked 54 64\nrefused NoSuchName\n",
+        schedule: "begin upgrade\nrun 1\nbegin pack\nbegin pack\nbegin scrub\nbegin put a 00\nbegin get a/b\nbegin audit\nbegin upgrade\nrun 1\nrun 2\nbegin get a\n",
+        lines: "job 1\nupgraded\njob 2\nrefused Busy\nrefused Busy\nrefused Busy\nrefused Busy\nrefused Busy\nrefused Busy\nrefused NoSuchJob\npacked 54 64\nrefused NoSuchName\n",
         heard: 0,
     },
     // a stop before the third move leaves the old text

@@ -1,145 +1,109 @@
-use crate::given::{KEY, no_other};
+use crate::given::{KEY, KEY_BYTES, no_other};
+use hail_field::Symbol;
 use record_codec::Setup;
 use schedule_text::*;
 use std::alloc::{AllocError, Global};
 
-/// Bytes as lower-case digits, or `-` for none.
-fn digits(alloc: Global, bytes: &[u8]) -> Result<String, AllocError> {
-    if bytes.is_empty() {
-        return String::from_str(alloc, "-");
-    }
-    hex::encode(alloc, bytes)
+/// An event that a line is to be read as, its names, bytes and numbers as they stand there.
+#[derive(Clone, Copy)]
+enum Wanted {
+    /// The set-up with the key that stands here.
+    Init(Setup),
+    /// A name, bytes, and the number of a profile.
+    Put(&'static [u8], &'static [u8], Option<u8>),
+    Get(&'static [u8]),
+    Drop(&'static [u8]),
+    Audit,
+    Repair,
+    Upgrade,
+    Scrub,
+    Pack,
+    Step(u32),
+    Run(u32),
+    /// A provider, an object, a stripe, a place and a symbol.
+    Alter(u32, u64, u32, u32, u128),
+    /// A provider, an object and a stripe.
+    Lose(u32, u64, u32),
+    Stop(&'static [u8]),
+    Reopen,
+    List,
 }
 
-/// A word, and bytes as digits.
-fn one_shown(alloc: Global, word: &str, bytes: &[u8]) -> Result<String, AllocError> {
-    let bytes = digits(alloc, bytes)?;
-    format!(in alloc; "{word} {bytes}")
-}
-
-/// A put with its name and its bytes as digits, and with its profile where it names one.
-fn put_shown(
-    alloc: Global,
-    name: &[u8],
-    bytes: &[u8],
-    profile: Option<u8>,
-) -> Result<String, AllocError> {
-    let name = digits(alloc, name)?;
-    let bytes = digits(alloc, bytes)?;
-    match profile {
-        Some(number) => format!(in alloc; "put {name} {bytes} {number}"),
-        None => format!(in alloc; "put {name} {bytes}"),
-    }
-}
-
-/// A set-up, its key as digits.
-fn init_shown(alloc: Global, setup: &Setup, key: &[u8]) -> Result<String, AllocError> {
-    let key = digits(alloc, key)?;
-    format!(in alloc; "init {setup:?} {key}")
-}
-
-/// A word and a number.
-fn number_shown(alloc: Global, word: &str, number: u32) -> Result<String, AllocError> {
-    format!(in alloc; "{word} {number}")
-}
-
-fn alter_shown(
-    alloc: Global,
-    provider: u32,
-    object: u64,
-    stripe: u32,
-    place: u32,
-    symbol: u128,
-) -> Result<String, AllocError> {
-    format!(in alloc; "alter {provider} {object} {stripe} {place} {symbol}")
-}
-
-fn lose_shown(
-    alloc: Global,
-    provider: u32,
-    object: u64,
-    stripe: u32,
-) -> Result<String, AllocError> {
-    format!(in alloc; "lose {provider} {object} {stripe}")
-}
-
-/// An event as a line of its own: names as digits, numbers in decimal.
-fn shown(alloc: Global, event: &Event) -> Result<String, AllocError> {
-    match event {
-        Event::Init { setup, master } => init_shown(alloc, setup, &master.0),
-        Event::BeginPut {
-            name,
-            bytes,
-            profile,
-        } => put_shown(alloc, name.as_slice(), bytes.as_slice(), *profile),
-        Event::BeginGet { name } => one_shown(alloc, "get", name.as_slice()),
-        Event::BeginDrop { name } => one_shown(alloc, "drop", name.as_slice()),
-        Event::BeginAudit => String::from_str(alloc, "audit"),
-        Event::BeginRepair => String::from_str(alloc, "repair"),
-        Event::BeginUpgrade => String::from_str(alloc, "upgrade"),
-        Event::BeginScrub => String::from_str(alloc, "scrub"),
-        Event::BeginPack => String::from_str(alloc, "pack"),
-        Event::Step { job } => number_shown(alloc, "step", *job),
-        Event::Run { job } => number_shown(alloc, "run", *job),
-        Event::Alter {
-            provider,
-            object,
-            stripe,
-            place,
-            symbol,
-        } => alter_shown(alloc, *provider, *object, *stripe, *place, symbol.0),
-        Event::Lose {
-            provider,
-            object,
-            stripe,
-        } => lose_shown(alloc, *provider, *object, *stripe),
-        Event::Stop { picks } => one_shown(alloc, "stop", picks.as_slice()),
-        Event::Reopen => String::from_str(alloc, "reopen"),
-        Event::List => String::from_str(alloc, "list"),
+/// Whether an event is this.
+fn is(event: &Event, wanted: Wanted) -> bool {
+    match (event, wanted) {
+        (Event::Init { setup, master }, Wanted::Init(numbers)) => {
+            *setup == numbers && master.0 == KEY_BYTES
+        }
+        (
+            Event::BeginPut {
+                name,
+                bytes,
+                profile,
+            },
+            Wanted::Put(letters, content, number),
+        ) => name.as_slice() == letters && bytes.as_slice() == content && *profile == number,
+        (Event::BeginGet { name }, Wanted::Get(letters)) => name.as_slice() == letters,
+        (Event::BeginDrop { name }, Wanted::Drop(letters)) => name.as_slice() == letters,
+        (Event::BeginAudit, Wanted::Audit) => true,
+        (Event::BeginRepair, Wanted::Repair) => true,
+        (Event::BeginUpgrade, Wanted::Upgrade) => true,
+        (Event::BeginScrub, Wanted::Scrub) => true,
+        (Event::BeginPack, Wanted::Pack) => true,
+        (Event::Step { job }, Wanted::Step(number)) => *job == number,
+        (Event::Run { job }, Wanted::Run(number)) => *job == number,
+        (
+            Event::Alter {
+                provider,
+                object,
+                stripe,
+                place,
+                symbol,
+            },
+            Wanted::Alter(by, of, at, within, number),
+        ) => (*provider, *object, *stripe, *place, *symbol) == (by, of, at, within, Symbol(number)),
+        (
+            Event::Lose {
+                provider,
+                object,
+                stripe,
+            },
+            Wanted::Lose(by, of, at),
+        ) => (*provider, *object, *stripe) == (by, of, at),
+        (Event::Stop { picks }, Wanted::Stop(bytes)) => picks.as_slice() == bytes,
+        (Event::Reopen, Wanted::Reopen) => true,
+        (Event::List, Wanted::List) => true,
+        _ => false,
     }
 }
 
-/// Adds an event and a semicolon to a text.
-fn add(alloc: Global, all: &mut String, event: &Event) -> Result<(), AllocError> {
-    let line = shown(alloc, event)?;
-    all.push_str(line.as_str())?;
-    all.push_str(";")
+/// Whether events are these.
+fn are(events: &[Event], wanted: &[Wanted]) -> bool {
+    if events.len() != wanted.len() {
+        return false;
+    }
+    for place in 0..events.len() {
+        if !is(&events[place], wanted[place]) {
+            return false;
+        }
+    }
+    true
 }
 
-/// The events with a semicolon behind each.
-fn all_shown(alloc: Global, events: &[Event]) -> Result<String, AllocError> {
-    let mut all = String::new(alloc);
-    for event in events {
-        add(alloc, &mut all, event)?;
-    }
-    Ok(all)
-}
-
-fn fault_shown(alloc: Global, fault: ScheduleFault) -> Result<String, AllocError> {
-    match fault {
-        ScheduleFault::BadLine { number } => format!(in alloc; "bad line {number}"),
-        ScheduleFault::Memory => "no memory".to_string(alloc),
-    }
-}
-
-/// What a text is read as: its events with a semicolon behind each, or the fault.
-fn read(alloc: Global, text: &[u8]) -> Result<String, AllocError> {
-    match read_schedule(alloc, text) {
-        Ok(events) => all_shown(alloc, &events),
-        Err(fault) => fault_shown(alloc, fault),
-    }
-}
+/// What a text is to be read as: events, or the number of its first bad line.
+type Read = Result<&'static [Wanted], u64>;
 
 /// Whether a text is read as this.
-fn reads_as(alloc: Global, text: &[u8], wanted: &str) -> bool {
-    match read(alloc, text) {
-        Ok(found) => found.as_str() == wanted,
-        Err(_) => false,
+fn reads_as(alloc: Global, text: &[u8], wanted: Read) -> bool {
+    match (read_schedule(alloc, text), wanted) {
+        (Ok(events), Ok(wanted)) => are(&events, wanted),
+        (Err(ScheduleFault::BadLine { number }), Err(line)) => number == line,
+        _ => false,
     }
 }
 
 /// A text, and what it is read as.
-type Row = (&'static str, &'static str);
+type Row = (&'static str, Read);
 
 /// The place of the first of these texts that is read otherwise, if any.
 fn first_misread(alloc: Global, rows: &[Row]) -> Option<usize> {
@@ -158,7 +122,7 @@ fn line_with_key(alloc: Global, line: &str, more: &str) -> Result<String, AllocE
 }
 
 /// Whether a line with the key behind it, and more, is read as this.
-fn reads_with_key(alloc: Global, line: &str, more: &str, wanted: &str) -> bool {
+fn reads_with_key(alloc: Global, line: &str, more: &str, wanted: Read) -> bool {
     match line_with_key(alloc, line, more) {
         Ok(text) => reads_as(alloc, text.as_bytes(), wanted),
         Err(_) => false,
@@ -166,7 +130,7 @@ fn reads_with_key(alloc: Global, line: &str, more: &str, wanted: &str) -> bool {
 }
 
 /// The fault of a text whose first line is bad.
-const BAD: &str = "bad line 1";
+const BAD: Read = Err(1);
 
 /// The place of the first of these lines that is read, if any.
 fn first_read(alloc: Global, lines: &[&str]) -> Option<usize> {
@@ -179,37 +143,52 @@ fn first_read(alloc: Global, lines: &[&str]) -> Option<usize> {
 }
 
 static LINES: [Row; 28] = [
-    ("reopen", "reopen;"),
-    ("list", "list;"),
-    ("begin put a/b 00", "put 612f62 00;"),
-    ("begin put a 00fFAb", "put 61 00ffab;"),
-    ("begin put put -", "put 707574 -;"),
-    ("begin put a 00 0", "put 61 00 0;"),
-    ("begin put a - 5", "put 61 - 5;"),
-    ("begin put a 0fFF 255", "put 61 0fff 255;"),
-    ("begin  put  a  00  4  ", "put 61 00 4;"),
-    ("begin get #", "get 23;"),
-    ("begin get é\t", "get c3a909;"),
-    ("begin drop trial", "drop 747269616c;"),
-    ("begin audit", "audit;"),
-    ("begin repair", "repair;"),
-    ("begin upgrade", "upgrade;"),
-    ("begin scrub", "scrub;"),
-    (" begin  scrub ", "scrub;"),
-    ("begin pack", "pack;"),
-    (" begin  pack ", "pack;"),
-    ("step 0", "step 0;"),
-    ("step 4294967295", "step 4294967295;"),
-    ("run 1", "run 1;"),
-    ("alter 0 1 0 0 5", "alter 0 1 0 0 5;"),
+    ("reopen", Ok(&[Wanted::Reopen])),
+    ("list", Ok(&[Wanted::List])),
+    (
+        "begin put a/b 00",
+        Ok(&[Wanted::Put(b"a/b", b"\x00", None)]),
+    ),
+    (
+        "begin put a 00fFAb",
+        Ok(&[Wanted::Put(b"a", b"\x00\xff\xab", None)]),
+    ),
+    ("begin put put -", Ok(&[Wanted::Put(b"put", b"", None)])),
+    (
+        "begin put a 00 0",
+        Ok(&[Wanted::Put(b"a", b"\x00", Some(0))]),
+    ),
+    ("begin put a - 5", Ok(&[Wanted::Put(b"a", b"", Some(5))])),
+    (
+        "begin put a 0fFF 255",
+        Ok(&[Wanted::Put(b"a", b"\x0f\xff", Some(255))]),
+    ),
+    (
+        "begin  put  a  00  4  ",
+        Ok(&[Wanted::Put(b"a", b"\x00", Some(4))]),
+    ),
+    ("begin get #", Ok(&[Wanted::Get(b"#")])),
+    ("begin get é\t", Ok(&[Wanted::Get(b"\xc3\xa9\x09")])),
+    ("begin drop trial", Ok(&[Wanted::Drop(b"trial")])),
+    ("begin audit", Ok(&[Wanted::Audit])),
+    ("begin repair", Ok(&[Wanted::Repair])),
+    ("begin upgrade", Ok(&[Wanted::Upgrade])),
+    ("begin scrub", Ok(&[Wanted::Scrub])),
+    (" begin  scrub ", Ok(&[Wanted::Scrub])),
+    ("begin pack", Ok(&[Wanted::Pack])),
+    (" begin  pack ", Ok(&[Wanted::Pack])),
+    ("step 0", Ok(&[Wanted::Step(0)])),
+    ("step 4294967295", Ok(&[Wanted::Step(4294967295)])),
+    ("run 1", Ok(&[Wanted::Run(1)])),
+    ("alter 0 1 0 0 5", Ok(&[Wanted::Alter(0, 1, 0, 0, 5)])),
     (
         "alter 4294967295 18446744073709551615 4294967295 4294967295 340282366920938463463374607431768211455",
-        "alter 4294967295 18446744073709551615 4294967295 4294967295 340282366920938463463374607431768211455;",
+        Ok(&[Wanted::Alter(u32::MAX, u64::MAX, u32::MAX, u32::MAX, u128::MAX)]),
     ),
-    ("lose 15 2 3", "lose 15 2 3;"),
-    ("stop -", "stop -;"),
-    ("stop 0aFF", "stop 0aff;"),
-    ("  step   7  ", "step 7;"),
+    ("lose 15 2 3", Ok(&[Wanted::Lose(15, 2, 3)])),
+    ("stop -", Ok(&[Wanted::Stop(b"")])),
+    ("stop 0aFF", Ok(&[Wanted::Stop(b"\x0a\xff")])),
+    ("  step   7  ", Ok(&[Wanted::Step(7)])),
 ];
 
 #[test]
@@ -217,33 +196,43 @@ fn each_line_is_read(rt: HostRuntime) {
     no_other(&rt, first_misread(rt.alloc(), &LINES));
 }
 
-/// What an `init` is read as whose key is the one that stands here.
-const SET_UP: &str =
-    "init Setup { n: 6, l: 3, b: 1, profile: 2, rounds: 4, picks: 8, tolerance: 65535 } 000102030405060708090a0b0c0d0e0f101112131415161718191a1b1c1d1eff;";
+/// What an `init` is read as.
+const SET_UP: &[Wanted] = &[Wanted::Init(Setup {
+    n: 6,
+    l: 3,
+    b: 1,
+    profile: 2,
+    rounds: 4,
+    picks: 8,
+    tolerance: 65535,
+})];
 
 #[test]
 fn an_init_is_read(rt: HostRuntime) {
-    let right = reads_with_key(rt.alloc(), "init 6 3 1 2 4 8 65535", "", SET_UP);
+    let right = reads_with_key(rt.alloc(), "init 6 3 1 2 4 8 65535", "", Ok(SET_UP));
     assert!(rt; right);
 }
 
 static CUTS: [Row; 16] = [
-    ("", ""),
-    ("\n", ""),
-    ("\r\n \r\n", ""),
-    ("reopen\nlist\n", "reopen;list;"),
-    ("reopen\r\nlist\r\n", "reopen;list;"),
-    ("reopen \r\n\n# fly\r\n  #\nlist", "reopen;list;"),
-    ("#\r", ""),
-    ("reopen\r\r\n", "bad line 1"),
-    ("reopen\nlist\r", "bad line 2"),
-    ("begin get a\r \r\n", "get 610d;"),
-    ("\r\r\n", "bad line 1"),
-    ("reopen\nlist\nfly\n", "bad line 3"),
-    ("# one\n\nfly\nflee\n", "bad line 3"),
-    ("reopen list", "bad line 1"),
-    ("reopen\tlist", "bad line 1"),
-    ("reopen\n\tlist", "bad line 2"),
+    ("", Ok(&[])),
+    ("\n", Ok(&[])),
+    ("\r\n \r\n", Ok(&[])),
+    ("reopen\nlist\n", Ok(&[Wanted::Reopen, Wanted::List])),
+    ("reopen\r\nlist\r\n", Ok(&[Wanted::Reopen, Wanted::List])),
+    (
+        "reopen \r\n\n# fly\r\n  #\nlist",
+        Ok(&[Wanted::Reopen, Wanted::List]),
+    ),
+    ("#\r", Ok(&[])),
+    ("reopen\r\r\n", Err(1)),
+    ("reopen\nlist\r", Err(2)),
+    ("begin get a\r \r\n", Ok(&[Wanted::Get(b"a\x0d")])),
+    ("\r\r\n", Err(1)),
+    ("reopen\nlist\nfly\n", Err(3)),
+    ("# one\n\nfly\nflee\n", Err(3)),
+    ("reopen list", Err(1)),
+    ("reopen\tlist", Err(1)),
+    ("reopen\n\tlist", Err(2)),
 ];
 
 #[test]
@@ -318,7 +307,7 @@ fn other_lines_are_bad(rt: HostRuntime) {
 }
 
 /// Lines with the key behind them, and more, that are bad.
-static NO_SETUPS: [Row; 4] = [
+static NO_SETUPS: [(&str, &str); 4] = [
     ("init 256 3 1 2 4 8 0", ""),
     ("init 6 3 1 2 4 8 65536", ""),
     ("init 6 3 1 2 4 8", ""),
@@ -326,7 +315,7 @@ static NO_SETUPS: [Row; 4] = [
 ];
 
 /// The place of the first of these lines that is read, if any.
-fn first_set_up(alloc: Global, rows: &[Row]) -> Option<usize> {
+fn first_set_up(alloc: Global, rows: &[(&str, &str)]) -> Option<usize> {
     for place in 0..rows.len() {
         let (line, more) = rows[place];
         if !reads_with_key(alloc, line, more, BAD) {

@@ -1,60 +1,56 @@
 use crate::given::{no_other, or_behind};
 use schedule_text::Event;
-use std::alloc::{AllocError, Global};
+use std::alloc::Global;
 use trial_maker::*;
 
-/// A word and a number.
-fn number_shown(alloc: Global, word: &str, number: u32) -> Result<String, AllocError> {
-    format!(in alloc; "{word} {number}")
+/// An event that stands in a trial: a step or a run of a job, a loss of a block of a stripe by a provider, and
+/// others.
+#[derive(Clone, Copy)]
+enum Seen {
+    Run(u32),
+    Step(u32),
+    Lose(u32, u32),
+    Audit,
+    Repair,
+    Get,
+    Reopen,
+    Stop,
 }
 
-fn lose_shown(alloc: Global, provider: u32, stripe: u32) -> Result<String, AllocError> {
-    format!(in alloc; "lose {provider} {stripe}")
-}
-
-/// A begin, a step, a run or a loss as a line.
-fn shown(alloc: Global, event: &Event) -> Result<String, AllocError> {
-    match event {
-        Event::Run { job } => number_shown(alloc, "run", *job),
-        Event::Step { job } => number_shown(alloc, "step", *job),
-        Event::Lose {
-            provider,
-            stripe,
-            ..
-        } => lose_shown(alloc, *provider, *stripe),
-        Event::BeginAudit => String::from_str(alloc, "audit"),
-        Event::BeginRepair => String::from_str(alloc, "repair"),
-        Event::BeginGet { .. } => String::from_str(alloc, "get"),
-        Event::Reopen => String::from_str(alloc, "reopen"),
-        Event::Stop { .. } => String::from_str(alloc, "stop"),
-        _ => String::from_str(alloc, "another"),
+/// Whether an event is this.
+fn is(event: &Event, wanted: Seen) -> bool {
+    match (event, wanted) {
+        (Event::Run { job }, Seen::Run(number)) => *job == number,
+        (Event::Step { job }, Seen::Step(number)) => *job == number,
+        (
+            Event::Lose {
+                provider,
+                stripe,
+                ..
+            },
+            Seen::Lose(by, at),
+        ) => *provider == by && *stripe == at,
+        (Event::BeginAudit, Seen::Audit) => true,
+        (Event::BeginRepair, Seen::Repair) => true,
+        (Event::BeginGet { .. }, Seen::Get) => true,
+        (Event::Reopen, Seen::Reopen) => true,
+        (Event::Stop { .. }, Seen::Stop) => true,
+        _ => false,
     }
 }
 
-/// Whether an event is shown as this line.
-fn is_shown(alloc: Global, event: &Event, wanted: &str) -> bool {
-    match shown(alloc, event) {
-        Ok(line) => line.as_str() == wanted,
-        Err(_) => false,
-    }
-}
+/// The place of an event in a trial, and what it is.
+type Row = (usize, Seen);
 
-/// Whether there is an event at a place, which is shown as this line.
-fn is_shown_at(alloc: Global, events: &[Event], at: usize, wanted: &str) -> bool {
-    match events.get(at) {
-        Some(event) => is_shown(alloc, event, wanted),
-        None => false,
-    }
-}
-
-/// The place of an event in a trial, and its line.
-type Row = (usize, &'static str);
-
-/// The place of the first of these rows whose event is shown otherwise, if any.
-fn first_other(alloc: Global, events: &[Event], rows: &[Row]) -> Option<usize> {
+/// The place of the first of these rows whose event is another, if any.
+fn first_other(events: &[Event], rows: &[Row]) -> Option<usize> {
     for place in 0..rows.len() {
         let (at, wanted) = rows[place];
-        if !is_shown_at(alloc, events, at, wanted) {
+        let right = match events.get(at) {
+            Some(event) => is(event, wanted),
+            None => false,
+        };
+        if !right {
             return Some(place);
         }
     }
@@ -71,12 +67,12 @@ fn has_lengths(trial: &Trial, events: usize, bytes: usize) -> bool {
     trial.events.len() == events && trial.expected.as_slice().len() == bytes
 }
 
-/// The place of the first of these rows that the trial of seven shows otherwise; behind the last where it has
-/// other lengths.
+/// The place of the first of these rows whose event in the trial of seven is another; behind the last where
+/// the trial has other lengths.
 fn first_other_of_seven(alloc: Global, rows: &[Row]) -> Option<usize> {
     match trial_of(alloc, 7) {
         Some(trial) => {
-            let place = first_other(alloc, &trial.events, rows);
+            let place = first_other(&trial.events, rows);
             or_behind(place, rows.len(), has_lengths(&trial, 225, 65536))
         }
         None => Some(rows.len()),
@@ -84,21 +80,21 @@ fn first_other_of_seven(alloc: Global, rows: &[Row]) -> Option<usize> {
 }
 
 static SEVEN: [Row; 15] = [
-    (1, "reopen"),
-    (3, "run 1"),
-    (4, "lose 2 0"),
-    (60, "lose 2 56"),
-    (61, "get"),
-    (63, "audit"),
-    (65, "repair"),
-    (75, "step 4"),
-    (76, "stop"),
-    (79, "run 5"),
-    (82, "lose 3 0"),
-    (144, "step 9"),
-    (160, "lose 4 0"),
-    (222, "run 14"),
-    (224, "run 15"),
+    (1, Seen::Reopen),
+    (3, Seen::Run(1)),
+    (4, Seen::Lose(2, 0)),
+    (60, Seen::Lose(2, 56)),
+    (61, Seen::Get),
+    (63, Seen::Audit),
+    (65, Seen::Repair),
+    (75, Seen::Step(4)),
+    (76, Seen::Stop),
+    (79, Seen::Run(5)),
+    (82, Seen::Lose(3, 0)),
+    (144, Seen::Step(9)),
+    (160, Seen::Lose(4, 0)),
+    (222, Seen::Run(14)),
+    (224, Seen::Run(15)),
 ];
 
 #[test]

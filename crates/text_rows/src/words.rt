@@ -1,4 +1,4 @@
-use crate::given::{KEY, no_other};
+use crate::given::{KEY, KEY_BYTES, no_other};
 use command_words::*;
 use hail_field::Symbol;
 use record_codec::Setup;
@@ -47,18 +47,26 @@ fn numbers(all: [u128; 7]) -> Numbers {
     }
 }
 
+/// Whether a symbol has this number, or there is neither.
+fn is_seen(symbol: Option<Symbol>, number: Option<u128>) -> bool {
+    match (symbol, number) {
+        (Some(symbol), Some(number)) => symbol.0 == number,
+        (None, None) => true,
+        _ => false,
+    }
+}
+
 /// Whether these symbols have these numbers.
 fn are_seen(symbols: &[Option<Symbol>], numbers: &[Option<u128>]) -> bool {
+    if symbols.len() != numbers.len() {
+        return false;
+    }
     for place in 0..symbols.len() {
-        let number = match symbols[place] {
-            Some(symbol) => Some(symbol.0),
-            None => None,
-        };
-        if numbers.get(place) != Some(&number) {
+        if !is_seen(symbols[place], numbers[place]) {
             return false;
         }
     }
-    symbols.len() == numbers.len()
+    true
 }
 
 /// Whether a row has these numbers and symbols.
@@ -297,12 +305,6 @@ fn spells(alloc: Global, more: &str, wanted: Option<[u8; 32]>) -> bool {
     }
 }
 
-/// The bytes 0 to 30 and 255.
-const BYTES: [u8; 32] = [
-    0, 1, 2, 3, 4, 5, 6, 7, 8, 9, 10, 11, 12, 13, 14, 15, 16, 17, 18, 19, 20, 21, 22, 23, 24, 25,
-    26, 27, 28, 29, 30, 255,
-];
-
 /// What stands behind the digits of the key, and whether it is a key then.
 static ENDS: [(&str, bool); 10] = [
     ("", true),
@@ -321,7 +323,7 @@ static ENDS: [(&str, bool); 10] = [
 fn first_other_end(alloc: Global, rows: &[(&str, bool)]) -> Option<usize> {
     for place in 0..rows.len() {
         let (end, is_key) = rows[place];
-        if !spells(alloc, end, if is_key { Some(BYTES) } else { None }) {
+        if !spells(alloc, end, if is_key { Some(KEY_BYTES) } else { None }) {
             return Some(place);
         }
     }

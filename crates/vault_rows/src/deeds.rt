@@ -72,6 +72,16 @@ pub enum Deed {
     PacksOver(u64, SeenPack, SeenPack),
     /// A hold is refused where a disk call of a put failed.
     Bars(BeginFault),
+    /// A stream of a file named `a` is begun: its number, or why it is refused.
+    Streams(Result<u32, BeginFault>),
+    /// A stripe of a file has so many bytes.
+    StripeHas(usize),
+    /// Whether a stream may be given so many bytes, as a stripe or as its last ones.
+    May(u32, usize, bool, bool),
+    /// A stream is given these bytes, as a stripe or as its last ones.
+    Gives(u32, &'static [u8], bool),
+    /// A stream that waits for a stripe is given up.
+    Abandons(u32),
 }
 
 impl Store {
@@ -118,6 +128,11 @@ impl Store {
             Deed::Packs(steps, wanted) => self.pack(steps) == wanted,
             Deed::PacksOver(call, first, second) => self.packs_over(call) == Some((first, second)),
             Deed::Bars(fault) => self.hold_after_fault() == Some(Err(fault)),
+            Deed::Streams(wanted) => self.begin_stream(b"a") == wanted,
+            Deed::StripeHas(size) => self.stripe_size() == Some(size),
+            Deed::May(job, count, last, wanted) => self.may_give(job, count, last) == wanted,
+            Deed::Gives(job, piece, last) => self.give(job, piece, last),
+            Deed::Abandons(job) => self.abandon(job),
         }
     }
 

@@ -18,6 +18,8 @@ pub const KEY: &[u8] = b"000102030405060708090a0b0c0d0e0f101112131415161718191a1
 pub enum Seen {
     More,
     Waiting(u32),
+    /// It made no step, for it is a stream that waits for this stripe.
+    Wants(u32),
     NoSuchJob,
     MustReopen,
     Put,
@@ -141,17 +143,46 @@ fn hold_of(vault: &mut Vault) -> Result<u32, BeginFault> {
     vault.hold()
 }
 
-/// Makes a step of a job, where there are providers enough and it waits for no stripe.
+/// Makes a step of a job, where it waits for no stripe and there are providers enough.
 fn step_of<D: Disk, P: Provider>(
     vault: &mut Vault,
     job: u32,
     disk: &mut D,
     providers: &mut [P],
 ) -> Seen {
-    if providers.len() < usize::from(vault.setup().n) || vault.wants(job).is_some() {
+    if let Some(stripe) = vault.wants(job) {
+        return Seen::Wants(stripe);
+    }
+    if providers.len() < usize::from(vault.setup().n) {
         return Seen::Closed;
     }
     seen_turn(&vault.step(job, disk, providers))
+}
+
+/// Begins to stream a file.
+fn begin_stream(vault: &mut Vault, name: &[u8]) -> Result<u32, BeginFault> {
+    if vault.next_job() == u32::MAX {
+        return Err(BeginFault::Memory);
+    }
+    vault.begin_stream(name, None)
+}
+
+/// Gives a stream a piece, where it may be given.
+fn give(vault: &mut Vault, job: u32, piece: &[u8], last: bool) -> bool {
+    if !vault.may_give(job, piece.len(), last) {
+        return false;
+    }
+    vault.give(job, piece, last);
+    true
+}
+
+/// Gives a stream up, where it waits for a stripe.
+fn abandon(vault: &mut Vault, job: u32) -> bool {
+    if vault.wants(job).is_none() {
+        return false;
+    }
+    vault.abandon(job);
+    true
 }
 
 /// Stops a disk by these picks.
@@ -396,12 +427,62 @@ impl Store {
     /// Steps a job until a step is not followed by more, and tells how many steps it made and what the last
     /// one came to.
     pub fn run(&mut self, job: u32) -> (u32, Seen) {
-        for made in 1..1000u32 {
-            let last = self.step(job);
-            if last != Seen::More {
-                return (made, last);
+        for made in 0..1000u32 {
+            match self.step(job) {
+                Seen::More => {}
+                Seen::Wants(stripe) => return (made, Seen::Wants(stripe)),
+                last => return (made + 1, last),
             }
         }
         (1000, Seen::More)
+    }
+
+    /// Begins to stream a file.
+    pub fn begin_stream(&mut self, name: &[u8]) -> Result<u32, BeginFault> {
+        match &mut self.vault {
+            Some(vault) => begin_stream(vault, name),
+            None => Err(BeginFault::MustReopen),
+        }
+    }
+
+    /// Whether a stream may be given so many bytes.
+    pub fn may_give(&self, job: u32, count: usize, last: bool) -> bool {
+        match &self.vault {
+            Some(vault) => vault.may_give(job, count, last),
+            None => false,
+        }
+    }
+
+    /// Gives a stream a piece, and answers whether it may be given.
+    pub fn give(&mut self, job: u32, piece: &[u8], last: bool) -> bool {
+        match &mut self.vault {
+            Some(vault) => give(vault, job, piece, last),
+            None => false,
+        }
+    }
+
+    /// Gives a stream up, and answers whether it waits for a stripe.
+    pub fn abandon(&mut self, job: u32) -> bool {
+        match &mut self.vault {
+            Some(vault) => abandon(vault, job),
+            None => false,
+        }
+    }
+
+    /// How many bytes of a file a stripe has, where the vault is open.
+    pub fn stripe_size(&self) -> Option<usize> {
+        Some(self.vault.as_ref()?.stripe_size(None))
+    }
+
+    /// Whether both hold the same blocks of the first four stripes of the first object.
+    pub fn holds_as(&self, other: &Store) -> bool {
+        for stripe in 0..4u32 {
+            for (mine, its) in self.providers.iter().zip(other.providers.iter()) {
+                if mine.inner.held(1, stripe) != its.inner.held(1, stripe) {
+                    return false;
+                }
+            }
+        }
+        true
     }
 }
