@@ -1,0 +1,4 @@
+use Rattle.wrong_client.proofs.of_hail_client.begin_put.Goals as goal
+
+pub returns : goal.returns
+returns c = record { machine = c.begin_put-begun.ensures.machine }
