@@ -15,7 +15,7 @@ pub struct Outcome {
 pub const NOTHING: Decoded = Decoded { blocks: 0, rows: 0 };
 
 impl Outcome {
-    /// How many answers came in a second, if all came in these nanoseconds.
+    /// How many answers came in a second, if all came in these nanoseconds; none count as one.
     pub fn rate(&self, nanos: u128) -> u128 {
         u128::from(self.count) * 1_000_000_000 / nanos.max(1)
     }

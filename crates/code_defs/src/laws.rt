@@ -1,8 +1,8 @@
 //! The laws of polynomials at work over the nim field: each premise met by numbers.
-ghost use Rattle.std.specs.Prelude.{◌≡◌, ◌≢◌, ◌≤◌, ◌<◌, ◌+◌, ◌*◌, ℕ, All, List, [], ◌∷◌, length, Option, Some, IfSome};
+ghost use Rattle.std.specs.Prelude.{◌≡◌, ◌≤◌, ◌+◌, ◌*◌, ℕ, All, List, [], ◌∷◌, length, Option, Some, IfSome};
 ghost use Rattle.algebra_laws.specs.Field.{IsField, IsEndless, Apart};
 ghost use Rattle.hail_field.specs.Nim.{nim, nim_mul, nim_add, is_symbol};
-ghost use Rattle.algebra_laws.specs.Poly.{Decodes, FirstRow, quotient, remainder};
+ghost use Rattle.algebra_laws.specs.Poly.{Decodes, FirstRow};
 ghost use Rattle.algebra_laws.specs.Rows.{IsKeyEquation};
 ghost use Rattle.code_defs.specs.Profiles.{profile_of};
 ghost use Rattle.code_defs.specs.ServerCode.{IsNear};

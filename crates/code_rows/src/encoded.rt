@@ -1,5 +1,5 @@
 //! Codewords against the plain sums of the kept symbols by the coefficients of each place.
-ghost use Rattle.std.specs.Prelude.{◌≡◌, ◌≤◌, length};
+ghost use Rattle.std.specs.Prelude.{◌≡◌, length};
 ghost use Rattle.server_code.specs.Any.{code_profile};
 
 use crate::given::no_other;

@@ -1,4 +1,4 @@
-ghost use Rattle.std.specs.Prelude.{◌≡◌, ◌≤◌, ◌<◌, ◌+◌, ◌-◌, ◌*◌, ℕ, [], IfOk, length, map, slice_index, slice_index_or};
+ghost use Rattle.std.specs.Prelude.{◌≡◌, ◌≤◌, ◌<◌, ◌+◌, ◌-◌, ◌*◌, ℕ, [], IfOk, length, map, slice_index};
 ghost use Rattle.code_defs.specs.Points.{upto};
 ghost use Rattle.column_codec.specs.ObjectKeys.{weight_at, AreTabled};
 

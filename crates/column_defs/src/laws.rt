@@ -5,7 +5,7 @@ ghost use Rattle.code_defs.specs.Points.{upto};
 ghost use Rattle.code_defs.specs.Profiles.{profile_of};
 ghost use Rattle.code_defs.specs.ServerCode.{IsCodeword, differences};
 ghost use Rattle.column_defs.specs.Keys.{file_key, seed, mask_of, secret_point, stream_symbol};
-ghost use Rattle.column_defs.specs.Objects.{Object, Shape, stripe_symbols, stripes, row_number, symbol_of, bytes_of_symbols, point, points};
+ghost use Rattle.column_defs.specs.Objects.{Object, stripe_symbols, stripes, row_number, symbol_of, bytes_of_symbols, point, points};
 ghost use Rattle.column_defs.specs.Columns.{column_of_symbols, is_wrong};
 ghost use Rattle.column_defs.specs.Opened.{SeenBlock, bare};
 ghost use Rattle.column_defs.specs.Forgeries.{IsForgery, IsStripeForgery};

@@ -1,12 +1,12 @@
 //! Worked rows: values of the definitions, computed by the checker.
-ghost use Rattle.std.specs.Prelude.{◌≡◌, ℕ, ◌+◌, ◌^◌, List, [], ◌∷◌, ◌++◌, length, codes, replicate, Some, None};
-ghost use Rattle.record_defs.specs.Records.{Setup, SetUp, PutStart, PutDone, AuditStart, AuditDone, Version};
+ghost use Rattle.std.specs.Prelude.{◌≡◌, ◌+◌, [], ◌∷◌, ◌++◌, codes, replicate, Some, None};
+ghost use Rattle.record_defs.specs.Records.{Version};
 ghost use Rattle.record_defs.specs.Areas.{A, B};
 ghost use Rattle.record_defs.specs.Table.{files_of, file_as};
 ghost use Rattle.machine_defs.specs.Jobs.{PutJob, GetJob, DropJob, AuditJob, RepairJob, UpgradeJob};
 ghost use Rattle.machine_defs.specs.Answers.{Put, Got, Dropped, Audited, Repaired, Upgraded, Packed, DiskFault};
-ghost use Rattle.machine_defs.specs.Refusals.{BadName, BadProfile, TooLong, OldVersion, NoSuchName, RepairDue, NothingDue, NewVersion};
-ghost use Rattle.machine_defs.specs.Examples.{six, one_file, flagged_file, hundred};
+ghost use Rattle.machine_defs.specs.Refusals.{BadName, BadProfile, OldVersion, NoSuchName, RepairDue, NothingDue, NewVersion};
+ghost use Rattle.machine_defs.specs.Examples.{one_file, flagged_file, hundred};
 ghost use Rattle.command_defs.specs.Lines.{ready_line, list_lines, text_of, pack_text};
 ghost use Rattle.command_defs.specs.Opens.{object_in_effect, stripes_in_effect};
 ghost use Rattle.command_defs.specs.Ran.{profile_among};

@@ -1,4 +1,4 @@
-ghost use Rattle.std.specs.Prelude.{◌≡◌, ◌<◌, ◌≤◌, ◌+◌, ℕ, List, [], Option, IfOk, OnErr, true, false, length, map};
+ghost use Rattle.std.specs.Prelude.{◌≡◌, ◌<◌, ◌≤◌, ℕ, List, [], Option, IfOk, OnErr, true, false, length, map};
 ghost use Rattle.device_defs.specs.Cells.{Cells};
 ghost use Rattle.machine_defs.specs.States.{State, Scrub as MachineScrub};
 ghost use Rattle.record_defs.specs.Records.{Record};

@@ -1,6 +1,6 @@
 //! Commands as pieces of one run: each is a later call of the program, a reopening, the begin of its job, of
 //! a scrub or of a pack, and its steps, from any moment.
-ghost use Rattle.std.specs.Prelude.{◌≡◌, ℕ, true, List, ◌++◌, String};
+ghost use Rattle.std.specs.Prelude.{◌≡◌, true, List, ◌++◌, String};
 ghost use Rattle.machine_defs.specs.Runs.{Moment, now, IsRun};
 ghost use Rattle.machine_defs.specs.States.{State};
 ghost use Rattle.record_defs.specs.Records.{Record};

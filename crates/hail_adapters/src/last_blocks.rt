@@ -38,7 +38,7 @@ pub struct LastBlocks {
 }
 
 impl LastBlocks {
-    /// No block was read.
+    /// No block was read; takes no memory.
     pub fn new(alloc: Global) -> LastBlocks
         ensures { result.of ≡ None }
     {

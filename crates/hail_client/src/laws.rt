@@ -1,5 +1,5 @@
 //! What holds of every client, and of the runs that its calls make.
-ghost use Rattle.std.specs.Prelude.{◌≡◌, ◌≤◌, ℕ, List, [], ◌∷◌, Option, Some, None, IsTrue, codes, length};
+ghost use Rattle.std.specs.Prelude.{◌≡◌, ◌≤◌, ℕ, List, [], ◌∷◌, Some, None, IsTrue, codes, length};
 ghost use Rattle.device_defs.specs.Cells.{Cells};
 ghost use Rattle.device_defs.specs.Images.{EachImage};
 ghost use Rattle.record_codec.specs.Entries.{with_master};

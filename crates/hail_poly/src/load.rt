@@ -1,4 +1,4 @@
-ghost use Rattle.std.specs.Prelude.{◌≡◌, ◌<◌, ◌≤◌, ◌^◌, ◌+◌, ◌++◌, ◌∷◌, [], length, take};
+ghost use Rattle.std.specs.Prelude.{◌≡◌, ◌<◌, ◌≤◌, ◌+◌, [], length, take};
 ghost use Rattle.code_defs.specs.Polynomials.{vanish, interpolate};
 ghost use Rattle.algebra_laws.specs.Field.{Apart};
 

@@ -1,5 +1,5 @@
-ghost use Rattle.std.specs.Prelude.{◌≡◌, ◌<◌, ◌≤◌, ◌^◌, ◌+◌, ◌++◌, ◌∷◌, [], length, take, drop, replicate, reverse};
-ghost use Rattle.code_defs.specs.Polynomials.{value, plus, scale, root_times};
+ghost use Rattle.std.specs.Prelude.{◌≡◌, ◌<◌, ◌≤◌, ◌+◌, ◌++◌, ◌∷◌, [], length, take, drop, replicate, reverse};
+ghost use Rattle.code_defs.specs.Polynomials.{plus, scale, root_times};
 ghost use Rattle.hail_poly.specs.Key.{power};
 
 use hail_field::Symbol;

@@ -1,9 +1,8 @@
 //! How what was fetched of a stripe differs from what its opening gives.
-ghost use Rattle.std.specs.Prelude.{◌≡◌, ◌+◌, ◌*◌, ◌<◌, ◌≤◌, ◌==◌, ℕ, length, slice_index, IfOk, IfErr, IfSome, if◌then◌else◌};
+ghost use Rattle.std.specs.Prelude.{◌≡◌, ◌+◌, ◌<◌, ◌≤◌, ◌==◌, ℕ, length, slice_index, IfOk, IfErr, IfSome, if◌then◌else◌};
 ghost use Rattle.std.specs.Option.{option_copied};
 ghost use Rattle.code_defs.specs.ServerCode.{differences};
-ghost use Rattle.column_defs.specs.Columns.{column_of_symbols};
-ghost use Rattle.column_defs.specs.Opened.{block_at, GivesSymbols, LosesRow};
+ghost use Rattle.column_defs.specs.Opened.{block_at, LosesRow};
 ghost use Rattle.machine_defs.specs.Alone.{differs};
 ghost use Rattle.column_codec.specs.Bench.{bench_object, turned};
 ghost use Rattle.stripe_bench.specs.Blocks.{blocks_in};

@@ -4,7 +4,7 @@ ghost use Rattle.machine_defs.specs.Actions.{Work};
 ghost use Rattle.hail_scrub.specs.declared.cursor.Item.{Item as ItemValue};
 ghost use Rattle.hail_scrub.specs.declared.cursor.Spot.{Spot as SpotValue};
 ghost use Rattle.hail_scrub.specs.Todo.{stores_from, fetches_from, items_on, past_stripe, todo_at};
-ghost use Rattle.hail_scrub.specs.Progress.{CanRun, IsSpot, CursorIsAt, StoresOnlyAt, IsAmid, IsAtFirst, IsCursor, fetched_at, size_in};
+ghost use Rattle.hail_scrub.specs.Progress.{CanRun, IsSpot, CursorIsAt, StoresOnlyAt, IsAmid, IsAtFirst, IsCursor, fetched_at};
 
 use crate::cursor::{Cursor, Item, Spot};
 

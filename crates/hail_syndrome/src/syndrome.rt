@@ -1,4 +1,4 @@
-ghost use Rattle.std.specs.Prelude.{◌≡◌, ◌≤◌, ◌<◌, ◌+◌, ◌↔◌, ℕ, length, get_or};
+ghost use Rattle.std.specs.Prelude.{◌≡◌, ◌<◌, ◌+◌, ◌↔◌, ℕ, length, get_or};
 ghost use Rattle.algebra_laws.specs.Lists.{Each};
 ghost use Rattle.algebra_laws.specs.Field.{Apart};
 ghost use Rattle.hail_field.specs.Nim.{nim_add, nim_mul, nim_pow};

@@ -1,5 +1,5 @@
 //! What holds of every journal in two areas.
-ghost use Rattle.std.specs.Prelude.{◌≡◌, ℕ, List, Option, Some};
+ghost use Rattle.std.specs.Prelude.{◌≡◌, List, Option, Some};
 ghost use Rattle.device_defs.specs.Cells.{Cells, firm};
 ghost use Rattle.device_defs.specs.Images.{EachImage};
 ghost use Rattle.record_defs.specs.Records.{Record, Setup};

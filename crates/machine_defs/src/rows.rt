@@ -1,5 +1,5 @@
 //! Worked rows: values of the definitions, computed by the checker.
-ghost use Rattle.std.specs.Prelude.{◌≡◌, ℕ, ◌*◌, true, false, List, [], ◌∷◌, ◌++◌, length, codes, replicate, Some, None};
+ghost use Rattle.std.specs.Prelude.{◌≡◌, true, [], ◌∷◌, ◌++◌, length, codes, replicate, Some, None};
 ghost use Rattle.record_defs.specs.Records.{SetUp, PutStart, PutDone};
 ghost use Rattle.machine_defs.specs.Jobs.{PutJob, GetJob, DropJob, AuditJob, RepairJob};
 ghost use Rattle.machine_defs.specs.Actions.{WriteBody, SyncBody, WriteGate, SyncGate, Store, Fetch, Work, End, actions_of};

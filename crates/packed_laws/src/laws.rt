@@ -1,12 +1,11 @@
 //! What holds of every packed journal.
-ghost use Rattle.std.specs.Prelude.{◌≡◌, ◌≤◌, ◌+◌, ◌^◌, List, IsTrue, Some};
+ghost use Rattle.std.specs.Prelude.{◌≡◌, ◌≤◌, ◌^◌, List, IsTrue, Some};
 ghost use Rattle.std.specs.List.{list_all};
 ghost use Rattle.record_defs.specs.Records.{Record, is_in_grammar, largest_journal};
-ghost use Rattle.record_defs.specs.Table.{setup_of, version_of};
 ghost use Rattle.record_defs.specs.Acceptance.{AreAccepted};
 ghost use Rattle.record_defs.specs.Packed.{packed};
 ghost use Rattle.record_defs.specs.Areas.{Area, entries_size, end_in};
-ghost use Rattle.record_defs.specs.Examples.{four, raised};
+ghost use Rattle.record_defs.specs.Examples.{raised};
 
 /// Where accepted records have spellings, those of the packed journal have them too, and take at most 2^17
 /// bytes: its text fits in either area, and in front of the second.

@@ -1,5 +1,5 @@
 // The line on standard error, by the status.
-ghost use Rattle.std.specs.Prelude.{◌≡◌, ◌↔◌, ◌⊎◌, IsTrue};
+ghost use Rattle.std.specs.Prelude.{◌≡◌, IsTrue};
 ghost use Rattle.program_words.specs.Text.{status_text, speaks_of_place};
 
 use hail_top::{

@@ -1,6 +1,5 @@
 // The blocks of a provider in memory, by object and stripe.
-ghost use Rattle.std.specs.Prelude.{◌≡◌, ◌↔◌, ◌≤◌, ◌<◌, slice_set, option_copied, None, Some, true, false, length, OnOk, OnErr, IsSome, IsTrue, if◌then◌else◌};
-ghost use Rattle.std.specs.Option.{option_map};
+ghost use Rattle.std.specs.Prelude.{◌≡◌, ◌↔◌, ◌<◌, slice_set, option_copied, None, Some, true, false, length, OnOk, OnErr, IsSome, IsTrue, if◌then◌else◌};
 ghost use Rattle.device_defs.specs.Providers.{with_block, without_block, without_object, with_symbol, HasPlace, HasSize};
 ghost use Rattle.provider_model.specs.HeldBlocks.{blocks_of};
 

@@ -1,5 +1,5 @@
 ghost use Rattle.std.specs.Prelude.{◌≡◌, ◌<◌};
-ghost use Rattle.column_defs.specs.Challenges.{symbol_at, honest_answer};
+ghost use Rattle.column_defs.specs.Challenges.{honest_answer};
 ghost use Rattle.challenge.specs.Asked.{asked};
 ghost use Rattle.provider_model.specs.HeldBlocks.{blocks_of};
 

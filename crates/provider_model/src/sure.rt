@@ -1,4 +1,4 @@
-ghost use Rattle.std.specs.Prelude.{◌≡◌, ◌↔◌, ◌≤◌, None, Some, false, length, option_copied, IfOk, IfErr, OnOk, OnErr, IsOk, IsTrue, IsSome, if◌then◌else◌};
+ghost use Rattle.std.specs.Prelude.{◌≡◌, ◌↔◌, None, Some, false, length, option_copied, IfOk, IfErr, OnOk, OnErr, IsOk, IsTrue, IsSome, if◌then◌else◌};
 ghost use Rattle.provider_model.specs.declared.fault.StoreFault.TheVariants as store_fault;
 ghost use Rattle.column_defs.specs.Challenges.{honest_answer};
 ghost use Rattle.challenge.specs.Asked.{asked};

@@ -1,5 +1,5 @@
 // What a provider is made to do by a request, and the bytes of its answer.
-ghost use Rattle.std.specs.Prelude.{◌≡◌, ◌≤◌, ◌^◌, ◌<◌, ◌∷◌, [], Some, None, length, IsTrue};
+ghost use Rattle.std.specs.Prelude.{◌≡◌, ◌≤◌, ◌<◌, ◌∷◌, [], Some, None, length, IsTrue};
 ghost use Rattle.challenge.specs.Asked.{asked};
 ghost use Rattle.wire_defs.specs.Requests.{Store, Fetch, Ask, Remove, is_request};
 ghost use Rattle.wire_defs.specs.Replies.{AnswersIn};

@@ -1,4 +1,4 @@
-ghost use Rattle.std.specs.Prelude.{◌≡◌, ◌≤◌, ◌^◌, ◌+◌, ◌∷◌};
+ghost use Rattle.std.specs.Prelude.{◌≡◌, ◌^◌, ◌∷◌};
 ghost use Rattle.wire_defs.specs.Requests.{is_bad_request, misses, number_misses};
 
 /// Whether the byte at a place is there, and not from `low` to `high`.

@@ -1,5 +1,4 @@
 ghost use Rattle.std.specs.Prelude.{◌≡◌, ◌*◌, ◌≤◌, length, IsTrue};
-ghost use Rattle.wire_defs.specs.Requests.{is_block};
 ghost use Rattle.provider_wire.specs.Reading.{symbols_read};
 
 use crate::symbol_bytes::take_symbols;

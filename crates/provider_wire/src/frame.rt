@@ -1,5 +1,5 @@
 // The bytes of requests.
-ghost use Rattle.std.specs.Prelude.{◌≡◌, ◌≤◌, ◌∷◌, ◌++◌, length};
+ghost use Rattle.std.specs.Prelude.{◌≡◌, ◌≤◌, ◌∷◌, length};
 ghost use Rattle.std.specs.Int.{w64, to_le_bytes};
 ghost use Rattle.challenge.specs.Asked.{asked};
 ghost use Rattle.wire_defs.specs.Requests.{Store, Fetch, Ask, Remove, SpellsRequest, place_bytes};

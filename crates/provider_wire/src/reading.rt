@@ -1,5 +1,5 @@
 // Reads a request from the front of bytes.
-ghost use Rattle.std.specs.Prelude.{◌≡◌, ◌∷◌, ◌++◌, ◌≤◌, ◌<◌, false, length, take, IfSome, IfNone};
+ghost use Rattle.std.specs.Prelude.{◌≡◌, ◌∷◌, ◌≤◌, ◌<◌, false, length, take, IfSome, IfNone};
 ghost use Rattle.std.specs.Option.{option_map};
 ghost use Rattle.wire_defs.specs.Requests.{SpellsRequest, SpellsNoRequest, is_bad_request};
 ghost use Rattle.provider_wire.specs.Asking.{request_of};

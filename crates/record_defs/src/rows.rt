@@ -1,6 +1,6 @@
 //! Worked rows: values of the definitions that were computed by hand.
-ghost use Rattle.std.specs.Prelude.{◌≡◌, true, false, List, [], ◌∷◌, ◌++◌, replicate, codes, Some, None};
-ghost use Rattle.record_defs.specs.Records.{Setup, Record, SetUp, PutStart, PutDone, Drop, AuditStart, AuditDone, RepairDone, PutDoneIn, Version, Resume, InEffect, RepairDue, is_setup, is_in_grammar};
+ghost use Rattle.std.specs.Prelude.{◌≡◌, true, false, [], ◌∷◌, ◌++◌, replicate, codes, Some, None};
+ghost use Rattle.record_defs.specs.Records.{SetUp, PutStart, PutDone, Drop, AuditStart, AuditDone, RepairDone, PutDoneIn, Version, Resume, InEffect, RepairDue, is_setup, is_in_grammar};
 ghost use Rattle.record_defs.specs.Spellings.{spelling};
 ghost use Rattle.record_defs.specs.Journal.{text, text_size};
 ghost use Rattle.record_defs.specs.Table.{next_id, next_audit, file_of, files_of, running_audit, due_of};

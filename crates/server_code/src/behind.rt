@@ -3,7 +3,7 @@
 //! a block and the codeword of its first symbols are 0 at the kept places. So a polynomial that is near these
 //! sums has nearly all kept points as roots, and only the symbols behind them need be interpolated: 32 in
 //! place of 128.
-ghost use Rattle.std.specs.Prelude.{◌≡◌, ◌≢◌, ◌≤◌, ◌<◌, ◌+◌, ◌++◌, ◌∷◌, [], ℕ, length, take, drop, slice_index, IfNone, IfSome, OnSome};
+ghost use Rattle.std.specs.Prelude.{◌≡◌, ◌≤◌, ◌<◌, ◌+◌, ◌++◌, ◌∷◌, [], ℕ, length, take, drop, slice_index, IfNone, IfSome, OnSome};
 ghost use Rattle.std.specs.Bool.{OnTrue, OnFalse};
 ghost use Rattle.hail_field.specs.Nim.{nim_add, nim_mul};
 ghost use Rattle.code_defs.specs.Polynomials.{value, vanish, plus, root_times};

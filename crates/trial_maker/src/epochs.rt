@@ -2,7 +2,7 @@
 ghost use Rattle.std.specs.Prelude.{◌≡◌, ◌++◌, ◌∷◌, ◌+◌, ◌<◌, ◌^◌, [], OnOk, replicate};
 ghost use Rattle.machine_defs.specs.Events.{Step};
 ghost use Rattle.machine_defs.specs.Transcripts.{Once, RunJob};
-ghost use Rattle.machine_defs.specs.Jobs.{GetJob, AuditJob, RepairJob};
+ghost use Rattle.machine_defs.specs.Jobs.{GetJob};
 ghost use Rattle.schedule_text.specs.Events.{event_command, commands_of};
 ghost use Rattle.trial_maker.specs.Trials.{losses, cut, whole, trial_name, epoch, last_epoch};
 

@@ -1,7 +1,7 @@
-ghost use Rattle.std.specs.Prelude.{◌≡◌, ◌++◌, ◌∷◌, ◌/◌, ◌%◌, ◌^◌, [], IfOk, OnOk, length};
+ghost use Rattle.std.specs.Prelude.{◌≡◌, ◌++◌, ◌/◌, ◌%◌, ◌^◌, [], IfOk, OnOk};
 ghost use Rattle.schedule_text.specs.Events.{commands_of};
-ghost use Rattle.trial_maker.specs.Draws.{draw, bytes_behind};
-ghost use Rattle.trial_maker.specs.Trials.{opening, losing_provider, trial_key, trial_bytes, trial_commands};
+ghost use Rattle.trial_maker.specs.Draws.{draw};
+ghost use Rattle.trial_maker.specs.Trials.{opening, trial_key, trial_bytes, trial_commands};
 
 use crate::draws::Draws;
 use crate::epochs::{push, push_epoch, push_last_epoch, push_whole};

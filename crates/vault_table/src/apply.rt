@@ -1,10 +1,10 @@
-ghost use Rattle.std.specs.Prelude.{◌≡◌, ◌-◌, ◌∷◌, ℕ, List, Some, None, nat_lt, ◌||◌, is_some, OnOk, OnErr, IfErr, IsErrOf, IsTrue, if◌then◌else◌};
+ghost use Rattle.std.specs.Prelude.{◌≡◌, ◌-◌, ◌∷◌, List, Some, None, nat_lt, ◌||◌, is_some, OnOk, OnErr, IfErr, IsErrOf, IsTrue, if◌then◌else◌};
 ghost use Rattle.record_defs.specs.Records.{Record as EntryData, SetUp, PutStart, PutDone, Drop, AuditStart, AuditDone, RepairDone, PutDoneIn, Version, Resume, InEffect, RepairDue};
 ghost use Rattle.record_defs.specs.Acceptance.{refused, is_file_id};
 ghost use Rattle.std.specs.List.{list_any};
 ghost use Rattle.record_codec.specs.Entries.{entry_of, with_master, counted, IsPadded, HasPadding};
 ghost use Rattle.vault_table.specs.declared.entry.Refused.TheVariants as fault;
-ghost use Rattle.vault_table.specs.Values.{Kept, IsFoldOf, started_at, refusal, refusal_after, with_record};
+ghost use Rattle.vault_table.specs.Values.{IsFoldOf, started_at};
 ghost use Rattle.vault_table.specs.Causes.{Applies, EndsStartedPut, IsCause, is_put_start, is_version};
 
 use crate::entry::{Entry, Refused};
