@@ -1,10 +1,11 @@
 #!/bin/bash
 # A home with two providers on other machines, by hail-remote over sshd on this machine's loopback: puts, gets, an audit, a repair and drops
-# of so many files (40), far ends that are killed or silent, and the same store over plain folders and back. It counts what an audit moves.
+# of so many files (40), far ends that are killed or silent, so many kills (12) of the program, and the same store over plain folders and back.
+# It counts what an audit moves.
 # It tells each that goes otherwise, ends with 0 exactly where none does, and leaves nothing behind. Without sshd it says so and ends with 0.
 set -u
 
-files=${1:-40}
+files=${1:-40} kills=${2:-12}
 root=$(CDPATH='' cd -P -- "$(dirname "$0")/.." && pwd -P)
 . "$(dirname "$0")/common.sh"
 
@@ -93,7 +94,7 @@ asked=$(stat -c %s asked) told=$(stat -c %s told)
 [ $((asked + told)) -lt 4096 ] || wrong "an audit moves $asked and $told bytes"
 
 # A far end that is killed in the middle, and one that never answers.
-{ echo "2 timeout -s KILL 1 $(reach 2)"; echo "4 $(reach 4)"; } >home/remotes
+{ echo "2 timeout -s KILL 0.2 $(reach 2)"; echo "4 $(reach 4)"; } >home/remotes
 source=big && says 13 put other
 source=/dev/null && says 0 get big
 cmp -s out big || wrong 'a file comes back otherwise without a far end'
@@ -105,6 +106,36 @@ limit=()
 { echo "2 false"; echo "4 $(reach 4)"; } >home/remotes
 says 0 get big
 cmp -s out big || wrong 'a file comes back otherwise beside a far end that does not start'
+
+# A far end that is silent is given up behind its own time, and named; the other goes on.
+{ echo "2 2s sleep 1000"; echo "4 $(reach 4)"; } >home/remotes
+says 0 get big
+cmp -s out big || wrong 'a file comes back otherwise beside a silent far end'
+grep -q '^hail-remote: provider 2 is given up: no answer for 2 seconds$' err || wrong "of a silent far end is told $(cat err)"
+
+# Kills of hail or of hail-remote at some moment of a put, a scrub or a repair: what was acknowledged comes back.
+both
+for ((k = 1; k <= kills; k++)); do
+    case $((k % 3)) in
+        0) words='put cut' && head -c 100000 /dev/urandom >new ;;
+        1) words=scrub && rm -rf far2/provider-2 ;;
+        2) words=repair && rm -rf far2/provider-2 && says 0 audit ;;
+    esac
+    "$remote" home $words <new >out 2>err &
+    pid=$!
+    sleep "0.$((RANDOM % 10))$((RANDOM % 10))"
+    ((RANDOM % 2)) || pid=$(pgrep -P $pid | tail -n 1)
+    kill -9 $pid 2>/dev/null
+    wait 2>/dev/null
+    [ "$words" != 'put cut' ] || ! grep -q '^stored' out || cp new cut
+    source=/dev/null && says 0 get big
+    cmp -s out big || wrong "behind a killed $words a file comes back otherwise"
+    "$remote" home get cut >out 2>err </dev/null
+    [ $? -eq 3 ] && [ ! -e cut ] || cmp -s out cut || { cmp -s out new && cp new cut; } || wrong "behind a killed $words cut comes back otherwise: $(cat err)"
+done
+says 0 scrub
+says 0 scrub
+! grep '^provider' out | grep -qv ' blocks 0$' || wrong "behind the kills a scrub leaves $(cat out)"
 
 # The same store over plain folders, and back.
 both

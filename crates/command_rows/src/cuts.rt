@@ -1,5 +1,5 @@
 use command_fixtures::KEY;
-use folder_fixtures::{Case, Row, Shown, first_wrong_cut};
+use folder_fixtures::{Case, Form, Row, Shown, first_wrong_cut};
 use std::alloc::AllocGlobal;
 use std::process::Abort;
 
@@ -105,10 +105,11 @@ const FIRST: Shown = Shown {
     blocks: FIRST_BLOCKS,
 };
 
-/// Ends the test where a case goes otherwise: it tells behind how many calls the power was cut, and which of
-/// the cuts that was.
+/// Ends the test where a case goes otherwise over folders of either form: it tells behind how many calls the
+/// power was cut, and which of the cuts that was.
 fn check(rt: &(impl Abort + AllocGlobal), case: &Case) {
-    assert_eq!(rt; first_wrong_cut(rt.alloc(), case), None);
+    assert_eq!(rt; first_wrong_cut(rt.alloc(), case, Form::Plain), None);
+    assert_eq!(rt; first_wrong_cut(rt.alloc(), case, Form::Stacked), None);
 }
 
 /// A set up.

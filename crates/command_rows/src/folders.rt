@@ -22,6 +22,13 @@ fn a_block_is_firm_before_the_journal_is_written(rt: HostRuntime) {
     assert_eq!(rt; first_wrong_deed(rt.alloc(), Deed::StoreAndWrite, 14), None);
 }
 
+// The same over a stack: the store makes and syncs a folder, and makes a file and writes its beginning and the
+// block; the disk syncs the file and its name.
+#[test]
+fn a_block_of_a_stack_is_firm_before_the_journal_is_written(rt: HostRuntime) {
+    assert_eq!(rt; first_wrong_deed(rt.alloc(), Deed::StackAndWrite, 14), None);
+}
+
 const STORED: &[Row] = &[
     Row {
         line: "init 4 1 1 0 1 1 0",

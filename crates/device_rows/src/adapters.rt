@@ -125,6 +125,32 @@ pub fn over_folder<R: Files + Alloc + Clone + Drop>(
     }
 }
 
+/// The same over the folder at a path as a stack.
+pub fn over_stack<R: Files + Alloc + Clone + Drop>(
+    rt: &R,
+    alloc: Global,
+    path: &str,
+    deeds: &[OfProvider],
+) -> Option<usize> {
+    match FolderProvider::stacked(rt, alloc, path) {
+        Ok(mut provider) => first_wrong_of_provider(rt, &mut provider, deeds),
+        Err(_) => Some(deeds.len()),
+    }
+}
+
+/// The same over the folder in both forms, one behind the other; the last deed removes it.
+pub fn over_both<R: Files + Alloc + Clone + Drop>(
+    rt: &R,
+    alloc: Global,
+    path: &str,
+    deeds: &[OfProvider],
+) -> Option<usize> {
+    match over_folder(rt, alloc, path, deeds) {
+        None => over_stack(rt, alloc, path, deeds),
+        wrong => wrong,
+    }
+}
+
 const OWN: &[u128] = &[513, 1 << 127];
 
 const FIRST: &[u128] = &[513];

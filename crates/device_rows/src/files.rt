@@ -1,6 +1,7 @@
 // Files and folders below the test's own folder.
 use std::alloc::Alloc;
-use std::fs::{self, Files};
+use std::fs::{self, Files, OpenFile, OpenOptions};
+use std::io::{Seek, SeekFrom, Write};
 use std::os::unix::fs::{PermissionsExt, symlink};
 
 /// Something that is done to files and folders or seen of them, by their paths; what is done succeeds.
@@ -18,6 +19,10 @@ pub enum Look {
     Names(&'static str, usize),
     /// A file is written.
     Write(&'static str, &'static [u8]),
+    /// Bytes of a file are written over, from an offset on.
+    Over(&'static str, u64, &'static [u8]),
+    /// A file is cut to a length.
+    Cut(&'static str, u64),
     /// A folder is made.
     Folder(&'static str),
     /// A link to the first is made at the second.
@@ -62,6 +67,23 @@ fn write<R: Files>(rt: &R, path: &str, bytes: &[u8]) -> bool {
     fs::write(rt, path, bytes).is_ok()
 }
 
+/// Opens a file to change it.
+fn to_change<R: Files>(rt: &R, path: &str) -> Option<R::File> {
+    let mut how = OpenOptions::new();
+    how.write(true);
+    how.open(rt, path).ok()
+}
+
+fn write_over<R: Files>(rt: &R, path: &str, at: u64, bytes: &[u8]) -> Option<()> {
+    let mut file = to_change(rt, path)?;
+    file.seek(SeekFrom::Start(at)).ok()?;
+    file.write_all(bytes).ok()
+}
+
+fn cut<R: Files>(rt: &R, path: &str, len: u64) -> Option<()> {
+    to_change(rt, path)?.set_len(len).ok()
+}
+
 fn make_folder<R: Files>(rt: &R, path: &str) -> bool {
     fs::create_dir(rt, path).is_ok()
 }
@@ -92,6 +114,8 @@ impl Look {
             Look::Bytes(path, wanted) => has_bytes(rt, path, wanted),
             Look::Names(path, wanted) => names(rt, path) == Some(wanted),
             Look::Write(path, bytes) => write(rt, path, bytes),
+            Look::Over(path, at, bytes) => write_over(rt, path, at, bytes).is_some(),
+            Look::Cut(path, len) => cut(rt, path, len).is_some(),
             Look::Folder(path) => make_folder(rt, path),
             Look::Link(to, path) => link(rt, to, path),
             Look::RemoveFile(path) => remove_file(rt, path),

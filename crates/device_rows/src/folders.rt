@@ -1,18 +1,16 @@
-// Rows of folders that fail, lose or hold something else, and of two that are one.
+// Rows of folders that fail, lose or hold something else.
 use crate::adapters::OfProvider::{self, Calls, Looks};
-use crate::adapters::{first_wrong_of_provider, over_folder};
+use crate::adapters::{first_wrong_of_provider, over_both, over_folder};
 use crate::calls::Call::{Alter, Ask, AskOfOne, Fetch, Lacks, Lose, Remove, Store};
 use crate::files::Look;
 use crate::forgetful::{Counts, Forgetful};
 use crate::given::{CHALLENGE, WEIGHT, no_other};
 use challenge::Challenge;
-use disk_model::Disk;
-use hail_adapters::{FolderProvider, Unsynced, folder_providers, journal_disk};
+use hail_adapters::FolderProvider;
 use hail_field::Symbol;
 use provider_model::{Provider, StoreFault};
 use std::alloc::{Alloc, Global};
 use std::fs::{self, Files};
-use std::os::unix::fs::symlink;
 use std::rc::Rc;
 use stream_model::Failed;
 
@@ -49,8 +47,8 @@ static ASKED_OF_ONE: [OfProvider; 6] = [
 
 #[test]
 fn a_missing_block_has_no_answer(rt: HostRuntime) {
-    no_other(&rt, over_folder(&rt, rt.alloc(), "asked", &ASKED));
-    no_other(&rt, over_folder(&rt, rt.alloc(), "asked", &ASKED_OF_ONE));
+    no_other(&rt, over_both(&rt, rt.alloc(), "asked", &ASKED));
+    no_other(&rt, over_both(&rt, rt.alloc(), "asked", &ASKED_OF_ONE));
 }
 
 const ZEROS: &[u128] = &[0; 6];
@@ -111,8 +109,8 @@ static CHANGED_OUTSIDE: [OfProvider; 11] = [
 
 #[test]
 fn an_answer_is_of_the_block_that_is_there(rt: HostRuntime) {
-    no_other(&rt, over_folder(&rt, rt.alloc(), "changed", &CHANGED));
-    no_other(&rt, over_folder(&rt, rt.alloc(), "others", &OTHERS));
+    no_other(&rt, over_both(&rt, rt.alloc(), "changed", &CHANGED));
+    no_other(&rt, over_both(&rt, rt.alloc(), "others", &OTHERS));
     no_other(
         &rt,
         over_folder(&rt, rt.alloc(), "outside", &CHANGED_OUTSIDE),
@@ -280,53 +278,4 @@ fn opened_by_two_answers<R: Files + Alloc + Clone + Drop>(
 fn answers_in_a_row_read_each_block_once(rt: HostRuntime) {
     let opened = opened_by_two_answers(&rt, rt.alloc(), "two");
     assert_eq!(rt; opened, Some((Symbol(0), 2)));
-}
-
-/// Stores a block of one symbol.
-fn stores<P: Provider>(provider: &mut P) -> Result<(), StoreFault> {
-    provider.store(1, 0, &[Symbol(1)])
-}
-
-/// Writes a byte.
-fn writes<D: Disk>(disk: &mut D) -> bool {
-    disk.write_at(0, b"a").is_ok()
-}
-
-/// What the first two providers of a home answer to a store each, and whether its journal is written then.
-/// Before that a folder goes, if one is named, and behind it the home.
-fn stores_and_writes<R: Files + Alloc + Clone + Drop>(
-    rt: &R,
-    alloc: Global,
-    home: &str,
-    gone: Option<&str>,
-) -> Option<([Result<(), StoreFault>; 2], bool)> {
-    let unsynced = Unsynced::new(alloc).ok()?;
-    let mut disk = journal_disk(rt, alloc, home, &unsynced).ok()?;
-    let mut providers = folder_providers(rt, alloc, home, &unsynced).ok()?;
-    let first = stores(providers.get_mut(0)?);
-    let second = stores(providers.get_mut(1)?);
-    if let Some(folder) = gone {
-        fs::remove_dir_all(rt, folder).ok()?;
-    }
-    let written = writes(&mut disk);
-    fs::remove_dir_all(rt, home).ok()?;
-    Some(([first, second], written))
-}
-
-#[test]
-fn a_folder_that_is_gone_is_a_fault_of_the_disk(rt: HostRuntime) {
-    let made = fs::create_dir(&rt, "whole").is_ok() && fs::create_dir(&rt, "parted").is_ok();
-    let whole = stores_and_writes(&rt, rt.alloc(), "whole", None);
-    let parted = stores_and_writes(&rt, rt.alloc(), "parted", Some("parted/provider-0"));
-    assert_eq!(rt; made && whole == Some(([Ok(()), Ok(())], true)), true);
-    assert_eq!(rt; parted, Some(([Ok(()), Ok(())], false)));
-}
-
-#[test]
-fn two_folders_that_are_one_are_a_fault_of_the_second(rt: HostRuntime) {
-    let made = fs::create_dir_all(&rt, "twins/provider-0").is_ok();
-    let linked = symlink(&rt, "provider-0", "twins/provider-1").is_ok();
-    let stored = stores_and_writes(&rt, rt.alloc(), "twins", None);
-    let wanted = [Ok(()), Err(StoreFault::Failed)];
-    assert_eq!(rt; made && linked && stored == Some((wanted, true)), true);
 }

@@ -8,19 +8,21 @@ use std::os::unix::net::SocketAddr;
 use std::path::PathBuf;
 use std::rc::Rc;
 
-/// The system's files, where a write says yes to all and puts zeros in place of what it was given, which a
-/// file system over a network may do whose other end has no room.
+/// The system's files, whose calls are counted, and where a write may say yes to all and put zeros in place of
+/// what it was given, which a file system over a network may do whose other end has no room.
 #[derive(Clone, Drop)]
 pub struct Forgetful<R: Files + Clone + Drop> {
     files: R,
     counts: Rc<Counts>,
+    keeps: bool,
 }
 
-/// How many calls there were that opened a file to read it, and that removed a file.
+/// How many calls there were that opened a file to read it, that removed one, and that synced one or a folder.
 #[derive(Drop)]
 pub struct Counts {
     pub openings: Cell<u32>,
     pub removals: Cell<u32>,
+    pub syncs: Cell<u32>,
 }
 
 impl Counts {
@@ -29,6 +31,7 @@ impl Counts {
         Counts {
             openings: Cell::new(0),
             removals: Cell::new(0),
+            syncs: Cell::new(0),
         }
     }
 }
@@ -42,12 +45,27 @@ fn raise(count: &Cell<u32>) {
 #[derive(Drop)]
 pub struct Opened<F: Drop> {
     file: F,
+    counts: Rc<Counts>,
+    keeps: bool,
 }
 
 impl<R: Files + Clone + Drop> Forgetful<R> {
     /// Stands over these files, and counts here.
     pub fn new(files: R, counts: Rc<Counts>) -> Forgetful<R> {
-        Forgetful { files, counts }
+        Forgetful {
+            files,
+            counts,
+            keeps: false,
+        }
+    }
+
+    /// The same, where a write keeps what it was given.
+    pub fn keeping(files: R, counts: Rc<Counts>) -> Forgetful<R> {
+        Forgetful {
+            files,
+            counts,
+            keeps: true,
+        }
     }
 }
 
@@ -61,7 +79,11 @@ impl<R: Files + Clone + Drop> Files for Forgetful<R> {
             raise(&self.counts.openings);
         }
         let file = self.files.open_file(how, path)?;
-        Ok(Opened { file })
+        Ok(Opened {
+            file,
+            counts: self.counts.clone()?,
+            keeps: self.keeps,
+        })
     }
 
     fn open_dir(&self, path: &str) -> io::Result<R::Dir> {
@@ -150,6 +172,9 @@ impl<F: Read + Drop> Read for Opened<F> {
 
 impl<F: Write + Drop> Write for Opened<F> {
     fn write(&mut self, buf: &[u8]) -> io::Result<usize> {
+        if self.keeps {
+            return self.file.write(buf);
+        }
         let zeros = [0; 2048];
         self.file.write(&zeros[..buf.len().min(zeros.len())])
     }
@@ -175,6 +200,7 @@ impl<F: OpenFile + Drop> OpenFile for Opened<F> {
     }
 
     fn sync_all(&self) -> io::Result<()> {
+        raise(&self.counts.syncs);
         self.file.sync_all()
     }
 

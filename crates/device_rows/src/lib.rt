@@ -1,5 +1,5 @@
-//! Worked rows of devices: streams, the disk and providers, in memory, behind a wire and as real files,
-//! folders and pipes.
+//! Worked rows of devices: streams, the disk and providers, in memory, behind a wire and as real files and
+//! folders.
 #![tactic(auto)]
 
 #[cfg(test)]
@@ -19,13 +19,11 @@ mod forgetful;
 #[cfg(test)]
 mod given;
 #[cfg(test)]
-mod homes;
-#[cfg(test)]
-mod pipes;
-#[cfg(test)]
-mod places;
-#[cfg(test)]
 mod providers;
+#[cfg(test)]
+mod stack_homes;
+#[cfg(test)]
+mod stacks;
 #[cfg(test)]
 mod streams;
 #[cfg(test)]

@@ -2,7 +2,8 @@ use crate::command::{Row, all_go, goes};
 use crate::medium::{ALL, CUTS, Stays};
 use crate::stand_in::StandIn;
 use std::alloc::Global;
-use std::fs;
+use std::fs::{self, OpenFile};
+use std::io;
 
 /// What commands show of a home, and the paths at which blocks are then whole.
 #[derive(Clone, Copy)]
@@ -28,9 +29,41 @@ pub struct Case {
 /// A cut: behind how many calls that change something, and which of `CUTS` is what stays.
 pub type Cut = (u64, usize);
 
+/// How the folders of the home's providers keep blocks.
+#[derive(Clone, Copy, PartialEq, Eq)]
+pub enum Form {
+    /// Each is a file.
+    Plain,
+    /// Each object is a file.
+    Stacked,
+}
+
+impl Form {
+    /// The path of what keeps the block at a path, which is the one block of an object and at stripe 0.
+    fn path<'a>(&self, block: &'a str) -> &'a str {
+        match self {
+            Form::Plain => block,
+            Form::Stacked => block.strip_suffix("-0").unwrap_or(block),
+        }
+    }
+
+    /// Says in an empty home of which form the folders are.
+    fn set_up(&self, files: &StandIn, alloc: Global) -> io::Result<()> {
+        if *self == Form::Plain {
+            return Ok(());
+        }
+        for number in 0..4u8 {
+            let path = format!(in alloc; "home/stack-{number}")?;
+            fs::write(files, &path, b"")?;
+        }
+        fs::open(files, "home")?.sync_all()
+    }
+}
+
 /// The home before a command and behind it, where the power was not cut.
 #[derive(Drop)]
 struct Uncut {
+    form: Form,
     before: StandIn,
     after: StandIn,
     /// How many calls of the command changed something.
@@ -52,6 +85,7 @@ fn left(files: &StandIn, alloc: Global, stays: Stays) -> Option<StandIn> {
 impl Uncut {
     /// Whether what a cut left has the block at a path as it was before or behind the command.
     fn has_block(&self, left: &StandIn, path: &str) -> bool {
+        let path = self.form.path(path);
         left.has_same(&self.before, path) || left.has_same(&self.after, path)
     }
 
@@ -77,19 +111,20 @@ impl Uncut {
 impl Case {
     /// Whether the commands before it go as they are to, and the block that is to be lost was there and is
     /// found to be lost.
-    fn is_begun(&self, files: &StandIn, alloc: Global) -> bool {
-        all_go(files, alloc, self.before)
+    fn is_begun(&self, files: &StandIn, alloc: Global, form: Form) -> bool {
+        form.set_up(files, alloc).is_ok()
+            && all_go(files, alloc, self.before)
             && match &self.lost {
-                Some((path, found)) => fs::remove_file(files, *path).is_ok()
+                Some((path, found)) => fs::remove_file(files, form.path(*path)).is_ok()
                     && goes(files, alloc, found),
                 None => true,
             }
     }
 
     /// The home before the command.
-    fn start(&self, alloc: Global) -> Option<StandIn> {
+    fn start(&self, alloc: Global, form: Form) -> Option<StandIn> {
         let files = StandIn::new(alloc).ok()?;
-        if self.is_begun(&files, alloc) {
+        if self.is_begun(&files, alloc, form) {
             left(&files, alloc, ALL)
         } else {
             None
@@ -107,10 +142,11 @@ impl Case {
     }
 
     /// The home whose power was not cut, from how it was before.
-    fn uncut_from(&self, alloc: Global, before: StandIn) -> Option<Uncut> {
+    fn uncut_from(&self, alloc: Global, form: Form, before: StandIn) -> Option<Uncut> {
         let after = left(&before, alloc, ALL)?;
         let calls = self.calls(&after, alloc)?;
         Some(Uncut {
+            form,
             before,
             after,
             calls,
@@ -118,8 +154,8 @@ impl Case {
     }
 
     /// The home whose power was not cut.
-    fn uncut(&self, alloc: Global) -> Option<Uncut> {
-        self.uncut_from(alloc, self.start(alloc)?)
+    fn uncut(&self, alloc: Global, form: Form) -> Option<Uncut> {
+        self.uncut_from(alloc, form, self.start(alloc, form)?)
     }
 
     /// Whether what a cut left shows the effect, or nothing of it, which it may where the effect was not
@@ -170,10 +206,10 @@ impl Case {
     }
 }
 
-/// The first cut at which a case goes otherwise. Where the command that is not cut goes otherwise than its
-/// row says, that is told behind the last call of all.
-pub fn first_wrong_cut(alloc: Global, case: &Case) -> Option<Cut> {
-    match case.uncut(alloc) {
+/// The first cut at which a case goes otherwise over folders of a form. Where the command that is not cut goes
+/// otherwise than its row says, that is told behind the last call of all.
+pub fn first_wrong_cut(alloc: Global, case: &Case, form: Form) -> Option<Cut> {
+    match case.uncut(alloc, form) {
         Some(uncut) => case.first_wrong(alloc, &uncut),
         None => Some((u64::MAX, CUTS.len())),
     }

@@ -12,27 +12,20 @@ pub struct Row {
     pub text: &'static [u8],
 }
 
-/// The devices as a command has them.
-fn devices_for(files: &StandIn, alloc: Global, line: &str) -> Option<Devices> {
-    if line == "scrub" {
-        Devices::syncing(files, alloc)
-    } else {
-        Devices::new(files, alloc)
-    }
-}
-
-/// What is told of a command over the journal and the providers of the home. Want of memory is the one
-/// refusal.
+/// What is told of a command over the journal and the providers of the home, whose barrier is passed at its
+/// end. Want of memory, and a barrier that is not passed, are the refusals.
 fn told(files: &StandIn, alloc: Global, row: &Row) -> Option<Told> {
-    let mut home = devices_for(files, alloc, row.line)?;
-    tell(
+    let mut home = Devices::new(files, alloc)?;
+    let told = tell(
         alloc,
         row.line,
         row.input,
         NONE_FAILS,
         &mut home.disk,
         &mut home.providers,
-    )
+    );
+    home.barrier.pass().ok()?;
+    told
 }
 
 /// Whether a command ends as its row says.

@@ -8,6 +8,6 @@ mod medium;
 mod stand_in;
 mod stores;
 
-pub use case::{Case, Cut, Shown, first_wrong_cut};
+pub use case::{Case, Cut, Form, Shown, first_wrong_cut};
 pub use command::{Row, goes_over_forgetful_files};
 pub use stores::{Deed, Done, done_about_a_failed_sync, first_wrong_deed};

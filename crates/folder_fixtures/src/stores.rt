@@ -7,6 +7,8 @@ use hail_adapters::{FileDisk, FolderProvider};
 use hail_field::Symbol;
 use provider_model::Provider;
 use std::alloc::Global;
+use std::fs::{self, OpenFile};
+use std::io;
 
 /// Stores the second block of the third object.
 fn stores<P: Provider>(provider: &mut P, block: &[Symbol; 2]) -> bool {
@@ -118,6 +120,14 @@ pub enum Deed {
     /// A store and then a write of the journal leave no journal without the block, and both where all was
     /// done.
     StoreAndWrite,
+    /// The same where the provider's folder is a stack.
+    StackAndWrite,
+}
+
+/// Says that the folder of the provider at 3 is a stack.
+fn make_stack(files: &StandIn) -> io::Result<()> {
+    fs::write(files, "home/stack-3", b"")?;
+    fs::open(files, "home")?.sync_all()
 }
 
 /// Whether a deed leaves what it is to, cut behind so many calls that change something.
@@ -125,6 +135,10 @@ fn goes(files: &StandIn, alloc: Global, deed: Deed, calls: u64, stays: Stays) ->
     match deed {
         Deed::StoreOver => leaves_one(files, alloc, calls, stays),
         Deed::StoreAndWrite => block_is_first(files, alloc, calls, stays),
+        Deed::StackAndWrite => {
+            make_stack(files).ok()?;
+            block_is_first(files, alloc, calls, stays)
+        }
     }
 }
 

@@ -1,4 +1,3 @@
 pub mod BlockNames
 pub mod DiskCounts
 pub mod FolderCounts
-pub mod SeenRows

@@ -4,13 +4,12 @@ ghost use Rattle.std.specs.List.{All};
 ghost use Rattle.std.specs.List.Sorted.{IsSorted};
 ghost use Rattle.std.specs.Ordering.{nat_cmp};
 
-use crate::folder::Folder;
+use crate::form::Form;
 use crate::last_blocks::{LastBlock, LastBlocks, read_into, symbols};
-use crate::one_block::answer_in_block;
-use crate::provider_folders::Mark;
-use crate::seen_rows::answer_of;
 use challenge::Challenge;
-use hail_field::{Memory, Symbol};
+use file_parts::one_block::answer_in_block;
+use file_parts::seen_rows::answer_of;
+use hail_field::Symbol;
 use std::alloc::Global;
 use std::fs::Files;
 use std::io;
@@ -26,7 +25,7 @@ fn ascend(rows: &mut [u64])
 
 /// Answers a challenge to a file of one block; none where there is no block of the challenge's size.
 fn answer_in_one<R: Files + Clone + Drop>(
-    folder: &mut Folder<R>,
+    folder: &mut Form<R>,
     places: &mut [LastBlock],
     object: u64,
     challenge: &Challenge,
@@ -43,7 +42,7 @@ fn answer_in_one<R: Files + Clone + Drop>(
 
 /// The symbol in a row; none where there is no block of the challenge's size.
 fn symbol_in<R: Files + Clone + Drop>(
-    folder: &mut Folder<R>,
+    folder: &mut Form<R>,
     places: &mut [LastBlock],
     object: u64,
     challenge: &Challenge,
@@ -62,7 +61,7 @@ fn symbol_in<R: Files + Clone + Drop>(
 
 /// Answers a challenge by what stands in the picked rows; none where one of them has no symbol.
 fn answer_in_rows<R: Files + Clone + Drop>(
-    folder: &mut Folder<R>,
+    folder: &mut Form<R>,
     places: &mut [LastBlock],
     object: u64,
     challenge: &Challenge,
@@ -87,7 +86,7 @@ fn answer_in_rows<R: Files + Clone + Drop>(
 
 /// Answers a challenge by the files, or by the blocks that are kept in these places.
 fn answer_over<R: Files + Clone + Drop>(
-    folder: &mut Folder<R>,
+    folder: &mut Form<R>,
     places: &mut [LastBlock],
     object: u64,
     challenge: &Challenge,
@@ -106,27 +105,22 @@ fn answer_over<R: Files + Clone + Drop>(
 /// None outlasts the command.
 #[derive(Drop)]
 pub struct AskedFolder<R: Files + Clone + Drop> {
-    folder: Folder<R>,
+    folder: Form<R>,
     last: LastBlocks,
 }
 
 impl<R: Files + Clone + Drop> AskedFolder<R> {
-    /// The folder at this path, as [`Folder::new`] says. No block is kept.
-    pub fn new(
-        rt: &R,
-        alloc: Global,
-        path: &str,
-        unsynced: Option<Mark>,
-    ) -> Result<AskedFolder<R>, Memory>
-        ensures { IfOk result (λ asked. asked.last.of ≡ None) }
+    /// A folder of which no block is kept.
+    pub fn new(alloc: Global, folder: Form<R>) -> AskedFolder<R>
+        ensures { result.last.of ≡ None }
     {
-        Ok(AskedFolder {
-            folder: Folder::new(rt, alloc, path, unsynced)?,
+        AskedFolder {
+            folder,
             last: LastBlocks::new(alloc),
-        })
+        }
     }
 
-    /// Writes the file of a block, as [`Folder::store`] does.
+    /// Stores a block, as [`Form::store`] does.
     pub fn store(&mut self, object: u64, stripe: u32, block: &[Symbol]) -> io::Result<()>
         requires { length block.now ≤ 128 }
         ensures forgets { self.new.last.of ≡ None }
@@ -134,7 +128,7 @@ impl<R: Files + Clone + Drop> AskedFolder<R> {
         self.last.forget(self.folder.store(object, stripe, block))
     }
 
-    /// Reads a block of as many symbols as `out` has from its file, and says whether the file has one.
+    /// Reads a block of as many symbols as `out` has, and says whether there is one.
     pub fn fetch(&mut self, object: u64, stripe: u32, out: &mut [Symbol]) -> io::Result<bool>
         requires { length out.old ≤ 128 }
         ensures not_found { IfOk result (λ found. found ≡ false → out.new ≡ out.old) }
@@ -165,7 +159,7 @@ impl<R: Files + Clone + Drop> AskedFolder<R> {
         }
     }
 
-    /// Removes an object's files, as [`Folder::remove`] does.
+    /// Removes an object, as [`Form::remove`] does.
     pub fn remove(&mut self, object: u64) -> io::Result<()>
         ensures forgets { self.new.last.of ≡ None }
     {
@@ -186,7 +180,7 @@ impl<R: Files + Clone + Drop> AskedFolder<R> {
             .forget(self.folder.alter(object, stripe, place, symbol))
     }
 
-    /// Removes the file of a block, and says whether there was a block.
+    /// Takes a block away, and says whether there was one.
     pub fn lose(&mut self, object: u64, stripe: u32) -> io::Result<bool>
         ensures forgets { self.new.last.of ≡ None }
     {

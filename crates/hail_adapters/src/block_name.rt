@@ -1,5 +1,5 @@
 ghost use Rattle.std.specs.Prelude.{◌≡◌, ◌∷◌, ◌++◌, string_bytes, OnOk};
-ghost use Rattle.hail_adapters.specs.BlockNames.{block_name, provider_folder};
+ghost use Rattle.hail_adapters.specs.BlockNames.{block_name, object_file, provider_folder};
 
 use std::alloc::AllocError;
 
@@ -20,4 +20,12 @@ pub fn put_folder(out: &mut String, home: &str, provider: u8) -> Result<(), Allo
 {
     out.clear();
     write!(out, "{home}/provider-{provider}")
+}
+
+/// Puts the path of an object's file in place of what `out` holds.
+pub fn put_file(out: &mut String, home: &str, provider: u8, object: u64) -> Result<(), AllocError>
+    ensures { OnOk result (string_bytes out.new ≡ home.now ++ object_file provider object) }
+{
+    out.clear();
+    write!(out, "{home}/provider-{provider}/{object}")
 }

@@ -2,14 +2,12 @@ ghost use Rattle.std.specs.Prelude.{◌≡◌, ◌≤◌, None, length, IfOk, On
 ghost use Rattle.stream_model.specs.declared.fault.WriteFault.TheVariants as write_fault;
 ghost use Rattle.hail_adapters.specs.DiskCounts.{not_called, with_call, with_fault};
 
-use crate::kept_file::KeptFile;
-use crate::provider_folders::ProviderFolders;
-use crate::tried::{tried, tried_writing};
 use disk_model::Disk;
+use file_parts::kept_file::KeptFile;
+use file_parts::tried::{tried, tried_writing};
 use hail_field::Memory;
 use std::alloc::Global;
 use std::fs::Files;
-use std::io;
 use std::marker::Model;
 use stream_model::{Failed, WriteFault};
 
@@ -18,7 +16,6 @@ use stream_model::{Failed, WriteFault};
 #[derive(Drop)]
 pub struct FileDisk<R: Files + Clone + Drop> {
     file: KeptFile<R>,
-    folders: Option<ProviderFolders<R>>,
     faults: u64,
     calls: u64,
 }
@@ -36,56 +33,11 @@ impl<R: Files + Clone + Drop> FileDisk<R> {
     pub fn new(rt: &R, alloc: Global, path: &str) -> Result<FileDisk<R>, Memory>
         ensures { IfOk result (λ disk. disk ≡ not_called) }
     {
-        FileDisk::after(rt, alloc, path, None)
-    }
-
-    /// The same, where each write comes after the sync of these folders.
-    pub fn after(
-        rt: &R,
-        alloc: Global,
-        path: &str,
-        folders: Option<ProviderFolders<R>>,
-    ) -> Result<FileDisk<R>, Memory>
-        ensures { IfOk result (λ disk. disk ≡ not_called) }
-    {
-        match KeptFile::new(rt, alloc, path) {
-            Ok(file) => Ok(FileDisk::of(file, folders)),
-            Err(memory) => Err(memory),
-        }
-    }
-
-    /// The disk of a file and of folders before its first call.
-    fn of(file: KeptFile<R>, folders: Option<ProviderFolders<R>>) -> FileDisk<R>
-        ensures { result ≡ not_called }
-    {
-        FileDisk {
-            file,
-            folders,
+        Ok(FileDisk {
+            file: KeptFile::new(rt, alloc, path)?,
             faults: 0,
             calls: 0,
-        }
-    }
-
-    /// Brings the folders' names to the medium.
-    fn sync_folders(&mut self) -> io::Result<()>
-        ensures { self.new ≡ self.old }
-    {
-        match &mut self.folders {
-            Some(folders) => folders.sync(),
-            None => Ok(()),
-        }
-    }
-
-    /// Writes to the file, behind the folders' names.
-    fn write(&mut self, at: u64, bytes: &[u8]) -> io::Result<()>
-        ensures { self.new ≡ self.old }
-    {
-        let synced = self.sync_folders();
-        if synced.is_err() {
-            self.file.give_up();
-            return synced;
-        }
-        self.file.write_at(at, bytes)
+        })
     }
 }
 
@@ -119,8 +71,7 @@ impl<R: Files + Clone + Drop> Disk for FileDisk<R> {
         ensures memory { IsErrOf result write_fault.Memory → self.new ≡ with_call self.old }
     {
         self.calls = self.calls.saturating_add(1);
-        let written = self.write(at, bytes);
-        tried_writing(written, &mut self.faults)
+        tried_writing(self.file.write_at(at, bytes), &mut self.faults)
     }
 
     fn sync(&mut self) -> Result<(), Failed>

@@ -2,26 +2,24 @@
 ghost use Rattle.std.specs.Prelude.{◌≡◌, ◌≢◌, ◌≤◌, ◌<◌, ◌+◌, ◌++◌, Ok, true, false, length, string_bytes, IfOk, OnErr};
 ghost use Rattle.hail_adapters.specs.BlockNames.{new_block};
 
-use crate::block_bytes::{BLOCK_BYTES, SYMBOL_BYTES, put_symbols, take_symbols};
 use crate::block_name::{NAME_BYTES, put_path};
-use crate::found::{found, is_missing};
-use crate::plain::{folder_of, open_plain, open_sized, sync_folder, to_make, to_read, to_write};
-use crate::provider_folders::Mark;
-use crate::transfer::{fill, gives};
+use file_parts::block_bytes::{BLOCK_BYTES, SYMBOL_BYTES, put_symbols, take_symbols};
+use file_parts::found::{found, is_missing};
+use file_parts::plain::{
+    make_folder, open_plain, open_sized, sync_folder, to_make, to_read, to_write,
+};
+use file_parts::transfer::{fill, gives};
+use file_parts::unsynced::Mark;
 use hail_field::{Memory, Symbol};
 use std::alloc::Global;
-use std::fs::{self, DirBuilder, Files, OpenFile};
+use std::fs::{self, Files, OpenFile};
 use std::io::{self, ErrorKind, Seek, SeekFrom, Write};
-use std::os::unix::fs::DirBuilderExt;
 
 /// So many stripes in a row that are not there end a removal.
 const MISSES: u32 = 16;
 
 /// The stripes of the longest file, where one provider has its bytes and a block keeps two symbols.
 const MOST_STRIPES: u32 = 131_072;
-
-/// Only the owner of a folder that is made enters it.
-const OWN_FOLDER: u32 = 0o700;
 
 /// How many stripes in a row a removal did not find, behind one more.
 fn misses_behind(misses: u32, removed: &io::Result<bool>) -> u32
@@ -42,7 +40,7 @@ pub struct Folder<R: Files + Clone + Drop> {
     path: String,
     block_path: String,
     new_path: String,
-    unsynced: Option<Mark>,
+    unsynced: Option<Mark<R::File>>,
 }
 
 impl<R: Files + Clone + Drop> Folder<R> {
@@ -52,7 +50,7 @@ impl<R: Files + Clone + Drop> Folder<R> {
         rt: &R,
         alloc: Global,
         path: &str,
-        unsynced: Option<Mark>,
+        unsynced: Option<Mark<R::File>>,
     ) -> Result<Folder<R>, Memory>
         ensures own { IfOk result (λ folder. string_bytes folder.path ≡ path.now) }
         ensures new { IfOk result (λ folder. string_bytes folder.new_path ≡ path.now ++ new_block) }
@@ -74,14 +72,6 @@ impl<R: Files + Clone + Drop> Folder<R> {
         open_sized(&self.rt, &self.block_path, size)
     }
 
-    /// Makes the folder for its owner alone, and brings its name to the medium.
-    fn make(&self) -> io::Result<()> {
-        let mut how = DirBuilder::new();
-        how.mode(OWN_FOLDER);
-        how.create(&self.rt, &self.path)?;
-        sync_folder(&self.rt, folder_of(&self.path))
-    }
-
     /// Takes away what stands in the new file's place: a file, a link or an empty folder.
     fn clear_new(&self) -> io::Result<()> {
         let removed = fs::remove_file(&self.rt, &self.new_path);
@@ -95,7 +85,7 @@ impl<R: Files + Clone + Drop> Folder<R> {
     fn make_new(&self) -> io::Result<R::File> {
         match to_make().open(&self.rt, &self.new_path) {
             Err(error) if error.kind() == ErrorKind::AlreadyExists => self.clear_new()?,
-            Err(error) if is_missing(error.kind()) => self.make()?,
+            Err(error) if is_missing(error.kind()) => make_folder(&self.rt, &self.path)?,
             answer => return answer,
         }
         to_make().open(&self.rt, &self.new_path)
@@ -104,8 +94,8 @@ impl<R: Files + Clone + Drop> Folder<R> {
     /// The folder, which is there, is that of no other provider of the home. It is looked at once.
     fn is_own(&self) -> io::Result<()> {
         match &self.unsynced {
-            Some(mark) if !mark.is_known() => mark.know(&fs::metadata(&self.rt, &self.path)?),
-            _ => Ok(()),
+            Some(mark) => mark.is_own(&self.rt, &self.path),
+            None => Ok(()),
         }
     }
 

@@ -3,11 +3,14 @@ ghost use Rattle.provider_model.specs.declared.fault.StoreFault.TheVariants as s
 ghost use Rattle.hail_adapters.specs.FolderCounts.{fresh_counts, with_store_fault, with_other_fault, with_answer, with_fetch, with_call, IsGivenUp};
 
 use crate::asked_folder::AskedFolder;
-use crate::provider_folders::Mark;
-use crate::tried::{tried, tried_writing};
+use crate::folder::Folder;
+use crate::form::Form;
 use challenge::Challenge;
+use file_parts::tried::{tried, tried_writing};
+use file_parts::unsynced::{Mark, Unsynced};
 use hail_field::{Memory, Symbol};
 use provider_model::{Provider, StoreFault, Tamper};
+use stack_adapters::Stack;
 use std::alloc::Global;
 use std::fs::Files;
 use std::io::{self, ErrorKind};
@@ -18,7 +21,8 @@ use stream_model::{Failed, WriteFault};
 const MOST_FAILED: u64 = 8;
 
 /// A folder as a provider, seen in contracts as its counts. It tells nothing of what it holds. The block of
-/// object I and stripe S is the file `I-S` in it, 16 bytes a symbol. Behind eight calls in a row that failed
+/// object I and stripe S is the file `I-S` in it, 16 bytes a symbol, or where it is a stack a place in the file
+/// `I`. Behind eight calls in a row that failed
 /// the folder is not looked at any more, and each call fails: else each block of a provider that does not
 /// answer would be waited for. A block that is not there is no failure. An answer to a challenge goes by the
 /// files, but for up to eight blocks that the answers right before it, about the same object, have read: so
@@ -49,12 +53,13 @@ impl<R: Files + Clone + Drop> Model for FolderProvider<R> {
 }
 
 impl<R: Files + Clone + Drop> FolderProvider<R> {
-    /// The folder at this path, which the first store makes. Each store syncs it. Opens nothing; want of
-    /// memory is its one refusal.
+    /// The folder at this path, which the first store makes, with a file for each block. Each store syncs it.
+    /// Opens nothing; want of memory is its one refusal.
     pub fn new(rt: &R, alloc: Global, path: &str) -> Result<FolderProvider<R>, Memory>
         ensures { IfOk result (λ provider. provider ≡ fresh_counts) }
     {
-        FolderProvider::marking(rt, alloc, path, None)
+        let folder = Folder::new(rt, alloc, path, None)?;
+        Ok(FolderProvider::of(alloc, Form::Plain(folder)))
     }
 
     /// The same, where a store sets this mark in place of the sync of the folder.
@@ -62,18 +67,56 @@ impl<R: Files + Clone + Drop> FolderProvider<R> {
         rt: &R,
         alloc: Global,
         path: &str,
-        unsynced: Option<Mark>,
+        mark: Mark<R::File>,
     ) -> Result<FolderProvider<R>, Memory>
         ensures { IfOk result (λ provider. provider ≡ fresh_counts) }
     {
-        Ok(FolderProvider {
-            folder: AskedFolder::new(rt, alloc, path, unsynced)?,
+        let folder = Folder::new(rt, alloc, path, Some(mark))?;
+        Ok(FolderProvider::of(alloc, Form::Plain(folder)))
+    }
+
+    /// The folder at this path, which the first store makes, with a file for each object. Each store brings what
+    /// it wrote to the medium. Opens nothing; want of memory is its one refusal.
+    pub fn stacked(rt: &R, alloc: Global, path: &str) -> Result<FolderProvider<R>, Memory>
+        ensures { IfOk result (λ provider. provider ≡ fresh_counts) }
+    {
+        let mark = Unsynced::new(alloc)?.mark(0)?;
+        let stack = Stack::new(rt, alloc, path, mark, true)?;
+        Ok(FolderProvider::of(alloc, Form::Stacked(stack)))
+    }
+
+    /// The same, where a store leaves what it wrote in this mark.
+    pub fn stacked_marking(
+        rt: &R,
+        alloc: Global,
+        path: &str,
+        mark: Mark<R::File>,
+    ) -> Result<FolderProvider<R>, Memory>
+        ensures { IfOk result (λ provider. provider ≡ fresh_counts) }
+    {
+        let stack = Stack::new(rt, alloc, path, mark, false)?;
+        Ok(FolderProvider::of(alloc, Form::Stacked(stack)))
+    }
+
+    /// A provider each of whose calls fails.
+    pub fn refused(alloc: Global) -> FolderProvider<R>
+        ensures { result ≡ fresh_counts }
+    {
+        FolderProvider::of(alloc, Form::Refused)
+    }
+
+    /// A folder before its first call.
+    fn of(alloc: Global, folder: Form<R>) -> FolderProvider<R>
+        ensures { result ≡ fresh_counts }
+    {
+        FolderProvider {
+            folder: AskedFolder::new(alloc, folder),
             store_faults: 0,
             other_faults: 0,
             fetches: 0,
             calls: 0,
             failed_in_a_row: 0,
-        })
+        }
     }
 
     /// The folder is not given up.

@@ -1,7 +1,7 @@
 // Blocks that answers to challenges read.
 ghost use Rattle.std.specs.Prelude.{◌≡◌, ◌≤◌, ◌<◌, ◌↔◌, None, length, IsTrue};
 
-use crate::folder::Folder;
+use crate::form::Form;
 use hail_field::Symbol;
 use std::alloc::Global;
 use std::fs::Files;
@@ -82,7 +82,7 @@ impl LastBlocks {
 /// Reads a block into its place where it is not kept there, and says whether there is one of this size.
 pub fn read_into<R: Files + Clone + Drop>(
     places: &mut [LastBlock],
-    folder: &mut Folder<R>,
+    folder: &mut Form<R>,
     object: u64,
     stripe: u32,
     size: u32,

@@ -2,27 +2,24 @@
 #![tactic(auto)]
 
 mod asked_folder;
-mod block_bytes;
 mod block_name;
 mod file_disk;
 mod folder;
 mod folder_provider;
-mod found;
+mod form;
 mod home;
-mod kept_file;
 mod last_blocks;
-mod one_block;
-mod plain;
 mod provider_folders;
-mod seen_rows;
 mod std_sink;
 mod std_source;
-pub mod transfer;
-mod tried;
+mod twins;
 
 pub use file_disk::FileDisk;
+pub use file_parts::transfer;
+pub use file_parts::unsynced::Unsynced;
 pub use folder_provider::FolderProvider;
 pub use home::{folder_providers, journal_disk};
-pub use provider_folders::Unsynced;
+pub use provider_folders::ProviderFolders;
 pub use std_sink::StdSink;
 pub use std_source::StdSource;
+pub use twins::first_twin;

@@ -2,8 +2,8 @@ ghost use Rattle.std.specs.Prelude.{◌≡◌, ◌<◌, ◌≤◌, None, length,
 ghost use Rattle.stream_model.specs.declared.fault.WriteFault.TheVariants as write_fault;
 ghost use Rattle.device_defs.specs.Faults.{one_more};
 
-use crate::transfer::write_some;
-use crate::tried::tried_writing;
+use file_parts::transfer::write_some;
+use file_parts::tried::tried_writing;
 use hail_field::Memory;
 use std::marker::Model;
 use std::rt::Runtime;

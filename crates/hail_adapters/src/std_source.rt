@@ -1,8 +1,8 @@
 ghost use Rattle.std.specs.Prelude.{◌≡◌, ◌≤◌, None, length, IfOk, OnOk, OnErr};
 ghost use Rattle.device_defs.specs.Faults.{one_more};
 
-use crate::transfer::read_some;
-use crate::tried::tried;
+use file_parts::transfer::read_some;
+use file_parts::tried::tried;
 use hail_field::Memory;
 use std::marker::Model;
 use std::rt::Runtime;

@@ -1,12 +1,14 @@
 // The command over the devices that the first word names.
 use crate::guard::{hold_streams, lock_home};
 use disk_model::{Disk, SureDisk};
-use hail_adapters::{FolderProvider, StdSink, StdSource, Unsynced, folder_providers, journal_disk};
-use hail_top::{DISK_FAULT, NO_MEMORY, hail};
-use program_words::syncs_stores;
+use hail_adapters::{
+    ProviderFolders, StdSink, StdSource, Unsynced, first_twin, folder_providers, journal_disk,
+};
+use hail_top::{DISK_FAULT, NO_MEMORY, PROVIDER_FAULT, hail};
+use program_words::stores_blocks;
 use provider_model::{SureProvider, Tamper};
 use provider_wire::{LinkProvider, LoopLink};
-use remote_adapters::home_providers;
+use remote_adapters::{Barrier, HomeDisk, HomeSink, Remotes, home_providers};
 use std::alloc::Global;
 use stream_model::{Sink, Source};
 
@@ -90,42 +92,62 @@ fn run_in_memory<P: Tamper + Drop>(
     run_over(rt, words, &mut disk, &mut providers)
 }
 
-/// The folders of a home's providers, where each store syncs its own.
-fn synced_providers(
-    rt: &HostRuntime,
-    alloc: Global,
-    home: &str,
-) -> Option<Vec<FolderProvider<HostRuntime>>> {
-    let mut providers = Vec::new(alloc);
-    for number in 0..16u8 {
-        let path = format!(in alloc; "{home}/provider-{number}").ok()?;
-        let provider = FolderProvider::new(rt, alloc, &path).ok()?;
-        providers.push(provider).ok()?;
+/// What is told of a command whose stores are to be brought. Where its barrier was not passed, the provider is
+/// told in place of what came of it: no record of the journal, and no line, went out behind. Else what went
+/// wrong is told, and of a command that did all the barrier is passed once more.
+fn brought(barrier: &mut Barrier<HostRuntime>, told: Told) -> Told {
+    let failed = if told.status == 0 {
+        barrier.pass().err()
+    } else {
+        barrier.failed()
+    };
+    match failed {
+        Some(number) => Told {
+            status: PROVIDER_FAULT,
+            at: number.into(),
+        },
+        None => told,
     }
-    Some(providers)
-}
-
-/// The folders of a home's providers for a command. Want of memory is the one refusal.
-fn home_folders(
-    rt: &HostRuntime,
-    home: &str,
-    words: &[String],
-    unsynced: &Unsynced,
-) -> Option<Vec<FolderProvider<HostRuntime>>> {
-    if syncs_stores(words) {
-        return synced_providers(rt, rt.alloc(), home);
-    }
-    folder_providers(rt, rt.alloc(), home, unsynced).ok()
 }
 
 /// Answers the words over the journal and the providers of a home. Want of memory for the devices is the one
 /// refusal.
 fn run_at_home(rt: &HostRuntime, home: &str, words: &[String]) -> Option<Told> {
+    let remotes = Remotes::new(rt, rt.alloc(), home).ok()?;
     let unsynced = Unsynced::new(rt.alloc()).ok()?;
-    let mut disk = journal_disk(rt, rt.alloc(), home, &unsynced).ok()?;
-    let folders = home_folders(rt, home, words, &unsynced)?;
-    let mut providers = home_providers(rt, rt.alloc(), home, folders).ok()?;
-    run_over(rt, words, &mut disk, &mut providers)
+    let synced = ProviderFolders::new(rt, rt.alloc(), home, &unsynced).ok()?;
+    let mut barrier = Barrier::new(rt.alloc(), &remotes, synced).ok()?;
+    let journal = journal_disk(rt, rt.alloc(), home).ok()?;
+    let mut disk = HomeDisk::new(journal, barrier.share().ok()?);
+    let folders = folder_providers(rt, rt.alloc(), home, &unsynced).ok()?;
+    let mut providers = home_providers(rt.alloc(), &remotes, folders).ok()?;
+    let mut source = StdSource::new(rt).ok()?;
+    let mut sink = HomeSink::new(StdSink::new(rt).ok()?, barrier.share().ok()?);
+    let told = answer(
+        rt.alloc(),
+        words,
+        &mut disk,
+        &mut providers,
+        &mut source,
+        &mut sink,
+    );
+    let told = brought(&mut barrier, told);
+    remotes.finish();
+    Some(told)
+}
+
+/// The same, unless the command would store blocks where two providers have one folder: then the second of them
+/// is told, and nothing is touched.
+fn run_apart(rt: &HostRuntime, home: &str, words: &[String]) -> Option<Told> {
+    if stores_blocks(words) {
+        if let Some(number) = first_twin(rt, rt.alloc(), home).ok()? {
+            return Some(Told {
+                status: PROVIDER_FAULT,
+                at: number.into(),
+            });
+        }
+    }
+    run_at_home(rt, home, words)
 }
 
 /// Answers the words over a home that no other program is at work in meanwhile. A home that cannot be locked
@@ -141,7 +163,7 @@ fn run_alone(rt: &HostRuntime, home: &str, words: &[String]) -> Option<Told> {
     let Ok(_lock) = lock_home(rt, home, words) else {
         return Some(fault);
     };
-    run_at_home(rt, home, words)
+    run_apart(rt, home, words)
 }
 
 /// Answers the words over providers in memory.

@@ -1,5 +1,6 @@
 -- A schedule or a trial, carried out or not.
-use Rattle.std.proofs.Common.{◌≡◌, ◌⊎◌, inl, inr, ℕ, ◌+◌, List, reverse, refl, ap, sym, subst}
+use Rattle.std.proofs.Common.{◌≡◌, ◌≢◌, ◌⊎◌, ◌<◌, inl, inr, ℕ, ◌+◌, List, [], reverse, refl, ap, sym, subst, ◌∙◌, arith}
+use Rattle.std.proofs.lemmas.List.{append-nil, reverse-reverse}
 use Rattle.command_defs.specs.Seen.{Seen, Ending, sinking}
 use Rattle.device_defs.specs.Faults.{Rose}
 use Rattle.command_defs.specs.Sinking.{Sinking}
@@ -15,7 +16,7 @@ use Rattle.hail_replay.specs.Answers.{IsUndone, devices_of_seen, longest_schedul
 use Rattle.hail_replay.specs.declared.forms.Form.{Form}
 use Rattle.hail_replay.specs.declared.forms.Form.TheVariants as forms
 use Rattle.trial_maker.specs.Trials.{trial_commands}
-use Rattle.hail_top.specs.Carried.{AnswersForm, RunGoesOn, KeepsTheHeadline}
+use Rattle.hail_top.specs.Carried.{AnswersForm, FormGoesOn, KeepsTheHeadline}
 use Rattle.command_jobs.proofs.ReadBytes.{none-taken}
 use Rattle.hail_top.specs.Endings.{ending_with}
 
@@ -57,41 +58,69 @@ carried-heard {status} {at} {heard} {end} {start} {before} {commands} {sink} {d}
 
 -- ---- the headline
 
-replay-keeps : (old new : Seen) (end : Ending) → AnswersReplay old new end → KeepsTheHeadline old new end
-replay-keeps old new end (answers.source_fault rose reads undone) = inl (14, 0, undone)
-replay-keeps old new end (answers.too_long front reads long undone) = inl (16, 0, undone)
-replay-keeps old new end (answers.bad_line text number reads short bad undone) = inl (19, number, undone)
-replay-keeps old new end (answers.no_memory reads undone) = inl (70, 0, undone)
-replay-keeps old new end (answers.done text reads short does) = inr (λ start before told left.
-    (let R = does.runs start before told left in
-    record { done = R.done; later = R.later; lines = R.lines; carries = R.carries }))
+-- a status above 0
+other : (status : ℕ) → 0 < status → status ≢ 0
+other status l is = absurd (omega (arith, l, is))
 
-trial-goes-on : (number : ℕ) (start : State) (before : List Moment) (status : ℕ) (sink : Sinking)
-    (same : Type 0) (heard : List Entry) (d : Devices)
-    → RunsTrial number start before status sink heard d ⊎
-    ((status ≡ 70) × same × RunsTo start before (trial_commands number) heard d) →
-    RunGoesOn start before heard d
-trial-goes-on number start before status sink same heard d (inl R) =
-    record {
-      done = reverse (trial_commands number);
-      later = R.later;
-      lines = R.left_out;
-      carries = R.carries;
-    }
-trial-goes-on number start before status sink same heard d (inr (is, at, R)) =
-    record { done = R.done; later = R.later; lines = R.lines; carries = R.carries }
+replay-keeps : (old new : Seen) (end : Ending) → AnswersReplay old new end →
+    KeepsTheHeadline forms.Replay old new end
+replay-keeps old new end (answers.source_fault rose reads undone) = inl (14, 0, other 14 (omega arith), undone)
+replay-keeps old new end (answers.too_long front reads long undone) = inl (16, 0, other 16 (omega arith), undone)
+replay-keeps old new end (answers.bad_line text number reads short bad undone) =
+    inl (19, number, other 19 (omega arith), undone)
+replay-keeps old new end (answers.no_memory reads undone) = inl (70, 0, other 70 (omega arith), undone)
+replay-keeps old new end (answers.done text reads short does) = inr (record {
+  commands = does.commands;
+  asks = record { text = text; reads = reads; spells = does.schedule };
+  goes_on = λ start before told left. (let R = does.runs start before told left in record {
+    goes = record { done = R.done; later = R.later; lines = R.lines; carries = R.carries };
+    left = R.left;
+    order = R.order;
+    whole = R.whole;
+    told = R.wrote;
+  });
+})
+
+trial-goes-on : (number : ℕ) (start : State) (before : List Moment) (old new : Seen) (end : Ending) →
+    RunsTrial number start before end.status (sinking old new) end.heard (devices_of_seen new)
+    ⊎ ((end.status ≡ 70) × (new.sink ≡ old.sink)
+    × RunsTo start before (trial_commands number) end.heard (devices_of_seen new)) →
+    FormGoesOn (forms.Trial number) (trial_commands number) start before old new end
+trial-goes-on number start before old new end (inl R) = record {
+  goes = record {
+    done = reverse (trial_commands number);
+    later = R.later;
+    lines = R.left_out;
+    carries = R.carries;
+  };
+  left = [];
+  order = sym (append-nil (reverse (reverse (trial_commands number))) ∙ reverse-reverse (trial_commands number));
+  whole = λ ok. refl;
+  told = inl (R.text, R.tells, R.wrote);
+}
+trial-goes-on number start before old new end (inr (is, at, R)) = record {
+  goes = record { done = R.done; later = R.later; lines = R.lines; carries = R.carries };
+  left = R.left;
+  order = R.order;
+  whole = λ ok. absurd (other 70 (omega arith) (sym is ∙ ok));
+  told = inr (is, at);
+}
 
 trial-keeps : (number : ℕ) (old new : Seen) (end : Ending) → AnswersTrial number old new end →
-    KeepsTheHeadline old new end
-trial-keeps number old new end (answers.too_few few same undone) = inl (22, 0, undone)
-trial-keeps number old new end (answers.no_memory same undone) = inl (70, 0, undone)
-trial-keeps number old new end (answers.done enough same does) = inr (λ start before told left.
-    trial-goes-on number start before end.status (sinking old new) (new.sink ≡ old.sink) end.heard
-    (devices_of_seen new) (does.runs start before told left))
+    KeepsTheHeadline (forms.Trial number) old new end
+trial-keeps number old new end (answers.too_few few same undone) =
+    inl (22, 0, other 22 (omega arith), undone)
+trial-keeps number old new end (answers.no_memory same undone) = inl (70, 0, other 70 (omega arith), undone)
+trial-keeps number old new end (answers.done enough same does) = inr (record {
+  commands = trial_commands number;
+  asks = refl;
+  goes_on = λ start before told left. trial-goes-on number start before old new end
+      (does.runs start before told left);
+})
 
 -- what any form answers keeps the headline
 pub form-keeps : (form : Form) (old new : Seen) (end : Ending) → AnswersForm form old new end →
-    KeepsTheHeadline old new end
+    KeepsTheHeadline form old new end
 form-keeps forms.Replay old new end a = replay-keeps old new end a
 form-keeps (forms.Trial number) old new end a = trial-keeps number old new end a
 

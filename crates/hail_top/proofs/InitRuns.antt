@@ -6,7 +6,8 @@ use Rattle.machine_defs.specs.Runs.{now, IsRun}
 use Rattle.machine_defs.specs.States.{State, continued}
 use Rattle.state_laws.proofs.Events.{run-sound}
 use Rattle.command_defs.specs.Forms.{Command, Numbers, RowOf, InitWith, PutUnder, PutAt, GetOf, DropOf, ListAll, AuditAll, RepairAll, UpgradeJournal, ScrubAll, PackJournal}
-use Rattle.command_defs.specs.Seen.{Seen, Ending}
+use Rattle.command_defs.specs.Keys.{IsKeyForm, longest_key}
+use Rattle.command_defs.specs.Seen.{Seen, Ending, ReadsUpTo}
 use Rattle.command_defs.specs.Sinking.{Sinking, WritesLine}
 use Rattle.command_words.specs.declared.command.Command.{Command as Read}
 use Rattle.command_words.specs.Commands.{command_of}
@@ -60,12 +61,12 @@ pub refused-tells : (result : Result Unit InitFault) (why : InitFault) (end : En
 refused-tells result why end is ended = subst (λ r. TellsInit r end) (sym is) ended
 
 -- the source gave a key
-pub keyed-on : (setup : Setup) (numbers : Numbers) (old new : Seen) (end : Ending) (key : List ℕ)
-    (handed : ℕ) → IsSetupFor setup numbers handed →
-    InitGoesOn (with_master setup key) (devices_of_seen old) (devices_of_seen new) end →
+pub keyed-on : (setup : Setup) (numbers : Numbers) (old new : Seen) (end : Ending) (bytes key : List ℕ)
+    (handed : ℕ) → IsSetupFor setup numbers handed → ReadsUpTo longest_key old.source new.source bytes →
+    IsKeyForm bytes key → InitGoesOn (with_master setup key) (devices_of_seen old) (devices_of_seen new) end →
     InitsDevices numbers old new end
-keyed-on setup numbers old new end key handed for goes =
-    made key (subst (λ (s : SetupData). InitGoesOn s (devices_of_seen old) (devices_of_seen new) end)
+keyed-on setup numbers old new end bytes key handed for reads is goes =
+    made bytes key reads is (subst (λ (s : SetupData). InitGoesOn s (devices_of_seen old) (devices_of_seen new) end)
     (for.same key) goes)
 
 -- it is this command

@@ -20,5 +20,5 @@ pub record AnswersWords (words : List (String Global)) (old new : Seen) (end : E
   pub inits : (command : Command) → IsForm words command → InitsOn command old new end
   pub carries : (form : Form) → IsFormOf words form → AnswersForm form old new end
   pub serves : (number : ℕ) → IsServeForm words number → AnswersServe number old new end
-  pub headline : (form : Form) → IsFormOf words form → KeepsTheHeadline old new end
+  pub headline : (form : Form) → IsFormOf words form → KeepsTheHeadline form old new end
   pub counts : NoCountFalls old new

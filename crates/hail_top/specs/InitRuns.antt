@@ -7,7 +7,8 @@
 --   InitGoesOn s d e end            == whatever run from a start has left the devices, those behind the init
 --                                      are left by that run with such moments
 --   InitsDevices numbers old new end
---                                   == an `init` left the devices as they were, or goes on with that run
+--                                   == an `init` left the devices as they were, or goes on with that run, its
+--                                      setup of the key that the source gave
 --   InitsOn command old new end     == so does a command that is an `init`
 use Rattle.std.specs.Prelude.{◌≡◌, ◌⊎◌, ℕ, List, [], ◌∷◌, ◌++◌, Result, Ok, Err, IsSome}
 use Rattle.record_defs.specs.Records.{Setup}
@@ -16,7 +17,8 @@ use Rattle.machine_defs.specs.Runs.{Moment, now}
 use Rattle.machine_defs.specs.States.{State}
 use Rattle.command_defs.specs.Forms.{Command, Numbers, InitWith}
 use Rattle.command_defs.specs.Inits.{setup_with}
-use Rattle.command_defs.specs.Seen.{Seen, Ending}
+use Rattle.command_defs.specs.Keys.{IsKeyForm, longest_key}
+use Rattle.command_defs.specs.Seen.{Seen, Ending, ReadsUpTo}
 use Rattle.vault_open.specs.declared.fault.InitFault.{InitFault}
 use Rattle.vault_open.specs.Devices.{Devices}
 use Rattle.vault_open.specs.Inits.{init_outcome}
@@ -43,11 +45,11 @@ InitGoesOn s d e end =
     (start : State) (ms : List Moment) → IsSome d.holds → AreLeft start ms d
     → (own : List Moment) × IsInitMade s end (now start ms) own × AreLeft start (own ++ ms) e
 
--- an `init` left the devices as they were, or is an event of the machine with some key
+-- an `init` left the devices as they were, or is an event of the machine with the key that the source gave
 pub data InitsDevices (numbers : Numbers) (old new : Seen) (end : Ending) : Type 0 where
   untouched : new.disk ≡ old.disk → new.disk_faults ≡ old.disk_faults → new.providers ≡ old.providers
       → InitsDevices numbers old new end
-  made : (key : List ℕ)
+  made : (bytes key : List ℕ) → ReadsUpTo longest_key old.source new.source bytes → IsKeyForm bytes key
       → InitGoesOn (setup_with numbers key) (devices_of_seen old) (devices_of_seen new) end
       → InitsDevices numbers old new end
 

@@ -9,8 +9,9 @@ ghost use Rattle.hail_top.specs.Endings.{seen_over, seen_of, ending_of};
 
 use crate::reading::read_up_to;
 use crate::refusals::unread;
-use crate::report::{BAD_SCHEDULE, NO_MEMORY, Report, TOO_FEW_PROVIDERS, TOO_LONG};
+use crate::report::Report;
 use disk_model::Disk;
+use exit_statuses::{BAD_SCHEDULE, NO_MEMORY, TOO_FEW_PROVIDERS, TOO_LONG};
 use hail_replay::{Replayed, replay, trial};
 use provider_model::Tamper;
 use schedule_text::laws::schedule_is_short;

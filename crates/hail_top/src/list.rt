@@ -12,10 +12,11 @@ ghost use Rattle.hail_top.specs.Endings.{ending_of};
 ghost use Rattle.command_defs.specs.Seen.{seen};
 
 use crate::refusals::unopened;
-use crate::report::{NO_MEMORY, Report};
+use crate::report::Report;
 use command_jobs::open_vault;
 use command_lines::{list_lines, write_text};
 use disk_model::Disk;
+use exit_statuses::NO_MEMORY;
 use std::alloc::Global;
 use stream_model::{Memory, Sink};
 use vault::Vault;

@@ -19,10 +19,11 @@ ghost use Rattle.hail_top.specs.Jobs.{PacksOver};
 ghost use Rattle.hail_top.specs.Telling.{TellsPack};
 
 use crate::refusals::{refused, unopened};
-use crate::report::{DISK_FAULT, NO_MEMORY, Report};
+use crate::report::Report;
 use command_jobs::{open_vault, run_pack};
 use command_lines::{packed_line, write_text};
 use disk_model::Disk;
+use exit_statuses::{DISK_FAULT, NO_MEMORY};
 use std::alloc::Global;
 use stream_model::Sink;
 use vault::{PackAnswer, Vault};

@@ -15,10 +15,11 @@ ghost use Rattle.hail_top.specs.Jobs.{PutsOver};
 ghost use Rattle.hail_top.specs.Telling.{TellsStreamed};
 
 use crate::refusals::{unbegun, unopened};
-use crate::report::{BAD_SETUP, Report, SOURCE_FAULT, TOO_LONG};
+use crate::report::Report;
 use crate::tell::{Subject, ended};
 use command_jobs::{Streamed, open_vault, run_stream};
 use disk_model::Disk;
+use exit_statuses::{BAD_SETUP, SOURCE_FAULT, TOO_LONG};
 use provider_model::Provider;
 use std::alloc::Global;
 use stream_model::{Sink, Source};

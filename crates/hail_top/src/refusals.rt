@@ -6,12 +6,13 @@ ghost use Rattle.hail_top.specs.Endings.{ending_of, ending_with};
 ghost use Rattle.hail_top.specs.Telling.{unread_ending, unopened_ending, unbegun_ending};
 
 use crate::reading::ReadFault;
-use crate::report::{
-    BAD_JOURNAL, BAD_NAME, BAD_SETUP, DISK_FAULT, JOURNAL_FULL, NEW_VERSION, NO_MEMORY,
-    NO_SUCH_NAME, NOT_SET_UP, NOTHING_DUE, OLD_VERSION, PACK_TOO_LONG, REPAIR_DUE, Report,
-    SOURCE_FAULT, TOO_FEW_PROVIDERS, TOO_LONG, TOO_MANY_FILES,
-};
+use crate::report::Report;
 use command_jobs::{Unbegun, Unopened};
+use exit_statuses::{
+    BAD_JOURNAL, BAD_NAME, BAD_SETUP, DISK_FAULT, JOURNAL_FULL, NEW_VERSION, NO_MEMORY,
+    NO_SUCH_NAME, NOT_SET_UP, NOTHING_DUE, OLD_VERSION, PACK_TOO_LONG, REPAIR_DUE, SOURCE_FAULT,
+    TOO_FEW_PROVIDERS, TOO_LONG, TOO_MANY_FILES,
+};
 use vault::BeginFault;
 
 /// Tells that a source was not read.

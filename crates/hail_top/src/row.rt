@@ -7,11 +7,11 @@ ghost use Rattle.command_defs.specs.Row.{AnswersRow, OpensRow};
 ghost use Rattle.command_defs.specs.Line.{values_line};
 ghost use Rattle.command_defs.specs.Sinking.{WritesLine};
 
-use crate::report::{BAD_SETUP, NO_MEMORY};
 use command_lines::{tell_no_row, values_line, write_text};
 use command_words::Row;
 use dispersal_code::laws::accepted_polynomial_is_unique;
 use dispersal_code::open_row;
+use exit_statuses::{BAD_SETUP, NO_MEMORY};
 use hail_field::{Memory, Shape, Symbol};
 use hail_poly::Work;
 use std::alloc::{AllocError, Global};

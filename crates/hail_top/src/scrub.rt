@@ -20,10 +20,11 @@ ghost use Rattle.hail_top.specs.Jobs.{ScrubsOver};
 ghost use Rattle.hail_top.specs.Telling.{TellsScrub};
 
 use crate::refusals::unopened;
-use crate::report::{LOST_ROW, NO_MEMORY, PROVIDER_FAULT, Report};
+use crate::report::Report;
 use command_jobs::{open_vault, run_scrub};
 use command_lines::{scrub_lines, write_text};
 use disk_model::Disk;
+use exit_statuses::{LOST_ROW, NO_MEMORY, PROVIDER_FAULT};
 use hail_field::Memory;
 use hail_scrub::ScrubAnswer;
 use provider_model::Provider;

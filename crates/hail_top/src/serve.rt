@@ -8,7 +8,8 @@ ghost use Rattle.provider_server.specs.Statuses as statuses;
 ghost use Rattle.provider_server.specs.Words.{IsServeForm};
 ghost use Rattle.hail_top.specs.Endings.{seen_beside, ending_of};
 
-use crate::report::{Report, USAGE};
+use crate::report::Report;
+use exit_statuses::USAGE;
 use provider_model::Provider;
 use provider_server::{Served, read_serve, serve_at};
 use std::alloc::Global;

@@ -14,13 +14,13 @@ ghost use Rattle.hail_top.specs.SetUps.{IsSetupFor, init_ending};
 
 use crate::reading::read_up_to;
 use crate::refusals::unread;
-use crate::report::{
-    ALREADY_SET_UP, BAD_JOURNAL, BAD_KEY, BAD_SETUP, DISK_FAULT, NO_MEMORY, Report,
-    TOO_FEW_PROVIDERS,
-};
+use crate::report::Report;
 use command_lines::{ready_line, write_text};
 use command_words::{Numbers, read_key, read_setup};
 use disk_model::Disk;
+use exit_statuses::{
+    ALREADY_SET_UP, BAD_JOURNAL, BAD_KEY, BAD_SETUP, DISK_FAULT, NO_MEMORY, TOO_FEW_PROVIDERS,
+};
 use hail_client::laws::setups_are_spelled;
 use key_schedule::Master;
 use record_codec::Setup;
@@ -90,7 +90,8 @@ fn set_up_with<D: Disk, K: Sink>(
         (K.faults sink.new)) (ending_of result) }
     ensures goes_on { (numbers : SevenNumbers) (providers : List Provider) (left left' : Option (List ℕ))
         (read_faults read_faults' : ℕ)
-        → IsSetupFor setup.now numbers (length providers) → InitsDevices numbers
+        → IsSetupFor setup.now numbers (length providers) → ReadsUpTo longest_key left left' text.now
+        → InitsDevices numbers
         (seen (D.holds disk.old) (D.faults disk.old) providers left read_faults (K.written sink.old)
         (K.faults sink.old))
         (seen (D.holds disk.new) (D.faults disk.new) providers left' read_faults' (K.written sink.new)

@@ -5,11 +5,12 @@ ghost use Rattle.command_jobs.specs.Kinds.{kind_of};
 ghost use Rattle.hail_replay.specs.Heard.{entries_heard};
 ghost use Rattle.hail_top.specs.Telling.{TellsOf, IsTextOf, IsFaultEnd, TellsAnswer, no_memory};
 
-use crate::report::{DISK_FAULT, LOST_ROW, NO_MEMORY, PROVIDER_FAULT, Report};
+use crate::report::Report;
 use command_jobs::Job;
 use command_lines::{
     audit_lines, dropped_line, repaired_line, stored_line, upgraded_line, write_text,
 };
+use exit_statuses::{DISK_FAULT, LOST_ROW, NO_MEMORY, PROVIDER_FAULT};
 use hail_replay::HeardLists;
 use std::alloc::Global;
 use stream_model::{Bytes, Memory, Sink};

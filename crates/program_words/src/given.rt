@@ -1,15 +1,18 @@
 // The words of the command line.
 ghost use Rattle.std.specs.Prelude.{◌≡◌, ◌↔◌, ◌⊎◌, codes, IfErr, IsTrue};
 
-use hail_top::{NO_MEMORY, USAGE};
+use exit_statuses::{NO_MEMORY, USAGE};
 use std::env::{self, Env};
+use std::io::ErrorKind;
 
 /// The words after the program's name. Words that are no text are a faulty command line.
 pub fn words(rt: &(impl Env + AllocGlobal)) -> Result<Vec<String>, u8>
     ensures { IfErr result (λ status. (status ≡ 2) ⊎ (status ≡ 70)) }
 {
-    let Ok(all) = env::args(rt) else {
-        return Err(USAGE);
+    let all = match env::args(rt) {
+        Ok(all) => all,
+        Err(error) if error.kind() == ErrorKind::OutOfMemory => return Err(NO_MEMORY),
+        Err(_) => return Err(USAGE),
     };
     match all.skip(1).collect(rt.alloc()) {
         Ok(words) => Ok(words),
@@ -24,19 +27,18 @@ fn is_reader(command: &str) -> bool
     command == "get" || command == "list"
 }
 
-/// Whether the command of this name may store blocks behind which it appends no record to the journal.
-fn stores_alone(command: &str) -> bool
-    ensures { IsTrue result ↔ ((command.now ≡ codes "serve") ⊎ ((command.now ≡ codes "scrub")
-        ⊎ (command.now ≡ codes "replay"))) }
+/// Whether the command of this name stores blocks at the providers of a journal.
+fn is_storer(command: &str) -> bool
+    ensures { IsTrue result ↔ ((command.now ≡ codes "put") ⊎ ((command.now ≡ codes "repair")
+        ⊎ (command.now ≡ codes "scrub"))) }
 {
-    command == "serve" || command == "scrub" || command == "replay"
+    command == "put" || command == "repair" || command == "scrub"
 }
 
-/// Whether the words are a command each of whose stores is to be synced at once: there may come no record of
-/// the journal, before which all stores are synced.
-pub fn syncs_stores(words: &[String]) -> bool {
+/// Whether the words are a command that stores blocks at the providers of a journal.
+pub fn stores_blocks(words: &[String]) -> bool {
     match words {
-        [command, ..] => stores_alone(command.as_str()),
+        [command, ..] => is_storer(command.as_str()),
         [] => false,
     }
 }

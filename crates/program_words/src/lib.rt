@@ -4,5 +4,5 @@
 mod given;
 mod text;
 
-pub use given::{only_reads, syncs_stores, words};
+pub use given::{only_reads, stores_blocks, words};
 pub use text::{has_place, text_of};

@@ -2,7 +2,7 @@
 ghost use Rattle.std.specs.Prelude.{◌≡◌, IsTrue};
 ghost use Rattle.program_words.specs.Text.{status_text, speaks_of_place};
 
-use hail_top::{
+use exit_statuses::{
     ALREADY_SET_UP, BAD_FRAME, BAD_JOURNAL, BAD_KEY, BAD_NAME, BAD_SCHEDULE, BAD_SETUP, DISK_FAULT,
     JOURNAL_FULL, LOST_ROW, NEW_VERSION, NO_SUCH_NAME, NOT_SET_UP, NOTHING_DUE, OLD_VERSION,
     PACK_TOO_LONG, PROVIDER_FAULT, REPAIR_DUE, SINK_FAULT, SOURCE_FAULT, TOO_FEW_PROVIDERS,

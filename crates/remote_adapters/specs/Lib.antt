@@ -1,2 +1,6 @@
-pub mod HomeProviders
-pub mod PipeCounts
+pub mod BlocksAhead
+pub mod HomeCounts
+pub mod Passes
+pub mod Shapes
+pub mod Waits
+pub mod Yes

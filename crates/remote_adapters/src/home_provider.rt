@@ -1,74 +1,60 @@
-ghost use Rattle.std.specs.Prelude.{None};
-ghost use Rattle.remote_adapters.specs.HomeProviders.{store_faults_of, other_faults_of, fetches_of, calls_of};
-
-use crate::pipe_link::PipeLink;
+use crate::remotes::RemoteLink;
 use challenge::Challenge;
 use hail_adapters::FolderProvider;
 use hail_field::Symbol;
+use provider_choice::Choice;
 use provider_model::{Provider, StoreFault, Tamper};
 use provider_wire::LinkProvider;
 use stream_model::Failed;
 
-/// A provider of a home: a folder, or one on another machine. It tells nothing of what it holds.
+/// A provider whose blocks nobody here can reach but by its calls. Each goes to `inner`, which tells what it
+/// tells.
 #[derive(Drop)]
-pub enum HomeProvider {
-    Folder(FolderProvider<HostRuntime>),
-    Remote(LinkProvider<PipeLink>),
+pub struct Remote<P: Drop> {
+    /// The provider to which each call goes.
+    pub inner: P,
 }
 
-impl Provider for HomeProvider {
-    ghost held = { λ _. None };
+impl<P: Provider + Drop> Provider for Remote<P> {
+    ghost held = { λ remote. P.held remote.inner };
 
-    ghost store_faults = { λ p. store_faults_of p };
+    ghost store_faults = { λ remote. P.store_faults remote.inner };
 
-    ghost other_faults = { λ p. other_faults_of p };
+    ghost other_faults = { λ remote. P.other_faults remote.inner };
 
-    ghost fetches = { λ p. fetches_of p };
+    ghost fetches = { λ remote. P.fetches remote.inner };
 
-    ghost calls = { λ p. calls_of p };
+    ghost calls = { λ remote. P.calls remote.inner };
 
     fn store(&mut self, object: u64, stripe: u32, block: &[Symbol]) -> Result<(), StoreFault> {
-        match self {
-            HomeProvider::Folder(folder) => folder.store(object, stripe, block),
-            HomeProvider::Remote(remote) => remote.store(object, stripe, block),
-        }
+        self.inner.store(object, stripe, block)
     }
 
     fn fetch(&mut self, object: u64, stripe: u32, out: &mut [Symbol]) -> Result<bool, Failed> {
-        match self {
-            HomeProvider::Folder(folder) => folder.fetch(object, stripe, out),
-            HomeProvider::Remote(remote) => remote.fetch(object, stripe, out),
-        }
+        self.inner.fetch(object, stripe, out)
     }
 
     fn ask(&mut self, object: u64, challenge: &Challenge) -> Result<Option<Symbol>, Failed> {
-        match self {
-            HomeProvider::Folder(folder) => folder.ask(object, challenge),
-            HomeProvider::Remote(remote) => remote.ask(object, challenge),
-        }
+        self.inner.ask(object, challenge)
     }
 
     fn remove(&mut self, object: u64) -> Result<(), Failed> {
-        match self {
-            HomeProvider::Folder(folder) => folder.remove(object),
-            HomeProvider::Remote(remote) => remote.remove(object),
-        }
+        self.inner.remove(object)
     }
 }
 
-/// Nothing is altered or lost at a remote provider, whose blocks nobody here can reach.
-impl Tamper for HomeProvider {
+/// Nothing is altered or lost at a far end.
+impl Tamper for Remote<LinkProvider<RemoteLink>> {
     fn alter(&mut self, object: u64, stripe: u32, place: u32, symbol: Symbol) -> bool {
-        match self {
-            HomeProvider::Folder(folder) => folder.alter(object, stripe, place, symbol),
-            HomeProvider::Remote(_) => false,
-        }
+        let _ = (object, stripe, place, symbol);
+        false
     }
 
     fn lose(&mut self, object: u64, stripe: u32) -> bool {
-        match self {
-            HomeProvider::Folder(folder) => folder.lose(object, stripe),
-            HomeProvider::Remote(_) => false,
-        }
+        let _ = (object, stripe);
+        false
     }
 }
+
+/// A provider of a home: a folder, or one on another machine.
+pub type HomeProvider = Choice<FolderProvider<HostRuntime>, Remote<LinkProvider<RemoteLink>>>;

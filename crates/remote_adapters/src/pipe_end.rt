@@ -1,7 +1,7 @@
 ghost use Rattle.std.specs.Prelude.{◌≡◌, ◌≤◌, ◌∷◌, ◌++◌, length, string_bytes, IfOk, OnOk, IsTrue};
 ghost use Rattle.std.specs.Option.{is_some};
 
-use hail_adapters::transfer::read_some;
+use file_parts::transfer::read_some;
 use std::alloc::Global;
 use std::fs::{self, Files, OpenOptions};
 use std::io::{self, ErrorKind, Write};
@@ -9,6 +9,9 @@ use stream_model::Memory;
 
 /// What the link to an open descriptor begins with.
 const DESCRIPTORS: &str = "/dev/fd/";
+
+/// The descriptors of the standard streams come before this one.
+const FIRST_FREE: u32 = 3;
 
 /// What the system calls a pipe without a name.
 const PIPE: &str = "pipe:[";
@@ -21,15 +24,26 @@ pub struct PipeEnd<R: Files + Clone + Drop> {
     file: Option<R::File>,
 }
 
+/// Whether a path is that of a descriptor behind those of the standard streams.
+fn is_free(path: &str) -> bool {
+    match path.strip_prefix(DESCRIPTORS) {
+        Some(number) => match number.parse::<u32>() {
+            Ok(number) => number >= FIRST_FREE,
+            Err(_) => false,
+        },
+        None => false,
+    }
+}
+
 /// Whether a folder, which is no link, has at a path in it a link to a descriptor that is open on a pipe
-/// without a name. Nothing else is opened: a named pipe would be waited for, and requests would be written
-/// into a file.
+/// without a name, and is none of the standard streams. Nothing else is opened: a named pipe would be waited
+/// for, and requests would be written into a file, or among what a command writes.
 fn is_pipe<R: Files>(rt: &R, alloc: Global, folder: &str, path: &str) -> io::Result<bool> {
     if !fs::symlink_metadata(rt, folder)?.is_dir() {
         return Ok(false);
     }
     let descriptor = rt.read_link(alloc, path)?;
-    if !descriptor.as_str().starts_with(DESCRIPTORS) {
+    if !is_free(descriptor.as_str()) {
         return Ok(false);
     }
     let end = rt.read_link(alloc, descriptor.as_str())?;

@@ -20,6 +20,8 @@ returns-in-Err-clause-answers g c numbers providers for =
 pub returns-in-Ok-clause-goes_on : goal.returns-in-Ok-clause-goes_on
 returns-in-Ok-clause-goes_on g c numbers providers for =
     c.set_up_with.ensures.goes_on numbers providers _ _ _ _ for
+    (subst (λ (text : List ℕ). ReadsUpTo longest_key (g.S.Source.left c.args.source.now)
+    (g.S.Source.left c.read_up_to.new.source) text) (sym c.as_slice.ensures) c.in-Ok.ensures.bytes)
 
 pub returns-in-Err-clause-goes_on : goal.returns-in-Err-clause-goes_on
 returns-in-Err-clause-goes_on g c numbers providers for = runs.untouched refl refl refl

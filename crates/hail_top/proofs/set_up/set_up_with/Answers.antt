@@ -14,10 +14,10 @@ returns-in-None-clause-answers g c numbers providers left left' count count' for
     bad_key-told c.args.setup.now numbers _ _ _ _ for reads c.in-None.ensures c.of.ensures refl refl refl
 
 pub returns-in-Some-clause-goes_on : goal.returns-in-Some-clause-goes_on
-returns-in-Some-clause-goes_on g c numbers providers left left' count count' for =
-    keyed-on c.args.setup.now numbers _ _ _ _ (length providers) for
+returns-in-Some-clause-goes_on g c numbers providers left left' count count' for reads =
+    keyed-on c.args.setup.now numbers _ _ _ _ _ (length providers) for reads c.in-Some.ensures
     (c.set_up_disk.ensures.goes_on providers)
 
 pub returns-in-None-clause-goes_on : goal.returns-in-None-clause-goes_on
-returns-in-None-clause-goes_on g c numbers providers left left' count count' for =
+returns-in-None-clause-goes_on g c numbers providers left left' count count' for reads =
     runs.untouched refl refl refl

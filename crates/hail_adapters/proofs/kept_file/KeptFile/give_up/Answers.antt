@@ -1,5 +1,0 @@
-use Rattle.std.proofs.Common.{refl}
-use Rattle.hail_adapters.proofs.kept_file.KeptFile.give_up.Goals as goal
-
-pub returns : goal.returns
-returns g c = refl

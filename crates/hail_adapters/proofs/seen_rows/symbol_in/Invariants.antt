@@ -1,6 +1,0 @@
-use Rattle.std.proofs.Common.{◌≡◌, drop}
-use Rattle.hail_adapters.specs.SeenRows.{seen_symbol}
-use Rattle.hail_adapters.proofs.seen_rows.symbol_in.Given as goal
-
-abbrev pub invariant-loop-seen : goal.invariant-loop-seen
-invariant-loop-seen l = seen_symbol (drop l.seen-index l.rows) l.row ≡ seen_symbol l.rows l.row
