@@ -34,7 +34,7 @@ use Rattle.command_defs.specs.Seen.{Seen, Ending}
 use Rattle.command_defs.specs.Opens.{setup_in_effect}
 use Rattle.command_defs.specs.Ran.{Ran, ran_alone, CountsRise, NoFetches}
 use Rattle.command_defs.specs.JobRuns.{RunsPart}
-use Rattle.command_defs.specs.Jobs.{past}
+use Rattle.command_defs.specs.Jobs.{outside}
 use Rattle.command_defs.specs.Puts.{StoresAll}
 
 -- how many bytes a stripe of a put has
@@ -75,8 +75,8 @@ steps_of_part records own bytes =
     * (setup_in_effect records).n
 
 -- a put that ran alone up to its last append: it is a run of the machine from any state just opened over
--- these records and devices, after any number of events, and the devices are those of its last state; past
--- the text of its records the disk reads as before
+-- these records and devices, after any number of events, and the devices are those of its last state;
+-- outside the text of its records the disk reads as before
 pub record PartRan (area : Area) (records : List Record) (name bytes : List ℕ) (own : Option ℕ)
     (old new : Seen) (faults : ℕ) (w : State) (moment : ℕ) : Type 0 where
   pub last : State
@@ -84,7 +84,8 @@ pub record PartRan (area : Area) (records : List Record) (name bytes : List ℕ)
   pub images : StandsForState new.disk last
   pub faults_are : last.disk_faults ≡ new.disk_faults
   pub handed : AreHanded new.providers last
-  pub past_text : option_map (past area last.journal) new.disk ≡ option_map (past area last.journal) old.disk
+  pub outside_text : option_map (outside area last.journal) new.disk
+      ≡ option_map (outside area last.journal) old.disk
 
 -- so it is from every such state and moment, with what the disk's count of faults was once it was opened
 pub record PartRuns (area : Area) (records : List Record) (name bytes : List ℕ) (own : Option ℕ)
@@ -110,5 +111,5 @@ pub record PartLeft (area : Area) (records : List Record) (name bytes : List ℕ
   pub others : (j : ℕ) → (setup_in_effect records).n ≤ j
       → (ran_part records name old new faults).new j ≡ (ran_part records name old new faults).old j
   pub images : EachImage new.disk (λ image. StandsActive image area (after_begin records name))
-  pub past_text : option_map (past area (after_begin records name)) new.disk
-      ≡ option_map (past area (after_begin records name)) old.disk
+  pub outside_text : option_map (outside area (after_begin records name)) new.disk
+      ≡ option_map (outside area (after_begin records name)) old.disk

@@ -1,8 +1,10 @@
 -- What a command leaves and says that runs one job.
 --
 --   Leaves x kind own answer                  == what a job of this kind leaves that ended with this answer
---   SamePast area kind own answer before after old new
---                                             == past the text of the records in effect, with the one that
+--   outside area records cells                == what a disk reads outside the text of records in an area:
+--                                                in front of the area, and behind the text
+--   SameOutside area kind own answer before after old new
+--                                             == outside the text of the records in effect, with the one that
 --                                                was being appended where the job was cut short, the disk
 --                                                reads as before
 --   RunsAlone area records kind own answer old new heard
@@ -17,13 +19,13 @@
 --                                             == the job is refused, or ends, over these records
 --
 -- own is the profile that a put names; None where it has the setup's, and of every other job.
-use Rattle.std.specs.Prelude.{◌≡◌, ◌⊎◌, ℕ, ◌≤◌, List, [], ◌∷◌, ◌++◌, length, reverse, drop, Option, None, Some, IfSome, IsSomeAnd}
+use Rattle.std.specs.Prelude.{◌≡◌, ◌⊎◌, ℕ, ◌≤◌, List, [], ◌∷◌, ◌++◌, length, reverse, take, drop, Option, None, Some, IfSome, IsSomeAnd}
 use Rattle.std.specs.Option.{option_map}
 use Rattle.device_defs.specs.Cells.{Cells, reads}
 use Rattle.device_defs.specs.Images.{EachImage}
 use Rattle.record_defs.specs.Records.{Record, Drop, RepairDone, Version}
 use Rattle.record_defs.specs.Table.{due_of}
-use Rattle.record_defs.specs.Areas.{Area, end_in, StandsActive}
+use Rattle.record_defs.specs.Areas.{Area, base_of, end_in, StandsActive}
 use Rattle.machine_defs.specs.Jobs.{Kind, PutJob, GetJob, DropJob, AuditJob, RepairJob, UpgradeJob}
 use Rattle.machine_defs.specs.Begins.{due_number}
 use Rattle.machine_defs.specs.Answers.{Answer, Lost, ProviderFault, DiskFault, Memory}
@@ -63,9 +65,11 @@ pub record Leaves (x : Ran) (kind : Kind) (own : Option ℕ) (answer : Answer) :
   pub counts : CountsRise x
   pub others : (j : ℕ) → (setup_at_begin x).n ≤ j → x.new j ≡ x.old j
 
--- the bytes that a disk reads past the text of records in an area
-abbrev pub past : Area → List Record → Cells → List ℕ
-past area records cells = drop (end_in area records) (reads cells)
+-- the bytes that a disk reads outside the text of records in an area: those in front of the area, the switch
+-- byte among them, and those behind the text
+abbrev pub outside : Area → List Record → Cells → List ℕ × List ℕ
+outside area records cells =
+    (take (base_of area) (reads cells), drop (end_in area records) (reads cells))
 
 -- of these records, given the oldest first, the first ones are in effect behind those before, and this one
 -- comes next
@@ -93,27 +97,27 @@ abbrev pub with_next : Option Record → List Record → List Record
 with_next None after = after
 with_next (Some next) after = next ∷ after
 
--- the disk reads as before past the text of the records in effect, with the job's next one where that was
+-- the disk reads as before outside the text of the records in effect, with the job's next one where that was
 -- being appended
-pub record SameBehind (area : Area) (kind : Kind) (own : Option ℕ) (before after : List Record)
+pub record SameAround (area : Area) (kind : Kind) (own : Option ℕ) (before after : List Record)
     (old new : Option Cells) : Type 0 where
   pub next : Option Record
   pub is_next : IfSome next (IsNext kind own before after)
-  pub same : option_map (past area (with_next next after)) new
-      ≡ option_map (past area (with_next next after)) old
+  pub same : option_map (outside area (with_next next after)) new
+      ≡ option_map (outside area (with_next next after)) old
 
--- the disk reads as before past the text of the records in effect; where the job ended in a fault of the
--- disk or for want of memory, past that text with the record that was being appended
-abbrev pub SamePast : Area → Kind → Option ℕ → Answer → List Record → List Record → Option Cells
+-- the disk reads as before outside the text of the records in effect; where the job ended in a fault of the
+-- disk or for want of memory, outside that text with the record that was being appended
+abbrev pub SameOutside : Area → Kind → Option ℕ → Answer → List Record → List Record → Option Cells
     → Option Cells → Type 0
-SamePast area kind own DiskFault before after old new = SameBehind area kind own before after old new
-SamePast area kind own Memory before after old new = SameBehind area kind own before after old new
-SamePast area kind own answer before after old new =
-    option_map (past area after) new ≡ option_map (past area after) old
+SameOutside area kind own DiskFault before after old new = SameAround area kind own before after old new
+SameOutside area kind own Memory before after old new = SameAround area kind own before after old new
+SameOutside area kind own answer before after old new =
+    option_map (outside area after) new ≡ option_map (outside area after) old
 
 -- a job that ran alone, whatever the history and bytes of the recorded lengths the files have: it is a run of
 -- the machine from any state just opened over these records and devices, after any number of events, and the
--- devices are those of its last state; past the text of its records, with the one that was being appended
+-- devices are those of its last state; outside the text of its records, with the one that was being appended
 -- where it was cut short, the disk reads as before
 pub record RanAlone (area : Area) (records : List Record) (kind : Kind) (own : Option ℕ) (answer : Answer)
     (old new : Seen) (heard : List Entry) (faults : ℕ) (w : State) (moment : ℕ) : Type 0 where
@@ -122,7 +126,7 @@ pub record RanAlone (area : Area) (records : List Record) (kind : Kind) (own : O
   pub images : StandsForState new.disk last
   pub faults_are : last.disk_faults ≡ new.disk_faults
   pub handed : AreHanded new.providers last
-  pub past_text : SamePast area kind own answer records last.journal old.disk new.disk
+  pub outside_text : SameOutside area kind own answer records last.journal old.disk new.disk
 
 -- so it is from every such state and moment, with what the disk's count of faults was once it was opened
 pub record RunsAlone (area : Area) (records : List Record) (kind : Kind) (own : Option ℕ) (answer : Answer)
@@ -143,7 +147,7 @@ pub record LeftAlone (area : Area) (records : List Record) (kind : Kind) (own : 
   pub leaves : Leaves (ran_alone records old new heard faults after doubt) kind own answer
   pub images : EachImage new.disk (λ image. StandsActive image area after ⊎ IsSomeAnd doubt
       (λ entry. StandsActive image area (entry ∷ after)))
-  pub past_text : SamePast area kind own answer records after old.disk new.disk
+  pub outside_text : SameOutside area kind own answer records after old.disk new.disk
 
 -- nothing was written
 pub record IsSilent (status at : ℕ) (old new : Seen) (end : Ending) : Type 0 where

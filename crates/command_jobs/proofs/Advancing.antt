@@ -2,16 +2,18 @@
 use Rattle.std.proofs.Common.{◌≡◌, ℕ, ◌+◌, ◌*◌, ◌≤◌, length, Option, Some, None, sym, subst, ◌∙◌, inl, inr, arith}
 use Rattle.std.proofs.lemmas.Bool.{cases_lt}
 use Rattle.std.specs.Prelude.{IfSome}
+use Rattle.device_defs.specs.Told.{Goes}
 use Rattle.machine_defs.specs.Jobs.{Kind}
 use Rattle.machine_defs.specs.Runs.{now}
 use Rattle.machine_defs.specs.States.{State, setup_in}
+use Rattle.record_defs.specs.Areas.{base_of}
 use Rattle.vault.specs.declared.turn.Ended.{Ended}
 use Rattle.vault.specs.declared.turn.Turn.TheVariants as turn
 use Rattle.vault.specs.declared.vault.Vault.{Vault}
 use Rattle.vault.specs.Stands.{MakesStep}
 use Rattle.vault.specs.Streams.{wants_of, told_of, KeepsTold}
 use Rattle.vault_open.specs.Devices.{Devices}
-use Rattle.command_jobs.specs.Going.{OnWay, IsBehind, IsEarly, EndsEarly}
+use Rattle.command_jobs.specs.Going.{SameUpTo, OnWay, IsBehind, IsEarly, EndsEarly}
 use Rattle.command_jobs.proofs.Goings.{one-more, one-further, at-end, end-steps}
 use Rattle.command_jobs.proofs.Told.{told-kept, goes-on}
 
@@ -49,9 +51,10 @@ module _ (start : State) (kind : Kind) (own : Option ℕ) (w : State) (moment nu
   its-early b = early told told-one (here.behind b)
 
   -- a step that goes on
-  module _ (M : MakesStep (now w here.way.steps) (moment + length here.way.steps) number turn.More next e f) where
+  module _ (front : Goes (SameUpTo (base_of (now w here.way.steps).area)) e.holds f.holds)
+      (M : MakesStep (now w here.way.steps) (moment + length here.way.steps) number turn.More next e f) where
     abbrev way : OnWay start kind own w moment next d f
-    way = one-more start kind own w moment number first v next d e f here.way M
+    way = one-more start kind own w moment number first v next d e f here.way front M
 
     pub still-behind : StillBehind start kind own w moment told before next d f
     still-behind = record {
@@ -63,7 +66,7 @@ module _ (start : State) (kind : Kind) (own : Option ℕ) (w : State) (moment nu
             IfSome told (λ stripes. here.way.only.job.place + 1 ≤ 4 + stripes * (setup_in start).n) →
             IsBehind start told way.only.job.place
         by None h = tt
-        by (Some stripes) h = (let p = one-further start kind own w moment number first v next d e f here.way M in
+        by (Some stripes) h = (let p = one-further start kind own w moment number first v next d e f here.way front M in
             omega (arith, p, h))
 
     pub still-told : KeepsTold v next number → told_of next number ≡ told
@@ -72,13 +75,13 @@ module _ (start : State) (kind : Kind) (own : Option ℕ) (w : State) (moment nu
         (subst (λ n. KeepsTold v next n) first keeps) ∙ told-one)
 
   -- a step that ends it
-  module _ (ended : Ended)
+  module _ (ended : Ended) (front : Goes (SameUpTo (base_of (now w here.way.steps).area)) e.holds f.holds)
       (M : MakesStep (now w here.way.steps) (moment + length here.way.steps) number (turn.Done ended) next e f) where
     pub ends-early : IsBehind start told before → EndsEarly start kind own w moment told ended next d f
     ends-early b = record {
-      to_end = at-end start kind own w moment number first v next d e f here.way ended M;
+      to_end = at-end start kind own w moment number first v next d e f here.way ended front M;
       early = subst (λ steps. IsEarly start w (length steps) told)
-          (sym (end-steps start kind own w moment number first v next d e f here.way ended M))
+          (sym (end-steps start kind own w moment number first v next d e f here.way ended front M))
           (by told (its-early b));
     }
       where

@@ -1,5 +1,5 @@
 -- From the begin and the steps of a job to what its command tells of it.
-use Rattle.std.proofs.Common.{◌≡◌, ℕ, ◌+◌, ◌*◌, ◌<◌, ◌≤◌, List, [], length, replicate, drop, Option, Some, None, Ok, Err, refl, ap, sym, subst, ◌∙◌, inl, inr, arith}
+use Rattle.std.proofs.Common.{◌≡◌, ℕ, ◌+◌, ◌*◌, ◌<◌, ◌≤◌, List, [], length, replicate, take, drop, Option, Some, None, Ok, Err, refl, ap, sym, subst, ◌∙◌, inl, inr, arith}
 use Rattle.std.specs.Prelude.{IfSome}
 use Rattle.std.specs.Option.{option_map}
 use Rattle.std.proofs.Math.Nat.{mul-le-mul_right}
@@ -7,7 +7,7 @@ use Rattle.std.proofs.lemmas.List.{length-replicate}
 use Rattle.device_defs.specs.Cells.{Cells, reads}
 use Rattle.device_defs.specs.Providers.{Provider}
 use Rattle.record_defs.specs.Records.{Setup, Record}
-use Rattle.record_defs.specs.Areas.{Area, end_in}
+use Rattle.record_defs.specs.Areas.{Area, base_of, end_in}
 use Rattle.machine_defs.specs.Jobs.{Kind, PutJob, Job, job_of}
 use Rattle.machine_defs.specs.Setups.{profiled, stripes_of}
 use Rattle.machine_defs.specs.Answers as answer
@@ -27,7 +27,7 @@ use Rattle.command_defs.specs.Opens.{setup_in_effect}
 use Rattle.command_defs.specs.Refusals as commands
 use Rattle.opening_defs.specs.Opened.{AreHanded, IsOpenAtRest, IsJustOpened}
 use Rattle.command_defs.specs.JobRuns.{AreSteps}
-use Rattle.command_defs.specs.Jobs.{past, with_next, SameBehind, SamePast, LeavesBy, RanAlone, RunsAlone, LeftAlone}
+use Rattle.command_defs.specs.Jobs.{outside, with_next, SameAround, SameOutside, LeavesBy, RanAlone, RunsAlone, LeftAlone}
 use Rattle.command_defs.specs.Puts.{MayHaveEnd}
 use Rattle.command_defs.specs.Ran.{ran_alone}
 use Rattle.lone_laws.specs.Walked.{MayName, WalkedAt}
@@ -57,45 +57,48 @@ LeavesAll = (records : List Record) (kind : Kind) (own : Option ℕ) (answer : A
     length new.providers ≡ length old.providers → RunsAlone opened.area records kind own answer old new heard →
     LeftAlone opened.area records kind own answer old new heard
 
--- ---- what the disk reads past the text, from the time before the opening on
+-- ---- what the disk reads outside the text, from the time before the opening on
 
-pub past-of : (area : Area) (rs : List Record) (a b : Option Cells) →
-    option_map reads b ≡ option_map reads a → option_map (past area rs) b ≡ option_map (past area rs) a
-past-of area rs a b e = sym (through b) ∙ (ap (option_map (drop (end_in area rs))) e ∙ through a)
+pub outside-of : (area : Area) (rs : List Record) (a b : Option Cells) →
+    option_map reads b ≡ option_map reads a → option_map (outside area rs) b ≡ option_map (outside area rs) a
+outside-of area rs a b e = sym (through b) ∙ (ap (option_map parts) e ∙ through a)
   where
-    through : (told : Option Cells) → option_map (drop (end_in area rs)) (option_map reads told)
-        ≡ option_map (past area rs) told
+    parts : List ℕ → List ℕ × List ℕ
+    parts bytes = (take (base_of area) bytes, drop (end_in area rs) bytes)
+
+    through : (told : Option Cells) → option_map parts (option_map reads told)
+        ≡ option_map (outside area rs) told
     through None = refl
     through (Some cells) = refl
 
-behind-before : (area : Area) (kind : Kind) (own : Option ℕ) (before after : List Record)
+around-before : (area : Area) (kind : Kind) (own : Option ℕ) (before after : List Record)
     (a b c : Option Cells) → option_map reads b ≡ option_map reads a →
-    SameBehind area kind own before after b c → SameBehind area kind own before after a c
-behind-before area kind own before after a b c e h = record {
+    SameAround area kind own before after b c → SameAround area kind own before after a c
+around-before area kind own before after a b c e h = record {
   next = h.next;
   is_next = h.is_next;
-  same = h.same ∙ past-of area (with_next h.next after) a b e;
+  same = h.same ∙ outside-of area (with_next h.next after) a b e;
 }
 
-past-before : (area : Area) (kind : Kind) (own : Option ℕ) (how : Answer) (before after : List Record)
+outside-before : (area : Area) (kind : Kind) (own : Option ℕ) (how : Answer) (before after : List Record)
     (a b c : Option Cells) → option_map reads b ≡ option_map reads a →
-    SamePast area kind own how before after b c → SamePast area kind own how before after a c
-past-before area kind own answer.Put before after a b c e h = h ∙ past-of area after a b e
-past-before area kind own (answer.Got bytes) before after a b c e h = h ∙ past-of area after a b e
-past-before area kind own answer.Dropped before after a b c e h = h ∙ past-of area after a b e
-past-before area kind own (answer.Audited number undecided counts) before after a b c e h = h ∙ past-of area after a b e
-past-before area kind own (answer.Repaired number) before after a b c e h = h ∙ past-of area after a b e
-past-before area kind own (answer.Lost stripe row) before after a b c e h = h ∙ past-of area after a b e
-past-before area kind own (answer.ProviderFault j) before after a b c e h = h ∙ past-of area after a b e
-past-before area kind own answer.DiskFault before after a b c e h =
-    behind-before area kind own before after a b c e h
-past-before area kind own answer.Memory before after a b c e h =
-    behind-before area kind own before after a b c e h
-past-before area kind own answer.Upgraded before after a b c e h = h ∙ past-of area after a b e
-past-before area kind own (answer.Scrubbed stripes symbols blocks) before after a b c e h =
-    h ∙ past-of area after a b e
-past-before area kind own (answer.Packed length_before length_after) before after a b c e h =
-    h ∙ past-of area after a b e
+    SameOutside area kind own how before after b c → SameOutside area kind own how before after a c
+outside-before area kind own answer.Put before after a b c e h = h ∙ outside-of area after a b e
+outside-before area kind own (answer.Got bytes) before after a b c e h = h ∙ outside-of area after a b e
+outside-before area kind own answer.Dropped before after a b c e h = h ∙ outside-of area after a b e
+outside-before area kind own (answer.Audited number undecided counts) before after a b c e h = h ∙ outside-of area after a b e
+outside-before area kind own (answer.Repaired number) before after a b c e h = h ∙ outside-of area after a b e
+outside-before area kind own (answer.Lost stripe row) before after a b c e h = h ∙ outside-of area after a b e
+outside-before area kind own (answer.ProviderFault j) before after a b c e h = h ∙ outside-of area after a b e
+outside-before area kind own answer.DiskFault before after a b c e h =
+    around-before area kind own before after a b c e h
+outside-before area kind own answer.Memory before after a b c e h =
+    around-before area kind own before after a b c e h
+outside-before area kind own answer.Upgraded before after a b c e h = h ∙ outside-of area after a b e
+outside-before area kind own (answer.Scrubbed stripes symbols blocks) before after a b c e h =
+    h ∙ outside-of area after a b e
+outside-before area kind own (answer.Packed length_before length_after) before after a b c e h =
+    h ∙ outside-of area after a b e
 
 -- ---- the begin
 
@@ -267,14 +270,14 @@ module _ (there : ThereIsOne) (v : Vault) (records : List Record) (holds : Optio
           faults_are = G.stands.desk.devices.faults ∙ sym A.faults;
           handed = subst (λ (ps : List Provider). AreHanded ps G.last)
               (sym A.providers) G.stands.desk.devices.providers;
-          past_text = subst (λ told. SamePast R.area kind own (machine_answer ended.answer) records G.last.journal
+          outside_text = subst (λ told. SameOutside R.area kind own (machine_answer ended.answer) records G.last.journal
               old.disk told) (sym A.disk)
-              (past-before R.area kind own (machine_answer ended.answer) records G.last.journal old.disk holds
+              (outside-before R.area kind own (machine_answer ended.answer) records G.last.journal old.disk holds
               new_holds B.reads
-              (subst (λ rs. SamePast R.area kind own (machine_answer ended.answer) rs G.last.journal holds
+              (subst (λ rs. SameOutside R.area kind own (machine_answer ended.answer) rs G.last.journal holds
               new_holds) over.journal
-              (subst (λ a. SamePast a kind own (machine_answer ended.answer) w.journal G.last.journal holds
-              new_holds) over.area_is G.past_text)));
+              (subst (λ a. SameOutside a kind own (machine_answer ended.answer) w.journal G.last.journal holds
+              new_holds) over.area_is G.outside_text)));
         };
         opened = over.at_rest;
         begun = h.walked;

@@ -144,6 +144,7 @@ module _ (old v next : Vault) (d e : Devices) (size k : ℕ) (given piece : List
               (fits (now w x.way.steps) x.way.only.job name bytes
               (found start x.way.only.opened (PutJob name bytes) (now w x.way.steps) x.way.only.job
               x.way.only.walked) x.way.only.walked.kind_is follows);
+          front = x.way.front;
           beyond = x.way.beyond;
         };
         behind = behind-next start x.way.only.job.place after told_is

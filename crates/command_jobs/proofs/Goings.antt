@@ -6,7 +6,7 @@ use Rattle.std.proofs.lemmas.List.{drop-drop}
 use Rattle.device_defs.specs.Cells.{Cells, reads}
 use Rattle.device_defs.specs.Told.{Goes}
 use Rattle.record_defs.specs.Records.{Record}
-use Rattle.record_defs.specs.Areas.{Area, end_in}
+use Rattle.record_defs.specs.Areas.{Area, base_of, end_in}
 use Rattle.machine_defs.specs.Jobs.{Kind, Job, job_of}
 use Rattle.machine_defs.specs.Answers as answer
 use Rattle.machine_defs.specs.Answers.{Answer}
@@ -17,7 +17,7 @@ use Rattle.machine_defs.proofs.JobLists.{same_value}
 use Rattle.machine_defs.specs.Machine.{Happens}
 use Rattle.machine_defs.specs.Runs.{Moment, now}
 use Rattle.machine_defs.specs.Heard.{heard_by}
-use Rattle.command_defs.specs.Jobs.{past, with_next, IsNext, SameBehind, SamePast}
+use Rattle.command_defs.specs.Jobs.{outside, with_next, IsNext, SameAround, SameOutside}
 use Rattle.journal_core.specs.Moves.{SameFrom}
 use Rattle.lone_laws.proofs.Walk.{found}
 use Rattle.job_laws.proofs.Keeping.{Keeps}
@@ -31,8 +31,9 @@ use Rattle.vault_open.specs.Devices.{Devices}
 use Rattle.vault.specs.Devices.{records_in_flight}
 use Rattle.vault.specs.Outcomes.{machine_answer, outcome_of}
 use Rattle.vault.specs.Stands.{Stands, MakesStep}
-use Rattle.command_jobs.specs.Going.{IsOnly, OnWay, GoesToEnd}
+use Rattle.command_jobs.specs.Going.{IsOnly, SameUpTo, OnWay, GoesToEnd}
 use Rattle.command_jobs.proofs.Acting.{flight_end, step-turn, step-grows, step-ends}
+use Rattle.command_jobs.proofs.Fronts.{front-still}
 use Rattle.command_jobs.proofs.Cuts.{fault-records, memory-clears, next-written, next-flight}
 use Rattle.command_jobs.proofs.Kept.{step-keeps, same-journal, only-further, next-alike}
 
@@ -63,32 +64,43 @@ goes-further m n (Some a) (Some b) l h = drop-further m n (reads b) (reads a) l 
 goes-further m n None (Some b) l h = absurd h
 goes-further m n (Some a) None l h = absurd h
 
-pub past-same : (area : Area) (rs : List Record) (a b : Option Cells) → Goes (SameFrom (end_in area rs)) a b →
-    option_map (past area rs) b ≡ option_map (past area rs) a
-past-same area rs None None h = refl
-past-same area rs (Some a) (Some b) h = ap (λ (bytes : List ℕ). Some bytes) h
-past-same area rs None (Some b) h = absurd h
-past-same area rs (Some a) None h = absurd h
+-- what is read in front of a place stays where it stays twice
+pub front-on : (k : ℕ) (a b c : Option Cells) → Goes (SameUpTo k) a b → Goes (SameUpTo k) b c →
+    Goes (SameUpTo k) a c
+front-on k None None None h g = tt
+front-on k (Some a) (Some b) (Some c) h g = g ∙ h
+front-on k None (Some b) c h g = absurd h
+front-on k (Some a) None c h g = absurd h
+front-on k None None (Some c) h g = absurd g
+front-on k (Some a) (Some b) None h g = absurd g
 
--- past the text it reads as before, by how the job ended
-same-past : (area : Area) (kind : Kind) (own : Option ℕ) (how : Answer) (before after : List Record) (a b : Option Cells) →
+-- what is read outside a text is as before where it is in front of the area and behind the text
+pub outside-same : (area : Area) (rs : List Record) (a b : Option Cells) → Goes (SameUpTo (base_of area)) a b →
+    Goes (SameFrom (end_in area rs)) a b → option_map (outside area rs) b ≡ option_map (outside area rs) a
+outside-same area rs None None f h = refl
+outside-same area rs (Some a) (Some b) f h = λ i. Some (f i, h i)
+outside-same area rs None (Some b) f h = absurd h
+outside-same area rs (Some a) None f h = absurd h
+
+-- outside the text it reads as before, by how the job ended
+same-outside : (area : Area) (kind : Kind) (own : Option ℕ) (how : Answer) (before after : List Record) (a b : Option Cells) →
     ((how ≡ answer.DiskFault → ⊥) → (how ≡ answer.Memory → ⊥) →
-    option_map (past area after) b ≡ option_map (past area after) a)
-    → (how ≡ answer.DiskFault → SameBehind area kind own before after a b) →
-    (how ≡ answer.Memory → SameBehind area kind own before after a b) →
-    SamePast area kind own how before after a b
-same-past area kind own answer.Put before after a b h d m = h (λ e. cc) (λ e. cc)
-same-past area kind own (answer.Got bytes) before after a b h d m = h (λ e. cc) (λ e. cc)
-same-past area kind own answer.Dropped before after a b h d m = h (λ e. cc) (λ e. cc)
-same-past area kind own (answer.Audited number undecided counts) before after a b h d m = h (λ e. cc) (λ e. cc)
-same-past area kind own (answer.Repaired number) before after a b h d m = h (λ e. cc) (λ e. cc)
-same-past area kind own (answer.Lost stripe row) before after a b h d m = h (λ e. cc) (λ e. cc)
-same-past area kind own (answer.ProviderFault j) before after a b h d m = h (λ e. cc) (λ e. cc)
-same-past area kind own answer.DiskFault before after a b h d m = d refl
-same-past area kind own answer.Memory before after a b h d m = m refl
-same-past area kind own answer.Upgraded before after a b h d m = h (λ e. cc) (λ e. cc)
-same-past area kind own (answer.Scrubbed stripes symbols blocks) before after a b h d m = h (λ e. cc) (λ e. cc)
-same-past area kind own (answer.Packed length_before length_after) before after a b h d m = h (λ e. cc) (λ e. cc)
+    option_map (outside area after) b ≡ option_map (outside area after) a)
+    → (how ≡ answer.DiskFault → SameAround area kind own before after a b) →
+    (how ≡ answer.Memory → SameAround area kind own before after a b) →
+    SameOutside area kind own how before after a b
+same-outside area kind own answer.Put before after a b h d m = h (λ e. cc) (λ e. cc)
+same-outside area kind own (answer.Got bytes) before after a b h d m = h (λ e. cc) (λ e. cc)
+same-outside area kind own answer.Dropped before after a b h d m = h (λ e. cc) (λ e. cc)
+same-outside area kind own (answer.Audited number undecided counts) before after a b h d m = h (λ e. cc) (λ e. cc)
+same-outside area kind own (answer.Repaired number) before after a b h d m = h (λ e. cc) (λ e. cc)
+same-outside area kind own (answer.Lost stripe row) before after a b h d m = h (λ e. cc) (λ e. cc)
+same-outside area kind own (answer.ProviderFault j) before after a b h d m = h (λ e. cc) (λ e. cc)
+same-outside area kind own answer.DiskFault before after a b h d m = d refl
+same-outside area kind own answer.Memory before after a b h d m = m refl
+same-outside area kind own answer.Upgraded before after a b h d m = h (λ e. cc) (λ e. cc)
+same-outside area kind own (answer.Scrubbed stripes symbols blocks) before after a b h d m = h (λ e. cc) (λ e. cc)
+same-outside area kind own (answer.Packed length_before length_after) before after a b h d m = h (λ e. cc) (λ e. cc)
 
 -- the record in flight, if one is
 abbrev flying : Option Append → Option Record
@@ -119,6 +131,7 @@ no-steps start kind own w moment v d only stands =
           (found start only.opened kind w only.job only.walked) is in
           let p = ap (λ (j : Job). j.place) e in omega (arith, p));
       stands = stands;
+      front = front-still (base_of start.area) d.holds d.holds refl;
       beyond = goes-same (flight_end w.area w.journal w.append) d.holds;
     }
 
@@ -135,8 +148,18 @@ module _ (start : State) (kind : Kind) (own : Option ℕ) (w : State) (moment nu
   abbrev pub here : State
   here = now w way.steps
 
+  -- what a step leaves in front of the area, and the steps before it did
+  abbrev pub StepFront : Type 0
+  StepFront = Goes (SameUpTo (base_of here.area)) mid.holds new.holds
+
+  pub front_all : StepFront → (area : Area) → area ≡ start.area → Goes (SameUpTo (base_of area)) old.holds new.holds
+  front_all front area is = subst (λ a. Goes (SameUpTo (base_of a)) old.holds new.holds) (sym is)
+      (front-on (base_of start.area) old.holds mid.holds new.holds way.front
+      (subst (λ a. Goes (SameUpTo (base_of a)) mid.holds new.holds) way.only.area front))
+
   -- one more step, and it is still on its way
-  module _ (M : MakesStep here (moment + length way.steps) number turn.More next mid new) where
+  module _ (front : StepFront)
+      (M : MakesStep here (moment + length way.steps) number turn.More next mid new) where
     pub made : Happens 8 (moment + length way.steps) here (Step 1) More M.state
     made = subst (λ n. Happens 8 (moment + length way.steps) here (Step n) More M.state) first M.happens
 
@@ -166,6 +189,7 @@ module _ (start : State) (kind : Kind) (own : Option ℕ) (w : State) (moment nu
           only = further-only;
           place = λ begun is. (let a = way.place begun is in let b = further.place in omega (arith, a, b));
           stands = M.stands;
+          front = front_all front start.area refl;
           beyond = goes-on-same (flight_end here.area here.journal here.append)
               (flight_end M.state.area M.state.journal M.state.append) old.holds mid.holds new.holds
               (step-grows start way.only.opened kind here way.only.job way.only.walked
@@ -177,7 +201,7 @@ module _ (start : State) (kind : Kind) (own : Option ℕ) (w : State) (moment nu
     one-further = further.place
 
   -- a step that ends the job
-  module _ (ended : EndedJob)
+  module _ (ended : EndedJob) (front : StepFront)
       (M : MakesStep here (moment + length way.steps) number (turn.Done ended) next mid new) where
     happens : Happens 8 (moment + length way.steps) here (Step 1)
         (Ended (machine_answer ended.answer)) M.state
@@ -194,8 +218,8 @@ module _ (start : State) (kind : Kind) (own : Option ℕ) (w : State) (moment nu
 
     past_end : (machine_answer ended.answer ≡ answer.DiskFault → ⊥) →
         (machine_answer ended.answer ≡ answer.Memory → ⊥) →
-        option_map (past start.area M.state.journal) new.holds
-        ≡ option_map (past start.area M.state.journal) old.holds
+        option_map (outside start.area M.state.journal) new.holds
+        ≡ option_map (outside start.area M.state.journal) old.holds
     past_end d m =
         (let s = step-ends start way.only.opened kind here way.only.job way.only.walked
         (moment + length way.steps) (machine_answer ended.answer) M.state d m happens in
@@ -207,9 +231,10 @@ module _ (start : State) (kind : Kind) (own : Option ℕ) (w : State) (moment nu
         subst (λ (o : Option Append). Goes (SameFrom (flight_end M.state.area M.state.journal o))
         mid.holds new.holds) s.1
         (M.beyond (λ e. d (same-answer (machine_answer ended.answer) answer.DiskFault e))) in
-        subst (λ a. option_map (past a M.state.journal) new.holds ≡ option_map (past a M.state.journal) old.holds)
+        subst (λ a. option_map (outside a M.state.journal) new.holds ≡ option_map (outside a M.state.journal) old.holds)
         (kept.area ∙ way.only.area)
-        (past-same M.state.area M.state.journal old.holds new.holds
+        (outside-same M.state.area M.state.journal old.holds new.holds
+        (front_all front M.state.area (kept.area ∙ way.only.area))
         (goes-on-same (end_in M.state.area M.state.journal) (end_in M.state.area M.state.journal) old.holds
         mid.holds new.holds (omega arith) before after)))
       where
@@ -229,14 +254,14 @@ module _ (start : State) (kind : Kind) (own : Option ℕ) (w : State) (moment nu
 
     -- where the history is as before, the disk reads as before behind the journal
     behind_here : M.state.records ≡ here.records →
-        SameBehind here.area kind own start.journal here.journal old.holds new.holds →
-        SameBehind start.area kind own start.journal M.state.journal old.holds new.holds
-    behind_here e h = subst (λ rs. SameBehind start.area kind own start.journal rs old.holds new.holds)
+        SameAround here.area kind own start.journal here.journal old.holds new.holds →
+        SameAround start.area kind own start.journal M.state.journal old.holds new.holds
+    behind_here e h = subst (λ rs. SameAround start.area kind own start.journal rs old.holds new.holds)
         (sym (same-journal here M.state kept e))
-        (subst (λ a. SameBehind a kind own start.journal here.journal old.holds new.holds) way.only.area h)
+        (subst (λ a. SameAround a kind own start.journal here.journal old.holds new.holds) way.only.area h)
 
     past_fault : machine_answer ended.answer ≡ answer.DiskFault →
-        SameBehind start.area kind own start.journal M.state.journal old.holds new.holds
+        SameAround start.area kind own start.journal M.state.journal old.holds new.holds
     past_fault e =
         (let T = M.torn (ap Ended e) in
         let same = fault-records start way.only.opened kind own here way.only.job way.only.walked
@@ -249,11 +274,12 @@ module _ (start : State) (kind : Kind) (own : Option ℕ) (w : State) (moment nu
         behind_here same (record {
           next = Some T.entry;
           is_next = next;
-          same = past-same here.area (T.entry ∷ here.journal) old.holds new.holds both;
+          same = outside-same here.area (T.entry ∷ here.journal) old.holds new.holds
+              (front_all front here.area way.only.area) both;
         }))
 
     past_memory : machine_answer ended.answer ≡ answer.Memory →
-        SameBehind start.area kind own start.journal M.state.journal old.holds new.holds
+        SameAround start.area kind own start.journal M.state.journal old.holds new.holds
     past_memory e =
         (let c = memory-clears start way.only.opened kind own here way.only.job way.only.walked
         (moment + length way.steps) M.state (one_end answer.Memory e) in
@@ -278,7 +304,7 @@ module _ (start : State) (kind : Kind) (own : Option ℕ) (w : State) (moment nu
 
         by_flight : (o : Option Append) → here.append ≡ o →
             Goes (SameFrom (end_in here.area here.journal)) mid.holds new.holds →
-            SameBehind here.area kind own start.journal here.journal old.holds new.holds
+            SameAround here.area kind own start.journal here.journal old.holds new.holds
         by_flight o is last =
             (let beyond : Goes (SameFrom (flight_end here.area here.journal o)) old.holds
             mid.holds = subst (λ (x : Option Append). Goes
@@ -288,7 +314,8 @@ module _ (start : State) (kind : Kind) (own : Option ℕ) (w : State) (moment nu
             record {
               next = flying o;
               is_next = flight-next o is;
-              same = past-same here.area (with_next (flying o) here.journal) old.holds new.holds
+              same = outside-same here.area (with_next (flying o) here.journal) old.holds new.holds
+                  (front_all front here.area way.only.area)
                   (subst (λ rs. Goes (SameFrom (end_in here.area rs)) old.holds new.holds)
                   (flying-same here.journal o)
                   (goes-on-same (flight_end here.area here.journal o) (flight_end here.area here.journal o)
@@ -306,7 +333,7 @@ module _ (start : State) (kind : Kind) (own : Option ℕ) (w : State) (moment nu
         heard_is = subst (λ n. ended.heard ≡ heard_by (job_of here.jobs n)) first M.heard;
       };
       stands = M.stands;
-      past_text = same-past start.area kind own (machine_answer ended.answer) start.journal M.state.journal
+      outside_text = same-outside start.area kind own (machine_answer ended.answer) start.journal M.state.journal
           old.holds new.holds past_end past_fault past_memory;
     }
 

@@ -4,6 +4,7 @@ pub mod Readings
 pub mod Fresh
 pub mod Cuts
 pub mod Kept
+pub mod Fronts
 pub mod Goings
 pub mod ReadBytes
 pub mod Early

@@ -11,7 +11,7 @@ use Rattle.device_defs.specs.Faults.{Rose}
 use Rattle.device_defs.specs.Told.{Goes}
 use Rattle.column_defs.specs.Objects.{stripe_symbols}
 use Rattle.record_defs.specs.Records.{Setup, Record, largest_file}
-use Rattle.record_defs.specs.Areas.{Area, end_in}
+use Rattle.record_defs.specs.Areas.{Area, base_of, end_in}
 use Rattle.machine_defs.specs.Begins.{chosen}
 use Rattle.machine_defs.specs.Events.{AreBytes, IsSpelledKind}
 use Rattle.machine_defs.specs.Jobs.{PutJob}
@@ -25,7 +25,7 @@ use Rattle.command_defs.specs.Seen.{Seen, ReadsFront}
 use Rattle.command_defs.specs.Opens as opens
 use Rattle.command_defs.specs.Opens.{setup_in_effect}
 use Rattle.command_defs.specs.JobRuns.{AreSteps}
-use Rattle.command_defs.specs.Jobs.{past}
+use Rattle.command_defs.specs.Jobs.{outside}
 use Rattle.command_defs.specs.GivenUp.{put_stripe, PartRan, PartRuns, PartLeft}
 use Rattle.lone_laws.specs.Walked.{MayName}
 use Rattle.lone_laws.proofs.Walk.{found}
@@ -36,14 +36,14 @@ use Rattle.vault.specs.Stands.{Stands}
 use Rattle.vault_open.specs.Devices.{devices}
 use Rattle.command_jobs.specs.Opened.{IsFreshOver}
 use Rattle.command_jobs.specs.Ends.{IsSeenBefore, IsSeenAfter}
-use Rattle.command_jobs.specs.Going.{IsOnly, EndsEarly}
+use Rattle.command_jobs.specs.Going.{IsOnly, SameUpTo, EndsEarly}
 use Rattle.command_jobs.specs.Streams.{StreamEnds, StreamStops, StreamsTo, PutEnds, PutStops, StreamsOver}
 use Rattle.command_jobs.specs.declared.stream.Streamed.{Streamed}
 use Rattle.command_jobs.specs.declared.stream.Streamed.TheVariants as streamed
-use Rattle.command_jobs.proofs.Alone.{LeavesAll, BeginsAs, HasBegun, has-begun, past-of, opened-one, over-journal, ends-with, ends-over, left-open, not-ended}
+use Rattle.command_jobs.proofs.Alone.{LeavesAll, BeginsAs, HasBegun, has-begun, outside-of, opened-one, over-journal, ends-with, ends-over, left-open, not-ended}
 use Rattle.command_jobs.proofs.Fresh.{ThereIsOne, setup-over}
 use Rattle.command_jobs.proofs.Acting.{flight_end}
-use Rattle.command_jobs.proofs.Goings.{past-same}
+use Rattle.command_jobs.proofs.Goings.{outside-same}
 use Rattle.command_jobs.proofs.ReadBytes.{bytes-front, reads-on}
 
 -- ---- stripes
@@ -70,17 +70,18 @@ PartsLeave = (records : List Record) (name bytes : List ℕ) (own : Option ℕ) 
     MayName (PutJob name bytes) own → length new.providers ≡ length old.providers →
     PartRuns opened.area records name bytes own old new → PartLeft opened.area records name bytes own old new
 
--- with no append in flight the disk reads as before past the text of the journal
-past-still : (area : Area) (here : State) (a b c d : Option Cells) → c ≡ d → here.area ≡ area →
-    here.append ≡ None → Goes (SameFrom (flight_end here.area here.journal here.append)) b d →
+-- with no append in flight the disk reads as before outside the text of the journal
+outside-still : (area : Area) (here : State) (a b c d : Option Cells) → c ≡ d → here.area ≡ area →
+    here.append ≡ None → Goes (SameUpTo (base_of area)) b d →
+    Goes (SameFrom (flight_end here.area here.journal here.append)) b d →
     option_map bytes_read b ≡ option_map bytes_read a →
-    option_map (past area here.journal) c ≡ option_map (past area here.journal) a
-past-still area here a b c d is area_is still same reads_are =
-    ap (option_map (past area here.journal)) is
-    ∙ (past-same area here.journal b d
+    option_map (outside area here.journal) c ≡ option_map (outside area here.journal) a
+outside-still area here a b c d is area_is still front same reads_are =
+    ap (option_map (outside area here.journal)) is
+    ∙ (outside-same area here.journal b d front
     (subst (λ x. Goes (SameFrom (end_in x here.journal)) b d) area_is
     (subst (λ (o : Option Append). Goes (SameFrom (flight_end here.area here.journal o)) b d) still same))
-    ∙ past-of area here.journal a b reads_are)
+    ∙ outside-of area here.journal a b reads_are)
 
 module _ (there : ThereIsOne) (v : Vault) (records : List Record) (holds : Option Cells) (faults : ℕ)
     (old new : Seen) (R : opens.IsOpened old records) (F : IsFreshOver v R.area records holds faults)
@@ -224,8 +225,10 @@ module _ (there : ThereIsOne) (v : Vault) (records : List Record) (holds : Optio
           faults_are = way.stands.desk.devices.faults ∙ sym A.faults;
           handed = subst (λ (ps : List Provider). AreHanded ps (now h.made.state way.steps)) (sym A.providers)
               way.stands.desk.devices.providers;
-          past_text = past-still R.area (now h.made.state way.steps) old.disk holds new.disk new_holds A.disk
-              (way.only.area ∙ over.area_is) still way.beyond B.reads;
+          outside_text = outside-still R.area (now h.made.state way.steps) old.disk holds new.disk new_holds A.disk
+              (way.only.area ∙ over.area_is) still
+              (subst (λ a. Goes (SameUpTo (base_of a)) holds new_holds) over.area_is way.front) way.beyond
+              B.reads;
         })
 
     runs : PartRuns R.area records name given own old new

@@ -4,13 +4,14 @@
 --                              `start`; its records came on top of the journal and of the history alike, in
 --                              the same area
 --   IsUnderWay v d          == vault and devices stand for such a state
+--   SameUpTo at old new     == what is read in front of an offset is as before
 --   OnWay start kind own w moment v old new
 --                           == the job has made steps since a state, after so many events, and vault and
---                              devices stand for the state after them; past the text with the record in
---                              flight the disk reads as before
+--                              devices stand for the state after them; in front of the area, and past the
+--                              text with the record in flight, the disk reads as before
 --   GoesToEnd start kind own w moment ended v old new
 --                           == the job goes on from a state, after so many events, to this end, and vault
---                              and devices stand for the last state; past the text, with the record that
+--                              and devices stand for the last state; outside the text, with the record that
 --                              was being appended where the job was cut short, the disk reads as before
 --   IsBehind start told place
 --                           == a job at this place has made no action behind those that store so many
@@ -20,14 +21,17 @@
 --                              are told; or it is further on its way
 --
 -- own is the profile that a put names; None where it has the setup's, and of every other job.
-use Rattle.std.specs.Prelude.{◌≡◌, ℕ, ◌+◌, ◌*◌, ◌<◌, ◌≤◌, List, ◌++◌, length, Option, None, Some, IfSome}
+use Rattle.std.specs.Prelude.{◌≡◌, ℕ, ◌+◌, ◌*◌, ◌<◌, ◌≤◌, List, ◌++◌, length, take, Option, None, Some, IfSome}
+use Rattle.device_defs.specs.Cells.{Cells, reads}
+use Rattle.device_defs.specs.Told.{Goes}
+use Rattle.record_defs.specs.Areas.{base_of}
 use Rattle.record_defs.specs.Records.{Record}
 use Rattle.machine_defs.specs.Jobs.{Kind, Job, job_of}
 use Rattle.machine_defs.specs.Runs.{Moment, now}
 use Rattle.machine_defs.specs.States.{State, setup_in}
 use Rattle.machine_defs.specs.Begins.{chosen}
 use Rattle.command_defs.specs.JobRuns.{AreSteps, GoesOnTo}
-use Rattle.command_defs.specs.Jobs.{SamePast}
+use Rattle.command_defs.specs.Jobs.{SameOutside}
 use Rattle.opening_defs.specs.Opened.{IsOpenAtRest}
 use Rattle.lone_laws.specs.Walked.{WalkedAt}
 use Rattle.vault.specs.declared.turn.Ended.{Ended}
@@ -56,13 +60,17 @@ pub record IsUnderWay (v : Vault) (d : Devices) : Type 0 where
   pub only : IsOnly start kind own state
   pub stands : Stands v d state
 
+-- what is read in front of an offset is as before
+abbrev pub SameUpTo : ℕ → Cells → Cells → Type 0
+SameUpTo at old new = take at (reads new) ≡ take at (reads old)
+
 -- the job goes on to this end
 pub record GoesToEnd (start : State) (kind : Kind) (own : Option ℕ) (w : State) (moment : ℕ) (ended : Ended)
     (v : Vault) (old new : Devices) : Type 0 where
   pub last : State
   pub goes : GoesOnTo w moment 1 (machine_answer ended.answer) ended.heard last
   pub stands : Stands v new last
-  pub past_text : SamePast start.area kind own (machine_answer ended.answer) start.journal last.journal
+  pub outside_text : SameOutside start.area kind own (machine_answer ended.answer) start.journal last.journal
       old.holds new.holds
 
 -- how far a job is since a state, of which this many were its steps
@@ -77,6 +85,7 @@ pub record OnWay (start : State) (kind : Kind) (own : Option ℕ) (w : State) (m
   pub only : IsOnly start kind own (now w steps)
   pub place : IsPlaced w (length steps) only.job
   pub stands : Stands v new (now w steps)
+  pub front : Goes (SameUpTo (base_of start.area)) old.holds new.holds
   pub beyond : IsSameBeyond (now w steps) old new
 
 -- a job has made no action behind those that store so many stripes, where they are told

@@ -167,7 +167,7 @@ module _ (w : State) (n : ℕ) (H : AreHanded idle_providers (formed w)) (O : Is
     images = λ image is. inl (inl (audited-sure.images image is));
     faults_are = refl;
     handed = record { count = H.count; each = H.each };
-    past_text = refl;
+    outside_text = refl;
   }
 
 audit-alone : RunsAlone A set_up_records AuditJob None (Audited 1 0 no_counts)

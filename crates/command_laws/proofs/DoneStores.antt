@@ -35,7 +35,7 @@ use Rattle.command_defs.specs.Refusals.{status_of, refusal_over, pack_refusal_ov
 use Rattle.command_defs.specs.Lines.{audit_lines}
 use Rattle.command_defs.specs.Inits.{setup_with, AnswersInit}
 use Rattle.command_defs.specs.Gets.{GetLeaves}
-use Rattle.command_defs.specs.Jobs.{AnswersJob, SamePast, past, with_next, IsTold}
+use Rattle.command_defs.specs.Jobs.{AnswersJob, SameOutside, outside, with_next, IsTold}
 use Rattle.command_defs.specs.GivenUp.{put_stripe, after_begin, StopsReading, PartRuns, PartLeft}
 use Rattle.command_defs.specs.Scrubs.{ScrubsAlone, AnswersScrub}
 use Rattle.command_defs.specs.Packs.{PackedAlone, AnswersPack}
@@ -87,36 +87,36 @@ over-refused why status is (inr (inr e)) = refused-not why 13 refl (λ k. omega 
 
 -- ---- a disk that told tells on
 
--- a disk tells after a job where it told before, past what the job appended
-pub tells-past : (area : Area) (kind : Kind) (own : Option ℕ) (how : Answer) (before rs : List Record)
+-- a disk tells after a job where it told before, by what it reads outside the text
+pub tells-outside : (area : Area) (kind : Kind) (own : Option ℕ) (how : Answer) (before rs : List Record)
     (a b : Option Cells) →
-    SamePast area kind own how before rs a b → is_some b ≡ is_some a
-tells-past area kind own answer.Put before rs a b h =
-    sym (is_some-option_map (past area rs) b) ∙ (ap is_some h ∙ is_some-option_map (past area rs) a)
-tells-past area kind own (answer.Got bytes) before rs a b h =
-    sym (is_some-option_map (past area rs) b) ∙ (ap is_some h ∙ is_some-option_map (past area rs) a)
-tells-past area kind own answer.Dropped before rs a b h =
-    sym (is_some-option_map (past area rs) b) ∙ (ap is_some h ∙ is_some-option_map (past area rs) a)
-tells-past area kind own (answer.Audited number undecided counts) before rs a b h =
-    sym (is_some-option_map (past area rs) b) ∙ (ap is_some h ∙ is_some-option_map (past area rs) a)
-tells-past area kind own (answer.Repaired number) before rs a b h =
-    sym (is_some-option_map (past area rs) b) ∙ (ap is_some h ∙ is_some-option_map (past area rs) a)
-tells-past area kind own answer.Upgraded before rs a b h =
-    sym (is_some-option_map (past area rs) b) ∙ (ap is_some h ∙ is_some-option_map (past area rs) a)
-tells-past area kind own (answer.Scrubbed stripes symbols blocks) before rs a b h =
-    sym (is_some-option_map (past area rs) b) ∙ (ap is_some h ∙ is_some-option_map (past area rs) a)
-tells-past area kind own (answer.Packed shorter longer) before rs a b h =
-    sym (is_some-option_map (past area rs) b) ∙ (ap is_some h ∙ is_some-option_map (past area rs) a)
-tells-past area kind own (answer.Lost stripe row) before rs a b h =
-    sym (is_some-option_map (past area rs) b) ∙ (ap is_some h ∙ is_some-option_map (past area rs) a)
-tells-past area kind own (answer.ProviderFault j) before rs a b h =
-    sym (is_some-option_map (past area rs) b) ∙ (ap is_some h ∙ is_some-option_map (past area rs) a)
-tells-past area kind own answer.DiskFault before rs a b h =
-    (let all = with_next h.next rs in sym (is_some-option_map (past area all) b)
-    ∙ (ap is_some h.same ∙ is_some-option_map (past area all) a))
-tells-past area kind own answer.Memory before rs a b h =
-    (let all = with_next h.next rs in sym (is_some-option_map (past area all) b)
-    ∙ (ap is_some h.same ∙ is_some-option_map (past area all) a))
+    SameOutside area kind own how before rs a b → is_some b ≡ is_some a
+tells-outside area kind own answer.Put before rs a b h =
+    sym (is_some-option_map (outside area rs) b) ∙ (ap is_some h ∙ is_some-option_map (outside area rs) a)
+tells-outside area kind own (answer.Got bytes) before rs a b h =
+    sym (is_some-option_map (outside area rs) b) ∙ (ap is_some h ∙ is_some-option_map (outside area rs) a)
+tells-outside area kind own answer.Dropped before rs a b h =
+    sym (is_some-option_map (outside area rs) b) ∙ (ap is_some h ∙ is_some-option_map (outside area rs) a)
+tells-outside area kind own (answer.Audited number undecided counts) before rs a b h =
+    sym (is_some-option_map (outside area rs) b) ∙ (ap is_some h ∙ is_some-option_map (outside area rs) a)
+tells-outside area kind own (answer.Repaired number) before rs a b h =
+    sym (is_some-option_map (outside area rs) b) ∙ (ap is_some h ∙ is_some-option_map (outside area rs) a)
+tells-outside area kind own answer.Upgraded before rs a b h =
+    sym (is_some-option_map (outside area rs) b) ∙ (ap is_some h ∙ is_some-option_map (outside area rs) a)
+tells-outside area kind own (answer.Scrubbed stripes symbols blocks) before rs a b h =
+    sym (is_some-option_map (outside area rs) b) ∙ (ap is_some h ∙ is_some-option_map (outside area rs) a)
+tells-outside area kind own (answer.Packed shorter longer) before rs a b h =
+    sym (is_some-option_map (outside area rs) b) ∙ (ap is_some h ∙ is_some-option_map (outside area rs) a)
+tells-outside area kind own (answer.Lost stripe row) before rs a b h =
+    sym (is_some-option_map (outside area rs) b) ∙ (ap is_some h ∙ is_some-option_map (outside area rs) a)
+tells-outside area kind own (answer.ProviderFault j) before rs a b h =
+    sym (is_some-option_map (outside area rs) b) ∙ (ap is_some h ∙ is_some-option_map (outside area rs) a)
+tells-outside area kind own answer.DiskFault before rs a b h =
+    (let all = with_next h.next rs in sym (is_some-option_map (outside area all) b)
+    ∙ (ap is_some h.same ∙ is_some-option_map (outside area all) a))
+tells-outside area kind own answer.Memory before rs a b h =
+    (let all = with_next h.next rs in sym (is_some-option_map (outside area all) b)
+    ∙ (ap is_some h.same ∙ is_some-option_map (outside area all) a))
 
 -- ---- what a job leaves that came to its end
 
@@ -135,7 +135,7 @@ left-over kind records old new end R are named (AnswersJob.no_memory synced r) o
     absurd (over-memory end.status r.status_is over)
 left-over kind records old new end R are named (AnswersJob.ended how none runs left by) over = (
   ran-good records kind how old new end.heard R (spelled-kind R.area records kind _ are none) named runs,
-  tells-past R.area kind _ how records left.after old.disk new.disk left.past_text,
+  tells-outside R.area kind _ how records left.after old.disk new.disk left.outside_text,
 )
 
 alone-over : (kind : Kind) (records : List Record) (old new : Seen) (end : Ending) → IsKnown old records →
@@ -307,8 +307,8 @@ given-left name bytes own records old new end R none stops runs left = (
       (spelled-kind R.area records (PutJob name bytes) own
       (given-kind R.area name bytes own records old new end none stops).0 none) (MayName.put name bytes refl)
       runs,
-  sym (is_some-option_map (past R.area (after_begin records name)) new.disk)
-      ∙ (ap is_some left.past_text ∙ is_some-option_map (past R.area (after_begin records name)) old.disk),
+  sym (is_some-option_map (outside R.area (after_begin records name)) new.disk)
+      ∙ (ap is_some left.outside_text ∙ is_some-option_map (outside R.area (after_begin records name)) old.disk),
 )
 
 -- after a put whose source failed, or was too long, the store is sure, with the put's first record alone;
@@ -492,7 +492,7 @@ job-comes kind records old new end R are named (AnswersJob.no_memory synced r) =
 job-comes kind records old new end R are named (AnswersJob.ended how none runs left by) =
     inr (
       ran-good records kind how old new end.heard R (spelled-kind R.area records kind _ are none) named runs,
-      tells-past R.area kind _ how records left.after old.disk new.disk left.past_text,
+      tells-outside R.area kind _ how records left.after old.disk new.disk left.outside_text,
     )
 
 unstarted-comes : (records : List Record) (old new : Seen) (end : Ending) → IsKnown old records →

@@ -190,8 +190,6 @@ put-by name bytes records old new end opened read few (answer.ProviderFault j) l
       (provider_at new.providers k).store_faults) (sym by.place) L.1;
   sink = by.sink;
   disk = images-have opened.area new.disk left.after left.doubt _ L.2.after L.2.sure left.images;
-  files = λ other. refl;
-  due = refl;
   stored = L.3;
 }
 put-by name bytes records old new end opened read few answer.Put left L by is =

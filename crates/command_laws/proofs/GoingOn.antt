@@ -50,7 +50,7 @@ use Rattle.lone_laws.specs.Walked.{MayName}
 use Rattle.command_defs.specs.JobRuns.{AreSteps, GoesOnTo}
 use Rattle.command_defs.specs.Puts.{PutLeaves}
 use Rattle.command_defs.specs.GivenUp.{put_stripe, after_begin, StopsReading, PartRan, PartRuns, PartLeft}
-use Rattle.command_defs.specs.Jobs.{AnswersJob, EndsByAnswer, RunsAlone, RanAlone, past}
+use Rattle.command_defs.specs.Jobs.{AnswersJob, EndsByAnswer, RunsAlone, RanAlone, outside}
 use Rattle.command_defs.specs.Lines.{text_of, list_lines, scrub_text, pack_text}
 use Rattle.command_defs.specs.Refusals.{is_unknown, refusal_over, pack_refusal_over, status_of}
 use Rattle.command_defs.specs.Scrubs.{RanScrub, ScrubsAlone, AnswersScrub}
@@ -65,7 +65,7 @@ use Rattle.command_laws.proofs.Images.{refused-keeps}
 use Rattle.command_laws.proofs.LastStates.{last-state, part-state}
 use Rattle.command_laws.proofs.Knowing.{IsGood, read-good, none-up, StandsInState}
 use Rattle.command_laws.proofs.Afterwards.{images-kept}
-use Rattle.command_laws.proofs.DoneStores.{tells-past}
+use Rattle.command_laws.proofs.DoneStores.{tells-outside}
 use Rattle.job_laws.proofs.BeginRefusals.{refusal-of, pack-refusal-of}
 
 -- ---- runs
@@ -908,7 +908,7 @@ module _ (start : State) (ms : List Moment) (R : IsRun 8 start ms) (old : Seen)
                     (sym (append_assoc g.steps (three ∷ two ∷ later ∷ []) ms)) ended,
                 record {
                   sound = L.sound;
-                  tells = tells-past area kind own how rs ran.last.journal old.disk new.disk ran.past_text
+                  tells = tells-outside area kind own how rs ran.last.journal old.disk new.disk ran.outside_text
                       ∙ S.tells;
                   images = ran.images;
                   faults_are = ran.faults_are;
@@ -966,9 +966,9 @@ module _ (start : State) (ms : List Moment) (R : IsRun 8 start ms) (old : Seen)
               subst (IsRun 8 start) (sym whole_is) stepped,
               subst (λ s. IsStore s new) last_is (record {
                 sound = L.sound;
-                tells = sym (is_some-option_map (past area (after_begin rs name)) new.disk)
-                    ∙ (ap is_some left.past_text
-                    ∙ (is_some-option_map (past area (after_begin rs name)) old.disk ∙ S.tells));
+                tells = sym (is_some-option_map (outside area (after_begin rs name)) new.disk)
+                    ∙ (ap is_some left.outside_text
+                    ∙ (is_some-option_map (outside area (after_begin rs name)) old.disk ∙ S.tells));
                 images = ran.images;
                 faults_are = ran.faults_are;
                 handed = ran.handed;

@@ -11,7 +11,7 @@ use Rattle.device_defs.specs.Providers.{Held, Provider}
 use Rattle.device_defs.proofs.Lasting.{rose-before}
 use Rattle.record_defs.specs.Records.{Setup, Record, PutStart, PutDone, PutDoneIn, is_byte, largest_file}
 use Rattle.record_defs.specs.Areas.{Area, StandsActive}
-use Rattle.record_defs.specs.Table.{File, Due, version_of, next_id, next_audit, file_of, due_of, started_as, is_start_of, is_same_name, file_as, profile_in, setup_of}
+use Rattle.record_defs.specs.Table.{File, Due, version_of, next_id, next_audit, file_of, due_of, started_as, is_start_of, file_as, profile_in, setup_of}
 use Rattle.record_defs.proofs.FilesLaws.{same-refl}
 use Rattle.machine_defs.specs.Jobs.{Kind, PutJob, GetJob, DropJob, AuditJob, RepairJob, UpgradeJob, ToPut, ToUpgrade}
 use Rattle.machine_defs.specs.Answers as answer
@@ -643,7 +643,6 @@ drop-by name records old new end opened answer.Dropped left L by done = record {
   was_in_effect = L.1.in_effect;
   told = by;
   disk = images-have opened.area new.disk left.after left.doubt _ L.0.after L.0.sure left.images;
-  out_of_effect = cond_true (is_same_name name name) None (file_of records name) (same-refl name);
   gone = L.1.held;
 }
 drop-by name records old new end opened answer.DiskFault left L by done =
@@ -882,8 +881,6 @@ upgrade-by records old new end opened begins answer.Upgraded left L by same done
   ];
   told = by;
   disk = images-have opened.area new.disk left.after left.doubt _ L.0.after L.0.sure left.images;
-  version = refl;
-  files = refl;
   held = same;
 }
 upgrade-by records old new end opened begins answer.DiskFault left L by same done =
@@ -966,8 +963,6 @@ given-gives name bytes own records old new end opened known none stops left = re
   taken = given-taken opened.area records name bytes own known none;
   stops = stops;
   disk = left.images;
-  files = λ other. refl;
-  due = refl;
   stored = left.stored;
   others = left.others;
 }

@@ -215,7 +215,7 @@ module _ (w : State) (n : ℕ) (bytes : List ℕ) (H : AreHanded hidden_provider
     images = λ image is. inl (inl (started-sure.images image is));
     faults_are = refl;
     handed = record { count = H.count; each = each W.providers W.hidden };
-    past_text = refl;
+    outside_text = refl;
   })
     where
       each : (providers : ℕ → Provider) → AreHidden providers → (j : ℕ) → j < 4 →

@@ -174,7 +174,7 @@ module _ (w : State) (n : ℕ) (H : AreHanded idle_providers (formed w)) (O : Is
     images = λ image is. inl (inl (own-sure.images image is));
     faults_are = refl;
     handed = record { count = H.count; each = H.each };
-    past_text = refl;
+    outside_text = refl;
   }
 
 own-alone : RunsAlone A upgraded_records (PutJob held_name []) (Some 1) Put (store upgraded_records)

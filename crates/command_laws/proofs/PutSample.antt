@@ -171,7 +171,7 @@ module _ (w : State) (n : ℕ) (H : AreHanded idle_providers (formed w)) (O : Is
     images = λ image is. inl (inl (held-sure.images image is));
     faults_are = refl;
     handed = record { count = H.count; each = H.each };
-    past_text = refl;
+    outside_text = refl;
   }
 
   part-formed : PartRan A set_up_records held_name [] None (store set_up_records) given_up_store 0
@@ -191,7 +191,7 @@ module _ (w : State) (n : ℕ) (H : AreHanded idle_providers (formed w)) (O : Is
     images = λ image is. inl (inl (started-sure.images image is));
     faults_are = refl;
     handed = record { count = H.count; each = H.each };
-    past_text = refl;
+    outside_text = refl;
   }
 
 put-alone : RunsAlone A set_up_records (PutJob held_name []) None Put (store set_up_records)

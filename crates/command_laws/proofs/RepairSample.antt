@@ -112,7 +112,7 @@ module _ (w : State) (n : ℕ) (H : AreHanded idle_providers (formed w)) (O : Is
     images = λ image is. inl (inl (repaired-sure.images image is));
     faults_are = refl;
     handed = record { count = H.count; each = H.each };
-    past_text = refl;
+    outside_text = refl;
   }
 
 repair-alone : RunsAlone A due_records RepairJob None (Repaired 1) (store due_records) repaired_store []

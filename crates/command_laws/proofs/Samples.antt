@@ -254,7 +254,7 @@ module _ (w : State) (n : ℕ) (H : AreHanded idle_providers (formed w)) (empty 
     images = λ image is. inl (inl (held-sure.images image is));
     faults_are = refl;
     handed = record { count = H.count; each = H.each };
-    past_text = refl;
+    outside_text = refl;
   }
 
 got-alone : RunsAlone A held_records (GetJob held_name) None (Got []) (store held_records)

@@ -109,7 +109,7 @@ module _ (w : State) (n : ℕ) (H : AreHanded idle_providers (formed w)) (O : Is
     images = λ image is. inl (inl (upgraded-sure.images image is));
     faults_are = refl;
     handed = record { count = H.count; each = H.each };
-    past_text = refl;
+    outside_text = refl;
   }
 
 upgrade-alone : RunsAlone A set_up_records UpgradeJob None Upgraded (store set_up_records) upgraded_store []

@@ -37,7 +37,7 @@ use Rattle.device_defs.specs.Told.{told_then, TakesFront}
 use Rattle.record_defs.specs.Records.{Record, PutStart, Drop, AuditStart, AuditDone, RepairDone, Version, largest_file}
 use Rattle.record_defs.specs.Areas.{Area, other_area, text_length, StandsActive}
 use Rattle.record_defs.specs.Packed.{AreAlike, packed}
-use Rattle.record_defs.specs.Table.{File, Due, file_as, files_of, version_of, next_id, next_audit, file_of, due_of}
+use Rattle.record_defs.specs.Table.{File, Due, file_as, version_of, next_id, next_audit, file_of, due_of}
 use Rattle.machine_defs.specs.Jobs.{Kind, PutJob, GetJob, DropJob, AuditJob, RepairJob, UpgradeJob}
 use Rattle.machine_defs.specs.Events.{AreBytes}
 use Rattle.machine_defs.specs.Begins.{chosen}
@@ -133,8 +133,8 @@ ran_to after records old new heard = ran_alone records old new heard old.disk_fa
 abbrev pub DiskHas : Area → List Record → Seen → Type 0
 DiskHas area records new = EachImage new.disk (λ image. StandsActive image area records)
 
--- a put was given up behind its begin: its number is used, the whole stripes of what was read are stored
--- under it, no file came into effect or went out of it, and no repair came due or went
+-- a put was given up behind its begin: its start came in, which brings no file and no repair and takes none,
+-- and the whole stripes of what was read are stored under its number
 pub record GivesUpPut (name : List ℕ) (own : Option ℕ) (old new : Seen) (end : Ending) : Type 0 where
   pub records : List Record
   pub bytes : List ℕ
@@ -142,8 +142,6 @@ pub record GivesUpPut (name : List ℕ) (own : Option ℕ) (old new : Seen) (end
   pub taken : put_refusal opened.area records name own ≡ None
   pub stops : StopsReading (put_stripe records own) bytes old new end
   pub disk : DiskHas opened.area (after_begin records name) new
-  pub files : (other : List ℕ) → file_of (after_begin records name) other ≡ file_of records other
-  pub due : due_of (after_begin records name) ≡ due_of records
   pub stored : StoresAll (ran_to (after_begin records name) records old new end.heard) own bytes
   pub others : (j : ℕ) → (setup_in_effect records).n ≤ j
       → provider_at new.providers j ≡ provider_at old.providers j
@@ -224,7 +222,7 @@ pub record IsWholePut (name : List ℕ) (own : Option ℕ) (old new : Seen) (end
   pub stored : StoresFile (ran_to (after_put records name (length bytes) own) records old new end.heard) own
       name bytes
 
--- a drop: the file is no longer in effect, and its blocks are gone but where a count rose
+-- a drop: the record came in that takes the file out of effect, and its blocks are gone but where a count rose
 pub record IsDropped (name : List ℕ) (old new : Seen) (end : Ending) : Type 0 where
   pub records : List Record
   pub file : File
@@ -232,7 +230,6 @@ pub record IsDropped (name : List ℕ) (old new : Seen) (end : Ending) : Type 0 
   pub was_in_effect : file_of records name ≡ Some file
   pub told : IsTold (dropped_line name) old new end
   pub disk : DiskHas opened.area (after_drop records name) new
-  pub out_of_effect : file_of (after_drop records name) name ≡ None
   pub gone : EachHeldGoes (ran_to (after_drop records name) records old new end.heard)
       (λ j. DroppedFrom file.id (Rose (provider_at old.providers j).other_faults
       (provider_at new.providers j).other_faults))
@@ -262,16 +259,14 @@ pub record IsRepaired (old new : Seen) (end : Ending) : Type 0 where
   pub rewritten : RewritesAll (ran_to (after_repair records due) records old new end.heard)
       (flags (ran_to (after_repair records due) records old new end.heard) due)
 
--- an upgrade: the journal has its second version, with the same files in effect, and providers hold what they
--- held
+-- an upgrade: the journal was of its first version, the record of the second came in, which changes no file,
+-- and providers hold what they held
 pub record IsUpgraded (old new : Seen) (end : Ending) : Type 0 where
   pub records : List Record
   pub opened : IsOpened old records
   pub was_first : version_of records ≡ 1
   pub told : IsTold upgraded_line old new end
   pub disk : DiskHas opened.area (after_upgrade records) new
-  pub version : version_of (after_upgrade records) ≡ 2
-  pub files : files_of (after_upgrade records) ≡ files_of records
   pub held : SameHolds old new
 
 -- a scrub: every row of every place is accepted of what the providers gave, the numbers told are what

@@ -107,8 +107,7 @@ opens_rows RepairAll = true
 opens_rows ScrubAll = true
 opens_rows command = false
 
--- a store of a put failed: its number is used, no file came into effect or went out of it, and no repair
--- came due or went
+-- a store of a put failed: its start came in, which brings no file and no repair and takes none
 pub record FailsToPut (name : List ℕ) (profile : Option ℕ) (old new : Seen) (end : Ending) : Type 0 where
   pub records : List Record
   pub bytes : List ℕ
@@ -121,8 +120,6 @@ pub record FailsToPut (name : List ℕ) (profile : Option ℕ) (old new : Seen) 
       (provider_at new.providers end.at).store_faults
   pub sink : new.sink ≡ old.sink
   pub disk : DiskHas opened.area (after_begin records name) new
-  pub files : (other : List ℕ) → file_of (after_begin records name) other ≡ file_of records other
-  pub due : due_of (after_begin records name) ≡ due_of records
   pub stored : StoresPart (ran_to (after_begin records name) records old new end.heard) profile bytes
 
 -- a store of a repair failed, of a flagged provider: the repair stays due, and some of its blocks may have

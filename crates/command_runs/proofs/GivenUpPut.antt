@@ -155,7 +155,7 @@ module _ (bytes : List ℕ) (are : AreBytes bytes) (short : length bytes ≤ lar
           handed = handed-four (at w n (4 + 4 * many) (filled w.providers many)) V.handed.count
               (λ i. f 0 (omega arith) i ∷ f 1 (omega arith) i ∷ f 2 (omega arith) i ∷ f 3 (omega arith) i
               ∷ []);
-          past_text = refl;
+          outside_text = refl;
         }));
   }
 

@@ -11,7 +11,7 @@ use Rattle.job_laws.proofs.Telling.{left-alone, jobs-leave}
 use Rattle.made_runs.proofs.Steps.{first, second, steps}
 use Rattle.made_runs.proofs.Turns.{goes-so}
 use Rattle.made_runs.specs.Turns.{AreFitTurns}
-use Rattle.command_runs.specs.Words.{Cells, EachImage, Provider, Record, Area, A, StandsActive, File, file_of, Kind, Job, job_of, Answer, beginning, Step, Ended, IsSpelledKind, Entry, heard_by, Happens, State, Doubt, Moment, now, AreHanded, IsJustOpened, Seen, Ending, SameSource, provider_at, AreSteps, text_of, IsOpened, setup_in_effect, refusal_over, IsNext, IsNextRecord, SameBehind, SamePast, RanAlone, RunsAlone, EndsByAnswer, AnswersJob, past, AnswersAlone, MayName, can_step, Turn, Goes, Gives, LosesOne, StoreFails, Cut, gone_by, can_go_by, turned, FitsTurn, FitsStep, told, after_step, job_run, is_more}
+use Rattle.command_runs.specs.Words.{Cells, EachImage, Provider, Record, Area, A, StandsActive, File, file_of, Kind, Job, job_of, Answer, beginning, Step, Ended, IsSpelledKind, Entry, heard_by, Happens, State, Doubt, Moment, now, AreHanded, IsJustOpened, Seen, Ending, SameSource, provider_at, AreSteps, text_of, IsOpened, setup_in_effect, refusal_over, IsNext, IsNextRecord, SameAround, SameOutside, RanAlone, RunsAlone, EndsByAnswer, AnswersJob, outside, AnswersAlone, MayName, can_step, Turn, Goes, Gives, LosesOne, StoreFails, Cut, gone_by, can_go_by, turned, FitsTurn, FitsStep, told, after_step, job_run, is_more}
 use Rattle.command_runs.specs.Devices.{each, named}
 use Rattle.command_runs.proofs.Shape.{four, formed, form-is, one_byte, one_byte-is}
 
@@ -155,7 +155,7 @@ module _ (area : Area) (rs : List Record) (kind : Kind) (own : Option ℕ) (answ
       ((w : State) (n : ℕ) → Happens 8 n (at_end turns w n) (Step 1) (Ended answer) (last w n)) →
       ((w : State) (n : ℕ) → left_by (last w n) (job_of (at_end turns w n).jobs 1)
       ≡ seen_as area after new heard w.handed) →
-      ((w : State) (n : ℕ) → SamePast area kind own answer rs (last w n).journal old.disk new.disk) →
+      ((w : State) (n : ℕ) → SameOutside area kind own answer rs (last w n).journal old.disk new.disk) →
       RunsAlone area rs kind own answer old new heard
   alone-so after turns last sees may images fit ends left same = record {
     faults = 0;
@@ -181,7 +181,7 @@ module _ (area : Area) (rs : List Record) (kind : Kind) (own : Option ℕ) (answ
           faults_are = ap (λ (l : Left). l.faults) (left w n);
           handed = handed-four (last w n) (ap (λ (l : Left). l.handed) (left w n) ∙ U.handed.count)
               (ap (λ (l : Left). l.providers) (left w n));
-          past_text = same w n;
+          outside_text = same w n;
         }));
   }
 
@@ -192,7 +192,7 @@ module _ (area : Area) (rs : List Record) (kind : Kind) (own : Option ℕ) (answ
       ((w : State) (n : ℕ) → FitsStep (at_end turns w n) 1 final) →
       ((w : State) (n : ℕ) → left_by (after_step (at_end turns w n) 1 final)
       (job_of (at_end turns w n).jobs 1) ≡ seen_as area after new heard w.handed) →
-      ((w : State) (n : ℕ) → SamePast area kind own answer rs
+      ((w : State) (n : ℕ) → SameOutside area kind own answer rs
       (after_step (at_end turns w n) 1 final).journal old.disk new.disk) → Follows
 
   -- so does one that ends by a turn
@@ -278,9 +278,9 @@ pub next : {own earlier after : List Record} {entry : Record} (done : List Recor
     own ≡ done ++ entry ∷ [] → after ≡ reverse done ++ earlier → IsNextRecord own earlier after entry
 next done parts is = record { done = done; rest = []; parts = parts; after_is = is }
 
--- past it the disk reads as before
+-- outside the text with it the disk reads as before
 pub behind : {kind : Kind} {earlier after : List Record} {old new : Option Cells} (entry : Record) →
     IsNext kind None earlier after entry →
-    option_map (past A (entry ∷ after)) new ≡ option_map (past A (entry ∷ after)) old →
-    SameBehind A kind None earlier after old new
+    option_map (outside A (entry ∷ after)) new ≡ option_map (outside A (entry ∷ after)) old →
+    SameAround A kind None earlier after old new
 behind entry is same = record { next = Some entry; is_next = is; same = same }

@@ -40,7 +40,7 @@ pub use Rattle.command_defs.specs.Forms.{AuditAll, Command, DropOf, GetOf, InitW
 pub use Rattle.command_defs.specs.GivenUp.{PartLeft, PartRan, PartRuns, StopsReading, after_begin, put_stripe}
 pub use Rattle.command_defs.specs.Inits.{AnswersInit, InitsDisk, setup_with}
 pub use Rattle.command_defs.specs.JobRuns.{AreSteps, GoesOnTo, RunsJob}
-pub use Rattle.command_defs.specs.Jobs.{AnswersJob, EndsByAnswer, IsNext, IsNextRecord, RanAlone, RunsAlone, SameBehind, SamePast, past}
+pub use Rattle.command_defs.specs.Jobs.{AnswersJob, EndsByAnswer, IsNext, IsNextRecord, RanAlone, RunsAlone, SameAround, SameOutside, outside}
 pub use Rattle.command_defs.specs.Keys.{IsKeyForm, longest_key}
 pub use Rattle.command_defs.specs.Line.{no_row_line, values_line}
 pub use Rattle.command_defs.specs.Lines.{audit_lines, dropped_line, pack_text, packed_line, repaired_line, scrub_lines, scrub_text, stored_line, text_of, upgraded_line}

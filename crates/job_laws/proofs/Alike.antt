@@ -44,7 +44,7 @@ use Rattle.machine_defs.specs.States.{State, Append, Alone, Scrubbing, Packing, 
 use Rattle.machine_defs.specs.Steps.{block_to_store, GotBytes, Ends, Acts, is_idle_drop, next_action, holder_of, ActsOrWaits, StepsOn, StepsJob, StepsMine, StepsOne, StepsOpen, Steps}
 use Rattle.command_defs.specs.GivenUp.{PartRan}
 use Rattle.command_defs.specs.JobRuns.{AreSteps, GoesOnTo}
-use Rattle.command_defs.specs.Jobs.{past, SamePast, RanAlone}
+use Rattle.command_defs.specs.Jobs.{outside, SameOutside, RanAlone}
 use Rattle.command_defs.specs.Scrubs.{RanScrub}
 use Rattle.command_defs.specs.Seen.{Seen}
 use Rattle.opening_defs.specs.Opened.{AreHanded, IsOpenAtRest}
@@ -668,8 +668,8 @@ module _ (u : State) (O : IsOpenAtRest u 1) where
         images = images-plain new.disk g.new (subst (λ w. StandsForState new.disk w) g.same R.images);
         faults_are = sym (ap (λ (w : State). w.disk_faults) g.same) ∙ R.faults_are;
         handed = handed-plain new.providers g.new (subst (λ w. AreHanded new.providers w) g.same R.handed);
-        past_text = subst (λ (w : State). SamePast area kind own answer records w.journal old.disk new.disk)
-            g.same R.past_text;
+        outside_text = subst (λ (w : State). SameOutside area kind own answer records w.journal old.disk new.disk)
+            g.same R.outside_text;
       })
 
   -- a part of a put
@@ -701,8 +701,8 @@ module _ (u : State) (O : IsOpenAtRest u 1) where
         faults_are = sym (ap (λ (w : State). w.disk_faults) e) ∙ R.faults_are;
         handed = handed-plain new.providers (now b.new C.steps)
             (subst (λ w. AreHanded new.providers w) e R.handed);
-        past_text = subst (λ (w : State). option_map (past area w.journal) new.disk
-            ≡ option_map (past area w.journal) old.disk) e R.past_text;
+        outside_text = subst (λ (w : State). option_map (outside area w.journal) new.disk
+            ≡ option_map (outside area w.journal) old.disk) e R.outside_text;
       })
 
   -- a scrub

@@ -23,7 +23,7 @@ use Rattle.command_defs.specs.Seen.{Seen, provider_at}
 use Rattle.command_defs.specs.Opens as opens
 use Rattle.command_defs.specs.Opens.{setup_in_effect}
 use Rattle.command_defs.specs.Blocks.{StoredOn}
-use Rattle.command_defs.specs.Jobs.{past}
+use Rattle.command_defs.specs.Jobs.{outside}
 use Rattle.command_defs.specs.JobRuns.{AreSteps}
 use Rattle.command_defs.specs.GivenUp.{after_begin, PartRan, PartRuns, PartLeft}
 use Rattle.opening_defs.specs.Opened.{IsOpenAtRest, IsJustOpened}
@@ -268,6 +268,6 @@ module _ (records : List Record) (name bytes : List ℕ) (own : Option ℕ) (old
         ∙ others w ran.last name bytes its last.next O walked place j l;
     images = each_image-mono new.disk _ (λ image. StandsActive image R.area (after_begin records name))
         image-stands ran.images;
-    past_text = subst (λ rs. option_map (past R.area rs) new.disk ≡ option_map (past R.area rs) old.disk)
-        journal-is ran.past_text;
+    outside_text = subst (λ rs. option_map (outside R.area rs) new.disk ≡ option_map (outside R.area rs) old.disk)
+        journal-is ran.outside_text;
   }

@@ -20,7 +20,7 @@ use Rattle.command_defs.specs.Ran.{ran_from, ran_alone}
 use Rattle.opening_defs.specs.Opened.{AreHanded, IsOpenAtRest, IsJustOpened}
 use Rattle.opening_defs.proofs.Opened.{has-setup, state_with, opened-with}
 use Rattle.command_defs.specs.JobRuns.{RunsJob}
-use Rattle.command_defs.specs.Jobs.{Leaves, LeftAlone, RanAlone, RunsAlone, SamePast}
+use Rattle.command_defs.specs.Jobs.{Leaves, LeftAlone, RanAlone, RunsAlone, SameOutside}
 use Rattle.lone_laws.specs.Walked.{MayName}
 use Rattle.job_laws.proofs.Runs.{job-ends}
 use Rattle.job_laws.proofs.Keeping.{Keeps, runs-keep, keeps-whole}
@@ -160,8 +160,8 @@ module _ (records : List Record) (kind : Kind) (own : Option ℕ) (answer : Answ
           IsSomeAnd (option_map (λ (d : Doubt). d.entry) ran.last.doubt)
           (λ entry. StandsActive image R.area (entry ∷ ran.last.records)))
           (image-kept w ran.last R.area records kept refl refl refl refl R.read.some) ran.images;
-      past_text = subst (λ rs. SamePast R.area kind own answer records rs old.disk new.disk)
-          (keeps-whole w ran.last kept refl) ran.past_text;
+      outside_text = subst (λ rs. SameOutside R.area kind own answer records rs old.disk new.disk)
+          (keeps-whole w ran.last kept refl) ran.outside_text;
     };
     state = w;
     over = over;

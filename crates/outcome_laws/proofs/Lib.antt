@@ -6,3 +6,4 @@ pub mod Unfailed
 pub mod OneSums
 pub mod Audits
 pub mod NoFaults
+pub mod Doubted

@@ -1,8 +1,12 @@
 //! Concrete values that meet what the laws suppose: the run with damage, its audit and its repair.
 ghost use Rattle.std.specs.Prelude.{◌≡◌, ◌⊎◌, ℕ, List, [], ◌∷◌, ◌++◌, Some, true, false};
+ghost use Rattle.record_defs.specs.Acceptance.{AreAccepted};
+ghost use Rattle.record_defs.specs.Packed.{AreAlike};
+ghost use Rattle.record_defs.specs.Records.{PutDone};
 ghost use Rattle.record_defs.specs.Table.{Due, due_of};
 ghost use Rattle.column_defs.specs.Verdicts.{Sums};
 ghost use Rattle.machine_defs.specs.Audits.{HasSums};
+ghost use Rattle.machine_defs.specs.States.{Doubt};
 ghost use Rattle.damage_run.specs.Words.{setup_in, RepairJob, set_up, Moment, IsRun, now, since, IsMarkedRun};
 ghost use Rattle.machine_defs.specs.Answers.{Repaired, Memory};
 ghost use Rattle.machine_defs.specs.Events.{Begin, Step, Names, Begun, Ended, Listed, Closed};
@@ -11,7 +15,10 @@ ghost use Rattle.damage_run.specs.Schedule.{name, IsOutright};
 ghost use Rattle.damage_run.specs.SecondLoss.{MovesMark};
 ghost use Rattle.outcome_laws.specs.RunEnds.{NoneRose, TellsAudit};
 
-use crate::laws::{audits_tell_their_sums, calm_repairs_end_well, listings_give_the_files};
+use crate::laws::{
+    audits_tell_their_sums, calm_repairs_end_well, doubted_journals_are_alike,
+    listings_give_the_files,
+};
 
 /// Behind the run with damage a list gives its one file; before the first event it is closed.
 pub fn a_list_is_given()
@@ -54,4 +61,15 @@ pub fn an_audit_and_its_repair_end()
 {
     audits_tell_their_sums();
     calm_repairs_end_well();
+}
+
+/// In the run with damage the end of the put is in doubt before its last move: journal and history are alike
+/// with it.
+pub fn a_put_in_doubt_is_alike()
+    ensures { (ms : List Moment) × (doubt : Doubt) × IsRun 8 set_up ms
+        × ((now set_up ms).doubt ≡ Some doubt) × (doubt.entry ≡ PutDone 1 1)
+        × AreAccepted (doubt.entry ∷ (now set_up ms).journal)
+        × AreAlike (doubt.entry ∷ (now set_up ms).journal) (doubt.entry ∷ (now set_up ms).records) }
+{
+    doubted_journals_are_alike();
 }

@@ -2,16 +2,19 @@
 ghost use Rattle.std.specs.Prelude.{◌≡◌, ◌⊎◌, ℕ, List, ◌∷◌, ◌++◌, Some, true, false};
 ghost use Rattle.hail_field.specs.Shape.{IsShape};
 ghost use Rattle.column_defs.specs.Verdicts.{Sums};
+ghost use Rattle.record_defs.specs.Acceptance.{AreAccepted};
+ghost use Rattle.record_defs.specs.Packed.{AreAlike};
 ghost use Rattle.record_defs.specs.Records.{Setup};
 ghost use Rattle.record_defs.specs.Table.{Due, due_of, files_of};
 ghost use Rattle.machine_defs.specs.Jobs.{AuditJob, RepairJob, Job};
 ghost use Rattle.machine_defs.specs.Audits.{HasSums};
 ghost use Rattle.machine_defs.specs.Answers.{Answer, Repaired, Memory};
 ghost use Rattle.machine_defs.specs.Events.{Begin, Step, Names, Begun, Ended, Listed, Closed};
-ghost use Rattle.machine_defs.specs.States.{State, IsStart};
+ghost use Rattle.machine_defs.specs.States.{State, Doubt, IsStart};
 ghost use Rattle.machine_defs.specs.Runs.{Moment, IsRun, now};
 ghost use Rattle.machine_defs.specs.Calm.{Mark};
 ghost use Rattle.machine_defs.specs.Began.{NoneBegan};
+ghost use Rattle.state_laws.specs.Sound.{IsLimit};
 ghost use Rattle.second_half_laws.specs.MarkedRuns.{IsMarkedRun, IsCalmRun};
 ghost use Rattle.outcome_laws.specs.RunEnds.{NoneRose, EndsRepair, EndsAudit};
 
@@ -61,4 +64,15 @@ pub fn audits_tell_their_sums()
         → EndsAudit start older (between ++ b ∷ older) m.state answer }
     ensures one { (s : Setup) (x y : Job) (a b : Sums) → IsShape s.n s.l s.b → x.pinned ≡ y.pinned
         → x.subject ≡ y.subject → x.given ≡ y.given → HasSums s x a → HasSums s y b → a ≡ b }
+{}
+
+/// While a record is in doubt, the journal that the disk holds and the history stay alike with it on top: the
+/// journal accepts it, and however it is settled, a pack loses nothing that a state says.
+pub fn doubted_journals_are_alike()
+    ensures accepted { (limit : ℕ) (start : State) (ms : List Moment) (doubt : Doubt) → IsLimit limit
+        → IsStart start → IsRun limit start ms → (now start ms).doubt ≡ Some doubt
+        → AreAccepted (doubt.entry ∷ (now start ms).journal) }
+    ensures alike { (limit : ℕ) (start : State) (ms : List Moment) (doubt : Doubt) → IsLimit limit
+        → IsStart start → IsRun limit start ms → (now start ms).doubt ≡ Some doubt
+        → AreAlike (doubt.entry ∷ (now start ms).journal) (doubt.entry ∷ (now start ms).records) }
 {}

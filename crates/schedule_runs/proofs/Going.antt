@@ -14,7 +14,7 @@ use Rattle.vault_open.proofs.Images.{bytes-shown}
 use Rattle.damage_run.proofs.Points.{event_of}
 use Rattle.damage_run.proofs.Told.{all_pass}
 use Rattle.fault_run.proofs.Points.{is_left, never_by_test}
-use Rattle.schedule_runs.specs.Words.{Record, is_in_grammar, Area, A, B, base_of, magic_front, switch_of, area_of, entries, StandsActive, File, Moment, IsRun, now, first_moments, State, IsStart, set_up, AllTell, NoneTakesOut, NeverTakenOut, IsKept, ComesIn, Devices, Seen, Ending, AreLeft, call_from, devices_of_seen, KeepsTheHeadline}
+use Rattle.schedule_runs.specs.Words.{Record, is_in_grammar, Area, A, B, base_of, magic_front, switch_of, area_of, entries, StandsActive, File, Moment, IsRun, now, first_moments, State, IsStart, set_up, AllTell, NoneTakesOut, NeverTakenOut, IsKept, ComesIn, Devices, Seen, Form, Ending, AreLeft, call_from, devices_of_seen, KeepsTheHeadline}
 use Rattle.schedule_runs.specs.Left.{zeros_to, disk_text, devices_left, GoesOnWith, KeepsItsFile, KeepsSecondHalf}
 
 named : (area : Area) → area_of (switch_of area) ≡ area
@@ -78,19 +78,21 @@ seen start ms d old left told is =
     (subst (λ (x : Devices). IsSome x.holds) (sym is) told, subst (AreLeft start ms) (sym is) left)
 
 -- a command does nothing, or goes on with the run that has left the devices
-pub goes-on : (start : State) (ms : List Moment) (d : Devices) (old new : Seen) (end : Ending) →
-    AreLeft start ms d → IsSome d.holds → devices_of_seen old ≡ d → KeepsTheHeadline old new end →
+pub goes-on : (start : State) (ms : List Moment) (d : Devices) (form : Form) (old new : Seen) (end : Ending) →
+    AreLeft start ms d → IsSome d.holds → devices_of_seen old ≡ d →
+    KeepsTheHeadline form old new end →
     GoesOnWith start ms old new end
-goes-on start ms d old new end left told is (inl undone) = inl undone
-goes-on start ms d old new end left told is (inr goes) =
-    (let at = seen start ms d old left told is in inr (goes start ms at.0 at.1))
+goes-on start ms d form old new end left told is (inl (status, at, other, undone)) = inl (status, at, undone)
+goes-on start ms d form old new end left told is (inr asks) =
+    (let at = seen start ms d old left told is in inr (asks.goes_on start ms at.0 at.1).goes)
 
 -- so it does over those of the last state
-pub goes-with : (start : State) (ms : List Moment) (old new : Seen) (end : Ending) → IsStart start →
-    IsRun 8 start ms → devices_of_seen old ≡ devices_left (now start ms) → KeepsTheHeadline old new end →
+pub goes-with : (start : State) (ms : List Moment) (form : Form) (old new : Seen) (end : Ending) →
+    IsStart start → IsRun 8 start ms → devices_of_seen old ≡ devices_left (now start ms) →
+    KeepsTheHeadline form old new end →
     GoesOnWith start ms old new end
-goes-with start ms old new end starts run is headline =
-    goes-on start ms (devices_left (now start ms)) old new end (left-of start ms starts run) refl is headline
+goes-with start ms form old new end starts run is headline =
+    goes-on start ms (devices_left (now start ms)) form old new end (left-of start ms starts run) refl is headline
 
 -- gets end well behind the command where the whole is calm, counted from finished scrubs
 pub keeps-half : (start : State) (ms : List Moment) (old new : Seen) (end : Ending) → AllTell start →
@@ -136,12 +138,12 @@ pub keeps : (ms : List Moment) (count k : ℕ) (name : List ℕ) (file : File) �
     IsRun 8 set_up ms → take count ms ++ event_of ms k ∷ first_moments k ms ≡ ms →
     ComesIn (now set_up (first_moments k ms)) (event_of ms k).state name file →
     all_pass (λ m older. is_left name m.state.records m.state.doubt) (take count ms) ≡ true →
-    NoneTakesOut name (now set_up ms) → (old new : Seen) (end : Ending) →
-    devices_of_seen old ≡ devices_left (now set_up ms) → KeepsTheHeadline old new end →
+    NoneTakesOut name (now set_up ms) → (form : Form) (old new : Seen) (end : Ending) →
+    devices_of_seen old ≡ devices_left (now set_up ms) → KeepsTheHeadline form old new end →
     KeepsItsFile set_up ms name file old new end
-keeps ms count k name file starts run split comes never none old new end is headline =
+keeps ms count k name file starts run split comes never none form old new end is headline =
     subst (λ l. NoneTakesOut name (now set_up l) → GoesOnWith set_up l old new end →
     KeepsItsFile set_up l name file old new end) split
     (keeps-file (take count ms) (first_moments k ms) (event_of ms k) name file old new end starts comes
     (never_by_test name (take count ms) never)) none
-    (goes-with set_up ms old new end starts run is headline)
+    (goes-with set_up ms form old new end starts run is headline)

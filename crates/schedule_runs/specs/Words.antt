@@ -21,6 +21,7 @@ pub use Rattle.hail_client.specs.Examples.{fresh}
 pub use Rattle.hail_client.specs.Start.{start_of}
 pub use Rattle.hail_replay.specs.Answers.{DoesSchedule, DoesTrial, IsUndone, devices_of_seen}
 pub use Rattle.hail_replay.specs.Starts.{AreLeft, call_from, called_behind}
+pub use Rattle.hail_replay.specs.declared.forms.Form.{Form}
 pub use Rattle.hail_top.specs.Carried.{KeepsTheHeadline, RunGoesOn}
 pub use Rattle.schedule_text.specs.Grammar.{words}
 pub use Rattle.schedule_text.specs.Schedules.{AreLines, IsFirstBadLine, IsSchedule, lines}

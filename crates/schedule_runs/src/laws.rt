@@ -6,7 +6,7 @@ ghost use Rattle.hail_replay.specs.Replayed.{Replays};
 ghost use Rattle.hail_replay.specs.Trials.{RunsTrial, RunsTo};
 ghost use Rattle.trial_maker.specs.Trials.{trial_commands};
 ghost use Rattle.second_half_laws.specs.Own.{IsExact};
-ghost use Rattle.schedule_runs.specs.Words.{Seen, Ending, sinking, set_up, SecondHalf, Moment, now, IsRun, scrubbed, State, IsStart, Instruction, fresh, start_of, IsSchedule, IsFirstBadLine, AreLeft, DoesSchedule, DoesTrial, devices_of_seen, KeepsTheHeadline, name, IsOutright, other, IsFaulty};
+ghost use Rattle.schedule_runs.specs.Words.{Seen, Ending, sinking, set_up, SecondHalf, Moment, now, IsRun, scrubbed, State, IsStart, Instruction, fresh, start_of, IsSchedule, IsFirstBadLine, AreLeft, DoesSchedule, DoesTrial, devices_of_seen, KeepsTheHeadline, Form, name, IsOutright, other, IsFaulty};
 ghost use Rattle.schedule_runs.specs.Left.{devices_left, GoesOnWith, KeepsItsFile, KeepsSecondHalf};
 ghost use Rattle.schedule_runs.specs.Schedule.{stopped_schedule, stopped_text, bad_text, IsStoppedRun, upgraded_schedule, upgraded_text, upgraded_file, IsUpgradedRun, scrubbed_schedule, scrubbed_text, IsScrubbedRun, packed_schedule, packed_text, IsPackedRun};
 
@@ -35,8 +35,8 @@ pub fn a_schedule_has_its_run()
     ensures bad_line { IsFirstBadLine bad_text 2 }
     ensures run { (ms : List Moment) × IsStoppedRun ms × AreLeft set_up ms (devices_left (now set_up ms)) }
     ensures used { (ms : List Moment) × IsStoppedRun ms
-        × ((old new : Seen) (end : Ending) → devices_of_seen old ≡ devices_left (now set_up ms) →
-        KeepsTheHeadline old new end
+        × ((form : Form) (old new : Seen) (end : Ending)
+        → devices_of_seen old ≡ devices_left (now set_up ms) → KeepsTheHeadline form old new end
         → KeepsItsFile set_up ms name (record { name = name; id = 1; size = 1; profile = 0 }) old new end) }
 {}
 
@@ -47,8 +47,9 @@ pub fn an_upgrade_has_its_run()
     ensures fits { AllByRecursion CanBeSpelled (reverse upgraded_schedule) }
     ensures run { (ms : List Moment) × IsUpgradedRun ms × AreLeft set_up ms (devices_left (now set_up ms)) }
     ensures used { (ms : List Moment) × IsUpgradedRun ms
-        × ((old new : Seen) (end : Ending) → devices_of_seen old ≡ devices_left (now set_up ms) →
-        KeepsTheHeadline old new end → KeepsItsFile set_up ms name upgraded_file old new end) }
+        × ((form : Form) (old new : Seen) (end : Ending)
+        → devices_of_seen old ≡ devices_left (now set_up ms) → KeepsTheHeadline form old new end
+        → KeepsItsFile set_up ms name upgraded_file old new end) }
 {}
 
 /// So it is of a text with the same upgrade and put, an altered symbol, a scrub that finds and mends it, and
@@ -61,8 +62,9 @@ pub fn a_scrub_has_its_run()
     ensures half { (ms : List Moment) × IsScrubbedRun ms × SecondHalf set_up ms
         × IsExact set_up ms (scrubbed set_up ms) }
     ensures used { (ms : List Moment) × IsScrubbedRun ms
-        × ((old new : Seen) (end : Ending) → devices_of_seen old ≡ devices_left (now set_up ms) →
-        KeepsTheHeadline old new end → KeepsSecondHalf set_up ms old new end) }
+        × ((form : Form) (old new : Seen) (end : Ending)
+        → devices_of_seen old ≡ devices_left (now set_up ms) → KeepsTheHeadline form old new end
+        → KeepsSecondHalf set_up ms old new end) }
 {}
 
 /// So it is of a text with the same upgrade and put, a pack, and a get, which gives the file out of the
@@ -72,26 +74,27 @@ pub fn a_pack_has_its_run()
     ensures fits { AllByRecursion CanBeSpelled (reverse packed_schedule) }
     ensures run { (ms : List Moment) × IsPackedRun ms × AreLeft set_up ms (devices_left (now set_up ms)) }
     ensures used { (ms : List Moment) × IsPackedRun ms
-        × ((old new : Seen) (end : Ending) → devices_of_seen old ≡ devices_left (now set_up ms) →
-        KeepsTheHeadline old new end → KeepsItsFile set_up ms name upgraded_file old new end) }
+        × ((form : Form) (old new : Seen) (end : Ending)
+        → devices_of_seen old ≡ devices_left (now set_up ms) → KeepsTheHeadline form old new end
+        → KeepsItsFile set_up ms name upgraded_file old new end) }
 {}
 
 /// So a replay or a trial over the devices that a run has left does nothing, or goes on with that very run,
 /// and the headline holds of the whole.
 pub fn commands_go_on_with_them()
-    ensures each { (start : State) (ms : List Moment) (old new : Seen) (end : Ending) → IsStart start
-        → IsRun 8 start ms → devices_of_seen old ≡ devices_left (now start ms) → KeepsTheHeadline old new end
+    ensures each { (start : State) (ms : List Moment) (form : Form) (old new : Seen) (end : Ending)
+        → IsStart start → IsRun 8 start ms → devices_of_seen old ≡ devices_left (now start ms)
+        → KeepsTheHeadline form old new end
         → GoesOnWith start ms old new end }
-    ensures fresh { (old new : Seen) (end : Ending) → devices_of_seen old ≡ fresh
-        → KeepsTheHeadline old new end →
-        GoesOnWith (start_of fresh []) [] old new end }
+    ensures fresh { (form : Form) (old new : Seen) (end : Ending) → devices_of_seen old ≡ fresh
+        → KeepsTheHeadline form old new end → GoesOnWith (start_of fresh []) [] old new end }
     ensures damaged { (ms : List Moment) × IsOutright ms
-        × ((old new : Seen) (end : Ending) → devices_of_seen old ≡ devices_left (now set_up ms) →
-        KeepsTheHeadline old new end
+        × ((form : Form) (old new : Seen) (end : Ending)
+        → devices_of_seen old ≡ devices_left (now set_up ms) → KeepsTheHeadline form old new end
         → KeepsItsFile set_up ms name (record { name = name; id = 1; size = 1; profile = 0 }) old new end) }
     ensures faulty { (ms : List Moment) × IsFaulty ms
-        × ((old new : Seen) (end : Ending) → devices_of_seen old ≡ devices_left (now set_up ms) →
-        KeepsTheHeadline old new end
+        × ((form : Form) (old new : Seen) (end : Ending)
+        → devices_of_seen old ≡ devices_left (now set_up ms) → KeepsTheHeadline form old new end
         → KeepsItsFile set_up ms other (record { name = other; id = 3; size = 0; profile = 0 }) old new
         end) }
     ensures replay { (start : State) (ms : List Moment) (text : List ℕ) (old new : Seen) (end : Ending)

@@ -1,7 +1,9 @@
-use Rattle.std.proofs.Common.{◌+◌, length, refl, ◌∙◌, arith}
+use Rattle.std.proofs.Common.{◌+◌, length, refl, ap, ◌∙◌, arith}
 use Rattle.std.proofs.lemmas.List.{length-map}
 use Rattle.machine_defs.specs.Runs.{now}
 use Rattle.provider_model.specs.Seen.{provider_seen}
+use Rattle.vault.specs.declared.turn.Turn.TheVariants as turn
+use Rattle.command_jobs.proofs.Fronts.{step-front}
 use Rattle.command_jobs.proofs.Fresh.{stands-enough}
 use Rattle.command_jobs.proofs.Goings.{no-steps, steps-turn, one-more, at-end, never-stops}
 use Rattle.command_jobs.proofs.run.finish.Goals as goal
@@ -30,6 +32,10 @@ loop-ended-preserved g c = (
   λ start w kind own moment only stands.
       let way = c.loop-ended.invariant.0 start w kind own moment only stands in
       one-more start kind own w moment c.args.number c.requires.first c.loop-ended.vault c.step.new.self _ _ _ way
+      (step-front c.loop-ended.vault _ _ (now w way.steps) c.args.number turn.More way.stands
+      (c.only_streams_wait.ensures c.loop-ended.vault c.args.number c.loop-ended.invariant.1)
+      (λ none. ap g.D.Disk.holds (c.in-More.ensures.still none))
+      (λ entry. c.in-More.ensures.moves (now w way.steps) entry way.stands))
       (c.in-More.ensures.machine (now w way.steps) (moment + length way.steps) way.stands),
   c.step.ensures.streams c.loop-ended.invariant.1,
   c.step.ensures.tells ∙ c.loop-ended.invariant.2,
@@ -39,7 +45,12 @@ pub returns-in-Done-clause-ended : goal.returns-in-Done-clause-ended
 returns-in-Done-clause-ended g c = λ start w kind own moment only stands.
     let way = c.loop-ended.invariant.0 start w kind own moment only stands in
     at-end start kind own w moment c.args.number c.requires.first c.loop-ended.vault c.step.new.self _ _ _ way
-    c.in-Done.ended (c.in-Done.ensures.machine (now w way.steps) (moment + length way.steps) way.stands)
+    c.in-Done.ended
+    (step-front c.loop-ended.vault _ _ (now w way.steps) c.args.number (turn.Done c.in-Done.ended) way.stands
+    (c.only_streams_wait.ensures c.loop-ended.vault c.args.number c.loop-ended.invariant.1)
+    (λ none. ap g.D.Disk.holds (c.in-Done.ensures.still none))
+    (λ entry. c.in-Done.ensures.moves (now w way.steps) entry way.stands))
+    (c.in-Done.ensures.machine (now w way.steps) (moment + length way.steps) way.stands)
 
 pub unreachable-requires : goal.unreachable-requires
 unreachable-requires g c =

@@ -1,10 +1,12 @@
-use Rattle.std.proofs.Common.{◌≡◌, ℕ, ◌+◌, false, length, Option, None, Some, refl, sym, ◌∙◌, arith}
+use Rattle.std.proofs.Common.{◌≡◌, ℕ, ◌+◌, false, length, Option, None, Some, refl, ap, sym, ◌∙◌, arith}
 use Rattle.std.specs.Prelude.{is_some}
 use Rattle.std.proofs.lemmas.List.{length-map}
 use Rattle.machine_defs.specs.Runs.{now}
 use Rattle.provider_model.specs.Seen.{provider_seen}
+use Rattle.vault.specs.declared.turn.Turn.TheVariants as turn
 use Rattle.command_jobs.proofs.Advancing.{still-behind, still-told, ends-early}
 use Rattle.command_jobs.proofs.Fresh.{stands-enough}
+use Rattle.command_jobs.proofs.Fronts.{step-front}
 use Rattle.command_jobs.proofs.Goings.{no-steps, steps-turn, never-stops}
 use Rattle.command_jobs.proofs.stream.advance.Goals as goal
 
@@ -36,6 +38,9 @@ returns-then-is_some-clause-went g c = λ start w kind own moment d way b.
     let here = c.loop-vault.invariant.went start w kind own moment d way in
     (still-behind start kind own w moment c.args.number c.requires.first _ way.only.job.place
     c.loop-vault.vault c.step.new.self d _ _ here c.loop-vault.invariant.told c.loop-vault.invariant.given
+    (step-front c.loop-vault.vault _ _ (now w here.way.steps) c.args.number turn.More here.way.stands
+    c.loop-vault.invariant.given (λ none. ap g.D.Disk.holds (c.in-More.ensures.still none))
+    (λ entry. c.in-More.ensures.moves (now w here.way.steps) entry here.way.stands))
     (c.in-More.ensures.machine (now w here.way.steps) (moment + length here.way.steps) here.way.stands)).way
 
 pub returns-then-is_some-clause-told : goal.returns-then-is_some-clause-told
@@ -45,6 +50,9 @@ returns-then-is_some-clause-told g c = λ none.
     (no-steps u.start u.kind u.own u.state 0 c.args.vault.now _ u.only u.stands) in
     still-told u.start u.kind u.own u.state 0 c.args.number c.requires.first _ _
     c.loop-vault.vault c.step.new.self _ _ _ here c.loop-vault.invariant.told c.loop-vault.invariant.given
+    (step-front c.loop-vault.vault _ _ (now u.state here.way.steps) c.args.number turn.More here.way.stands
+    c.loop-vault.invariant.given (λ none. ap g.D.Disk.holds (c.in-More.ensures.still none))
+    (λ entry. c.in-More.ensures.moves (now u.state here.way.steps) entry here.way.stands))
     (c.in-More.ensures.machine (now u.state here.way.steps) (0 + length here.way.steps) here.way.stands)
     (c.in-More.ensures.told c.args.number)
 
@@ -59,12 +67,18 @@ loop-vault-preserved g c =
           still-behind start kind own w moment c.args.number c.requires.first _ way.only.job.place
           c.loop-vault.vault c.step.new.self d _ _ here c.loop-vault.invariant.told
           c.loop-vault.invariant.given
+          (step-front c.loop-vault.vault _ _ (now w here.way.steps) c.args.number turn.More here.way.stands
+          c.loop-vault.invariant.given (λ none. ap g.D.Disk.holds (c.in-More.ensures.still none))
+          (λ entry. c.in-More.ensures.moves (now w here.way.steps) entry here.way.stands))
           (c.in-More.ensures.machine (now w here.way.steps) (moment + length here.way.steps)
           here.way.stands);
       given = none-some _ _ c.wants.ensures (sym c.is_some.ensures ∙ c.if-is_some.false);
       told = still-told u.start u.kind u.own u.state 0 c.args.number c.requires.first _ _
           c.loop-vault.vault c.step.new.self _ _ _ there c.loop-vault.invariant.told
           c.loop-vault.invariant.given
+          (step-front c.loop-vault.vault _ _ (now u.state there.way.steps) c.args.number turn.More there.way.stands
+          c.loop-vault.invariant.given (λ none. ap g.D.Disk.holds (c.in-More.ensures.still none))
+          (λ entry. c.in-More.ensures.moves (now u.state there.way.steps) entry there.way.stands))
           (c.in-More.ensures.machine (now u.state there.way.steps) (0 + length there.way.steps)
           there.way.stands) (c.in-More.ensures.told c.args.number);
       tells = c.in-More.ensures.tells ∙ c.loop-vault.invariant.tells;
@@ -79,6 +93,9 @@ returns-in-Done-clause-went g c = λ start w kind own moment d way b.
     ends-early start kind own w moment c.args.number c.requires.first _ way.only.job.place
     c.loop-vault.vault c.step.new.self d _ _ here c.loop-vault.invariant.told c.loop-vault.invariant.given
     c.in-Done.ended
+    (step-front c.loop-vault.vault _ _ (now w here.way.steps) c.args.number (turn.Done c.in-Done.ended) here.way.stands
+    c.loop-vault.invariant.given (λ none. ap g.D.Disk.holds (c.in-Done.ensures.still none))
+    (λ entry. c.in-Done.ensures.moves (now w here.way.steps) entry here.way.stands))
     (c.in-Done.ensures.machine (now w here.way.steps) (moment + length here.way.steps) here.way.stands) b
 
 pub unreachable-requires : goal.unreachable-requires

@@ -33,6 +33,6 @@ pub returns-clause-used : goal.returns-clause-used
 returns-clause-used c = (
   scrubbed_moments,
   is_scrubbed,
-  λ old new end is keeps. keeps-half set_up scrubbed_moments old new end (λ j. refl)
-      (goes-with set_up scrubbed_moments old new end is_scrubbed.goes.clean is_scrubbed.goes.run is keeps),
+  λ form old new end is keeps. keeps-half set_up scrubbed_moments old new end (λ j. refl)
+      (goes-with set_up scrubbed_moments form old new end is_scrubbed.goes.clean is_scrubbed.goes.run is keeps),
 )

@@ -12,8 +12,8 @@ pub returns : goal.returns
 unfolding setup_in actions_of
 returns c = record {
   each = goes-with;
-  fresh = λ old new end is headline.
-      goes-on (start_of fresh []) [] fresh old new end c.runs_leave_devices.ensures.fresh refl is headline;
+  fresh = λ form old new end is headline.
+      goes-on (start_of fresh []) [] fresh form old new end c.runs_leave_devices.ensures.fresh refl is headline;
   replay = λ start ms text old new end starts run is does.
       (let at = seen start ms (devices_left (now start ms)) old (left-of start ms starts run) refl is in
       (does.commands, does.schedule, does.runs start ms at.0 at.1));
