@@ -1,9 +1,9 @@
-mod Digits
-mod Marks
+pub mod Digits
+pub mod Marks
 mod Refusals
 mod Answers
-mod Outcomes
-mod OneLine
+pub mod Outcomes
+pub mod OneLine
 pub mod LastLines
 pub mod OfLines
 pub mod Happened

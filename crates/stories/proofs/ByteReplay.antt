@@ -20,11 +20,11 @@ use Rattle.command_runs.proofs.Stores.{put_begins, put-old, put-new, four, forme
 use Rattle.schedule_runs.proofs.Read.{read, are-lines}
 use Rattle.stories.specs.Words.{Cells, reads, firm, text, A, StandsActive, setup_of, empty_provider, lines_of, setup_or_none, continued, CarriesOut, sinking, byte, named, four_records, own_block, lines, IsSchedule, devices_of_seen, AnswersReplay, Replays, AreLeft, called_behind}
 use Rattle.stories.specs.Files.{put_of, got_behind}
-use Rattle.stories.specs.Instances.{byte_text, byte_lines, before_byte, behind_byte, byte_heard, byte_end}
+use Rattle.stories.specs.Instances.{opening, byte_text, byte_lines, before_byte, behind_byte, byte_heard, byte_end}
 
 -- the commands, the newest first
 abbrev commands : List Command
-commands = got_behind (put_of [] named byte None 1) named 2
+commands = got_behind (put_of opening named byte None 1) named 2
 
 -- the text spells them
 pub spelled : IsSchedule byte_text (reverse commands)

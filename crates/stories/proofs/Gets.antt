@@ -4,19 +4,21 @@ use Rattle.std.proofs.lemmas.List.{reverse-reverse}
 use Rattle.machine_defs.proofs.Untouched.{run_back, steps_begin_none}
 use Rattle.line_laws.proofs.OfLines.{run-lines}
 use Rattle.run_laws.proofs.ByEvents.{put_is_got_later}
-use Rattle.stories.specs.Words.{told_then, File, Answer, Got, Begin, Begun, Ended, HoldsForgery, heard_in, GetJob, lines_of, Moment, now, State, file_in, file_object, Instruction, CarriesOut, NoneAsksOn, GetEnds, Seen, Ending, devices_of_seen, AreLeft, called_behind}
+use Rattle.stories.specs.Words.{told_then, File, Answer, Got, Begin, Begun, Ended, HoldsForgery, heard_in, GetJob, lines_of, Moment, now, State, file_in, file_object, Instruction, CarriesOut, NoneAsksOn, LeavesFree, GetEnds, Seen, Ending, devices_of_seen, AreLeft, called_behind}
 use Rattle.stories.specs.Files.{put_of, got_behind, PutsFile, IsGot}
 use Rattle.stories.specs.Went.{WentOn}
-use Rattle.stories.proofs.Puts.{puts-file}
+use Rattle.stories.proofs.Puts.{puts-file, called-free}
 use Rattle.stories.proofs.Said.{got-said, written-as}
 
 module _ (front middle : List Instruction) (name bytes : List ℕ) (own : Option ℕ) (p g : ℕ) (start : State)
     (ms : List Moment)
-    (old new : Seen) (end : Ending) (asks : NoneAsksOn name middle) where
+    (old new : Seen) (end : Ending) (asks : NoneAsksOn name middle)
+    (leaves : LeavesFree name front) where
   -- a get that a replay carried out, and that its moments end with it
   pub is-got : (W : WentOn start ms (reverse (got_behind (middle ++ put_of front name bytes own p) name g))
-      old new end) → (G : IsGot middle start old new end p g name bytes)
-      × (W.later ++ called_behind start ms ≡ G.last ∷ (G.gaps ++ G.begin ∷ G.before))
+      old new end) → (G : IsGot front middle own start (called_behind start ms) old new end p g name bytes)
+      × (W.later ++ called_behind start ms
+      ≡ G.last ∷ (G.gaps ++ G.begin ∷ (G.before ++ called_behind start ms)))
   is-got W =
       (let C : CarriesOut (got_behind (middle ++ put_of front name bytes own p) name g) W.later W.lines =
       subst (λ cs. CarriesOut cs W.later W.lines)
@@ -29,8 +31,9 @@ module _ (front middle : List Instruction) (name bytes : List ℕ) (own : Option
       ∙ ap (λ l. C.0 ∷ l) (append_assoc C.1 (B.0 ∷ B.1) called) in
       let there : AreLeft start (C.0 ∷ (C.1 ++ B.0 ∷ before)) (devices_of_seen new) =
       subst (λ l. AreLeft start l (devices_of_seen new)) split W.left in
-      let put : PutsFile middle before B.2 p name bytes =
-      puts-file front middle name bytes own p B.1 called B.2 B.5 asks start
+      let put : PutsFile front middle own B.1 called B.2 p name bytes =
+      puts-file front middle name bytes own p B.1 called B.2 B.5 asks leaves (called-free name start ms) start
+      there.starts
       (run_back 8 start C.1 (B.0 ∷ before) there.run.2).2 in
       let text_is : new.sink ≡ told_then old.sink ((B.2 ++ lines_of B.0.outcome) ++ lines_of C.0.outcome) =
       W.written ∙ ap (told_then old.sink) (C.7 ∙ ap (λ l. l ++ lines_of C.0.outcome) B.6) in
@@ -43,12 +46,14 @@ module _ (front middle : List Instruction) (name bytes : List ℕ) (own : Option
         ended = ended;
       } in (
         record {
-          before = before;
+          before = B.1;
           begin = B.0;
           gaps = C.1;
           last = C.0;
           lines = B.2;
           put = put;
+          begins = B.4;
+          run_ends = C.5;
           left = there;
           written = text_is;
           ends = ends;
@@ -59,7 +64,7 @@ module _ (front middle : List Instruction) (name bytes : List ℕ) (own : Option
               (put_is_got_later 8 start before C.1 B.0 C.0 g name bytes got there.starts there.run
               (put.stored put_begun put_ended) (ends (Got got) get_begun get_ended));
           said = λ taken text how taken_is text_said says.
-              (let X = got-said 8 start B.0 C.0 C.1 before (Begin (GetJob name)) g how B.2 text p middle
+              (let X = got-said 8 start B.0 C.0 C.1 before (Begin (GetJob name)) g how B.2 text front p middle
               there.run B.4 tt C.5.step (run-lines (middle ++ put_of front name bytes own p) B.1 B.2 B.5)
               (written-as old.sink new.sink ((B.2 ++ lines_of B.0.outcome) ++ lines_of C.0.outcome) taken
               text text_is taken_is text_said) says in

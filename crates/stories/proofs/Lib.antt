@@ -2,6 +2,8 @@ mod Went
 mod Said
 mod Puts
 mod Gets
+mod Beside
 mod Asked
 mod ByteReplay
+mod ByteSaid
 mod DamagedGet

@@ -1,13 +1,15 @@
 -- What a text says of a put and of a get behind it is so.
-use Rattle.std.proofs.Common.{◌≡◌, ℕ, ◌<◌, ◌^◌, List, ◌∷◌, ◌++◌, length, Option, Some, sym, ap, subst, ◌∙◌, arith}
+use Rattle.std.proofs.Common.{◌≡◌, ℕ, ◌<◌, ◌^◌, List, ◌∷◌, ◌++◌, length, Option, Some, sym, ap, subst, ◌∙◌, inl, inr, arith, append_assoc}
 use Rattle.std.proofs.lemmas.List.{append_cancel_left}
 use Rattle.machine_defs.proofs.Untouched.{run_back}
 use Rattle.line_laws.proofs.Happened.{happened}
 use Rattle.line_laws.proofs.LastLines.{last-told}
-use Rattle.line_laws.proofs.OfLines.{joined, outcome-lines}
+use Rattle.line_laws.proofs.OfLines.{joined, outcome-lines, run-lines}
 use Rattle.line_laws.proofs.Read.{written-lines, text-behind}
-use Rattle.stories.specs.Words.{told_then, Answer, Put, Event, Step, Begun, Ended, IsSpelled, lines_of, Moment, now, IsRun, State, Instruction, CarriesOut, lines_of_all, IsToldAnswer, AsksForOneLine, WritesOneLine, IsOfLines}
-use Rattle.stories.specs.Said.{SaysPut, SaysGot}
+use Rattle.state_laws.specs.Sound.{IsLimit}
+use Rattle.effect_laws.proofs.Lists.{both-one, forward}
+use Rattle.stories.specs.Words.{told_then, IsStart, Answer, Put, Event, Step, Begun, Ended, IsSpelled, lines_of, Moment, now, IsRun, State, Instruction, CarriesOut, lines_of_all, IsToldAnswer, AsksForOneLine, WritesOneLine, IsOfLines}
+use Rattle.stories.specs.Said.{SaysBehind, SaysBefore, SaysPut, SaysGot}
 
 -- what was written behind what a sink had taken
 pub written-as : (old new : Option (List ℕ)) (lines taken text : List ℕ) → new ≡ told_then old lines →
@@ -22,11 +24,20 @@ three-lines : (x y z : List ℕ) → IsOfLines x → IsOfLines y → IsOfLines z
 three-lines x y z a b c = joined (x ++ y) z (joined x y a b) c
 
 -- a text that says so is of whole lines
-says-lines : (text : List ℕ) (p : ℕ) (middle : List Instruction) → SaysPut text p middle → IsOfLines text
-says-lines text p middle S = subst IsOfLines (sym S.text_is)
+says-lines : (text : List ℕ) (front : List Instruction) (p : ℕ) (middle : List Instruction) →
+    SaysPut text front p middle → IsOfLines text
+says-lines text front p middle (inl S) = subst IsOfLines (sym S.text_is)
     (joined ((S.front ++ lines_of (Begun p)) ++ lines_of (Ended Put)) (lines_of_all S.outcomes)
     (three-lines S.front (lines_of (Begun p)) (lines_of (Ended Put)) S.whole (outcome-lines (Begun p))
     (outcome-lines (Ended Put))) (written-lines S.outcomes))
+says-lines text front p middle (inr S) = subst IsOfLines (sym S.text_is)
+    (joined ((lines_of_all S.outcomes ++ lines_of (Begun p)) ++ lines_of (Ended Put)) S.rest
+    (three-lines (lines_of_all S.outcomes) (lines_of (Begun p)) (lines_of (Ended Put))
+    (written-lines S.outcomes) (outcome-lines (Begun p)) (outcome-lines (Ended Put))) S.whole)
+
+-- four texts, the first apart
+four-texts : (w x y z : List ℕ) → ((w ++ x) ++ y) ++ z ≡ w ++ (x ++ (y ++ z))
+four-texts w x y z = append_assoc (w ++ x) y z ∙ append_assoc w x (y ++ z)
 
 module _ (limit : ℕ) (start : State) where
   one-line-by : (m : Moment) (ms : List Moment) (event : Event) → m.event ≡ event → AsksForOneLine event →
@@ -58,13 +69,13 @@ module _ (limit : ℕ) (start : State) where
       (first.0, first.1, last.1)
 
   -- a put with commands behind it
-  pub put-said : (begin end : Moment) (later steps older : List Moment) (event : Event) (p : ℕ)
+  said-behind : (begin end : Moment) (later steps older : List Moment) (event : Event) (p : ℕ)
       (front rest : List ℕ) (middle : List Instruction) →
       IsRun limit start (later ++ end ∷ (steps ++ begin ∷ older)) → begin.event ≡ event →
       AsksForOneLine event → end.event ≡ Step p → IsOfLines front → CarriesOut middle later rest →
-      SaysPut (((front ++ lines_of begin.outcome) ++ lines_of end.outcome) ++ rest) p middle →
+      SaysBehind (((front ++ lines_of begin.outcome) ++ lines_of end.outcome) ++ rest) p middle →
       (begin.outcome ≡ Begun p) × (end.outcome ≡ Ended Put)
-  put-said begin end later steps older event p front rest middle run begun asks ended whole owns S =
+  said-behind begin end later steps older event p front rest middle run begun asks ended whole owns S =
       let B = text-behind limit start (end ∷ (steps ++ begin ∷ older)) middle later rest
       ((front ++ lines_of begin.outcome) ++ lines_of end.outcome)
       ((S.front ++ lines_of (Begun p)) ++ lines_of (Ended Put)) S.outcomes run S.one_each owns S.told
@@ -78,14 +89,52 @@ module _ (limit : ℕ) (start : State) where
       B.0 in
       (two.1, two.2)
 
+  -- a put behind commands whose lines are read
+  said-before : IsLimit limit → IsStart start → (begin end : Moment) (steps older base : List Moment)
+      (event : Event) (p : ℕ) (before rest : List ℕ) (front : List Instruction) →
+      IsRun limit start (end ∷ (steps ++ begin ∷ (older ++ base))) → begin.event ≡ event →
+      AsksForOneLine event → end.event ≡ Step p → CarriesOut front older before →
+      SaysBefore (((before ++ lines_of begin.outcome) ++ lines_of end.outcome) ++ rest) front p →
+      (begin.outcome ≡ Begun p) × (end.outcome ≡ Ended Put)
+  said-before fits clean begin end steps older base event p before rest front run begun asks ended ahead S =
+      let at_begin = run_back limit start steps (begin ∷ (older ++ base)) run.2 in
+      let F = forward limit start base fits clean front older before S.outcomes
+      (lines_of begin.outcome ++ (lines_of end.outcome ++ rest))
+      (lines_of (Begun p) ++ (lines_of (Ended Put) ++ S.rest)) at_begin.2 S.no_calls ahead S.told S.as_many
+      (sym (four-texts before (lines_of begin.outcome) (lines_of end.outcome) rest)
+      ∙ (S.text_is ∙ four-texts (lines_of_all S.outcomes) (lines_of (Begun p)) (lines_of (Ended Put)) S.rest)) in
+      let first = both-one begin.outcome (Begun p) (lines_of end.outcome ++ rest)
+      (lines_of (Ended Put) ++ S.rest) (one-line-by begin (older ++ base) event begun asks at_begin)
+      (short end (steps ++ begin ∷ (older ++ base)) p ended run) F.1 in
+      let second = both-one end.outcome (Ended Put) rest S.rest
+      (one-line-by end (steps ++ begin ∷ (older ++ base)) (Step p) ended tt run) tt first.1 in
+      (first.0, second.0)
+
+  -- a put that a text tells of in either way
+  pub put-said : IsLimit limit → IsStart start → (begin end : Moment) (later steps older base : List Moment)
+      (event : Event) (p : ℕ) (before rest : List ℕ) (front middle : List Instruction) →
+      IsRun limit start (later ++ end ∷ (steps ++ begin ∷ (older ++ base))) → begin.event ≡ event →
+      AsksForOneLine event → end.event ≡ Step p → CarriesOut front older before →
+      CarriesOut middle later rest →
+      SaysPut (((before ++ lines_of begin.outcome) ++ lines_of end.outcome) ++ rest) front p middle →
+      (begin.outcome ≡ Begun p) × (end.outcome ≡ Ended Put)
+  put-said fits clean begin end later steps older base event p before rest front middle run begun asks ended
+      ahead owns (inl S) =
+      said-behind begin end later steps (older ++ base) event p before rest middle run begun asks ended
+      (run-lines front older before ahead) owns S
+  put-said fits clean begin end later steps older base event p before rest front middle run begun asks ended
+      ahead owns (inr S) =
+      said-before fits clean begin end steps older base event p before rest front
+      (run_back limit start later (end ∷ (steps ++ begin ∷ (older ++ base))) run) begun asks ended ahead S
+
   -- a get behind lines
   pub got-said : (begin end : Moment) (gaps before : List Moment) (event : Event) (g : ℕ) (how : Answer)
-      (lines text : List ℕ) (p : ℕ) (middle : List Instruction) →
+      (lines text : List ℕ) (front : List Instruction) (p : ℕ) (middle : List Instruction) →
       IsRun limit start (end ∷ (gaps ++ begin ∷ before)) → begin.event ≡ event → AsksForOneLine event →
       end.event ≡ Step g → IsOfLines lines →
-      (lines ++ lines_of begin.outcome) ++ lines_of end.outcome ≡ text → SaysGot text p g middle how →
-      SaysPut lines p middle × (begin.outcome ≡ Begun g) × (end.outcome ≡ Ended how)
-  got-said begin end gaps before event g how lines text p middle run begun asks ended whole same S =
+      (lines ++ lines_of begin.outcome) ++ lines_of end.outcome ≡ text → SaysGot text front p g middle how →
+      SaysPut lines front p middle × (begin.outcome ≡ Begun g) × (end.outcome ≡ Ended how)
+  got-said begin end gaps before event g how lines text front p middle run begun asks ended whole same S =
       let two = two-said begin end gaps before event g how lines S.before run begun asks ended S.told whole
-      (says-lines S.before p middle S.put) (same ∙ S.text_is) in
-      (subst (λ l. SaysPut l p middle) (sym two.0) S.put, two.1, two.2)
+      (says-lines S.before front p middle S.put) (same ∙ S.text_is) in
+      (subst (λ l. SaysPut l front p middle) (sym two.0) S.put, two.1, two.2)

@@ -74,5 +74,5 @@ pub init-left : (start : State) (ms : List Moment) (old new : Seen) (end : Endin
     (own : List Moment) × AreLeft start (own ++ ms) (devices_of_seen new)
 init-left start ms old new end numbers told left (InitsDevices.untouched disk faults providers) =
     ([], left-same start ms old new disk faults providers left)
-init-left start ms old new end numbers told left (InitsDevices.made key goes) =
+init-left start ms old new end numbers told left (InitsDevices.made bytes key reads is goes) =
     (let G = goes start ms told left in (G.0, G.2))

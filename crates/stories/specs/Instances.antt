@@ -1,6 +1,7 @@
 -- A replay over a store that was set up, which puts a file of one byte and gets it; and a get where one block
 -- is lost.
 --
+--   opening               == the commands before the put: the store is opened
 --   byte_text, byte_lines == the text of that schedule, and what it writes
 --   get_of_byte           == the commands of the get, the newest first
 --   before_byte, behind_byte, byte_heard, byte_end
@@ -12,7 +13,11 @@
 use Rattle.std.specs.Prelude.{ℕ, List, [], ◌∷◌, map, codes, Some, None}
 use Rattle.std.specs.List.{flat_map}
 use Rattle.code_defs.specs.Points.{upto}
-use Rattle.stories.specs.Words.{Begin, empty_provider, Entry, GetJob, Fetched, line, State, Instruction, Once, RunJob, Seen, Ending, with_sink, with_source, reading_devices, four_records, byte_records, none_hold, holds, fetched, named, own_block, heard, ends_hearing, byte, start_of, devices_of_seen}
+use Rattle.stories.specs.Words.{Begin, Reopen, empty_provider, Entry, GetJob, Fetched, line, State, Instruction, Once, RunJob, Seen, Ending, with_sink, with_source, reading_devices, four_records, byte_records, none_hold, holds, fetched, named, own_block, heard, ends_hearing, byte, start_of, devices_of_seen}
+
+-- the commands before the put: the store is opened
+abbrev pub opening : List Instruction
+opening = Once Reopen ∷ []
 
 -- the text: a file of one byte is put and got
 abbrev pub byte_text : List ℕ

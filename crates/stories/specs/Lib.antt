@@ -2,4 +2,5 @@ pub mod Words
 pub mod Went
 pub mod Said
 pub mod Files
+pub mod Beside
 pub mod Instances

@@ -10,7 +10,7 @@ unfoldable pub use Rattle.record_defs.specs.Spellings.{spelling}
 pub use Rattle.record_defs.specs.Table.{File, next_audit, setup_of, version_of}
 pub use Rattle.machine_defs.specs.Answers.{Answer, Got, Put}
 pub use Rattle.machine_defs.specs.Damaged.{AsksDamageOf, DamagesOnly}
-pub use Rattle.machine_defs.specs.Events.{AreBytes, Begin, Begun, Ended, Event, IsSpelled, Outcome, Reopen, Step, put_event}
+pub use Rattle.machine_defs.specs.Events.{AreBytes, Begin, Begun, Continue, Ended, Event, IsSpelled, Opened, Outcome, Reopen, Step, put_event}
 pub use Rattle.machine_defs.specs.Examples.{empty_provider}
 pub use Rattle.machine_defs.specs.Halves.{AllTell}
 pub use Rattle.machine_defs.specs.Heard.{Entry, HoldsForgery, heard_in}
@@ -19,10 +19,10 @@ pub use Rattle.machine_defs.specs.Lines.{line, lines_of}
 pub use Rattle.machine_defs.specs.Runs.{IsRun, Moment, now}
 pub use Rattle.machine_defs.specs.Setups.{setup_or_none}
 pub use Rattle.machine_defs.specs.Stands.{IsFresh, StandsForState}
-pub use Rattle.machine_defs.specs.States.{State, continued, file_in, file_object}
+pub use Rattle.machine_defs.specs.States.{IsStart, State, continued, file_in, file_object}
 unfoldable pub use Rattle.machine_defs.specs.States.{setup_in}
-pub use Rattle.machine_defs.specs.Transcripts.{CarriesOut, Instruction, Once, RunJob}
-pub use Rattle.machine_defs.specs.Untouched.{NoneAsksOn, NoneUnderWay}
+pub use Rattle.machine_defs.specs.Transcripts.{CarriesOut, Instruction, Once, RunJob, RunsToEnd}
+pub use Rattle.machine_defs.specs.Untouched.{IsFree, NoneAsksOn, NoneUnderWay}
 pub use Rattle.command_defs.specs.Forms.{AuditAll, Command, GetOf, InitWith, IsForm, Numbers, PackJournal, PutUnder, RepairAll, RowOf, ScrubAll, UpgradeJournal}
 pub use Rattle.command_defs.specs.Jobs.{IsTold}
 pub use Rattle.command_defs.specs.Lines.{audit_lines}
@@ -45,6 +45,8 @@ pub use Rattle.hail_top.specs.Answered.{AnswersWords}
 pub use Rattle.hail_top.specs.InitRuns.{InitsDevices, InitsOn}
 pub use Rattle.line_laws.specs.Read.{AskForOneLine, lines_of_all}
 pub use Rattle.line_laws.specs.Told.{AsksForOneLine, IsOfLines, IsToldAnswer, IsToldByLine, WritesOneLine}
+pub use Rattle.effect_laws.specs.Lists.{IsToldByLines, NoneCalls, ReadsAs}
+pub use Rattle.effect_laws.specs.Transcripts.{AsksPutsOnly, LeavesFree}
 pub use Rattle.run_laws.specs.Stories.{GetEnds, Stored}
 pub use Rattle.schedule_text.specs.Schedules.{IsSchedule, lines}
 pub use Rattle.second_half_laws.specs.Sharp.{IsLostByFaults}

@@ -2,10 +2,10 @@
 ghost use Rattle.std.specs.Prelude.{◌≡◌, ◌≢◌, ◌≤◌, ◌<◌, ◌==◌, ◌&&◌, ◌++◌, ℕ, not, true, false, List, [], length, String, Some, None, is_some, reverse};
 ghost use Rattle.std.specs.declared.alloc.Global.{Global};
 ghost use Rattle.damage_run.specs.Points.{counts};
-ghost use Rattle.stories.specs.Words.{is_flagged, DamagesOnly, AsksDamageOf, AreBytes, Begun, Ended, Put, Got, AllTell, NoneAsksOn, PutUnder, GetOf, AuditAll, RepairAll, UpgradeJournal, ScrubAll, PackJournal, IsForm, IsTold, audit_lines, setup_in_effect, provider_at, Follows, HasRightFile, IsUntouched, IsSteady, spoilt_below, IsKnown, ends, named, four_records, byte_records, to_put, byte_stored, damaged, byte_audited, answers_heard, due, repaired, mended, got, own_blocks_heard, swept, robbed_later, got_later, later_heard, byte_kept, byte_upgraded, upgraded_kept, ends_hearing, IsFilling, packed_kept, packed_store, got_packed, byte, next_audit, IsSchedule, devices_of_seen, IsReplayForm, AreLeft, AnswersWords};
+ghost use Rattle.stories.specs.Words.{is_flagged, DamagesOnly, AsksDamageOf, AreBytes, Begun, Ended, Put, Got, AllTell, NoneAsksOn, LeavesFree, AsksPutsOnly, NoneCalls, PutUnder, GetOf, AuditAll, RepairAll, UpgradeJournal, ScrubAll, PackJournal, IsForm, IsTold, audit_lines, setup_in_effect, provider_at, Follows, HasRightFile, IsUntouched, IsSteady, spoilt_below, IsKnown, ends, named, four_records, byte_records, to_put, byte_stored, damaged, byte_audited, answers_heard, due, repaired, mended, got, own_blocks_heard, swept, robbed_later, got_later, later_heard, byte_kept, byte_upgraded, upgraded_kept, ends_hearing, IsFilling, packed_kept, packed_store, got_packed, byte, next_audit, IsSchedule, devices_of_seen, IsReplayForm, AreLeft, called_behind, AnswersWords};
 ghost use Rattle.stories.specs.Files.{put_of, got_behind, IsGot};
-ghost use Rattle.stories.specs.Said.{SaysPut, SaysGot};
-ghost use Rattle.stories.specs.Instances.{byte_text, byte_lines, get_of_byte, before_byte, behind_byte, byte_end, first_state, damaged_got, three_heard, other_byte};
+ghost use Rattle.stories.specs.Said.{SaysBefore, SaysPut, SaysGot};
+ghost use Rattle.stories.specs.Instances.{opening, byte_text, byte_lines, get_of_byte, before_byte, behind_byte, byte_end, first_state, damaged_got, three_heard, other_byte};
 
 use command_runs::packs::packs_end;
 use command_runs::runs::commands_end;
@@ -18,17 +18,20 @@ use command_words::laws::words_spell_one_command;
 pub fn a_byte_is_put_and_got()
     ensures replay { (words : List (String Global)) → IsReplayForm words
         → AnswersWords words before_byte behind_byte byte_end }
-    ensures spells { IsSchedule byte_text (reverse (got_behind ([] ++ put_of [] named byte None 1) named 2)) }
-    ensures survives { IsSchedule byte_text (reverse (get_of_byte ++ put_of [] named byte None 1)) }
-    ensures asks { NoneAsksOn named [] × NoneAsksOn named get_of_byte }
+    ensures spells { IsSchedule byte_text (reverse (got_behind ([] ++ put_of opening named byte None 1) named 2)) }
+    ensures survives { IsSchedule byte_text (reverse (get_of_byte ++ put_of opening named byte None 1)) }
+    ensures asks { LeavesFree named opening × NoneAsksOn named [] × NoneAsksOn named get_of_byte }
+    ensures beside { AsksPutsOnly named other_byte get_of_byte × NoneCalls get_of_byte }
     ensures left { AreLeft first_state [] (devices_of_seen before_byte) }
-    ensures got { (G : IsGot [] first_state before_byte behind_byte byte_end 1 2 named byte)
+    ensures got { (G : IsGot opening [] None first_state (called_behind first_state []) before_byte behind_byte
+        byte_end 1 2 named byte)
         × (G.put.begin.outcome ≡ Begun 1) × (G.put.end.outcome ≡ Ended Put)
         × (G.begin.outcome ≡ Begun 2) × (G.last.outcome ≡ Ended (Got byte)) }
     ensures said { (before_byte.sink ≡ Some []) × (behind_byte.sink ≡ Some ([] ++ byte_lines))
-        × SaysGot byte_lines 1 2 [] (Got byte) × ((before : List ℕ) × SaysPut before 1 []) }
+        × SaysGot byte_lines opening 1 2 [] (Got byte) × ((before : List ℕ) × SaysPut before opening 1 [])
+        × SaysBefore byte_lines opening 1 }
     ensures calm { AllTell first_state × DamagesOnly [] []
-        × AsksDamageOf [] ([] ++ put_of [] named byte None 1) }
+        × AsksDamageOf [] ([] ++ put_of opening named byte None 1) }
 {}
 
 /// A put of that file, and a get by the next command, where provider 2 has lost its block in between. Both

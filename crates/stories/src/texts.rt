@@ -1,7 +1,7 @@
 //! A file over a replay, read from two texts: the schedule's, and what was written.
 ghost use Rattle.std.specs.Prelude.{◌≡◌, ◌⊎◌, ◌≤◌, ◌++◌, ℕ, List, ◌∷◌, String, Option, Some, true, is_some, length, reverse};
 ghost use Rattle.std.specs.declared.alloc.Global.{Global};
-ghost use Rattle.stories.specs.Words.{EachImage, File, Answer, Got, DamagesOnly, AsksDamageOf, AllTell, HoldsForgery, Moment, now, State, setup_in, file_in, file_object, Instruction, NoneAsksOn, Seen, Ending, IsSchedule, IsLostByFaults, ImageHasFile, devices_of_seen, IsReplayForm, AreLeft, AnswersWords};
+ghost use Rattle.stories.specs.Words.{EachImage, File, Answer, Got, DamagesOnly, AsksDamageOf, AllTell, HoldsForgery, Moment, now, State, setup_in, file_in, file_object, Instruction, NoneAsksOn, LeavesFree, Seen, Ending, IsSchedule, IsLostByFaults, ImageHasFile, devices_of_seen, IsReplayForm, AreLeft, called_behind, AnswersWords};
 ghost use Rattle.stories.specs.Files.{put_of, got_behind, IsGot, IsGotWhole};
 ghost use Rattle.stories.specs.Said.{SaysPut, SaysGot};
 
@@ -20,33 +20,34 @@ pub fn texts_tell_the_stories()
         (taken said got : List ℕ)
         → AnswersWords words old new end → IsReplayForm words → old.source ≡ Some text
         → IsSchedule text (reverse (got_behind (middle ++ put_of front name bytes own p) name g))
-        → NoneAsksOn name middle → end.status ≡ 0 → is_some old.disk ≡ true
+        → LeavesFree name front → NoneAsksOn name middle → end.status ≡ 0 → is_some old.disk ≡ true
         → AreLeft start ms (devices_of_seen old)
-        → old.sink ≡ Some taken → new.sink ≡ Some (taken ++ said) → SaysGot said p g middle (Got got)
-        → (G : IsGot middle start old new end p g name bytes) × ((got ≡ bytes) ⊎ ((file : File)
-        × (file_in (now start G.before) name ≡ Some file)
-        × HoldsForgery (file_object (now start G.before) file) bytes g end.heard)) }
+        → old.sink ≡ Some taken → new.sink ≡ Some (taken ++ said) → SaysGot said front p g middle (Got got)
+        → (G : IsGot front middle own start (called_behind start ms) old new end p g name bytes) × ((got ≡ bytes) ⊎ ((file : File)
+        × (file_in (now start (G.before ++ called_behind start ms)) name ≡ Some file)
+        × HoldsForgery (file_object (now start (G.before ++ called_behind start ms)) file) bytes g end.heard)) }
     ensures whole { (words : List (String Global)) (text : List ℕ) (front middle : List Instruction)
         (name bytes : List ℕ) (own : Option ℕ) (p g : ℕ) (ps : List ℕ) (start : State) (ms : List Moment)
         (old new : Seen) (end : Ending) (taken said : List ℕ) (how : Answer)
         → AnswersWords words old new end → IsReplayForm words → old.source ≡ Some text
         → IsSchedule text (reverse (got_behind (middle ++ put_of front name bytes own p) name g))
-        → NoneAsksOn name middle → end.status ≡ 0 → is_some old.disk ≡ true
+        → LeavesFree name front → NoneAsksOn name middle → end.status ≡ 0 → is_some old.disk ≡ true
         → AreLeft start ms (devices_of_seen old) → AllTell start → DamagesOnly ps ms
         → AsksDamageOf ps (middle ++ put_of front name bytes own p)
-        → old.sink ≡ Some taken → new.sink ≡ Some (taken ++ said) → SaysGot said p g middle how
-        → (W : IsGotWhole middle start old new end p g ps name bytes)
+        → old.sink ≡ Some taken → new.sink ≡ Some (taken ++ said) → SaysGot said front p g middle how
+        → (W : IsGotWhole front middle own start (called_behind start ms) old new end p g ps name bytes)
         × (length ps
-        ≤ (setup_in (now start (W.got.last ∷ (W.got.gaps ++ W.got.begin ∷ W.got.before)))).b
-        → (how ≡ Got bytes) ⊎ IsLostByFaults (now start W.got.before) W.got.last.state how) }
+        ≤ (setup_in (now start (W.got.last ∷ (W.got.gaps ++ W.got.begin
+        ∷ (W.got.before ++ called_behind start ms))))).b
+        → (how ≡ Got bytes) ⊎ IsLostByFaults (now start (W.got.before ++ called_behind start ms)) W.got.last.state how) }
     ensures survives { (words : List (String Global)) (text : List ℕ) (front middle : List Instruction)
         (name bytes : List ℕ) (own : Option ℕ) (p : ℕ) (start : State) (ms : List Moment)
         (old new : Seen) (end : Ending)
         (taken said : List ℕ)
         → AnswersWords words old new end → IsReplayForm words → old.source ≡ Some text
-        → IsSchedule text (reverse (middle ++ put_of front name bytes own p)) → NoneAsksOn name middle
-        → end.status ≡ 0 → is_some old.disk ≡ true → AreLeft start ms (devices_of_seen old)
-        → old.sink ≡ Some taken → new.sink ≡ Some (taken ++ said) → SaysPut said p middle
+        → IsSchedule text (reverse (middle ++ put_of front name bytes own p)) → LeavesFree name front
+        → NoneAsksOn name middle → end.status ≡ 0 → is_some old.disk ≡ true → AreLeft start ms (devices_of_seen old)
+        → old.sink ≡ Some taken → new.sink ≡ Some (taken ++ said) → SaysPut said front p middle
         → (file : File) × (file.size ≡ length bytes) × EachImage new.disk (ImageHasFile name file) }
 {
     what_is_put_is_got();

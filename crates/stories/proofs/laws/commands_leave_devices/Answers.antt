@@ -26,8 +26,9 @@ returns c = record {
   init = λ words numbers start ms old new end answers form told left.
       init-left start ms old new end numbers told left (answers.inits (InitWith numbers) form);
   carried = λ words form start ms old new end answers is told left. elim (answers.headline form is) [
-    | inl u ↦ ([], left-same start ms old new u.2.disk u.2.disk_faults u.2.providers left)
-    | inr goes ↦ (let G = goes start ms told left in (
+    | inl u ↦ (let same = u.3 in
+        ([], left-same start ms old new same.disk same.disk_faults same.providers left))
+    | inr asks ↦ (let G = (asks.goes_on start ms told left).goes in (
       G.later ++ call_from (now start ms) ∷ [],
       subst (λ l. AreLeft start l (devices_of_seen new))
           (sym (append_assoc G.later (call_from (now start ms) ∷ []) ms))

@@ -1,0 +1,158 @@
+-- Commands behind others are carried out behind them.
+use Rattle.std.proofs.Common.{◌≡◌, ℕ, suc, List, [], ◌∷◌, ◌++◌, length, refl, ap, sym, ◌∙◌, append_assoc, append-nil, arith}
+use Rattle.record_defs.specs.Table.{File}
+use Rattle.machine_defs.specs.Events.{Outcome, Listed}
+use Rattle.machine_defs.specs.Lines.{lines_of}
+use Rattle.machine_defs.specs.Runs.{Moment}
+use Rattle.machine_defs.specs.Transcripts.{Instruction, Once, RunJob, CarriesOut}
+use Rattle.line_laws.specs.Read.{lines_of_all, EndsAs}
+use Rattle.effect_laws.specs.Lists.{AreListed, IsRead, ReadsAs}
+use Rattle.effect_laws.specs.Transcripts.{CarriesApart, EndsApart}
+
+-- the moments and lines of commands behind others
+pub carried_apart : (own others : List Instruction) (ms : List Moment) (lines : List ℕ) →
+    CarriesOut (own ++ others) ms lines → CarriesApart own others ms lines
+carried_apart [] others ms lines C = record {
+  later = [];
+  older = ms;
+  before = lines;
+  more = [];
+  moments = refl;
+  lines_are = sym (append-nil lines);
+  owns = (refl, refl);
+  rest = C;
+}
+carried_apart (Once event ∷ own) others ms lines (m, older, before, is, here, C, lines_are) =
+    (let P = carried_apart own others older before C in record {
+      later = m ∷ P.later;
+      older = P.older;
+      before = P.before;
+      more = P.more ++ lines_of m.outcome;
+      moments = is ∙ ap (λ l. m ∷ l) P.moments;
+      lines_are = lines_are ∙ ap (λ l. l ++ lines_of m.outcome) P.lines_are
+          ∙ append_assoc P.before P.more (lines_of m.outcome);
+      owns = (m, P.later, P.more, refl, here, P.owns, refl);
+      rest = P.rest;
+    })
+carried_apart (RunJob job ∷ own) others ms lines (m, steps, older, before, is, here, C, lines_are) =
+    (let P = carried_apart own others older before C in record {
+      later = m ∷ (steps ++ P.later);
+      older = P.older;
+      before = P.before;
+      more = P.more ++ lines_of m.outcome;
+      moments = is ∙ ap (λ l. m ∷ (steps ++ l)) P.moments
+          ∙ ap (λ l. m ∷ l) (sym (append_assoc steps P.later P.older));
+      lines_are = lines_are ∙ ap (λ l. l ++ lines_of m.outcome) P.lines_are
+          ∙ append_assoc P.before P.more (lines_of m.outcome);
+      owns = (m, steps, P.later, P.more, refl, here, P.owns, refl);
+      rest = P.rest;
+    })
+
+-- commands that are carried out end with outcomes, which wrote the lines
+pub carried_end : (commands : List Instruction) (ms : List Moment) (lines : List ℕ) →
+    CarriesOut commands ms lines →
+    (outcomes : List Outcome) × EndsAs commands ms outcomes × (lines ≡ lines_of_all outcomes)
+carried_end [] ms lines (none, no_lines) = ([], none, no_lines)
+carried_end (Once event ∷ cs) ms lines (m, older, before, is, here, C, lines_are) =
+    (let E = carried_end cs older before C in (
+      m.outcome ∷ E.0,
+      (m, older, is, here, refl, E.1),
+      lines_are ∙ ap (λ l. l ++ lines_of m.outcome) E.2,
+    ))
+carried_end (RunJob job ∷ cs) ms lines (m, steps, older, before, is, here, C, lines_are) =
+    (let E = carried_end cs older before C in (
+      m.outcome ∷ E.0,
+      (m, steps, older, is, here, refl, E.1),
+      lines_are ∙ ap (λ l. l ++ lines_of m.outcome) E.2,
+    ))
+
+-- an outcome is read as itself
+all_listed : (files : List File) → AreListed files files
+all_listed [] = tt
+all_listed (f ∷ fs) = (refl, refl, all_listed fs)
+
+pub read_itself : (x r : Outcome) → x ≡ r → IsRead x r
+read_itself x (Listed files) is = (files, is, all_listed files)
+read_itself x r is = is
+
+-- so what commands end as is read
+pub ends_read : (commands : List Instruction) (ms : List Moment) (rs : List Outcome) → EndsAs commands ms rs →
+    ReadsAs commands ms rs
+ends_read [] ms [] is = is
+ends_read (Once event ∷ cs) ms (r ∷ rs) (m, older, is, here, outcome, E) =
+    (m, older, is, here, read_itself m.outcome r outcome, ends_read cs older rs E)
+ends_read (RunJob job ∷ cs) ms (r ∷ rs) (m, steps, older, is, here, outcome, E) =
+    (m, steps, older, is, here, read_itself m.outcome r outcome, ends_read cs older rs E)
+ends_read [] ms (r ∷ rs) E = absurd E
+ends_read (Once event ∷ cs) ms [] E = absurd E
+ends_read (RunJob job ∷ cs) ms [] E = absurd E
+
+-- the moments of commands behind others, by how many outcomes are theirs
+pub ends_apart : (own others : List Instruction) (ms : List Moment) (outcomes before : List Outcome) →
+    ReadsAs (own ++ others) ms (outcomes ++ before) → length outcomes ≡ length own →
+    EndsApart own others ms outcomes before
+ends_apart [] others ms [] before E same =
+    record { later = []; older = ms; moments = refl; owns = refl; rest = E }
+ends_apart (Once event ∷ own) others ms (r ∷ rs) before (m, older, is, here, outcome, E) same =
+    (let P = ends_apart own others older rs before E (omega (arith, same)) in record {
+      later = m ∷ P.later;
+      older = P.older;
+      moments = is ∙ ap (λ l. m ∷ l) P.moments;
+      owns = (m, P.later, refl, here, outcome, P.owns);
+      rest = P.rest;
+    })
+ends_apart (RunJob job ∷ own) others ms (r ∷ rs) before (m, steps, older, is, here, outcome, E) same =
+    (let P = ends_apart own others older rs before E (omega (arith, same)) in record {
+      later = m ∷ (steps ++ P.later);
+      older = P.older;
+      moments = is ∙ ap (λ l. m ∷ (steps ++ l)) P.moments
+          ∙ ap (λ l. m ∷ l) (sym (append_assoc steps P.later P.older));
+      owns = (m, steps, P.later, refl, here, outcome, P.owns);
+      rest = P.rest;
+    })
+ends_apart [] others ms (r ∷ rs) before E same = absurd (omega (arith, same))
+ends_apart (Once event ∷ own) others ms [] before E same = absurd (omega (arith, same))
+ends_apart (RunJob job ∷ own) others ms [] before E same = absurd (omega (arith, same))
+
+-- the outcomes of commands behind others
+pub outcomes_apart : (own others : List Instruction) (ms : List Moment) (outcomes : List Outcome) →
+    ReadsAs (own ++ others) ms outcomes → (rs : List Outcome) × (ss : List Outcome) × (outcomes ≡ rs ++ ss)
+    × (length rs ≡ length own) × EndsApart own others ms rs ss
+outcomes_apart [] others ms outcomes E = (
+  [],
+  outcomes,
+  refl,
+  refl,
+  record { later = []; older = ms; moments = refl; owns = refl; rest = E },
+)
+outcomes_apart (Once event ∷ own) others ms (r ∷ rs) (m, older, is, here, outcome, E) =
+    (let P = outcomes_apart own others older rs E in let A = P.4 in (
+      r ∷ P.0,
+      P.1,
+      ap (λ l. r ∷ l) P.2,
+      ap suc P.3,
+      record {
+        later = m ∷ A.later;
+        older = A.older;
+        moments = is ∙ ap (λ l. m ∷ l) A.moments;
+        owns = (m, A.later, refl, here, outcome, A.owns);
+        rest = A.rest;
+      },
+    ))
+outcomes_apart (RunJob job ∷ own) others ms (r ∷ rs) (m, steps, older, is, here, outcome, E) =
+    (let P = outcomes_apart own others older rs E in let A = P.4 in (
+      r ∷ P.0,
+      P.1,
+      ap (λ l. r ∷ l) P.2,
+      ap suc P.3,
+      record {
+        later = m ∷ (steps ++ A.later);
+        older = A.older;
+        moments = is ∙ ap (λ l. m ∷ (steps ++ l)) A.moments
+            ∙ ap (λ l. m ∷ l) (sym (append_assoc steps A.later A.older));
+        owns = (m, steps, A.later, refl, here, outcome, A.owns);
+        rest = A.rest;
+      },
+    ))
+outcomes_apart (Once event ∷ own) others ms [] E = absurd E
+outcomes_apart (RunJob job ∷ own) others ms [] E = absurd E

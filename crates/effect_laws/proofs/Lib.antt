@@ -1,0 +1,13 @@
+pub mod Offers
+pub mod Allowed
+pub mod Origin
+pub mod Steady
+pub mod Drops
+pub mod Since
+pub mod Gets
+pub mod Apart
+pub mod Asked
+pub mod Jobs
+pub mod Lists
+pub mod PutAgain
+pub mod Named

@@ -1,0 +1,16 @@
+use Rattle.std.proofs.Common.{inl, arith}
+use Rattle.machine_defs.specs.Examples.{set_up}
+use Rattle.effect_laws.specs.Instances.{name, byte}
+use Rattle.effect_laws.proofs.PutAgain.{starts, run, lines, none-calls, all-told, reads, is-again, is-dropped, none-other}
+use Rattle.effect_laws.proofs.instances.a_name_is_put_again_and_dropped.Goals as goal
+
+pub returns : goal.returns
+returns c = record {
+  run = (starts, run);
+  lines = (none-calls, lines, all-told);
+  reads = reads;
+  again = (let F = (c.stored_files_give_way_to_puts.ensures.there 8 set_up is-again.later is-again.older name
+      byte (omega arith, omega arith) starts is-again.run is-again.stored is-again.drops).in_effect in
+      (is-again, F.0, inl F.1));
+  dropped = (is-dropped, none-other);
+}

@@ -1,0 +1,5 @@
+pub mod Puts
+pub mod Lists
+pub mod Transcripts
+pub mod Counts
+pub mod Instances
