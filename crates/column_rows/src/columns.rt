@@ -216,11 +216,11 @@ fn stripes_open_with_one_block_absent_and_lose_a_row_without_any(rt: HostRuntime
     assert!(rt; openings(&rt, rt.alloc()) == wanted);
 }
 
-/// A bench for a file of profile 0 over seven providers, of which two keep symbols.
+/// A bench for a file of profile 0 over sixteen providers, of which two keep symbols.
 #[derive(Drop)]
 struct Wide {
     bench: Bench,
-    ghost n: { bench.keys.file.shape.n ≡ 7 },
+    ghost n: { bench.keys.file.shape.n ≡ 16 },
     ghost l: { bench.keys.file.shape.l ≡ 2 },
     ghost size: { bench.keys.file.profile.size ≡ 6 },
     ghost keep: { bench.keys.file.profile.keep ≡ 2 },
@@ -231,7 +231,7 @@ fn tabled(rt: &impl Abort, alloc: Global) -> ObjectKeys {
     let file = FileShape {
         id: 1,
         length: 64,
-        shape: Shape::new(7, 2, 2).expect(rt, "a shape"),
+        shape: Shape::new(16, 2, 2).expect(rt, "a shape"),
         profile: find_profile(0).expect(rt, "a profile"),
     };
     ObjectKeys::with_tables(alloc, &numbered_key(), &file).expect(rt, "memory")
@@ -242,13 +242,13 @@ fn wide_file(rt: &impl Abort, alloc: Global) -> Wide {
     let mut bench = Bench::new(alloc, tabled(rt, alloc)).expect(rt, "memory");
     bench.turn_to(2);
     let (shape, profile) = (bench.keys.file.shape, bench.keys.file.profile);
-    assert!(rt; shape.n == 7 && shape.l == 2 && profile.size == 6 && profile.keep == 2);
+    assert!(rt; shape.n == 16 && shape.l == 2 && profile.size == 6 && profile.keep == 2);
     Wide { bench }
 }
 
 /// Makes the codeword of a provider: of a stripe of ones, or of other symbols where it lies.
 fn give(wide: &mut Wide, provider: u32, lies: bool)
-    requires { provider < 7 }
+    requires { provider < 16 }
 {
     let bench = &mut wide.bench;
     if lies {
@@ -259,11 +259,11 @@ fn give(wide: &mut Wide, provider: u32, lies: bool)
     bench.make_column(0, provider);
 }
 
-/// The codewords of all seven, one after the other, with one wrong symbol in each if all err.
-fn all_given(wide: &mut Wide, liars: &[bool; 7], err: bool) -> [Symbol; 42] {
-    let mut seen = [Symbol::ZERO; 42];
-    for j in 0..7 {
-        give(wide, j as u32, liars[j]);
+/// The codewords of all sixteen, one after the other, with one wrong symbol in each if all err.
+fn all_given(wide: &mut Wide, liars: &[u32], err: bool) -> [Symbol; 96] {
+    let mut seen = [Symbol::ZERO; 96];
+    for j in 0..16 {
+        give(wide, j as u32, liars.contains(&(j as u32)));
         lay(&wide.bench.column, 6 * j, &mut seen);
         if err {
             seen[6 * j] = seen[6 * j].add(Symbol::ONE);
@@ -273,9 +273,9 @@ fn all_given(wide: &mut Wide, liars: &[bool; 7], err: bool) -> [Symbol; 42] {
 }
 
 /// Whether what was seen opens to a stripe of ones.
-fn opens(wide: &mut Wide, codec: &mut Codec, seen: &[Symbol; 42]) -> bool {
+fn opens(wide: &mut Wide, codec: &mut Codec, seen: &[Symbol; 96]) -> bool {
     let bench = &mut wide.bench;
-    let answer = bench.open(codec, 0, seen, &[true; 7]);
+    let answer = bench.open(codec, 0, seen, &[true; 16]);
     answer == Ok(())
         && bench.rows.as_slice()
             == [Symbol(0x0101_0101_0101_0101_0101_0101_0101_0101); 4].as_slice()
@@ -287,7 +287,7 @@ fn opens_twice(
     rt: &impl Abort,
     alloc: Global,
     wide: &mut Wide,
-    seen: &[Symbol; 42],
+    seen: &[Symbol; 96],
 ) -> (bool, u32, u32) {
     let mut codec = Codec::new(alloc).expect(rt, "memory");
     wide.bench.at_hand = AtHand::new();
@@ -296,41 +296,26 @@ fn opens_twice(
     (open, decoded.blocks, decoded.rows)
 }
 
-/// Which of seven providers give codewords of other symbols, whether one symbol of each block is wrong, and
-/// whether the stripe opens, with how many blocks and rows decoded. A clean one takes none. Liars cost one row
-/// the first time, and none the second. Where symbols are wrong the blocks are decoded each time; a row then
+/// Which of sixteen providers give codewords of other symbols, whether one symbol of each block is wrong, and
+/// whether the stripe opens, with how many blocks and rows decoded. A clean one takes none, nor does a liar that
+/// no guess rests on. Others cost one row the first time, and none the second. Where symbols are wrong the blocks are decoded each time; a row then
 /// finds the liars each time. Three liars are too many: two guesses and a row itself find no polynomial.
-type Beside = ([bool; 7], bool, (bool, u32, u32));
+type Beside = (&'static [u32], bool, (bool, u32, u32));
 
-static BESIDE: [Beside; 6] = [
-    ([false; 7], false, (true, 0, 0)),
-    (
-        [true, true, false, false, false, false, false],
-        false,
-        (true, 0, 1),
-    ),
-    (
-        [false, true, false, false, false, false, true],
-        false,
-        (true, 0, 1),
-    ),
-    (
-        [false, true, false, false, false, false, true],
-        true,
-        (true, 14, 2),
-    ),
-    ([false; 7], true, (true, 14, 0)),
-    (
-        [true, true, true, false, false, false, false],
-        false,
-        (false, 7, 3),
-    ),
+static BESIDE: [Beside; 7] = [
+    (&[], false, (true, 0, 0)),
+    (&[0, 1], false, (true, 0, 1)),
+    (&[1, 6], false, (true, 0, 1)),
+    (&[15], false, (true, 0, 0)),
+    (&[1, 15], true, (true, 32, 2)),
+    (&[], true, (true, 32, 0)),
+    (&[0, 1, 2], false, (false, 16, 3)),
 ];
 
 /// The place of the first row that goes otherwise.
 fn first_other(rt: &impl Abort, alloc: Global, wide: &mut Wide) -> Option<usize> {
     for (place, (liars, err, wanted)) in BESIDE.iter().enumerate() {
-        let seen = all_given(wide, liars, *err);
+        let seen = all_given(wide, *liars, *err);
         if opens_twice(rt, alloc, wide, &seen) != *wanted {
             return Some(place);
         }

@@ -1,3 +1,4 @@
+use hail_client::ReopenFault;
 use std::alloc::Global;
 use std::fmt::Display;
 use vault::{InitFault, StartFault};
@@ -23,6 +24,12 @@ fn faults_are_told_by_their_names(rt: HostRuntime) {
         is_told(alloc, StartFault::NotSetUp, "NotSetUp"),
         is_told(alloc, StartFault::BadJournal { at: 9 }, "BadJournal 9"),
         is_told(alloc, StartFault::Memory, "Memory"),
+        is_told(
+            alloc,
+            ReopenFault::NotOpened(StartFault::BadJournal { at: 9 }),
+            "BadJournal 9",
+        ),
+        is_told(alloc, ReopenFault::TooFewProviders, "TooFewProviders"),
     ];
-    assert_eq!(rt; right, [true; 9]);
+    assert_eq!(rt; right, [true; 11]);
 }
