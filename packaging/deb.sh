@@ -18,8 +18,9 @@ chmod 755 "$tree"
 docs=$tree/usr/share/doc/hail
 
 put_program() {
-    install -D -m 755 "$root/out/hail" "$tree/usr/bin/hail"
-    for page in "$root"/packaging/hail-*.1; do
+    install -D -m 755 "$root/hail" "$tree/usr/bin/hail"
+    install -D -m 755 "$root/out/hail" "$tree/usr/lib/hail/program"
+    for page in "$root"/packaging/hail-*.1 "$root"/packaging/git-annex-remote-hail.1; do
         tool=$(basename "$page" .1)
         install -D -m 755 "$root/tools/$tool" "$tree/usr/lib/hail/$tool"
         ln -s "../lib/hail/$tool" "$tree/usr/bin/$tool"
@@ -27,6 +28,13 @@ put_program() {
     for part in hail-lib.sh journal.awk; do
         install -D -m 644 "$root/tools/$part" "$tree/usr/lib/hail/$part"
     done
+    for module in "$root"/tools/lib/hail/*.py "$root"/tools/folders/*.py; do
+        install -D -m 644 "$module" "$tree/usr/lib/hail/${module#"$root/tools/"}"
+    done
+    for part in stack-blocks tell-failed; do
+        install -D -m 755 "$root/tools/$part" "$tree/usr/lib/hail/$part"
+    done
+    awk '/^## / { within = $0 == "## Each status" } within' "$root/docs/guide.md" >"$tree/usr/lib/hail/each-status.md"
 }
 
 # The units run for the system and for a user alike.
@@ -66,7 +74,8 @@ Version: $version
 Architecture: $architecture
 Maintainer: The hail authors <hail@localhost>
 Installed-Size: $(du -sk "$tree/usr" | cut -f 1)
-Depends: libc6 (>= 2.34), bash (>= 5.0), coreutils (>= 8.31), findutils (>= 4.6), util-linux (>= 2.30), mawk | awk
+Depends: libc6 (>= 2.34), bash (>= 5.0), coreutils (>= 8.31), findutils (>= 4.6), util-linux (>= 2.30), mawk | awk, python3 (>= 3.10)
+Suggests: restic, rclone, sshfs, git-annex
 Section: utils
 Priority: optional
 Description: proved client for files on several storage providers

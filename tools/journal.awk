@@ -1,6 +1,9 @@
 # Reads a journal as decimal byte values, however many a line, and tells its records as they come: those of the area that the eighth byte
 # names. It keeps one line of bytes, the files in effect, and of the last 100,000 puts those that are not done.
 #
+# With `-v joined=1` the bytes between the eighth and the area are left out of what it reads. With `-v partial=1` it reads a front of the
+# journal, and ends with 9 where that is not enough; what it told is nothing then.
+#
 #   setup N L B PROFILE ROUNDS PICKS TOLERANCE
 #   start ID NAME, done ID LENGTH PROFILE, drop NAME, audit-start NUMBER, audit-done NUMBER UNDECIDED COUNT .., repair-done NUMBER, upgrade
 #   resume ID NUMBER, held ID LENGTH PROFILE NAME, due NUMBER COUNT ..
@@ -25,12 +28,15 @@
 #                                  were cut off is not sure
 #
 # Ends with 1 where the bytes are no journal. It judges spellings alone; whether a record may follow those before it, the program says.
-# Numbers of 8 bytes are told exactly below 2^53.
+# Numbers of 8 bytes are told exactly below 2^53, as awk has them; one from there on is refused, as it would be told as another.
 
 # There is one more byte.
 function more() {
     while (place >= NF) {
-        if (getline <= 0) return 0
+        if (getline <= 0) {
+            if (partial) exit 9
+            return 0
+        }
         place = 0
     }
     return 1
@@ -44,6 +50,7 @@ function byte() {
 
 # Goes on at the second area, line by line.
 function go_to_second(    step) {
+    if (joined) at = 8388608
     while (at < 8388608) {
         if (!more()) bad("the second area is not there")
         step = NF - place
@@ -53,10 +60,12 @@ function go_to_second(    step) {
     }
 }
 
-function number(size,    i, sum, weight) {
+function number(size,    i, sum, weight, value) {
     weight = 1
     for (i = 0; i < size; i++) {
-        sum += byte() * weight
+        value = byte()
+        if (i == 6 && value > 31 || i == 7 && value > 0) refuse("a number of 2^53 or more, to which the companions do not count,")
+        sum += value * weight
         weight *= 256
     }
     return sum
@@ -70,14 +79,18 @@ function name(    i, text, size) {
 }
 
 # Behind the end of the text nothing is wrong: it may be anything. The rest is read all the same, since who writes it must end well.
-function bad(why) {
+function refuse(what) {
     if (!beyond) {
-        printf "no journal: %s at byte %d\n", why, at > "/dev/stderr"
+        printf "%s at byte %d\n", what, at > "/dev/stderr"
         exit 1
     }
     print "odd"
     while (getline > 0) { }
     exit 0
+}
+
+function bad(why) {
+    refuse("no journal: " why)
 }
 
 function tell(line) {
@@ -232,6 +245,7 @@ function tell_end(    text) {
 }
 
 BEGIN {
+    OFMT = CONVFMT = "%.0f" # else some tell whole numbers from 2^31 on as 2.14748e+09
     for (at = 0; at < 256; at++) letters[at] = sprintf("%c", at)
     split("72 65 73 76 74 82 78", magic, " ")
     next_id = next_audit = version = 1

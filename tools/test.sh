@@ -250,15 +250,19 @@ collecting() {
     local name place stripe
     new_home 6 3 1 1 4 8 0
     says 0 '' hail-gc home
-    put_fails 5 fourth 600
+    put_fails 4 fourth 600
     says 0 'provider-0/4-0
 provider-1/4-0
 provider-2/4-0
-provider-3/4-0
-provider-4/4-0' hail-gc home
+provider-3/4-0' hail-gc home
     put_fails 0 fourth 600
     says 0 '' hail-gc home remove
     says 0 '' hail-gc home
+    put_fails 5 fourth 600
+    says 0 '' hail-gc home remove
+    told "number 6 has no name, but may be a whole file (a put of fourth that did not end, by the journal); 'hail-gc HOME remove 6' removes it"
+    says 0 '' hail-gc home remove 6
+    [ -z "$(ls home/provider-*/6-0 2>/dev/null)" ] || wrong 'hail-gc does not remove a number that is named'
     rm -rf kept && mkdir kept
     cp home/provider-0/3-0 kept/
     "$HAIL" home drop third >out
@@ -271,7 +275,7 @@ provider-3/3-0' hail-gc home
     for place in 0 1 2 3 4 5; do for stripe in 0 1 2; do : >"home/provider-$place/3-$stripe"; done; done
     rm home/provider-4/3-1
     says 0 '' hail-gc home remove
-    told "number 3 has no name, but may be a whole file; 'hail-gc HOME remove 3' removes it"
+    told "number 3 has no name, but may be a whole file (third, dropped or replaced); 'hail-gc HOME remove 3' removes it"
     [ -e home/provider-5/3-2 ] || wrong 'hail-gc removed what may be a whole file'
     (sleep 1; echo slow) | "$HAIL" home put slow >slow &
     sleep 0.3
@@ -321,7 +325,7 @@ flipping() {
     for name in 5 6 7 8 9; do echo "$name" | "$HAIL" home put "$name" $((name - 5)) >out; done
     "$HAIL" home drop 0 >out
     echo new | "$HAIL" home put 2 >out
-    put_fails 5 3 10
+    put_fails 4 3 10
     put_fails 3 8 100
     says 0 'provider-0/12-0
 provider-0/13-0
@@ -329,8 +333,7 @@ provider-1/12-0
 provider-1/13-0
 provider-2/12-0
 provider-2/13-0
-provider-3/12-0
-provider-4/12-0' hail-gc home
+provider-3/12-0' hail-gc home
     cp home/journal journal
     mapfile -t bytes < <(od -An -v -tu1 -w1 journal | tr -d ' ')
     [ "${#bytes[@]}" -eq 374 ] || wrong "the journal has ${#bytes[@]} bytes"
@@ -383,6 +386,52 @@ version 2' ] || wrong "a journal of the second version is read as $(cat out)"
     told 'hail does not take the journal, and nothing is done: hail: bad journal at 63'
 }
 
+# Eight bytes of a journal, the lowest first, as printf spells them.
+eight() {
+    local at
+    for at in 0 1 2 3 4 5 6 7; do printf '\\%o' $(($1 >> 8 * at & 255)); done
+}
+
+# A packed journal with a file two numbers before this one, behind which a put under this number was done and the next was cut off, is read
+# by the program `awk`.
+counts_to() {
+    local number=$1
+    journal_is '\1\11\2\1\12'"$(eight "$number")$(eight $((number - 3)))"'\1\13'"$(eight $((number - 2)))"'\0\4\0\0\2\1a\1\2'"$(eight "$number")"'\1b\1\10'"$(eight "$number")"'\5\0\0\0\1\1\2'"$(eight $((number + 1)))"'\1c\0'
+    od -An -v -tu1 -w32 home/journal | LC_ALL=C "${awk[@]}" -f "$(dirname "$(readlink -f "$tools/hail-gc")")/journal.awk" >out 2>err
+    LC_ALL=C sort out | cmp -s - <(LC_ALL=C sort <<TEXT
+cut $((number + 1)) c
+done $number 5 1
+file $((number - 2)) 1024 2 a
+file $number 5 1 b
+held $((number - 2)) 1024 2 a
+next $((number + 2)) $((number - 3))
+resume $number $((number - 3))
+setup 4 1 1 1 1 1 0
+start $((number + 1)) c
+start $number b
+text 128
+upgrade
+version 2
+TEXT
+    )
+}
+
+# Every awk tells numbers below 2^53 as they are, and refuses those from there on. One that is not installed is passed over.
+counting() {
+    local number name awk
+    for name in mawk gawk original-awk 'busybox awk'; do
+        read -r -a awk <<<"$name"
+        command -v "${awk[0]}" >/dev/null || { echo "tools: $name is not installed, and not tried" >&2; continue; }
+        for number in 1000 2147483645 2147483646 2147483647 2147483648 4294967297 9007199254740000 9007199254740990; do
+            counts_to "$number" || wrong "$name reads the number $number as $(grep ^next out; cat err)"
+        done
+        for number in 9007199254740991 9007199254740992 9223372036854775800; do
+            counts_to "$number" && wrong "$name reads the number $number"
+            told 'a number of 2^53 or more, to which the companions do not count, at byte'
+        done
+    done
+}
+
 # Files at profiles of their own, behind an upgrade, are looked at by their own blocks and stripes; those put before keep the setup's.
 own_profiles() {
     local place stripe
@@ -414,13 +463,13 @@ wide: comes back; wrong blocks at provider 4' hail-verify home
     [ "$("$HAIL" home repair </dev/null)" = 'repaired 3' ] || wrong 'provider 4 is not repaired'
     says 0 '' hail-verify home
     says 0 '' hail-gc home
-    put_fails 5 fourth 600 4
+    put_fails 4 fourth 600 4
     says 0 'provider-0/8-0
 provider-1/8-0
 provider-2/8-0
-provider-3/8-0
-provider-4/8-0' hail-gc home
+provider-3/8-0' hail-gc home
     for place in 0 1 2 3 4 5; do for stripe in 0 1 2 3 4 5 6; do : >"home/provider-$place/4-$stripe"; done; done
+    rm home/provider-0/4-6 home/provider-3/4-6
     says 0 '' hail-gc home remove
     [ -z "$(cat err)$(find home -name '[48]-*')" ] || wrong "hail-gc leaves $(find home -name '[48]-*') and says $(cat err)"
     cp home/journal copy && sha256sum copy >copy.sum
@@ -624,10 +673,19 @@ remotes' ] || wrong "there are $(ls far-2 far-3 home)"
     says 0 'journal version 1
 provider 2 is remote: it is audited, and its blocks are not looked at
 provider 3 is remote: it is audited, and its blocks are not looked at' hail-watch -v home
-    for command in 'verify home' 'gc home' 'salvage home 3' 'restore home key'; do
+    for command in 'verify home' 'salvage home 3' 'restore home key'; do
         says 2 '' hail-$command
         told "provider 2 is remote, and its blocks can't be looked at"
     done
+    head -c 120000 /dev/urandom >long
+    [ "$("$tools/hail-remote" home put long <long 2>err)" = 'stored long 120000' ] || wrong "a put of more stripes says $(cat err)"
+    [ "$(ls far-2/provider-2 | grep -c '^2-')" -gt 256 ] || wrong "a remote provider has $(ls far-2/provider-2 | grep -c '^2-') blocks of the second file"
+    for command in 'get notes' 'get long' 'get notes'; do
+        "$tools/hail-remote" home $command >"${command#get }.back" 2>err </dev/null || wrong "a $command says $(cat err)"
+    done
+    seq 1 400 | cmp -s - notes.back && cmp -s long long.back || wrong 'two files come back otherwise'
+    says 0 '' hail-gc home
+    told "provider 3 can't be looked at: what it holds stays"
     rm -r far-3/provider-3
     says 1 'provider 3 is flagged' hail-watch home
     says 0 'repaired 3' hail-remote home repair
@@ -650,17 +708,17 @@ stored 3 64
 stored 4 64' ] || wrong "four puts at a time say $(cat out-*)"
 }
 
-# A far end that does this does no harm: a put ends with one of these statuses, the file comes back, an audit flags no other, and nothing is
+# A far end that does this does no harm, where it is given up behind so many seconds, or two: a put ends with one of these statuses, the file comes back, an audit flags no other, and nothing is
 # written elsewhere.
 bears() {
-    local status
+    local status seconds=${3:-2}
     rm -rf home far && cp -a before/. .
     echo "2 $1" >home/remotes
-    timeout 60 "$tools/hail-remote" -t 2 home put x <key >out 2>err
+    timeout 60 "$tools/hail-remote" -t "$seconds" home put x <key >out 2>err
     status=$?
     [[ " $2 " = *" $status "* ]] || wrong "with the far end $1 a put ends with $status: $(cat out err)"
-    seq 1 400 | cmp -s - <(timeout 60 "$tools/hail-remote" -t 2 home get notes 2>err) || wrong "with the far end $1 a get says $(cat err)"
-    timeout 60 "$tools/hail-remote" -t 2 home audit >out 2>err </dev/null
+    seq 1 400 | cmp -s - <(timeout 60 "$tools/hail-remote" -t "$seconds" home get notes 2>err) || wrong "with the far end $1 a get says $(cat err)"
+    timeout 60 "$tools/hail-remote" -t "$seconds" home audit >out 2>err </dev/null
     status=$?
     [ "$status" -eq 0 ] && ! grep 'flagged$' out | grep -qv '^provider 2 ' || wrong "with the far end $1 an audit ends with $status: $(cat out err)"
     [ "$(ls home)" = "$names" ] || wrong "with the far end $1 there are $(ls home)"
@@ -676,7 +734,7 @@ hostile_remotes() {
     : >home/remotes
     names=$(ls home)
     mkdir before && cp -a home far before/
-    bears '"$HAIL" far serve 2' 0
+    bears '"$HAIL" far serve 2' 0 30
     bears true 13
     bears no-such-command 13
     bears 'exec >&-; cat' 13
@@ -688,9 +746,85 @@ hostile_remotes() {
     bears '{ head -c 100000 /dev/zero; "$HAIL" far serve 2; }' 13
     bears '{ printf "\\0"; "$HAIL" far serve 2; }' 13
     bears '{ printf "\\1"; "$HAIL" far serve 2; }' '0 13'
-    bears '"$HAIL" far serve 3' 0
+    bears '"$HAIL" far serve 3' 0 30
     bears 'cat /dev/urandom >&2' 13
     pgrep -f '^sleep 99.7$' >/dev/null && wrong 'a far end is left'
+}
+
+# A far end that gives no answer for its time is given up and named, with what left its process group; the others go on.
+silent_remotes() {
+    local far
+    new_home 6 3 1 1 4 8 0
+    rm -r home/provider-2
+    for far in 'setsid sleep 98.6 & sleep 98.6' 'exec sleep 98.6' 'trap "" HUP INT TERM PIPE; while :; do sleep 98.6; done'; do
+        echo "2 1s $far" >home/remotes
+        timeout 60 "$tools/hail-remote" home put x <key >out 2>err
+        [ $? -eq 13 ] || wrong "with the far end $far a put says $(cat out err)"
+        told 'hail-remote: provider 2 is given up: no answer for 1 seconds'
+        told 'hail: provider fault 2'
+        seq 1 400 | cmp -s - <(timeout 60 "$tools/hail-remote" home get notes 2>err) || wrong "with the far end $far a get says $(cat err)"
+        told 'hail-remote: provider 2 is given up: no answer for 1 seconds'
+        ! pgrep -f '^sleep 98.6$' >/dev/null || wrong "the far end $far is left"
+    done
+    timeout 60 "$tools/hail-watch" home >out 2>err
+    [ "$? $(cat out)" = '4 provider 2 does not answer' ] || wrong "with a silent far end hail-watch says $(cat out err)"
+}
+
+# The far end $1 serves what the stand-in for hail sends: it writes $2, and what each session took is $3.
+serves() {
+    rm -f begun served
+    echo "2 20s $1" >home/remotes
+    HAIL=$PWD/client timeout 60 "$tools/hail-remote" home x >out 2>err </dev/null
+    [ "$(cat out)" = "$2" ] || wrong "over the far end $1 come $(cat out err)"
+    [ "$(cat served)" = "$3" ] || wrong "the far end $1 serves $(cat served)"
+}
+
+# Before 2^24 bytes of requests are used up a far end is begun anew, between two requests and behind the answers: here at the 8,136th of 10,000
+# stores of 2,062 bytes. One that does not start again is one that ends; one that does not end is killed.
+used_up_remotes() {
+    mkdir home
+    cat >client <<'END'
+#!/usr/bin/env python3
+"""In place of hail: 10,000 stores over descriptor 102, and the answers at 122, of which 1,000 are due at most."""
+import os, sys
+yes = due = 0
+def read(most):
+    global yes, due
+    answers = os.read(122, most)
+    yes, due = yes + answers.count(1), due - len(answers)
+    if not answers:
+        sys.exit(print(f"ended behind {yes}"))
+for stripe in range(10000):
+    try:
+        os.write(102, bytes([1]) + bytes(8) + stripe.to_bytes(4, "little") + bytes([128]) + bytes(2048))
+    except BrokenPipeError:
+        due = 1 << 20
+    due += 1
+    while due >= 1000:
+        read(due)
+while due:
+    read(due)
+print(f"stored {yes}")
+END
+    cat >server <<'END'
+#!/usr/bin/env python3
+"""Answers each store by a yes, and says at the end of its input how many bytes came."""
+import os
+came = done = 0
+while data := os.read(0, 65536):
+    came += len(data)
+    os.write(1, bytes([1]) * (came // 2062 - done))
+    done = came // 2062
+with open("served", "a") as file:
+    file.write(f"{came}\n")
+END
+    chmod +x client server
+    serves ./server 'stored 10000' '16776432
+3843568'
+    serves '[ ! -e begun ] || exit 1; touch begun; exec ./server' 'ended behind 8136' 16776432
+    serves './server; exec sleep 98.7' 'stored 10000' '16776432
+3843568'
+    ! pgrep -f '^sleep 98.7$' >/dev/null || wrong 'a far end that does not end is left'
 }
 
 # Things in place of a remote provider's folder or pipes: it is a provider that fails, at once, and nothing is written there.
@@ -718,7 +852,11 @@ false_remotes() {
         [ ! -e home/provider-2 ] || wrong "behind $shape blocks went elsewhere"
         rm -rf home/remote-2 fifo
     done
+    mkdir home/remote-2 && ln -s /dev/fd/1 home/remote-2/requests && ln -s /dev/fd/0 home/remote-2/answers
+    printf '\\1%.0s' {1..999} | timeout 20 "$HAIL" home get notes 2>err | cmp -s - <(seq 1 400) || wrong "behind the standard streams a get says $(cat err)"
 }
+
+. "$root/tools/test-losses.sh"
 
 # A test in a folder of its own, with one for what the companions write for a while.
 run() {
@@ -728,8 +866,10 @@ run() {
     exit $failed
 }
 
-all='setting_up words watching verifying_one stuck_repair verifying_two verifying_three no_key_is_left collecting flipping reading
-    own_profiles restoring packing swelling salvaging long_journal remote_words remotes hostile_remotes false_remotes'
+all='setting_up words watching verifying_one stuck_repair verifying_two verifying_three no_key_is_left collecting flipping reading counting
+    own_profiles restoring packing swelling salvaging long_journal remote_words remotes hostile_remotes silent_remotes used_up_remotes
+    false_remotes copy_during_put restoring_over_packed altered_switch other_home outages far_outage odd_remotes stray_links short_reading
+    killed_restore killed_gc killed_init stacks helping telling'
 running=()
 for test in ${*:-$all}; do
     run "$test" &
@@ -738,4 +878,7 @@ done
 for test in "${running[@]}"; do
     wait "$test" || failed=1
 done
+[ $# -gt 0 ] || "$root/tools/test-keys.sh" || failed=1
+[ $# -gt 0 ] || "$root/tools/test-folders.sh" || failed=1
+[ $# -gt 0 ] || "$root/tools/test-stack.sh" || failed=1
 exit $failed

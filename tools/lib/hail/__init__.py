@@ -1,0 +1,1 @@
+"""What the companions of hail that are written in Python share."""
