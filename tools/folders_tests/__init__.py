@@ -1,0 +1,1 @@
+"""Tests of the package `folders` over real homes."""
