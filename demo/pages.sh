@@ -2,7 +2,8 @@
 # pages.sh PAGE ..: does what each page tells, in one shell a page, in a folder of its own that goes at the end.
 # A block of a page is lines behind four spaces. A line behind `$ ` is a command, and the lines up to the next one are what it writes, of
 # which `..` stands for any. A block without such a line is commands that end with 0, whatever they write. A block below a line
-# `<!-- not run: .. -->` is passed over. A line `<!-- run: NAME -->` calls a function of demo/PAGE.steps, which ends with 0.
+# `<!-- not run: .. -->` is passed over. A line `<!-- run: NAME -->` calls a function of demo/PAGE.steps, which ends with 0. Below a line
+# `<!-- needs: PROGRAM -->` all is passed over, up to the next heading, where there is no such program; then that is told.
 # HAIL names another program than the one of this repository, and TOOLS another folder of companions.
 # Ends with 0 exactly where each command went as the page tells.
 set -u
@@ -19,6 +20,10 @@ part() {
     awk -v folder="$2" '
         function begin() { number++; does = sprintf("%s/%04d.does", folder, number); printf "" > does }
         function finish() { if (in_block) close(does); if (tells) close(tells); in_block = 0; tells = "" }
+        /^## / { missing = 0 }
+        missing { next }
+        /^<!-- needs: / && system("command -v " $3 " >/dev/null") { finish(); missing = 1; print FILENAME ": there is no " $3 >"/dev/stderr"; next }
+        /^<!-- needs: / { finish(); next }
         /^<!-- not run/ { skipped = 1; next }
         /^<!-- run: / { finish(); begin(); sub(/^<!-- run: /, ""); sub(/ -->$/, ""); print > does; close(does); next }
         /^    / && skipped { passing = 1; next }

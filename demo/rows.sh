@@ -39,6 +39,7 @@ echo "$digits" >key
 printf '%s' "${digits%f}" >short
 : >empty
 seq 1 100 | head -c 100 >notes
+seq 1 400 >numbers
 lost='hail: lost row'
 
 # Setting up: the bytes of the journal, a second time, a key of 63 digits, numbers of no setup.
@@ -326,11 +327,37 @@ row 0 'stored b 100' notes put b
 printf '\377' | dd of=home/journal bs=1 seek=7 conv=notrunc 2>dd
 row 0 'notes.txt 100' empty list
 
-# With 1,024 names in effect a further one is refused, and one of them is not.
+# Sixteen providers, the most there are: an audit flags the two that lost their blocks, which no get misses, and a scrub counts and mends them.
+set_up 16 10 2 1 2 8 0
+row 0 'stored numbers 1492' numbers put numbers
+rm -r home/provider-14 home/provider-15
+row 0 "$(cat numbers)" empty get numbers
+row 0 "audit 1 undecided 0
+$(seq -f 'provider %g count 0 ok' 0 13)
+provider 14 count 2 flagged
+provider 15 count 2 flagged" empty audit
+row 0 "scrub stripes 2
+$(seq -f 'provider %g symbols 0 blocks 0' 0 13)
+provider 14 symbols 32 blocks 2
+provider 15 symbols 32 blocks 2" empty scrub
+[ "$(ls home/provider-15 | tr '\n' ' ')" = '1-0 1-1 ' ] || wrong 'a scrub leaves the last of sixteen providers without its blocks'
+rm -r home/provider-13 home/provider-14 home/provider-15
+row 4 "$lost 0" empty get numbers
+
+# With 1,024 names in effect a further one is refused, and one of them is not. 200 of them have a block, which an audit and a scrub read.
 set_up 4 1 1 0 1 1 0
 for name in $(seq 1 1024); do
-    "$hail" home put "$name" </dev/null >out || wrong "put $name"
+    source=empty
+    [ "$name" -gt 200 ] || source=three
+    "$hail" home put "$name" <"$source" >out || wrong "put $name"
 done
+rm home/provider-3/200-0
+row 0 "audit 1 undecided 0
+$(seq -f 'provider %g count 0 ok' 0 2)
+provider 3 count 1 flagged" empty audit
+row 0 "scrub stripes 200
+$(seq -f 'provider %g symbols 0 blocks 0' 0 2)
+provider 3 symbols 6 blocks 1" empty scrub
 row 21 'hail: too many files' empty put 1025
 row 0 'stored 7 3' three put 7
 [ "$("$hail" home list </dev/null | wc -l)" -eq 1024 ] || wrong 'not all names are listed'
@@ -339,10 +366,11 @@ row 0 upgraded empty upgrade
 "$hail" home pack >out </dev/null || wrong 'a pack of 1,024 files'
 "$hail" home list </dev/null | cmp -s - before || wrong 'a pack of 1,024 files lists others'
 
-# The longest file, and one byte more.
-set_up 6 3 1 4 4 8 0
+# The longest file, in 3,641 stripes of 1,152 bytes, and one byte more.
+set_up 6 3 1 2 4 8 0
 head -c 4194304 /dev/zero >long
 row 0 'stored big 4194304' long put big
+[ "$(ls home/provider-5 | wc -l)" -eq 3641 ] && [ -e home/provider-5/1-3640 ] || wrong 'the longest file has another count of stripes'
 "$hail" home get big </dev/null | cmp -s - long || wrong 'the longest file comes back otherwise'
 echo >>long
 row 16 'hail: too long' long put longer
