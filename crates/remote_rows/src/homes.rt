@@ -87,7 +87,7 @@ fn takes_remotes(rt: &HostRuntime, alloc: Global) -> Option<bool> {
         && !fs::exists(rt, "home/provider-2").ok()?
         && !fs::exists(rt, "home/provider-15").ok()?;
     let kept = fs::read(rt, "home/remote-2").ok()?;
-    let stacked = fs::exists(rt, "home/provider-3/1").ok()?;
+    let stacked = fs::exists(rt, "home/provider-3/5").ok()?;
     fs::remove_dir_all(rt, "home").ok()?;
     Some(right && stacked && none && kept.as_slice() == b"kept".as_slice())
 }

@@ -1,14 +1,8 @@
-//! Worked rows of remote providers and of a home's devices: links, what is sent ahead over them, and the barrier.
+//! Worked rows of remote providers and of a home's devices, over pipes.
 #![tactic(auto)]
 
 #[cfg(test)]
-mod ahead;
-#[cfg(test)]
-mod barrier;
-#[cfg(test)]
 mod homes;
-#[cfg(test)]
-mod late;
 #[cfg(test)]
 mod pipes;
 #[cfg(test)]
