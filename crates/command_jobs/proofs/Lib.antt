@@ -18,3 +18,5 @@ pub mod Beginning
 pub mod Sweeps
 pub mod Scrubbing
 pub mod Packing
+pub mod Around
+pub mod PackCells

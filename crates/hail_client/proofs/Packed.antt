@@ -1,7 +1,7 @@
 -- A pack that runs alone beside a client's vault: its begin and its steps, as events of the machine.
 use mathlib.Core.Bool.{Bool-set}
 use Rattle.std.proofs.Common.{◌≡◌, ℕ, zero, suc, ◌==◌, ◌<◌, ◌≤◌, ◌^◌, true, false, List, [], ◌∷◌, length, Option, None, Some, Result, Err, refl, ap, sym, subst, ◌∙◌, inl, inr, ◌⊎◌, arith}
-use Rattle.std.specs.Prelude.{is_some}
+use Rattle.std.specs.Prelude.{is_some, unwrap_or}
 use Rattle.std.proofs.Math.Logic.{∥∥₁_elim}
 use Rattle.std.proofs.Math.Nat.{ℕ_set}
 use Rattle.std.proofs.Props.{props}
@@ -9,6 +9,7 @@ use Rattle.std.proofs.lemmas.Bool.{false≢true, eq-eqb}
 use Rattle.algebra_laws.proofs.Options.{is_some-none}
 use Rattle.device_defs.specs.Cells.{Cells}
 use Rattle.device_defs.specs.Providers.{Provider}
+use Rattle.journal_pack.specs.declared.pack.Pack.{Pack}
 use Rattle.journal_pack.specs.Packs.{moves_of}
 use Rattle.machine_defs.specs.Alone.{is_too_long, pack_refusal, BeginsPack}
 use Rattle.machine_defs.specs.Events.{BeginPack, Step, Refused, More, Ended}
@@ -31,6 +32,7 @@ use Rattle.vault.specs.Packing.{IsPackOf, StandsPacking, pack_answer, PacksOver,
 use Rattle.vault.specs.Seen.{held_by, IsUnchanged}
 use Rattle.vault.specs.Stands.{Stands}
 use Rattle.hail_client.specs.Client.{client_coming, coming_by, pack_coming}
+use Rattle.hail_client.specs.PackCells.{pack_alone}
 use Rattle.hail_client.specs.declared.alone.Alone.{Alone}
 use Rattle.hail_client.specs.declared.alone.Alone.TheVariants as alone
 use Rattle.hail_client.specs.declared.client.Client.{Client}
@@ -43,6 +45,12 @@ use Rattle.hail_client.proofs.Scrubs.{alone-busy}
 use Rattle.hail_client.proofs.Standing.{stands-of, parts-of}
 
 -- ---- what is known of a pack beside a vault
+
+-- the moves of the one that runs alone
+pub its-pack : (o : Option Alone) (job : PackJob) (p : Pack) → o ≡ Some (alone.Pack job) → pack_alone o ≡ Some p →
+    job.pack ≡ p
+its-pack o job p runs is =
+    ap (λ (x : Option Pack). unwrap_or x job.pack) (sym (ap pack_alone runs) ∙ is)
 
 -- no items in a list of none
 none-of : {X : Type 0} (xs : List X) → length xs ≡ 0 → xs ≡ []

@@ -1,5 +1,6 @@
 pub mod AtWork
 pub mod Client
+pub mod PackCells
 pub mod Outcomes
 pub mod Stands
 pub mod Start

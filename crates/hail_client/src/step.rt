@@ -10,6 +10,8 @@ ghost use Rattle.vault.specs.Calls.{moves_before_next, MovesCells};
 ghost use Rattle.stripe_bench.specs.Calls.{CalledOnce};
 ghost use Rattle.hail_client.specs.declared.turn.ClientTurn.TheVariants as client_turn;
 ghost use Rattle.hail_client.specs.Outcomes.{job_goes_on, IfJob, HeardIs};
+ghost use Rattle.hail_client.specs.PackCells.{client_pack, IfPackStep, StepsPackCells};
+ghost use Rattle.journal_pack.specs.declared.pack.Pack.{Pack};
 ghost use Rattle.vault.specs.Devices.{devices_seen};
 ghost use Rattle.vault.specs.Outcomes.{IfEnded, IsNoAction, HasPaddedCounts};
 ghost use Rattle.vault_core.specs.Coming.{IsNoJob, calls_disk, called_provider};
@@ -57,6 +59,8 @@ impl Client {
             → IfJob result (λ turn. MovesCells (moves_before_next (client_coming self.old job))
             (client_closed_gate self.old) (spelling entry ++ 0 ∷ []) turn (D.holds disk.old)
             (D.holds disk.new)) }
+        ensures packs { (p : Pack) → client_pack self.old ≡ Some p → IfPackStep result
+            (λ step. StepsPackCells p step (D.holds disk.old) (D.holds disk.new)) }
         ensures away { called_provider (client_coming self.old job) ≡ None → providers.new ≡ providers.old }
         ensures others { (j k : ℕ) → called_provider (client_coming self.old job) ≡ Some j → k ≢ j
             → slice_get providers.new k ≡ slice_get providers.old k }

@@ -9,6 +9,7 @@ mod AnswerTexts
 mod JobEnds
 mod ScrubEnds
 mod PackEnds
+mod PackRuns
 mod Unopened
 mod Opened
 mod PutEnds

@@ -3,6 +3,7 @@ pub mod Telling
 pub mod Jobs
 pub mod SetUps
 pub mod InitRuns
+pub mod PackRuns
 pub mod Rows
 pub mod Carried
 pub mod Answered

@@ -16,6 +16,7 @@ ghost use Rattle.command_jobs.specs.Ends.{IsSeenBefore};
 ghost use Rattle.hail_replay.specs.Heard.{entries_heard};
 ghost use Rattle.hail_top.specs.Endings.{ending_of};
 ghost use Rattle.hail_top.specs.Jobs.{PacksOver};
+ghost use Rattle.hail_top.specs.PackRuns.{PackedAround, LeavesAround};
 ghost use Rattle.hail_top.specs.Telling.{TellsPack};
 
 use crate::refusals::{refused, unopened};
@@ -77,6 +78,10 @@ fn answer_pack<D: Disk, K: Sink>(alloc: Global, vault: Vault, disk: &mut D, sink
         → old.sink_faults ≡ K.faults sink.old
         → PacksOver old (seen (D.holds disk.new) (D.faults disk.new) providers left read_faults
         (K.written sink.new) (K.faults sink.new)) (ending_of result) }
+    ensures around { (records : List Record) (old : Seen) → (opened : IsOpened old records)
+        → IsFreshOver vault opened.area records (D.holds disk.old) (D.faults disk.old)
+        → D.holds disk.old ≡ option_map synced old.disk
+        → PackedAround opened.area records old.disk (D.holds disk.new) result.status }
     ensures disk_count { D.faults disk.old ≤ D.faults disk.new }
     ensures sink_count { K.faults sink.old ≤ K.faults sink.new }
     ensures tells { is_some (D.holds disk.new) ≡ is_some (D.holds disk.old) }
@@ -91,6 +96,13 @@ fn answer_pack<D: Disk, K: Sink>(alloc: Global, vault: Vault, disk: &mut D, sink
 pub fn pack<D: Disk, K: Sink>(alloc: Global, handed: usize, disk: &mut D, sink: &mut K) -> Report
     ensures answers { (providers : List Provider) (left : Option (List ℕ)) (read_faults : ℕ)
         → length providers ≡ handed → AnswersPack
+        (seen (D.holds disk.old) (D.faults disk.old) providers left read_faults (K.written sink.old)
+        (K.faults sink.old))
+        (seen (D.holds disk.new) (D.faults disk.new) providers left read_faults (K.written sink.new)
+        (K.faults sink.new))
+        (ending_of result) }
+    ensures around { (providers : List Provider) (left : Option (List ℕ)) (read_faults : ℕ)
+        → length providers ≡ handed → LeavesAround
         (seen (D.holds disk.old) (D.faults disk.old) providers left read_faults (K.written sink.old)
         (K.faults sink.old))
         (seen (D.holds disk.new) (D.faults disk.new) providers left read_faults (K.written sink.new)

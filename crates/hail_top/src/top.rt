@@ -7,6 +7,7 @@ ghost use Rattle.hail_top.specs.Answered.{AnswersWords};
 ghost use Rattle.hail_top.specs.Carried.{AnswersForm};
 ghost use Rattle.hail_top.specs.Endings.{seen_of, ending_of};
 ghost use Rattle.hail_top.specs.InitRuns.{InitsOn};
+ghost use Rattle.hail_top.specs.PackRuns.{PacksOn};
 ghost use Rattle.hail_top.specs.Rows.{HasItsSymbols};
 
 use crate::alone::alone;
@@ -45,6 +46,10 @@ fn answer<D: Disk, P: Tamper, S: Source, K: Sink>(
         (seen_of D.Disk P.Provider S.Source K.Sink disk.new providers.new source.new sink.new)
         (ending_of result) }
     ensures inits { InitsOn (command_of command.entry)
+        (seen_of D.Disk P.Provider S.Source K.Sink disk.old providers.old source.old sink.old)
+        (seen_of D.Disk P.Provider S.Source K.Sink disk.new providers.new source.new sink.new)
+        (ending_of result) }
+    ensures packs { PacksOn (command_of command.entry)
         (seen_of D.Disk P.Provider S.Source K.Sink disk.old providers.old source.old sink.old)
         (seen_of D.Disk P.Provider S.Source K.Sink disk.new providers.new source.new sink.new)
         (ending_of result) }
@@ -129,6 +134,10 @@ fn answer_words<D: Disk, P: Tamper, S: Source, K: Sink>(
         (seen_of D.Disk P.Provider S.Source K.Sink disk.old providers.old source.old sink.old)
         (seen_of D.Disk P.Provider S.Source K.Sink disk.new providers.new source.new sink.new)
         (ending_of result) }
+    ensures packs { (command : Spelled) → IsForm words.now command → PacksOn command
+        (seen_of D.Disk P.Provider S.Source K.Sink disk.old providers.old source.old sink.old)
+        (seen_of D.Disk P.Provider S.Source K.Sink disk.new providers.new source.new sink.new)
+        (ending_of result) }
     ensures tells { is_some (D.holds disk.new) ≡ is_some (D.holds disk.old) }
 {
     words_spell_one_command();
@@ -149,6 +158,10 @@ pub fn hail<D: Disk, P: Tamper, S: Source, K: Sink>(
     sink: &mut K,
 ) -> Report
     ensures answered { AnswersWords words.now
+        (seen_of D.Disk P.Provider S.Source K.Sink disk.old providers.old.items source.old sink.old)
+        (seen_of D.Disk P.Provider S.Source K.Sink disk.new providers.new.items source.new sink.new)
+        (ending_of result) }
+    ensures packs { (command : Spelled) → IsForm words.now command → PacksOn command
         (seen_of D.Disk P.Provider S.Source K.Sink disk.old providers.old.items source.old sink.old)
         (seen_of D.Disk P.Provider S.Source K.Sink disk.new providers.new.items source.new sink.new)
         (ending_of result) }

@@ -8,7 +8,7 @@ ghost use Rattle.stripe_bench.specs.Calls.{CalledOnce};
 ghost use Rattle.vault.specs.Devices.{devices_seen};
 ghost use Rattle.vault.specs.Outcomes.{IfEnded, IsNoAction, HasPaddedCounts};
 ghost use Rattle.vault.specs.declared.turn.Turn.TheVariants as turn;
-ghost use Rattle.vault.specs.Seen.{provider_count, coming_of, vault_entry, closed_gate_of, left_of, IsUnchanged};
+ghost use Rattle.vault.specs.Seen.{provider_count, coming_of, vault_entry, closed_gate_of, held_by, left_of, IsUnchanged};
 ghost use Rattle.vault.specs.Stands.{Stands, MakesStep};
 ghost use Rattle.vault.specs.Streams.{wants_of, KeepsStreamless, KeepsTold};
 ghost use Rattle.vault_core.specs.Coming.{IsNoJob, calls_disk, called_provider};
@@ -55,6 +55,7 @@ impl Vault {
             → CalledOnce P.calls j providers.old providers.new }
         ensures waits { IsNoAction result
             → IsUnchanged self.old self.new × (disk.new ≡ disk.old) × (providers.new ≡ providers.old) }
+        ensures held { held_by self.new ≡ held_by self.old }
         ensures streams { KeepsStreamless self.old self.new }
         ensures told { (number : ℕ) → KeepsTold self.old self.new number }
         ensures no_job { (result ≡ turn.NoSuchJob) ↔ (coming_of self.old job ≡ IsNoJob) }

@@ -1,10 +1,13 @@
 use Rattle.std.proofs.Common.{List, true, refl, ◌∙◌, arith}
 use Rattle.machine_defs.specs.Runs.{now}
-use Rattle.record_defs.specs.Areas.{Area}
+use Rattle.journal_pack.specs.Packs.{to_of, text_of, moves_of}
+use Rattle.record_defs.specs.Areas.{Area, other_area}
+use Rattle.record_defs.specs.Packed.{packed}
 use Rattle.record_defs.specs.Records.{Record}
 use Rattle.vault_core.specs.declared.wish.BeginFault.{BeginFault}
 use Rattle.command_jobs.specs.Opened.{IsFreshOver}
 use Rattle.command_jobs.specs.Packs.{IsPackRefused}
+use Rattle.command_jobs.proofs.PackCells.{starts-cells, pack-cells, starts-low, pack-starts, ends-cells}
 use Rattle.command_jobs.proofs.Packing.{no-pack, pack-more, pack-end, pack-refused, pack-ends}
 use Rattle.command_jobs.proofs.Readings.{told-by}
 use Rattle.command_jobs.proofs.pack.run_pack.Goals as goal
@@ -22,6 +25,10 @@ pub loop-next-init : goal.loop-next-init
 loop-next-init g c = record {
   is_of = c.in_ok-job.ensures.is_of.0;
   number = refl;
+  to = refl;
+  text = refl;
+  cells = λ told is long low. starts-cells (moves_of c.in_ok-job.job.pack) _ _ told _
+      c.in_ok-job.ensures.is_of.1 is long;
   way = λ w moment providers stands. no-pack w c.in_ok-job.job.number moment c.begin_pack.new.self
       c.in_ok-job.job _ stands;
   tells = refl;
@@ -41,6 +48,14 @@ pub loop-next-preserved : goal.loop-next-preserved
 loop-next-preserved g c = record {
   is_of = c.in-More.ensures.goes_on.0;
   number = c.in-More.ensures.goes_on.1 ∙ c.loop-next.invariant.number;
+  to = c.in-More.ensures.same.0 ∙ c.loop-next.invariant.to;
+  text = c.in-More.ensures.same.1 ∙ c.loop-next.invariant.text;
+  cells = λ told is long low. pack-cells c.loop-next.job.pack (moves_of c.in-More.next.pack)
+      (to_of c.in_ok-job.job.pack) (text_of c.in_ok-job.job.pack) told _ _ c.loop-next.invariant.to
+      c.loop-next.invariant.text
+      (let more = c.in-More.ensures.goes_on.2 in let undone = c.in-More.next.undone in
+      omega (arith, more, undone)) c.in-More.ensures.goes_on.2 low
+      (c.loop-next.invariant.cells told is long low) c.in-More.ensures.moves;
   way = λ w moment providers stands.
       let way = c.loop-next.invariant.way w moment providers stands in
       pack-more w c.in_ok-job.job.number moment c.loop-next.vault c.step_pack.new.self c.loop-next.job _ _
@@ -65,6 +80,17 @@ returns-in-Done-clause-ended g c = λ records providers old new opened fresh bef
     (let a = c.loop-next.invariant.faults in let b = c.step_pack.ensures.cause.never_falls in
     omega (arith, a, b))
     (c.step_pack.ensures.tells ∙ c.loop-next.invariant.tells) before after c.told_packs_leave.ensures
+
+pub returns-in-Done-clause-around : goal.returns-in-Done-clause-around
+returns-in-Done-clause-around g c = λ area records told fresh is.
+    let S = pack-starts c.opened_states.ensures c.args.vault area records (g.D.Disk.holds c.args.disk.now)
+    (g.D.Disk.faults c.args.disk.now) fresh c.begin_pack.new.self c.in_ok-job.job c.in_ok-job.ensures.begins
+    c.in_ok-job.ensures.is_of.1 in
+    ends-cells (other_area area) (packed records) c.in_ok-job.job.pack c.loop-next.job.pack
+    (g.D.Disk.holds c.args.disk.now) S c.loop-next.invariant.to c.loop-next.invariant.text c.in-Done.answer told
+    _ _
+    (c.loop-next.invariant.cells told is S.long
+    (starts-low (other_area area) (packed records) c.in_ok-job.job.pack S.writes)) c.in-Done.ensures.moves
 
 pub returns-in-Done-clause-tells : goal.returns-in-Done-clause-tells
 returns-in-Done-clause-tells g c = c.step_pack.ensures.tells ∙ c.loop-next.invariant.tells

@@ -1,10 +1,15 @@
-use Rattle.std.proofs.Common.{◌≡◌, ◌-◌, ◌≤◌, ℕ, List}
-use Rattle.std.specs.Prelude.{is_some}
+use Rattle.std.proofs.Common.{◌≡◌, ◌+◌, ◌-◌, ◌≤◌, ℕ, List, length, Option}
+use Rattle.std.specs.Prelude.{is_some, IfSome}
+use Rattle.std.specs.Option.{option_map}
+use Rattle.device_defs.specs.Cells.{Cells}
+use Rattle.device_defs.specs.Disks.{synced}
 use Rattle.device_defs.specs.Providers.{Provider}
-use Rattle.journal_pack.specs.Packs.{moves_of}
+use Rattle.device_defs.specs.Told.{Goes}
+use Rattle.journal_pack.specs.Packs.{to_of, text_of, moves_of}
 use Rattle.machine_defs.specs.States.{State}
 use Rattle.vault.specs.Packing.{IsPackOf, StandsPacking}
 use Rattle.vault_open.specs.Devices.{devices}
+use Rattle.command_jobs.proofs.PackCells.{OnDisk}
 use Rattle.command_jobs.proofs.Packing.{OnPack}
 use Rattle.command_jobs.proofs.pack.run_pack.Given as goal
 
@@ -12,6 +17,12 @@ abbrev pub invariant-loop-next : goal.invariant-loop-next
 invariant-loop-next g l = record {
   is_of : IsPackOf l.vault l.job;
   number : l.job.number ≡ l.initial.job.number;
+  to : to_of l.job.pack ≡ to_of l.initial.job.pack;
+  text : text_of l.job.pack ≡ text_of l.initial.job.pack;
+  cells : (told : Option Cells) → g.D.Disk.holds l.initial.disk ≡ option_map synced told
+      → IfSome (g.D.Disk.holds l.initial.disk) (λ cells. 8 ≤ length cells) → 8 ≤ to_of l.initial.job.pack
+      → Goes (OnDisk (moves_of l.job.pack) (to_of l.initial.job.pack)
+      (to_of l.initial.job.pack + length (text_of l.initial.job.pack))) told (g.D.Disk.holds l.disk);
   way : (w : State) (moment : ℕ) (providers : List Provider)
       → StandsPacking l.initial.vault l.initial.job
       (devices (g.D.Disk.holds l.initial.disk) (g.D.Disk.faults l.initial.disk) providers) w

@@ -1,5 +1,11 @@
-use Rattle.std.proofs.Common.{refl, ap, sym}
+use Rattle.std.proofs.Common.{◌∙◌, refl, ap, sym}
+use Rattle.record_defs.specs.Areas.{other_area}
+use Rattle.record_defs.specs.Packed.{packed}
+use Rattle.command_jobs.specs.Packs.{FillsGap}
+use Rattle.opening_defs.proofs.Resyncs.{resynced}
+use Rattle.hail_top.specs.PackRuns.{ZerosUnlessFault, kept, written}
 use Rattle.hail_top.proofs.PackEnds.{pack-told, refused-pack}
+use Rattle.hail_top.proofs.PackRuns.{told-zeros, told-around}
 use Rattle.hail_top.proofs.pack.answer_pack.Goals as goal
 
 pub returns-in-Ok-clause-over : goal.returns-in-Ok-clause-over
@@ -14,3 +20,15 @@ returns-in-Err-clause-over g c records old providers left count opened fresh bef
     refused-pack records old _ _ _ c.in-Err.why opened before was_synced
     (c.in-Err.ensures.refused opened.area records fresh) c.refused.ensures (ap g.D.Disk.holds same)
     (ap g.D.Disk.faults same) refl (sym sink)
+
+pub returns-in-Ok-clause-around : goal.returns-in-Ok-clause-around
+returns-in-Ok-clause-around g c records old opened fresh was_synced =
+    written
+    (told-around (other_area opened.area) (packed records) (FillsGap c.in-Ok.answer)
+    (ZerosUnlessFault c.packed.result.status)
+    (told-zeros c.in-Ok.answer c.packed.result.status _ _ c.packed.ensures.told) old.disk _
+    (c.in-Ok.ensures.around opened.area records old.disk fresh was_synced))
+
+pub returns-in-Err-clause-around : goal.returns-in-Err-clause-around
+returns-in-Err-clause-around g c records old opened fresh was_synced =
+    kept (resynced old.disk _ (ap g.D.Disk.holds c.in-Err.ensures.untouched ∙ was_synced))

@@ -2,6 +2,7 @@ use Rattle.std.proofs.Common.{Err, refl, ap, sym}
 use Rattle.command_defs.specs.Seen.{Seen, seen}
 use Rattle.command_defs.specs.Packs.{unstarted}
 use Rattle.command_jobs.specs.declared.open.Unopened.{Unopened}
+use Rattle.hail_top.specs.PackRuns as around
 use Rattle.hail_top.proofs.Unopened.{unopened-told}
 use Rattle.hail_top.proofs.Opened.{opened-read}
 use Rattle.hail_top.proofs.pack.pack.Goals as goal
@@ -22,3 +23,14 @@ returns-in-Err-clause-answers g c providers left count handed =
     (sym handed) c.in-Err.ensures.refused c.in-Err.ensures.disk
     c.in-Err.ensures.resynced
     (λ same. c.in-Err.ensures.cause.rose (ap (λ (w : Unopened). Err w) same)) refl refl)
+
+pub returns-in-Ok-clause-around : goal.returns-in-Ok-clause-around
+returns-in-Ok-clause-around g c providers left count handed =
+    let old : Seen = seen (g.D.Disk.holds c.args.disk.now) (g.D.Disk.faults c.args.disk.now) providers left count
+    (g.K.Sink.written c.args.sink.now) (g.K.Sink.faults c.args.sink.now) in
+    let found = c.in-Ok.ensures.opened in
+    let opened = opened-read old found.0 found.1 c.args.handed (sym handed) found.2 in
+    around.over found.1 opened (c.answer_pack.ensures.around found.1 old opened found.3 c.in-Ok.ensures.synced)
+
+pub returns-in-Err-clause-around : goal.returns-in-Err-clause-around
+returns-in-Err-clause-around g c providers left count handed = around.unopened c.in-Err.ensures.disk

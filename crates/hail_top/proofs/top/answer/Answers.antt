@@ -5,6 +5,7 @@ use Rattle.command_words.specs.Commands.{command_of}
 use Rattle.provider_model.specs.Seen.{provider_seen}
 use Rattle.hail_top.proofs.Answered.{answered, put-answered, put-inits}
 use Rattle.hail_top.proofs.InitRuns.{inits-as}
+use Rattle.hail_top.proofs.PackRuns.{packs-as, put-packs}
 use Rattle.hail_top.proofs.top.answer.Goals as goal
 
 pub returns-in-Init-clause-answers : goal.returns-in-Init-clause-answers
@@ -143,3 +144,42 @@ returns-in-Pack-clause-answers g c =
 
 pub returns-in-Pack-clause-inits : goal.returns-in-Pack-clause-inits
 returns-in-Pack-clause-inits g c = inits-as _ _ _ _ _ c.in-Pack.is tt
+
+pub returns-in-Row-clause-packs : goal.returns-in-Row-clause-packs
+returns-in-Row-clause-packs g c = packs-as _ _ _ _ _ c.in-Row.is tt
+
+pub returns-in-Init-clause-packs : goal.returns-in-Init-clause-packs
+returns-in-Init-clause-packs g c = packs-as _ _ _ _ _ c.in-Init.is tt
+
+pub returns-in-Get-clause-packs : goal.returns-in-Get-clause-packs
+returns-in-Get-clause-packs g c = packs-as _ _ _ _ _ c.in-Get.is tt
+
+pub returns-in-Drop-clause-packs : goal.returns-in-Drop-clause-packs
+returns-in-Drop-clause-packs g c = packs-as _ _ _ _ _ c.in-Drop.is tt
+
+pub returns-in-List-clause-packs : goal.returns-in-List-clause-packs
+returns-in-List-clause-packs g c = packs-as _ _ _ _ _ c.in-List.is tt
+
+pub returns-in-Audit-clause-packs : goal.returns-in-Audit-clause-packs
+returns-in-Audit-clause-packs g c = packs-as _ _ _ _ _ c.in-Audit.is tt
+
+pub returns-in-Repair-clause-packs : goal.returns-in-Repair-clause-packs
+returns-in-Repair-clause-packs g c = packs-as _ _ _ _ _ c.in-Repair.is tt
+
+pub returns-in-Upgrade-clause-packs : goal.returns-in-Upgrade-clause-packs
+returns-in-Upgrade-clause-packs g c = packs-as _ _ _ _ _ c.in-Upgrade.is tt
+
+pub returns-in-Scrub-clause-packs : goal.returns-in-Scrub-clause-packs
+returns-in-Scrub-clause-packs g c = packs-as _ _ _ _ _ c.in-Scrub.is tt
+
+pub returns-in-Put-clause-packs : goal.returns-in-Put-clause-packs
+returns-in-Put-clause-packs g c =
+    packs-as _ _ _ _ _ c.in-Put.is (put-packs c.in-Put.name.now c.in-Put.profile
+    (λ o. command_of (kind.Put c.in-Put.name o)) refl (λ p. refl) _ _ _)
+
+pub returns-in-Pack-clause-packs : goal.returns-in-Pack-clause-packs
+returns-in-Pack-clause-packs g c =
+    let see = provider_seen g.P.Provider in
+    packs-as _ _ _ _ _ c.in-Pack.is
+    (c.pack.ensures.around (map see c.args.providers.now) (g.S.Source.left c.args.source.now)
+    (g.S.Source.faults c.args.source.now) (length-map c.args.providers.now see))

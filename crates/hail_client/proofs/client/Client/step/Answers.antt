@@ -1,13 +1,16 @@
-use Rattle.std.proofs.Common.{◌≡◌, map, None, Some, refl, ap, sym, ◌∙◌, true, arith}
+use Rattle.std.proofs.Common.{◌≡◌, map, None, Some, refl, ap, sym, subst, ◌∙◌, true, arith}
 use Rattle.std.proofs.Math.Logic.{∥∥₁_map}
+use Rattle.journal_pack.specs.declared.pack.Pack.{Pack}
 use Rattle.provider_model.specs.Seen.{provider_seen}
 use Rattle.record_codec.specs.declared.setup.Setup.{Setup}
 use Rattle.vault_core.specs.Coming.{called_provider}
 use Rattle.hail_client.specs.AtWork.{IsBesideVault}
+use Rattle.hail_client.specs.PackCells.{StepsPackCells}
 use Rattle.hail_client.specs.declared.alone.Alone.TheVariants as alone
+use Rattle.hail_client.specs.declared.turn.PackStep.TheVariants as pack_step
 use Rattle.hail_client.proofs.Beside.{streamless-on, none-wait, free-works, beside-at, taken, number-taken}
 use Rattle.hail_client.proofs.Made.{step-of, heard-of}
-use Rattle.hail_client.proofs.Packed.{pack-of, packs-on, packs-end}
+use Rattle.hail_client.proofs.Packed.{its-pack, pack-of, packs-on, packs-end}
 use Rattle.hail_client.proofs.Scrubbed.{IsNext, going-at, there-at, next-at, beside-on, vault-coming, no-disk, calls-one, calls-nobody, has-next, goes-on, ends}
 use Rattle.hail_client.proofs.client.Client.step.Given as given
 use Rattle.hail_client.proofs.client.Client.step.Goals as goal
@@ -238,3 +241,21 @@ returns-in-Done-step_pack-clause-machine g c =
     (g.D.Disk.faults c.step_pack.new.disk) (map (provider_seen g.P.Provider) c.args.providers.now)
     (let r = c.ranges.job.fits in omega (arith, r)) _ c.step_pack.new.self refl c.in-Done-step_pack.answer
     c.take.ensures.after (λ w S. c.in-Done-step_pack.ensures.machine w _ true S)
+
+pub returns-in-More-step_pack-clause-packs : goal.returns-in-More-step_pack-clause-packs
+returns-in-More-step_pack-clause-packs g c = λ p is.
+    subst (λ (q : Pack). StepsPackCells q pack_step.More (g.D.Disk.holds c.args.disk.now)
+    (g.D.Disk.holds c.step_pack.new.disk))
+    (its-pack c.args.self.now.alone c.in-Pack.running p
+    (taken c.args.self.now.alone c.take.result c.in-Some-take.alone (alone.Pack c.in-Pack.running)
+    c.take.ensures.value c.in-Some-take.is c.in-Pack.is) is)
+    c.in-More-step_pack.ensures.moves
+
+pub returns-in-Done-step_pack-clause-packs : goal.returns-in-Done-step_pack-clause-packs
+returns-in-Done-step_pack-clause-packs g c = λ p is.
+    subst (λ (q : Pack). StepsPackCells q (pack_step.Done c.in-Done-step_pack.answer)
+    (g.D.Disk.holds c.args.disk.now) (g.D.Disk.holds c.step_pack.new.disk))
+    (its-pack c.args.self.now.alone c.in-Pack.running p
+    (taken c.args.self.now.alone c.take.result c.in-Some-take.alone (alone.Pack c.in-Pack.running)
+    c.take.ensures.value c.in-Some-take.is c.in-Pack.is) is)
+    c.in-Done-step_pack.ensures.moves

@@ -105,3 +105,26 @@ returns-clause-machine g c = λ w ps is_told S.
     }))
     (few_of (moves_of c.args.job.pack) c.is_made.result c.args.job.undone c.is_made.ensures.1 c.if-is_made.false)
     refl
+
+pub returns-then-is_made-clause-moves : goal.returns-then-is_made-clause-moves
+returns-then-is_made-clause-moves g c = (c.is_made.ensures.0 c.if-is_made.true, refl)
+
+pub returns-in-Ok-true-clause-moves : goal.returns-in-Ok-true-clause-moves
+returns-in-Ok-true-clause-moves g c = c.in-Ok-true.ensures.does
+
+pub returns-in-Ok-true-clause-same : goal.returns-in-Ok-true-clause-same
+returns-in-Ok-true-clause-same g c = (c.in-Ok-true.ensures.to, c.in-Ok-true.ensures.text)
+
+pub returns-in-Ok-false-clause-moves : goal.returns-in-Ok-false-clause-moves
+returns-in-Ok-false-clause-moves g c = c.in-Ok-false.ensures.does
+
+pub returns-in-Ok-false-clause-same : goal.returns-in-Ok-false-clause-same
+returns-in-Ok-false-clause-same g c = (c.in-Ok-false.ensures.to, c.in-Ok-false.ensures.text)
+
+pub returns-in-Err-Failed-clause-moves : goal.returns-in-Err-Failed-clause-moves
+returns-in-Err-Failed-clause-moves g c = c.in-Err-Failed.ensures.torn (ap Err c.in-Err-Failed.field-0-is)
+
+pub returns-clause-moves : goal.returns-clause-moves
+returns-clause-moves g c =
+    let memory = ap Err c.in-Err-Memory.field-0-is in
+    (c.in-Err-Memory.ensures.writes memory, c.in-Err-Memory.ensures.memory memory)
