@@ -14,7 +14,7 @@ use Rattle.effect_laws.specs.Transcripts.{NoneAsksFor, AsksPutsOnly, LeavesFree,
 -- ---- moments
 
 -- steps of a job begin none
-steps_none : (Meant : Kind → Type 0) (job : ℕ) (ms : List Moment) → GoOn job ms → NoneBeganFor Meant ms
+pub steps_none : (Meant : Kind → Type 0) (job : ℕ) (ms : List Moment) → GoOn job ms → NoneBeganFor Meant ms
 steps_none Meant job [] on = tt
 steps_none Meant job (m ∷ ms) (event, outcome, on) =
     ((λ t n is. subst (IsBeginFor Meant) event t), steps_none Meant job ms on)

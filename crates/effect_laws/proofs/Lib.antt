@@ -7,7 +7,9 @@ pub mod Since
 pub mod Gets
 pub mod Apart
 pub mod Asked
+pub mod Over
 pub mod Jobs
 pub mod Lists
+pub mod Scrubs
 pub mod PutAgain
 pub mod Named

@@ -44,7 +44,7 @@ cut c (n ∷ a) (m ∷ b) x y f g same =
     let head : n ≡ m = ap (λ l. get_or l 0 0) same in
     ((λ i. head i ∷ rest.0 i), rest.1))
 
-first-line : (a b x y : List ℕ) → HasNoNewline a → HasNoNewline b → line a ++ x ≡ line b ++ y →
+pub first-line : (a b x y : List ℕ) → HasNoNewline a → HasNoNewline b → line a ++ x ≡ line b ++ y →
     (a ≡ b) × (x ≡ y)
 first-line a b x y f g same =
     cut 10 a b x y f g (sym (append_assoc a (10 ∷ []) x) ∙ (same ∙ append_assoc b (10 ∷ []) y))
@@ -141,7 +141,7 @@ CanRead (Listed files) = AreNamed files
 CanRead r = WritesOneLine r
 
 -- one that writes one line does not write a list
-list-not : (fs : List File) (s : Outcome) (x y : List ℕ) → WritesOneLine s →
+pub list-not : (fs : List File) (s : Outcome) (x y : List ℕ) → WritesOneLine s →
     lines_of (Listed fs) ++ x ≡ lines_of s ++ y → ⊥
 list-not fs s x y one same =
     (let text = one-line s one in
@@ -161,7 +161,7 @@ both-one r s x y one told same =
     (lines-tell r s told (a.2 ∙ (ap line p.0 ∙ sym b.2)), p.1))
 
 -- its lines tell it, with what stands behind them
-one-read : (r s : Outcome) (x y : List ℕ) → CanRead r → IsToldByLines s → lines_of r ++ x ≡ lines_of s ++ y →
+pub one-read : (r s : Outcome) (x y : List ℕ) → CanRead r → IsToldByLines s → lines_of r ++ x ≡ lines_of s ++ y →
     IsRead r s × (x ≡ y)
 one-read (Listed fs) (Listed gs) x y named told same =
     (let p = first-line (header fs) (header gs) (flat_map file_line fs ++ x) (flat_map file_line gs ++ y)
@@ -222,7 +222,7 @@ module _ (limit : ℕ) (old new : State) (S : IsSound limit old) where
 -- ---- a text read from its front
 
 module _ (limit : ℕ) (start : State) (base : List Moment) (fits : IsLimit limit) (clean : IsStart start) where
-  newest-can : (m : Moment) (ms : List Moment) → IsRun limit start (m ∷ ms) → m.event ≢ Continue →
+  pub newest-can : (m : Moment) (ms : List Moment) → IsRun limit start (m ∷ ms) → m.event ≢ Continue →
       CanRead m.outcome
   newest-can m ms run other = can-read limit (now start ms) m.state (run-sound limit start ms fits clean run.2)
       (length ms) m.event m.outcome other run.1

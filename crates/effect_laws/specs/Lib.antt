@@ -1,5 +1,6 @@
 pub mod Puts
 pub mod Lists
+pub mod Scrubs
 pub mod Transcripts
 pub mod Counts
 pub mod Instances

@@ -6,6 +6,9 @@
 --   AsksPutsOnly name bytes commands   == each begin of a put of the name is of these bytes
 --   LeavesFree name commands     == none is the begin of a put or a drop of the name, but before one that gives
 --                                   up all jobs: a stop, a reopening, a later call
+--   AreOver ran commands outcomes  == each get and each repair that these commands began was run to its end by the
+--                                   next of them, or given up by a later one; `ran` is the job that the command
+--                                   behind them ran to its end, if it did so
 --   NoneIsBegun number outcomes  == none of these outcomes is the begin of the job of this number
 --   CarriesApart own others ms lines  == moments and lines of these commands stand behind those of the others
 --   EndsApart own others ms outcomes before  == moments of these commands, with these outcomes, stand behind
@@ -16,14 +19,14 @@
 --                                == the event came to the begin of that job, and its run to this answer, among
 --                                   these moments; those of the commands behind and before them have these
 --                                   outcomes
-use Rattle.std.specs.Prelude.{◌≡◌, ◌≢◌, ◌⊎◌, ℕ, List, [], ◌∷◌, ◌++◌}
+use Rattle.std.specs.Prelude.{◌≡◌, ◌≢◌, ◌⊎◌, ℕ, List, [], ◌∷◌, ◌++◌, Option, None, Some}
 use Rattle.machine_defs.specs.Jobs.{Kind}
 use Rattle.machine_defs.specs.Answers.{Answer}
 use Rattle.machine_defs.specs.Events.{Event, Step, Outcome, Begun, Ended}
 use Rattle.machine_defs.specs.Runs.{Moment}
 use Rattle.machine_defs.specs.Began.{NoneBegan, GivesUp, IsPutBegin}
 use Rattle.machine_defs.specs.Transcripts.{Instruction, Once, RunJob, CarriesOut}
-use Rattle.machine_defs.specs.Untouched.{IsBeginFor, IsBeginOn, NoneBeganOn, NoneAsksOn}
+use Rattle.machine_defs.specs.Untouched.{Relies, IsBeginFor, IsBeginOn, NoneBeganOn, NoneAsksOn}
 use Rattle.effect_laws.specs.Lists.{ReadsAs}
 use Rattle.effect_laws.specs.Puts.{PutsUnder, Drops}
 
@@ -53,6 +56,18 @@ abbrev pub LeavesFree : List ℕ → List Instruction → Type 0
 LeavesFree name [] = Unit {0}
 LeavesFree name (Once event ∷ cs) = GivesUp event ⊎ ((IsBeginOn name event → ⊥) × LeavesFree name cs)
 LeavesFree name (RunJob job ∷ cs) = LeavesFree name cs
+
+-- an event asks for no get and no repair, or for the job that the next command ran to its end
+abbrev pub IsOverBy : Option ℕ → Event → Outcome → Type 0
+IsOverBy ran event r = (IsBeginFor Relies event → ⊥) ⊎ ((n : ℕ) × (ran ≡ Some n) × (r ≡ Begun n))
+
+-- each get and each repair that these commands began is over
+abbrev pub AreOver : Option ℕ → List Instruction → List Outcome → Type 0
+AreOver ran [] [] = Unit {0}
+AreOver ran (Once event ∷ cs) (r ∷ rs) = GivesUp event ⊎ (IsOverBy ran event r × AreOver None cs rs)
+AreOver ran (RunJob job ∷ cs) (Ended how ∷ rs) = AreOver (Some job) cs rs
+AreOver ran (RunJob job ∷ cs) (r ∷ rs) = AreOver None cs rs
+AreOver ran cs rs = ⊥
 
 -- none of these outcomes is the begin of the job of this number
 abbrev pub NoneIsBegun : ℕ → List Outcome → Type 0

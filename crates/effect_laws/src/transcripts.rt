@@ -1,5 +1,5 @@
 //! What a transcript tells: where each command stands among the moments, what was begun, and what stands since.
-ghost use Rattle.std.specs.Prelude.{◌≡◌, ◌∷◌, ◌++◌, ℕ, List, Option, Some, length};
+ghost use Rattle.std.specs.Prelude.{◌≡◌, ◌∷◌, ◌++◌, ℕ, List, Option, None, Some, length};
 ghost use Rattle.std.specs.List.{AllByRecursion};
 ghost use Rattle.device_defs.specs.Told.{told_then};
 ghost use Rattle.record_defs.specs.Table.{File, find_file};
@@ -7,17 +7,19 @@ ghost use Rattle.machine_defs.specs.Jobs.{GetJob, DropJob};
 ghost use Rattle.machine_defs.specs.Answers.{Answer, Put, Dropped};
 ghost use Rattle.machine_defs.specs.Events.{Event, Begin, Names, Outcome, Begun, Ended, Listed};
 ghost use Rattle.machine_defs.specs.Began.{IsPutBegin};
+ghost use Rattle.machine_defs.specs.Damaged.{DamagesOnly, AsksDamageOf};
 ghost use Rattle.machine_defs.specs.Heard.{NoneContinues};
 ghost use Rattle.machine_defs.specs.Runs.{Moment, IsRun, now};
 ghost use Rattle.machine_defs.specs.States.{State, IsStart, file_in};
 ghost use Rattle.machine_defs.specs.Transcripts.{Instruction, CarriesOut};
-ghost use Rattle.machine_defs.specs.Untouched.{IsFree, NoneBeganOn, NoneAsksOn};
+ghost use Rattle.machine_defs.specs.Untouched.{Relies, NoneUnderWay, IsFree, NoneBeganOn, NoneAsksOn};
 ghost use Rattle.line_laws.specs.Read.{lines_of_all, EndsAs};
 ghost use Rattle.run_laws.specs.Stories.{Stored, GetEnds};
 ghost use Rattle.state_laws.specs.Sound.{IsLimit};
 ghost use Rattle.effect_laws.specs.Puts.{PutsOnly, NoPutBegan, NoDropBegan, DroppedOut};
 ghost use Rattle.effect_laws.specs.Lists.{IsListedAs, IsRead, IsToldByLines, NoneCalls, ReadsAs};
-ghost use Rattle.effect_laws.specs.Transcripts.{NonePuts, NoneDrops, AsksPutsOnly, LeavesFree, NoneIsBegun, CarriesApart, EndsApart, job_behind, TellsJob};
+ghost use Rattle.effect_laws.specs.Scrubs.{IsToldButBlocks, AreButBlocks};
+ghost use Rattle.effect_laws.specs.Transcripts.{NonePuts, NoneDrops, AsksPutsOnly, LeavesFree, AreOver, NoneIsBegun, CarriesApart, EndsApart, job_behind, TellsJob};
 
 /// Where what a run of commands has written is what told outcomes write, as many as commands, lists of the names
 /// among them, the commands ended as these are read. A list tells of each name whether a file is in effect under
@@ -31,6 +33,17 @@ pub fn texts_tell_lists()
     ensures lists { (limit : ℕ) (start : State) (m : Moment) (ms : List Moment) (told : List File)
         → IsRun limit start (m ∷ ms) → m.event ≡ Names → IsRead m.outcome (Listed told) → (name : List ℕ)
         → IsListedAs (file_in (now start ms) name) (find_file told name) }
+{}
+
+/// So it is of a text with scrubs. The line of one that ended well leaves its blocks out: the commands ended as
+/// outcomes are read that are the told ones but for these.
+pub fn texts_tell_scrubs()
+    ensures { (limit : ℕ) (start : State) (base ms : List Moment) (commands : List Instruction)
+        (bytes : List ℕ) (outcomes : List Outcome) → IsLimit limit → IsStart start
+        → IsRun limit start (ms ++ base) → NoneCalls commands → CarriesOut commands ms bytes
+        → AllByRecursion IsToldButBlocks outcomes → length outcomes ≡ length commands
+        → bytes ≡ lines_of_all outcomes
+        → (own : List Outcome) × AreButBlocks own outcomes × ReadsAs commands ms own }
 {}
 
 /// Commands behind others are carried out behind them. They end with outcomes, as many as commands, which wrote
@@ -63,6 +76,8 @@ pub fn what_is_not_asked_is_not_begun()
     ensures only { (name bytes : List ℕ) (commands : List Instruction) (ms : List Moment)
         (outcomes : List Outcome) → ReadsAs commands ms outcomes → AsksPutsOnly name bytes commands
         → PutsOnly name bytes ms }
+    ensures damage { (ps : List ℕ) (commands : List Instruction) (ms : List Moment) (outcomes : List Outcome)
+        → ReadsAs commands ms outcomes → AsksDamageOf ps commands → DamagesOnly ps ms }
     ensures call { (commands : List Instruction) (ms : List Moment) (outcomes : List Outcome)
         → ReadsAs commands ms outcomes → NoneCalls commands → NoneContinues ms }
 {}
@@ -77,6 +92,13 @@ pub fn free_names_stay_free()
         → IsFree name base → IsFree name (ms ++ base) }
     ensures asked { (name : List ℕ) (commands : List Instruction) → NoneAsksOn name commands
         → LeavesFree name commands }
+{}
+
+/// No get and no repair is under way behind commands each of whose gets and repairs is over.
+pub fn told_readers_are_over()
+    ensures { (commands : List Instruction) (ms base : List Moment) (outcomes : List Outcome)
+        → ReadsAs commands ms outcomes → AreOver None commands outcomes → NoneUnderWay Relies base
+        → NoneUnderWay Relies (ms ++ base) }
 {}
 
 /// A job that a command begins and a later one runs to its end stands among the moments so, with those of the

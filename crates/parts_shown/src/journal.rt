@@ -2,7 +2,7 @@ ghost use Rattle.std.specs.Prelude.{◌≤◌};
 
 use disk_model::MemDisk;
 use journal_core::Append;
-use journal_pack::read_active;
+use journal_parts::read_journal;
 use record_codec::Record;
 use stream_model::WriteFault;
 
@@ -26,6 +26,6 @@ fn append(gate: u64, spelling: &[u8], disk: &mut MemDisk) -> Result<bool, WriteF
 fn a_record_is_appended_and_read(rt: HostRuntime) {
     let mut disk = MemDisk::new(rt.alloc(), b"HAILJRN1\x00", &[]).expect(&rt, "memory");
     let ended = append(8, b"\x04\x05notes", &mut disk);
-    let active = read_active(rt.alloc(), disk.bytes()).expect(&rt, "a journal");
-    assert!(rt; ended == Ok(true) && active.records.len() == 1);
+    let records = read_journal(rt.alloc(), disk.bytes()).expect(&rt, "a journal");
+    assert!(rt; ended == Ok(true) && records.len() == 1);
 }

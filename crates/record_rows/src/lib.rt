@@ -11,3 +11,5 @@ mod packing;
 mod records;
 #[cfg(test)]
 mod table;
+#[cfg(test)]
+mod whole;

@@ -7,3 +7,5 @@ mod Asked
 mod ByteReplay
 mod ByteSaid
 mod DamagedGet
+mod Told
+mod Keeping

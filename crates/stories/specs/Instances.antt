@@ -3,6 +3,7 @@
 --
 --   opening               == the commands before the put: the store is opened
 --   byte_text, byte_lines == the text of that schedule, and what it writes
+--   byte_commands, byte_outcomes == its commands, and how they end, the newest first
 --   get_of_byte           == the commands of the get, the newest first
 --   before_byte, behind_byte, byte_heard, byte_end
 --                         == what is seen before and behind it, what its jobs heard, and how it ends
@@ -10,10 +11,11 @@
 --   damaged_got           == what a get leaves over the store in which one block is lost
 --   three_heard           == what it heard
 --   other_byte            == another byte
-use Rattle.std.specs.Prelude.{ℕ, List, [], ◌∷◌, map, codes, Some, None}
+use Rattle.std.specs.Prelude.{ℕ, List, [], ◌∷◌, ◌++◌, map, codes, Some, None}
 use Rattle.std.specs.List.{flat_map}
 use Rattle.code_defs.specs.Points.{upto}
-use Rattle.stories.specs.Words.{Begin, Reopen, empty_provider, Entry, GetJob, Fetched, line, State, Instruction, Once, RunJob, Seen, Ending, with_sink, with_source, reading_devices, four_records, byte_records, none_hold, holds, fetched, named, own_block, heard, ends_hearing, byte, start_of, devices_of_seen}
+use Rattle.stories.specs.Files.{put_of, got_behind}
+use Rattle.stories.specs.Words.{Put, Got, Opened, Begun, Ended, Outcome, Begin, Reopen, empty_provider, Entry, GetJob, Fetched, line, State, Instruction, Once, RunJob, Seen, Ending, with_sink, with_source, reading_devices, four_records, byte_records, none_hold, holds, fetched, named, own_block, heard, ends_hearing, byte, start_of, devices_of_seen}
 
 -- the commands before the put: the store is opened
 abbrev pub opening : List Instruction
@@ -23,6 +25,14 @@ opening = Once Reopen ∷ []
 abbrev pub byte_text : List ℕ
 byte_text = flat_map line (codes "reopen" ∷ codes "begin put a 6f" ∷ codes "run 1" ∷ codes "begin get a"
     ∷ codes "run 2" ∷ [])
+
+-- its commands
+abbrev pub byte_commands : List Instruction
+byte_commands = got_behind ([] ++ put_of opening named byte None 1) named 2
+
+-- and how they end
+abbrev pub byte_outcomes : List Outcome
+byte_outcomes = Ended (Got byte) ∷ Begun 2 ∷ ([] ++ Ended Put ∷ Begun 1 ∷ Opened ∷ [])
 
 -- the commands of the get, the newest first
 abbrev pub get_of_byte : List Instruction

@@ -5,8 +5,13 @@ ghost use Rattle.damage_run.specs.Points.{counts};
 ghost use Rattle.stories.specs.Words.{is_flagged, DamagesOnly, AsksDamageOf, AreBytes, Begun, Ended, Put, Got, AllTell, NoneAsksOn, LeavesFree, AsksPutsOnly, NoneCalls, PutUnder, GetOf, AuditAll, RepairAll, UpgradeJournal, ScrubAll, PackJournal, IsForm, IsTold, audit_lines, setup_in_effect, provider_at, Follows, HasRightFile, IsUntouched, IsSteady, spoilt_below, IsKnown, ends, named, four_records, byte_records, to_put, byte_stored, damaged, byte_audited, answers_heard, due, repaired, mended, got, own_blocks_heard, swept, robbed_later, got_later, later_heard, byte_kept, byte_upgraded, upgraded_kept, ends_hearing, IsFilling, packed_kept, packed_store, got_packed, byte, next_audit, IsSchedule, devices_of_seen, IsReplayForm, AreLeft, called_behind, AnswersWords};
 ghost use Rattle.stories.specs.Files.{put_of, got_behind, IsGot};
 ghost use Rattle.stories.specs.Said.{SaysBefore, SaysPut, SaysGot};
-ghost use Rattle.stories.specs.Instances.{opening, byte_text, byte_lines, get_of_byte, before_byte, behind_byte, byte_end, first_state, damaged_got, three_heard, other_byte};
+ghost use Rattle.effect_laws.specs.Transcripts.{AreOver};
+ghost use Rattle.epoch_laws.specs.Told.{IsWhole};
+ghost use Rattle.stories.specs.Told.{IsToldReplay, IsGotBack};
+ghost use Rattle.stories.specs.Upkeep.{GivesOrLoses};
+ghost use Rattle.stories.specs.Instances.{opening, byte_text, byte_lines, get_of_byte, byte_commands, byte_outcomes, before_byte, behind_byte, byte_end, first_state, damaged_got, three_heard, other_byte};
 
+use crate::upkeep::{every_get_ends_well, kept_files_are_got};
 use command_runs::packs::packs_end;
 use command_runs::runs::commands_end;
 use command_words::laws::words_spell_one_command;
@@ -143,4 +148,22 @@ pub fn a_packed_byte_is_got()
     words_spell_one_command();
     commands_end();
     packs_end();
+}
+
+/// That replay as its text and what it wrote tell it: so the get gave the byte, or is lost by calls of providers that
+/// failed.
+pub fn a_told_byte_is_got_whole()
+    ensures told { (words : List (String Global)) → IsReplayForm words
+        → IsToldReplay words byte_text byte_commands byte_outcomes first_state [] before_byte behind_byte
+        byte_end }
+    ensures over { AreOver None byte_commands byte_outcomes }
+    ensures whole { (words : List (String Global)) → IsReplayForm words
+        → (G : IsGotBack first_state (called_behind first_state []) behind_byte byte_end named byte 2 (Got byte))
+        × IsWhole first_state G.get }
+    ensures every { (words : List (String Global)) → IsReplayForm words
+        → GivesOrLoses first_state (called_behind first_state []) behind_byte 2 named (Got byte) [] }
+{
+    a_byte_is_put_and_got();
+    kept_files_are_got();
+    every_get_ends_well();
 }

@@ -7,3 +7,4 @@ pub mod instances;
 pub mod laws;
 pub mod schedules;
 pub mod texts;
+pub mod upkeep;

@@ -1,13 +1,30 @@
 //! A file over a replay, read from two texts: the schedule's, and what was written.
 ghost use Rattle.std.specs.Prelude.{◌≡◌, ◌⊎◌, ◌≤◌, ◌++◌, ℕ, List, ◌∷◌, String, Option, Some, true, is_some, length, reverse};
 ghost use Rattle.std.specs.declared.alloc.Global.{Global};
-ghost use Rattle.stories.specs.Words.{EachImage, File, Answer, Got, DamagesOnly, AsksDamageOf, AllTell, HoldsForgery, Moment, now, State, setup_in, file_in, file_object, Instruction, NoneAsksOn, LeavesFree, Seen, Ending, IsSchedule, IsLostByFaults, ImageHasFile, devices_of_seen, IsReplayForm, AreLeft, called_behind, AnswersWords};
+ghost use Rattle.stories.specs.Words.{EachImage, File, Answer, Got, DamagesOnly, AsksDamageOf, AllTell, HoldsForgery, Moment, now, Outcome, State, setup_in, file_in, file_object, Instruction, NoneAsksOn, LeavesFree, Seen, Ending, IsSchedule, IsLostByFaults, ImageHasFile, devices_of_seen, IsReplayForm, AreLeft, called_behind, AnswersWords};
 ghost use Rattle.stories.specs.Files.{put_of, got_behind, IsGot, IsGotWhole};
 ghost use Rattle.stories.specs.Said.{SaysPut, SaysGot};
+ghost use Rattle.stories.specs.Told.{IsToldReplay, WasTold};
+ghost use Rattle.effect_laws.specs.Scrubs.{AreButBlocks};
 
+use crate::laws::replays_go_on;
 use crate::schedules::{
     few_damaged_providers_do_no_harm, what_is_put_is_got, what_is_put_survives,
 };
+use effect_laws::transcripts::{texts_tell_scrubs, written_texts_are_told};
+
+/// A replay that is told by its text and by what it wrote: moments carry out its commands, which ended as told, but
+/// for the blocks of a scrub, which its line leaves out.
+pub fn told_replays_are_read()
+    ensures { (words : List (String Global)) (text : List ℕ) (commands : List Instruction)
+        (outcomes : List Outcome) (start : State) (ms : List Moment) (old new : Seen) (end : Ending)
+        → IsToldReplay words text commands outcomes start ms old new end
+        → (own : List Outcome) × AreButBlocks own outcomes × WasTold commands own start ms new end }
+{
+    replays_go_on();
+    texts_tell_scrubs();
+    written_texts_are_told();
+}
 
 /// The stories of a file over a replay, where what was written says that its put ended well, and its get with
 /// an answer: bytes that were got are those that were put, or the report holds a forgery; while at most b

@@ -1,0 +1,5 @@
+pub mod Sweeps
+pub mod Epochs
+pub mod Moved
+pub mod Told
+pub mod Stories

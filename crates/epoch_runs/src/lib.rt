@@ -1,0 +1,4 @@
+//! A run with a scrub, given outright.
+#![tactic(auto)]
+
+pub mod runs;

@@ -1,0 +1,7 @@
+//! A journal read whole, for users of the parts.
+#![tactic(auto)]
+
+pub mod laws;
+mod reading;
+
+pub use reading::read_journal;

@@ -1,0 +1,213 @@
+-- A replay as its text and what it wrote tell it, with the blocks that its scrubs found.
+use Rattle.std.proofs.Common.{◌≡◌, ◌⊎◌, ℕ, suc, List, [], ◌∷◌, ◌++◌, length, refl, ap, sym, subst, ◌∙◌, inl, inr, arith, append_assoc, reverse, Option, Some, None}
+use Rattle.std.specs.List.{AllByRecursion}
+use Rattle.std.proofs.lemmas.List.{reverse-reverse}
+use Rattle.machine_defs.specs.Answers.{Scrubbed}
+use Rattle.effect_laws.specs.Scrubs.{IsToldButBlocks, IsButBlocks, AreButBlocks}
+use Rattle.effect_laws.specs.Transcripts.{AreOver, NoneIsBegun}
+use Rattle.effect_laws.proofs.Scrubs.{whole}
+use Rattle.epoch_laws.specs.Told.{GotBack}
+use Rattle.run_laws.proofs.ByEvents.{put_is_got_later}
+use Rattle.stories.specs.Words.{File, Answer, Got, Outcome, Begun, Ended, HoldsForgery, heard_in, Moment, now, IsRun, State, file_in, file_object, GetEnds, Instruction, Once, RunJob, CarriesOut, NoneCalls, IsToldAnswer, lines_of_all, Seen, Ending, called_behind}
+use Rattle.stories.specs.Told.{WasTold}
+use Rattle.stories.specs.Went.{WentOn}
+use Rattle.stories.proofs.Said.{written-as}
+
+-- what a replay has done is what was written of it
+pub was-told : (commands : List Instruction) (outcomes : List Outcome) (start : State) (ms : List Moment)
+    (old new : Seen) (end : Ending) (taken : List ℕ) → WentOn start ms (reverse commands) old new end →
+    NoneCalls commands → old.sink ≡ Some taken → new.sink ≡ Some (taken ++ lines_of_all outcomes) →
+    length outcomes ≡ length commands → AllByRecursion IsToldButBlocks outcomes →
+    (own : List Outcome) × AreButBlocks own outcomes × WasTold commands own start ms new end
+was-told commands outcomes start ms old new end taken W calls before behind many told =
+    (let C = subst (λ cs. CarriesOut cs W.later W.lines) (reverse-reverse commands) W.carried_out in
+    let R = whole 8 start (called_behind start ms) W.later commands W.lines outcomes
+    (omega arith, omega arith) W.left.starts W.left.run calls C told many
+    (written-as old.sink new.sink W.lines taken (lines_of_all outcomes) W.written before behind) in (
+      R.0,
+      R.1,
+      record { later = W.later; reads = R.2; left = W.left; heard = W.heard; headline = W.headline },
+    ))
+
+-- ---- outcomes that are told but for blocks
+
+but-cons : (own : List Outcome) (s : Outcome) (ss : List Outcome) → AreButBlocks own (s ∷ ss) →
+    (r : Outcome) × (rs : List Outcome) × (own ≡ r ∷ rs) × IsButBlocks r s × AreButBlocks rs ss
+but-cons [] s ss h = absurd h
+but-cons (r ∷ rs) s ss h = (r, rs, refl, h.0, h.1)
+
+-- those of which the newest stand apart
+pub record ButApart (own xs ys : List Outcome) : Type 0 where
+  pub first : List Outcome
+  pub rest : List Outcome
+  pub is : own ≡ first ++ rest
+  pub as_many : length first ≡ length xs
+  pub firsts : AreButBlocks first xs
+  pub rests : AreButBlocks rest ys
+
+pub but-apart : (own xs ys : List Outcome) → AreButBlocks own (xs ++ ys) → ButApart own xs ys
+but-apart own [] ys h =
+    record { first = []; rest = own; is = refl; as_many = refl; firsts = tt; rests = h }
+but-apart [] (x ∷ xs) ys h = absurd h
+but-apart (r ∷ own) (x ∷ xs) ys h = (let P = but-apart own xs ys h.1 in record {
+  first = r ∷ P.first;
+  rest = P.rest;
+  is = ap (λ l. r ∷ l) P.is;
+  as_many = ap suc P.as_many;
+  firsts = (h.0, P.firsts);
+  rests = P.rests;
+})
+
+but-told : (r : Outcome) (how : Answer) → IsToldAnswer how → IsButBlocks r (Ended how) → r ≡ Ended how
+but-told r (Scrubbed a xs ys) told h = absurd told
+but-told r how told h = h
+
+-- a job that began and ended, with outcomes behind it and before it
+pub record HasJob (own xs ys : List Outcome) (r : Outcome) (n : ℕ) : Type 0 where
+  pub behind : List Outcome
+  pub before : List Outcome
+  pub is : own ≡ behind ++ r ∷ Begun n ∷ before
+  pub as_many : length behind ≡ length xs
+  pub rests : AreButBlocks before ys
+
+two-apart : (own ys : List Outcome) (s : Outcome) (n : ℕ) → AreButBlocks own (s ∷ Begun n ∷ ys) →
+    (r : Outcome) × (rest : List Outcome) × (own ≡ r ∷ Begun n ∷ rest) × IsButBlocks r s × AreButBlocks rest ys
+two-apart own ys s n h =
+    (let A = but-cons own s (Begun n ∷ ys) h in
+    let B = but-cons A.1 (Begun n) ys A.4 in
+    (A.0, B.1, A.2 ∙ ap (λ l. A.0 ∷ l) (B.2 ∙ ap (λ r. r ∷ B.1) B.3), A.3, B.4))
+
+-- that of a job ended as told
+pub job-told : (own xs ys : List Outcome) (how : Answer) (n : ℕ) → IsToldAnswer how →
+    AreButBlocks own (xs ++ Ended how ∷ Begun n ∷ ys) → HasJob own xs ys (Ended how) n
+job-told own xs ys how n told h =
+    (let A = but-apart own xs (Ended how ∷ Begun n ∷ ys) h in
+    let T = two-apart A.rest ys (Ended how) n A.rests in record {
+      behind = A.first;
+      before = T.1;
+      is = A.is ∙ ap (λ l. A.first ++ l) (T.2 ∙ ap (λ r. r ∷ Begun n ∷ T.1) (but-told T.0 how told T.3));
+      as_many = A.as_many;
+      rests = T.4;
+    })
+
+-- that of a scrub, with blocks of its own
+pub scrub-told : (own xs ys : List Outcome) (stripes : ℕ) (symbols blocks : List ℕ) (n : ℕ) →
+    AreButBlocks own (xs ++ Ended (Scrubbed stripes symbols blocks) ∷ Begun n ∷ ys) →
+    (found : List ℕ) × HasJob own xs ys (Ended (Scrubbed stripes symbols found)) n
+scrub-told own xs ys stripes symbols blocks n h =
+    (let A = but-apart own xs (Ended (Scrubbed stripes symbols blocks) ∷ Begun n ∷ ys) h in
+    let T = two-apart A.rest ys (Ended (Scrubbed stripes symbols blocks)) n A.rests in (
+      T.3.0,
+      record {
+        behind = A.first;
+        before = T.1;
+        is = A.is ∙ ap (λ l. A.first ++ l) (T.2 ∙ ap (λ r. r ∷ Begun n ∷ T.1) T.3.1);
+        as_many = A.as_many;
+        rests = T.4;
+      },
+    ))
+
+-- an outcome among those that are told is told, and so is what came before it
+pub told-among : (xs : List Outcome) (s : Outcome) (ys : List Outcome) →
+    AllByRecursion IsToldButBlocks (xs ++ s ∷ ys) →
+    IsToldButBlocks s × AllByRecursion IsToldButBlocks ys
+told-among [] s ys all = all
+told-among (x ∷ xs) s ys all = told-among xs s ys all.1
+
+-- one that ended last
+pub last-told : (own ys : List Outcome) (how : Answer) (n : ℕ) → IsToldAnswer how →
+    AreButBlocks own (Ended how ∷ Begun n ∷ ys) →
+    (before : List Outcome) × (own ≡ Ended how ∷ Begun n ∷ before) × AreButBlocks before ys
+last-told own ys how n told h = (let T = two-apart own ys (Ended how) n h in
+    (T.1, T.2 ∙ ap (λ r. r ∷ Begun n ∷ T.1) (but-told T.0 how told T.3), T.4))
+
+-- a job that began and ended as told, with others between
+pub record HasGet (own xs zs ys : List Outcome) (how : Answer) (n : ℕ) : Type 0 where
+  pub first : List Outcome
+  pub next : List Outcome
+  pub last : List Outcome
+  pub is : own ≡ first ++ Ended how ∷ (next ++ Begun n ∷ last)
+  pub as_many : length first ≡ length xs
+  pub nexts : length next ≡ length zs
+  pub alike : AreButBlocks next zs
+
+pub get-told : (own xs zs ys : List Outcome) (how : Answer) (n : ℕ) → IsToldAnswer how →
+    AreButBlocks own (xs ++ Ended how ∷ (zs ++ Begun n ∷ ys)) → HasGet own xs zs ys how n
+get-told own xs zs ys how n told h =
+    (let A = but-apart own xs (Ended how ∷ (zs ++ Begun n ∷ ys)) h in
+    let C = but-cons A.rest (Ended how) (zs ++ Begun n ∷ ys) A.rests in
+    let D = but-apart C.1 zs (Begun n ∷ ys) C.4 in
+    let E = but-cons D.rest (Begun n) ys D.rests in record {
+      first = A.first;
+      next = D.first;
+      last = E.1;
+      is = A.is ∙ ap (λ l. A.first ++ l) (C.2 ∙ (ap (λ r. r ∷ C.1) (but-told C.0 how told C.3)
+          ∙ ap (λ l. Ended how ∷ l) (D.is ∙ ap (λ l. D.first ++ l) (E.2 ∙ ap (λ r. r ∷ E.1) E.3))));
+      as_many = A.as_many;
+      nexts = D.as_many;
+      alike = D.firsts;
+    })
+
+-- none of them is the begin of a job where none that is told is
+pub begun-but : (n : ℕ) (own ss : List Outcome) → AreButBlocks own ss → NoneIsBegun n ss → NoneIsBegun n own
+begun-but n [] [] h none = tt
+begun-but n (r ∷ own) (s ∷ ss) h none = (one s h.0 none.0, begun-but n own ss h.1 none.1)
+  where
+    one : (s : Outcome) → IsButBlocks r s → (s ≡ Begun n → ⊥) → r ≡ Begun n → ⊥
+    one (Ended (Scrubbed a xs ys)) (own, is) other begun =
+        (let e : Ended (Scrubbed a xs own) ≡ Begun n = sym is ∙ begun in cc)
+    one s is other begun = other (sym is ∙ begun)
+begun-but n [] (s ∷ ss) h none = absurd h
+begun-but n (r ∷ own) [] h none = absurd h
+
+-- what is over as told is over
+pub over-but : (cs : List Instruction) (own ss : List Outcome) (ran : Option ℕ) → AreButBlocks own ss →
+    AreOver ran cs ss → AreOver ran cs own
+over-but [] [] [] ran h is_over = tt
+over-but (Once event ∷ cs) (r ∷ rs) (s ∷ ss) ran h (inl up) = inl up
+over-but (Once event ∷ cs) (r ∷ rs) (s ∷ ss) ran h (inr (inl none, rest)) =
+    inr (inl none, over-but cs rs ss None h.1 rest)
+over-but (Once event ∷ cs) (r ∷ rs) (s ∷ ss) ran h (inr (inr (n, is, begun), rest)) =
+    inr (inr (n, is, subst (IsButBlocks r) begun h.0), over-but cs rs ss None h.1 rest)
+over-but (RunJob job ∷ cs) (r ∷ rs) (Ended how ∷ ss) ran h rest =
+    (let e = ended how h.0 in subst (λ o. AreOver ran (RunJob job ∷ cs) (o ∷ rs)) (sym e.1)
+    (over-but cs rs ss (Some job) h.1 rest))
+  where
+    ended : (how : Answer) → IsButBlocks r (Ended how) → (own : Answer) × (r ≡ Ended own)
+    ended (Scrubbed a xs ys) h = (Scrubbed a xs h.0, h.1)
+    ended how h = (how, h)
+over-but (RunJob job ∷ cs) (r ∷ rs) (Begun n ∷ ss) ran h rest =
+    subst (λ o. AreOver ran (RunJob job ∷ cs) (o ∷ rs)) (sym h.0) (over-but cs rs ss None h.1 rest)
+over-but (RunJob job ∷ cs) (r ∷ rs) (s ∷ ss) ran h rest =
+    subst (λ o. AreOver ran (RunJob job ∷ cs) (o ∷ rs)) (sym h.0) (over-but cs rs ss None h.1 rest)
+over-but [] (r ∷ rs) [] ran h is_over = absurd h
+over-but [] (r ∷ rs) (s ∷ ss) ran h is_over = absurd is_over
+over-but [] [] (s ∷ ss) ran h is_over = absurd is_over
+over-but (Once event ∷ cs) [] [] ran h is_over = absurd is_over
+over-but (Once event ∷ cs) [] (s ∷ ss) ran h is_over = absurd h
+over-but (Once event ∷ cs) (r ∷ rs) [] ran h is_over = absurd h
+over-but (RunJob job ∷ cs) [] [] ran h is_over = absurd is_over
+over-but (RunJob job ∷ cs) [] (s ∷ ss) ran h is_over = absurd h
+over-but (RunJob job ∷ cs) (r ∷ rs) [] ran h is_over = absurd h
+
+-- ---- what a get gave
+
+-- the bytes that were stored, or the report holds a forgery
+pub got-right : (commands : List Instruction) (outcomes : List Outcome) (start : State) (ms : List Moment)
+    (new : Seen) (end : Ending) (W : WasTold commands outcomes start ms new end) (name bytes : List ℕ) (g : ℕ)
+    (how : Answer) (G : GotBack (called_behind start ms) W.later name bytes g how) (got : List ℕ) →
+    how ≡ Got got →
+    (got ≡ bytes) ⊎ ((file : File) × (file_in (now start (G.before ++ called_behind start ms)) name ≡ Some file)
+    × HoldsForgery (file_object (now start (G.before ++ called_behind start ms)) file) bytes g end.heard)
+got-right commands outcomes start ms new end W name bytes g how G got is =
+    (let called : List Moment = called_behind start ms in
+    let before : List Moment = G.before ++ called in
+    let split : W.later ++ called ≡ G.last ∷ (G.gaps ++ G.begin ∷ before) =
+    ap (λ l. l ++ called) G.moments
+    ∙ ap (λ l. G.last ∷ l) (append_assoc G.gaps (G.begin ∷ G.before) called) in
+    subst (λ h. (got ≡ bytes) ⊎ ((file : File) × (file_in (now start before) name ≡ Some file)
+    × HoldsForgery (file_object (now start before) file) bytes g h))
+    (sym (W.heard ∙ ap (heard_in start) split))
+    (put_is_got_later 8 start before G.gaps G.begin G.last g name bytes got W.left.starts
+    (subst (IsRun 8 start) split W.left.run) G.stored
+    (subst (λ h. GetEnds G.begin G.gaps G.last g name h) is G.ends)))
