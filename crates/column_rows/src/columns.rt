@@ -281,42 +281,50 @@ fn opens(wide: &mut Wide, codec: &mut Codec, seen: &[Symbol; 96]) -> bool {
             == [Symbol(0x0101_0101_0101_0101_0101_0101_0101_0101); 4].as_slice()
 }
 
-/// Whether it opens so, each provider trusted, and again by those that are trusted then; and how many blocks
-/// and rows were decoded.
-fn opens_twice(
+/// Whether stripes open so one after the other, in each of which these providers lie, the first with each
+/// provider trusted; and how many blocks and rows were decoded.
+fn open_in_turn(
     rt: &impl Abort,
     alloc: Global,
     wide: &mut Wide,
-    seen: &[Symbol; 96],
+    stripes: &[&[u32]],
+    err: bool,
 ) -> (bool, u32, u32) {
     let mut codec = Codec::new(alloc).expect(rt, "memory");
     wide.bench.at_hand = AtHand::new();
-    let open = opens(wide, &mut codec, seen) && opens(wide, &mut codec, seen);
+    let mut open = true;
+    for liars in stripes {
+        let seen = all_given(wide, *liars, err);
+        open = opens(wide, &mut codec, &seen) && open;
+    }
     let decoded = wide.bench.at_hand.trust.decoded();
     (open, decoded.blocks, decoded.rows)
 }
 
-/// Which of sixteen providers give codewords of other symbols, whether one symbol of each block is wrong, and
-/// whether the stripe opens, with how many blocks and rows decoded. A clean one takes none, nor does a liar that
-/// no guess rests on. Others cost one row the first time, and none the second. Where symbols are wrong the blocks are decoded each time; a row then
-/// finds the liars each time. Three liars are too many: two guesses and a row itself find no polynomial.
-type Beside = (&'static [u32], bool, (bool, u32, u32));
+/// Which of sixteen providers give codewords of other symbols in each of some stripes, whether one symbol of
+/// each block is wrong, and whether all open, with how many blocks and rows decoded. A clean one takes none,
+/// nor does a liar that no guess rests on. Others cost one row the first time, and none the second. Where
+/// symbols are wrong the blocks are decoded each time; a row then finds the liars each time. Three liars are
+/// too many: two guesses and a row itself find no polynomial. Two that lied before are trusted again when a
+/// third lies, so that one of them costs a row again.
+type Beside = (&'static [&'static [u32]], bool, (bool, u32, u32));
 
-static BESIDE: [Beside; 7] = [
-    (&[], false, (true, 0, 0)),
-    (&[0, 1], false, (true, 0, 1)),
-    (&[1, 6], false, (true, 0, 1)),
-    (&[15], false, (true, 0, 0)),
-    (&[1, 15], true, (true, 32, 2)),
-    (&[], true, (true, 32, 0)),
-    (&[0, 1, 2], false, (false, 16, 3)),
+static BESIDE: [Beside; 9] = [
+    (&[&[], &[]], false, (true, 0, 0)),
+    (&[&[0, 1], &[0, 1]], false, (true, 0, 1)),
+    (&[&[1, 6], &[1, 6]], false, (true, 0, 1)),
+    (&[&[15], &[15], &[15]], false, (true, 0, 0)),
+    (&[&[0, 15], &[0, 15], &[0, 15]], false, (true, 0, 1)),
+    (&[&[0, 15], &[1], &[0]], false, (true, 0, 3)),
+    (&[&[1, 15], &[1, 15]], true, (true, 32, 2)),
+    (&[&[], &[]], true, (true, 32, 0)),
+    (&[&[0, 1, 2], &[]], false, (false, 16, 3)),
 ];
 
 /// The place of the first row that goes otherwise.
 fn first_other(rt: &impl Abort, alloc: Global, wide: &mut Wide) -> Option<usize> {
-    for (place, (liars, err, wanted)) in BESIDE.iter().enumerate() {
-        let seen = all_given(wide, *liars, *err);
-        if opens_twice(rt, alloc, wide, &seen) != *wanted {
+    for (place, (stripes, err, wanted)) in BESIDE.iter().enumerate() {
+        if open_in_turn(rt, alloc, wide, *stripes, *err) != *wanted {
             return Some(place);
         }
     }

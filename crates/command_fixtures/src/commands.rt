@@ -69,6 +69,23 @@ impl<P: Tamper + Drop> Store<P> {
         }
     }
 
+    /// Whether a file of three bytes is put under this number. Want of memory is the one refusal.
+    fn puts_one(&mut self, number: u32) -> Option<bool> {
+        let line = format!(in self.alloc; "put {number}").ok()?;
+        let text = format!(in self.alloc; "stored {number} 3\n").ok()?;
+        Some(self.ends(&line, b"abc", 0, 0, text.as_bytes()))
+    }
+
+    /// Whether so many files are put, under the numbers from 0 on.
+    pub fn puts(&mut self, count: u32) -> bool {
+        for number in 0..count {
+            if self.puts_one(number) != Some(true) {
+                return false;
+            }
+        }
+        true
+    }
+
     /// Whether a command whose sink fails at one of its calls ends with this status, and has written this.
     pub fn over_sink(
         &mut self,

@@ -50,6 +50,10 @@ pub enum Deed {
     Loses(usize),
     /// A provider loses its block of the object 1, or else of the object 2.
     LosesOne(usize),
+    /// A provider loses its block of an object.
+    LosesOf(usize, u64),
+    /// So many files of three bytes are put, each under a name of its own: the numbers from 0 on.
+    Puts(u32),
     /// A provider's block has another symbol at a place.
     Alters(usize, u32, u128),
     /// The blocks that the providers hold are kept in mind.

@@ -38,6 +38,8 @@ impl<P: Holder + Drop> Store<P> {
             Deed::Providers(count) => self.has_left(count),
             Deed::Loses(provider) => self.loses(provider, 1),
             Deed::LosesOne(provider) => self.loses(provider, 1) || self.loses(provider, 2),
+            Deed::LosesOf(provider, object) => self.loses(provider, object),
+            Deed::Puts(count) => self.puts(count),
             Deed::Alters(provider, place, symbol) => self.alters(provider, place, symbol),
             Deed::Keeps => self.keeps(),
             _ => self.shows(deed),

@@ -22,6 +22,8 @@ mod journals;
 #[cfg(test)]
 mod liars;
 #[cfg(test)]
+mod many;
+#[cfg(test)]
 mod memory;
 #[cfg(test)]
 mod packs;

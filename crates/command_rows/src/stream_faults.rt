@@ -50,13 +50,14 @@ fn a_source_that_fails_later_leaves_the_stripes_before(rt: HostRuntime) {
     check(&rt, LATER);
 }
 
-/// A stripe has 4608 bytes: 910 of them are stored before the byte is read that no file has room for.
+/// A stripe has 1152 bytes: 3,640 of them are stored before the byte is read that no file has room for. Behind
+/// the setup the journal has the start of the put alone.
 const TOO_LONG: &[Rows] = &[Rows::Deeds(&[
-    Done("init 6 3 1 4 1 1 0", KEY, b"ready\n"),
-    Long("put a", 4_194_305, 16, b""),
-    DiskHas(63),
+    Done("init 6 3 1 2 4 8 0", KEY, b"ready\n"),
+    Long("put big", 4_194_305, 16, b""),
+    DiskHas(65),
     Done("list", b"", b""),
-    Blocks(6, 1, 910, 128),
+    Blocks(6, 1, 3640, 32),
 ])];
 
 #[test]
@@ -64,13 +65,20 @@ fn a_source_that_is_too_long_leaves_the_stripes_before(rt: HostRuntime) {
     check(&rt, TOO_LONG);
 }
 
-/// The longest file.
-const LONGEST: &[Rows] = &[Rows::Deeds(&[
-    Done("init 6 3 1 4 1 1 0", KEY, b"ready\n"),
-    Long("put a", 4_194_304, 0, b"stored a 4194304\n"),
-    Done("list", b"", b"a 4194304\n"),
-    Blocks(6, 1, 911, 128),
-])];
+/// The longest file has 3,641 stripes at the profile 2, and 911 at the profile 4.
+const LONGEST: &[Rows] = &[
+    Rows::Deeds(&[
+        Done("init 6 3 1 2 4 8 0", KEY, b"ready\n"),
+        Long("put big", 4_194_304, 0, b"stored big 4194304\n"),
+        Done("list", b"", b"big 4194304\n"),
+        Blocks(6, 1, 3641, 32),
+    ]),
+    Rows::Deeds(&[
+        Done("init 6 3 1 4 1 1 0", KEY, b"ready\n"),
+        Long("put a", 4_194_304, 0, b"stored a 4194304\n"),
+        Blocks(6, 1, 911, 128),
+    ]),
+];
 
 #[test]
 fn the_longest_source_is_stored(rt: HostRuntime) {

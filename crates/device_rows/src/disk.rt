@@ -1,6 +1,7 @@
-use crate::disk_calls::DiskCall::{self, Len, Read, Stop, Sync, Write};
-use crate::disk_calls::first_wrong;
-use crate::given::{no_other, or_behind};
+use crate::given::no_other;
+use device_fixtures::disk_calls::DiskCall::{self, Len, Read, Stop, Sync, Write};
+use device_fixtures::disk_calls::first_wrong;
+use device_fixtures::given::or_behind;
 use disk_model::*;
 use std::alloc::Global;
 use stream_model::{Failed, WriteFault};

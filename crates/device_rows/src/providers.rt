@@ -1,6 +1,7 @@
-use crate::calls::Call::{self, Alter, Ask, Fetch, Lose, Remove, Store};
-use crate::calls::{are, first_wrong};
-use crate::given::{WEIGHT, no_other, or_behind};
+use crate::given::no_other;
+use device_fixtures::calls::Call::{self, Alter, Ask, Fetch, Lose, Remove, Store};
+use device_fixtures::calls::{are, first_wrong};
+use device_fixtures::given::{WEIGHT, or_behind};
 use hail_field::Symbol;
 use provider_model::*;
 use std::alloc::Global;

@@ -1,4 +1,5 @@
-use crate::given::{no_other, or_behind};
+use crate::given::no_other;
+use device_fixtures::given::or_behind;
 use std::alloc::Global;
 use stream_model::*;
 

@@ -1,8 +1,9 @@
 ghost use Rattle.std.specs.Prelude.{◌≡◌, None, IfOk};
 
-use crate::calls::Call::{self, Alter, Ask, Fetch, Lose, Remove, Store};
-use crate::calls::{first_wrong, is_right};
-use crate::given::{WEIGHT, no_other, or_behind};
+use crate::given::no_other;
+use device_fixtures::calls::Call::{self, Alter, Ask, Fetch, Lose, Remove, Store};
+use device_fixtures::calls::{first_wrong, is_right};
+use device_fixtures::given::{WEIGHT, or_behind};
 use provider_model::{MemProvider, Provider, StoreFault, SureProvider};
 use provider_wire::*;
 use std::alloc::Global;

@@ -7,6 +7,9 @@ use std::io::{self, PipeReader, PipeWriter, pipe};
 use std::os::unix::fs::symlink;
 use std::os::unix::io::{AsRawFd, RawFd};
 
+/// The ends that a link is to open: that of its requests and that of the answers.
+pub type Ends = (PipeWriter, PipeReader);
+
 /// The two pipes of a link: the ends that the link is to open, and those of the far end.
 #[derive(Drop)]
 pub struct Pipes {
@@ -39,6 +42,11 @@ impl Pipes {
     /// What is left to the far end: its two ends.
     pub fn far(self) -> (PipeReader, PipeWriter) {
         (self.requests, self.answers)
+    }
+
+    /// What is left where the far end goes: the ends that the link is to open.
+    pub fn own(self) -> Ends {
+        (self.own_requests, self.own_answers)
     }
 }
 

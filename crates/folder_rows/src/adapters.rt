@@ -1,8 +1,8 @@
-use crate::calls::Call::{self, Alter, Fetch, Lacks, Lose, Remove, Store};
-use crate::calls::is_right_tampered;
-use crate::disk_calls::DiskCall::{self, Len, Sync, Write};
-use crate::files::Look;
 use crate::given::no_other;
+use device_fixtures::calls::Call::{self, Alter, Fetch, Lacks, Lose, Remove, Store};
+use device_fixtures::calls::is_right_tampered;
+use device_fixtures::disk_calls::DiskCall::{self, Len, Sync, Write};
+use device_fixtures::files::Look;
 use disk_model::Disk;
 use hail_adapters::transfer::{fill, write_some};
 use hail_adapters::*;

@@ -1,10 +1,11 @@
 // Rows of a folder with one file for each object.
 use crate::adapters::OfProvider::{self, Calls, Looks};
 use crate::adapters::{first_wrong_of_provider, over_both, over_stack};
-use crate::calls::Call::{Alter, Ask, AskOfOne, Fetch, Lacks, Lose, Remove, Store};
-use crate::files::Look;
-use crate::forgetful::{Counts, Forgetful};
-use crate::given::{WEIGHT, no_other};
+use crate::given::no_other;
+use device_fixtures::calls::Call::{Alter, Ask, AskOfOne, Fetch, Lacks, Lose, Remove, Store};
+use device_fixtures::files::Look;
+use device_fixtures::forgetful::{Counts, Forgetful};
+use device_fixtures::given::WEIGHT;
 use hail_adapters::FolderProvider;
 use provider_model::StoreFault;
 use std::alloc::{Alloc, Global};

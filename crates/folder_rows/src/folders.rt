@@ -1,11 +1,12 @@
 // Rows of folders that fail, lose or hold something else.
 use crate::adapters::OfProvider::{self, Calls, Looks};
 use crate::adapters::{first_wrong_of_provider, over_both, over_folder};
-use crate::calls::Call::{Alter, Ask, AskOfOne, Fetch, Lacks, Lose, Remove, Store};
-use crate::files::Look;
-use crate::forgetful::{Counts, Forgetful};
-use crate::given::{CHALLENGE, WEIGHT, no_other};
+use crate::given::no_other;
 use challenge::Challenge;
+use device_fixtures::calls::Call::{Alter, Ask, AskOfOne, Fetch, Lacks, Lose, Remove, Store};
+use device_fixtures::files::Look;
+use device_fixtures::forgetful::{Counts, Forgetful};
+use device_fixtures::given::{CHALLENGE, WEIGHT};
 use hail_adapters::FolderProvider;
 use hail_field::Symbol;
 use provider_model::{Provider, StoreFault};

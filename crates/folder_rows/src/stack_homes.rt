@@ -1,10 +1,10 @@
 // Rows of a home of whose providers some are stacks: what the barrier brings to the medium.
 use crate::adapters::OfProvider::{self, Calls, Looks};
 use crate::adapters::first_wrong_of_provider;
-use crate::calls::Call::{AskOfOne, Fetch, Lacks, Remove, Store};
-use crate::files::Look;
-use crate::forgetful::{Counts, Forgetful};
-use crate::given::WEIGHT;
+use device_fixtures::calls::Call::{AskOfOne, Fetch, Lacks, Remove, Store};
+use device_fixtures::files::Look;
+use device_fixtures::forgetful::{Counts, Forgetful};
+use device_fixtures::given::WEIGHT;
 use hail_adapters::{FolderProvider, ProviderFolders, Unsynced, first_twin, folder_providers};
 use provider_model::StoreFault;
 use std::alloc::{Alloc, Global};
@@ -309,20 +309,32 @@ static TWIN: [OfProvider; 2] = [
     Calls(Fetch(1, 0, ROOM, Ok(true), ONE)),
 ];
 
-/// Whether the second of two stacks that are one folder is refused before anything of it is written.
-fn refuses_twins<R: Files + Alloc + Clone + Drop>(rt: &R, alloc: Global) -> Option<bool> {
-    make_home(rt, alloc, "stack_twins")?;
-    fs::create_dir(rt, "stack_twins/provider-0").ok()?;
-    symlink(rt, "provider-0", "stack_twins/provider-1").ok()?;
-    let mut home = Home::new(rt, alloc, "stack_twins")?;
-    let right = home.goes(rt, 0, &TWO_BLOCKS) && home.goes(rt, 1, &TWIN) && home.brings().0;
-    fs::remove_dir_all(rt, "stack_twins").ok()?;
+/// Whether the second of two providers that are one folder is refused before anything of it is written.
+fn refuses_twins<R: Files + Alloc + Clone + Drop>(
+    rt: &R,
+    alloc: Global,
+    first: usize,
+    second: usize,
+) -> Option<bool> {
+    make_home(rt, alloc, "twins")?;
+    let folder = format!(in alloc; "provider-{first}").ok()?;
+    let own = format!(in alloc; "twins/{folder}").ok()?;
+    let link = format!(in alloc; "twins/provider-{second}").ok()?;
+    fs::create_dir(rt, &own).ok()?;
+    symlink(rt, &folder, &link).ok()?;
+    let mut home = Home::new(rt, alloc, "twins")?;
+    let right = home.goes(rt, first, &TWO_BLOCKS)
+        && home.goes(rt, second, &TWIN)
+        && home.brings().0;
+    fs::remove_dir_all(rt, "twins").ok()?;
     Some(right)
 }
 
+// Providers 0 and 1 are stacks, 2 and 3 are not.
 #[test]
-fn two_stacks_that_are_one_are_a_fault_of_the_second(rt: HostRuntime) {
-    assert_eq!(rt; refuses_twins(&rt, rt.alloc()), Some(true));
+fn two_providers_that_are_one_are_a_fault_of_the_second(rt: HostRuntime) {
+    assert_eq!(rt; refuses_twins(&rt, rt.alloc(), 0, 1), Some(true));
+    assert_eq!(rt; refuses_twins(&rt, rt.alloc(), 2, 3), Some(true));
 }
 
 /// Which provider, if any, has the folder of one before it, where provider 5 is a link to the folder of 2 and has
