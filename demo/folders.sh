@@ -1,34 +1,18 @@
 #!/bin/bash
 # hail-sftp and git-annex-remote-hail in long: folders.sh [NAME ..] does these of its tests, or all: restic_life, kills, at_once, full, power, sshfs,
 # rclone, annex_suite, annex_life. `folders.sh speed [FOLDER [BYTES]]` measures restic beside its own local store, in FOLDER (a disk) or in memory.
-# BYTES and SIZE are those of the folders and keys, ROUNDS the kills. It tells each that goes otherwise, ends with 0 exactly where none does, and leaves nothing behind. What needs a program that is not there is
-# passed over, and told. tools/test-folders.sh has the fast part.
+# BYTES and SIZE are those of the folders and keys, ROUNDS the kills, FORM that of the homes: -s for stacks, -f for folders. It tells each that
+# goes otherwise, ends with 0 exactly where none does, and leaves nothing behind. What needs a program that is not there is passed over, and told.
+# tools/test-folders.sh has the fast part.
 set -u
 
-root=$(CDPATH='' cd -P -- "$(dirname "$0")/.." && pwd -P)
-export HAIL=${HAIL:-$root/hail}
-if [ "$HAIL" = "$root/hail" ] && "$HAIL" - row 4 1 1 7 7 7 9 >/dev/null </dev/null && [ -x "$root/out/hail" ]; then HAIL=$root/out/hail; fi
-export TOOLS=${TOOLS:-$root/tools}
-room=/dev/shm
+called=folders room=/dev/shm
 [ "${1-}" != speed ] || [ -z "${2-}" ] || room=$2
-scratch=$(mktemp -d -p "$room" 2>/dev/null || mktemp -d) || exit 1
-trap 'chmod -R u+w "$scratch"; rm -rf "$scratch"' EXIT
+. "$(dirname "$0")/../tools/test-lib.sh"
+without_launcher
 export HOME=$scratch TMPDIR=$scratch XDG_CACHE_HOME=$scratch/cache PATH=$TOOLS:$PATH RESTIC_PASSWORD=a
 export GIT_AUTHOR_NAME=a GIT_AUTHOR_EMAIL=a@b GIT_COMMITTER_NAME=a GIT_COMMITTER_EMAIL=a@b
-failed=0
 bytes=${BYTES:-60000000}
-
-wrong() {
-    echo "folders: $*" >&2
-    failed=1
-}
-
-have() {
-    local program
-    for program in "$@"; do
-        command -v "$program" >/dev/null 2>&1 || { echo "folders: there is no $program: ${FUNCNAME[1]} is passed over" >&2; return 1; }
-    done
-}
 
 # Does a step, and tells it with its seconds.
 step() {
@@ -43,7 +27,7 @@ new_set() {
     local k
     homes=()
     for ((k = 0; k < $1; k++)); do
-        head -c 32 /dev/urandom | od -An -v -tx1 | tr -d ' \n' | hail-init "h$k" 6 3 1 4 16 64 0 >said || wrong "no home: $(cat said)"
+        make_key | hail-init ${FORM:--s} "h$k" 6 3 1 4 16 64 0 >said || wrong "no home: $(cat said)"
         homes+=("$PWD/h$k")
     done
     hail-sftp --init "${homes[@]}" || wrong 'no set'
@@ -76,14 +60,26 @@ make_tree() {
     head -c "$(($2 / 4))" /dev/urandom | split -b 100000 -a 4 - "$1/deep/er/part"
 }
 
-# Of each home's provider $1 one block in 40 is altered, in so many symbols.
+# Of each home's provider $1 one block in 40 is altered, in so many symbols: a block of 2,048 bytes is a file, or of a stack the bytes from 16 on.
 alter() {
-    local home block
-    for home in "${homes[@]}"; do
-        find "$home/provider-$1" -type f | sort | awk 'NR % 40 == 1' | while read -r block; do
-            for ((k = 0; k < $2; k++)); do printf '%s' "$((RANDOM % 10))" | dd of="$block" bs=1 seek=$((16 * k)) conv=notrunc status=none; done
-        done
-    done
+    python3 - "$@" "${homes[@]}" <<'END'
+import os, sys
+place, symbols = sys.argv[1], int(sys.argv[2])
+blocks = []
+for home in sys.argv[3:]:
+    folder = f'{home}/provider-{place}'
+    for name in sorted(os.listdir(folder)):
+        path = f'{folder}/{name}'
+        count = 1 if '-' in name else (os.path.getsize(path) - 16) // 2056
+        blocks += [(path, 0 if '-' in name else 16 + 2056 * block) for block in range(count)]
+for path, start in blocks[::40]:
+    with open(path, 'r+b') as file:
+        for symbol in range(symbols):
+            file.seek(start + 16 * symbol)
+            byte = file.read(1)[0]
+            file.seek(start + 16 * symbol)
+            file.write(bytes([byte ^ 1]))
+END
 }
 
 lose() {
@@ -92,7 +88,7 @@ lose() {
 }
 
 restic_life() {
-    have restic || return
+    have restic python3-paramiko || return
     new_set 3
     make_tree tree "$bytes"
     step init on_hail init
@@ -150,7 +146,7 @@ killed_backup() {
 }
 
 kills() {
-    have restic || return
+    have restic python3-paramiko || return
     local round before
     new_set 2
     make_tree tree 5000000
@@ -170,7 +166,7 @@ kills() {
 }
 
 at_once() {
-    have restic || return
+    have restic python3-paramiko || return
     local one two
     new_set 2
     make_tree a 20000000
@@ -188,7 +184,7 @@ at_once() {
 
 # A set whose names run out in a backup: it fails, what was there stays, room comes by a prune or by one more home.
 full() {
-    have restic || return
+    have restic python3-paramiko || return
     new_set 1
     { echo reopen; for ((k = 1; k <= 960; k++)); do printf 'begin put full%d -\nrun %d\n' "$k" "$k"; done; } | "$HAIL" h0 replay >said || wrong 'a home is not filled'
     make_tree a 10000000
@@ -200,7 +196,7 @@ full() {
     step 'prune of a full store' on_hail prune --max-repack-size 0
     echo "   $(hail_files) hail files"
     step 'restore and compare' comes_back a
-    head -c 32 /dev/urandom | od -An -v -tx1 | tr -d ' \n' | hail-init h1 6 3 1 4 16 64 0 >said
+    make_key | hail-init ${FORM:--s} h1 6 3 1 4 16 64 0 >said
     hail-sftp --add h0 h1 || wrong 'no home is added'
     homes+=("$PWD/h1")
     step 'backup once a home is added' on_hail backup b
@@ -216,7 +212,7 @@ power() {
 }
 
 sshfs() {
-    have sshfs fusermount3 || return
+    have sshfs fusermount3 python3-paramiko || return
     new_set 2
     make_tree tree 9000000
     mkdir mnt
@@ -236,7 +232,7 @@ sshfs() {
 # rclone through sshd of this machine, which runs hail-sftp alone for a key.
 rclone() {
     local sshd port=$((20000 + RANDOM % 20000)) far
-    have rclone ssh-keygen || return
+    have rclone ssh-keygen python3-paramiko || return
     sshd=$(PATH=$PATH:/usr/sbin command -v sshd) || { echo 'folders: there is no sshd: rclone is passed over' >&2; return; }
     new_set 2
     make_tree tree 12000000 && rm tree/deep/link
@@ -296,7 +292,7 @@ annex_life() {
 
 # MB/s of what restic read, over hail-sftp and over its local store, in turn.
 speed() {
-    have restic || return
+    have restic python3-paramiko || return
     local turn
     bytes=${3:-$bytes}
     new_set 3
@@ -306,15 +302,16 @@ speed() {
         local label=$1 since=$EPOCHREALTIME
         shift
         "$@" >said 2>&1 || wrong "$label: $(tail -n 3 said)"
-        awk -v label="$label" -v since="$since" -v now="$EPOCHREALTIME" -v bytes="$bytes" 'BEGIN { printf "%-28s %7.1f s %7.2f MB/s\n", label, now - since, bytes / (now - since) / 1e6 }'
+        awk -v label="$label" -v since="$since" -v now="$EPOCHREALTIME" -v bytes="$bytes" \
+            'BEGIN { printf "%-28s %7.1f s %7.2f MB/s\n", label, now - since, bytes / (now - since) / 1e6 }'
     }
-    on_hail init && restic -q -r local init || wrong 'no repository'
+    on_hail init && restic -q -r plain init || wrong 'no repository'
     for turn in 1 2; do
-        rate "local backup" restic -q -r local backup --force tree
+        rate "local backup" restic -q -r plain backup --force tree
         rate "hail backup" on_hail backup tree
-        rm -rf back; rate 'local restore' restic -q -r local restore latest --target back
+        rm -rf back; rate 'local restore' restic -q -r plain restore latest --target back
         rm -rf back; rate 'hail restore' on_hail restore latest --target back
-        rate 'local check --read-data' restic -q -r local check --read-data
+        rate 'local check --read-data' restic -q -r plain check --read-data
         rate 'hail check --read-data' on_hail check --read-data
         head -c "$((bytes / 2))" /dev/urandom >tree/deep/big && rm -r tree/deep/er && bytes=$((bytes / 2))
     done

@@ -3,7 +3,8 @@
 # A block of a page is lines behind four spaces. A line behind `$ ` is a command, and the lines up to the next one are what it writes, of
 # which `..` stands for any. A block without such a line is commands that end with 0, whatever they write. A block below a line
 # `<!-- not run: .. -->` is passed over. A line `<!-- run: NAME -->` calls a function of demo/PAGE.steps, which ends with 0. Below a line
-# `<!-- needs: PROGRAM -->` all is passed over, up to the next heading, where there is no such program; then that is told.
+# `<!-- needs: PROGRAM -->` all is passed over, up to the next heading, where there is no such program, or python3 has no module MODULE for
+# python3-MODULE; then that is told.
 # HAIL names another program than the one of this repository, and TOOLS another folder of companions.
 # Ends with 0 exactly where each command went as the page tells.
 set -u
@@ -22,7 +23,10 @@ part() {
         function finish() { if (in_block) close(does); if (tells) close(tells); in_block = 0; tells = "" }
         /^## / { missing = 0 }
         missing { next }
-        /^<!-- needs: / && system("command -v " $3 " >/dev/null") { finish(); missing = 1; print FILENAME ": there is no " $3 >"/dev/stderr"; next }
+        function lacks(name) {
+            return system(name ~ /^python3-/ ? "/usr/bin/python3 -c \"import " substr(name, 9) "\" 2>/dev/null" : "command -v " name " >/dev/null")
+        }
+        /^<!-- needs: / && lacks($3) { finish(); missing = 1; print FILENAME ": there is no " $3 >"/dev/stderr"; next }
         /^<!-- needs: / { finish(); next }
         /^<!-- not run/ { skipped = 1; next }
         /^<!-- run: / { finish(); begin(); sub(/^<!-- run: /, ""); sub(/ -->$/, ""); print > does; close(does); next }

@@ -113,13 +113,20 @@ says 0 get big
 cmp -s out big || wrong 'a file comes back otherwise beside a silent far end'
 grep -q '^hail-remote: provider 2 is given up: no answer for 2 seconds$' err || wrong "of a silent far end is told $(cat err)"
 
+# Ends a repair that is due, as behind one that was killed.
+settle() {
+    "$remote" home repair </dev/null >out 2>err
+    case $? in 0 | 7) ;; *) wrong "a repair that was due says $(cat err)" ;; esac
+}
+
 # Kills of hail or of hail-remote at some moment of a put, a scrub or a repair: what was acknowledged comes back.
 both
+: >new
 for ((k = 1; k <= kills; k++)); do
     case $((k % 3)) in
         0) words='put cut' && head -c 100000 /dev/urandom >new ;;
         1) words=scrub && rm -rf far2/provider-2 ;;
-        2) words=repair && rm -rf far2/provider-2 && says 0 audit ;;
+        2) settle && words=repair source=/dev/null && rm -rf far2/provider-2 && says 0 audit ;;
     esac
     "$remote" home $words <new >out 2>err &
     pid=$!
@@ -133,6 +140,7 @@ for ((k = 1; k <= kills; k++)); do
     "$remote" home get cut >out 2>err </dev/null
     [ $? -eq 3 ] && [ ! -e cut ] || cmp -s out cut || { cmp -s out new && cp new cut; } || wrong "behind a killed $words cut comes back otherwise: $(cat err)"
 done
+settle
 says 0 scrub
 says 0 scrub
 ! grep '^provider' out | grep -qv ' blocks 0$' || wrong "behind the kills a scrub leaves $(cat out)"

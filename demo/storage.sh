@@ -1,5 +1,6 @@
 #!/bin/bash
-# A store whose providers are mounts, by sshfs (a server of this user alone, behind a pipe) and by rclone (without a cache): storage.sh
+# A store whose providers are mounts, by sshfs (a server of this user alone, behind a pipe), as folders and as stacks, and by rclone (without a
+# cache), as folders; stacks are refused there: storage.sh
 # Each provider is a link to a folder inside its mount. A file is put, given and audited. Then a mount ends: a put and a repair are told as
 # its fault, the file comes back, the audit flags it, and nothing lands in the folder below. Mounted again it is repaired. With sshfs the
 # server also dies in the midst of a put: the old file or the new one is there, and the new one where it was told as stored; and where
@@ -72,7 +73,7 @@ flags() {
     [ "$(awk '$NF == "flagged" { print $2 }' out)" = "$1" ] || wrong "$kind: an audit says $(cat out)"
 }
 
-# Six mounts, and a store on them with one file.
+# Six mounts, and a store on them.
 begin() {
     local place
     rm -rf home far near
@@ -82,10 +83,10 @@ begin() {
         "mount_by_$kind" $place || return 1
         mkdir near/$place/hail
         ln -s "$scratch/near/$place/hail" home/provider-$place
+        [ "$form" = folders ] || : >home/stack-$place
     done
     head -c 32 /dev/urandom | od -An -v -tx1 | tr -d ' \n' >key
     source=key && ends 0 ready init 6 3 1 4 4 8 0
-    source=first && ends 0 'stored file 40000' put file
 }
 
 # The mount of provider 2 ends, and comes back.
@@ -127,7 +128,7 @@ bare_mount_ends() {
     rm home/provider-2
     ln -s "$scratch/near/2" home/provider-2
     timeout 60 "$program" home put file <third >out 2>err &
-    until [ "$(ls far/2 | wc -l)" -gt 5 ] || ! kill -0 $! 2>/dev/null; do :; done
+    until [ "$(ls far/2 | wc -l)" -gt $([ "$form" = stacks ] && echo 1 || echo 5) ] || ! kill -0 $! 2>/dev/null; do :; done
     until fusermount3 -u near/2 2>/dev/null; do mountpoint -q near/2 || break; done
     wait $!
     case $? in
@@ -137,18 +138,34 @@ bare_mount_ends() {
     esac
 }
 
-# The story of one kind of mount, where its tools are there.
-try_kind() {
-    local tool place
-    kind=$1
-    shift
+# A put to stacks over a mount that can't read what is being written ends with 13, and no file is there by it.
+stacks_are_refused() {
+    source=first && ends 13 'hail: provider fault 0' put file
+    source=/dev/null && ends 0 '' list
+}
+
+# The tools of one kind of mount are there, and something can be mounted.
+can_mount() {
+    local tool
     for tool in fusermount3 "$@"; do
-        command -v "$tool" >/dev/null 2>&1 || { echo "storage: $kind is not tried, there is no $tool"; return 0; }
+        command -v "$tool" >/dev/null 2>&1 || { echo "storage: $kind is not tried, there is no $tool"; return 1; }
     done
-    [ -w /dev/fuse ] || { echo "storage: $kind is not tried, there is no /dev/fuse"; return 0; }
+    [ -w /dev/fuse ] || { echo "storage: $kind is not tried, there is no /dev/fuse"; return 1; }
+}
+
+# The story of one kind of mount and one form of folders, where it can be had.
+try_kind() {
+    local place
+    kind=$1 form=$2
+    can_mount "${@:3}" || return 0
     begin || { echo "storage: $kind is not tried, nothing can be mounted"; return 0; }
-    mount_ends
-    [ "$kind" = rclone ] || { server_dies; bare_mount_ends; }
+    if [ "$kind $form" = 'rclone stacks' ]; then
+        stacks_are_refused
+    else
+        source=first && ends 0 'stored file 40000' put file
+        mount_ends
+        [ "$kind" = rclone ] || { server_dies; bare_mount_ends; }
+    fi
     for place in 0 1 2 3 4 5; do end_mount $place; done
     wait
 }
@@ -156,6 +173,8 @@ try_kind() {
 head -c 40000 /dev/urandom >first
 head -c 50000 /dev/urandom >second
 head -c 300000 /dev/urandom >third
-try_kind sshfs sshfs /usr/lib/openssh/sftp-server
-try_kind rclone rclone
+try_kind sshfs folders sshfs /usr/lib/openssh/sftp-server
+try_kind sshfs stacks sshfs /usr/lib/openssh/sftp-server
+try_kind rclone folders rclone
+try_kind rclone stacks rclone
 exit $failed

@@ -35,7 +35,7 @@ for file in doc/hail/copyright doc/hail/changelog.gz doc/hail/README.md doc/hail
 done
 "$fresh/usr/bin/hail-plan" --only shapes >"$fresh/log" 2>&1 || wrong "hail-plan does not run: $(tail -n 1 "$fresh/log")"
 "$fresh/usr/bin/hail-help" 13 | grep -q provider || wrong 'hail-help tells nothing'
-for part in stack-blocks tell-failed; do
+for part in stack-blocks tell-failed tell-progress; do
     [ -x "$fresh/usr/lib/hail/$part" ] || wrong "there is no $part"
 done
 for folder in system user; do

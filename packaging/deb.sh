@@ -31,7 +31,7 @@ put_program() {
     for module in "$root"/tools/lib/hail/*.py "$root"/tools/folders/*.py; do
         install -D -m 644 "$module" "$tree/usr/lib/hail/${module#"$root/tools/"}"
     done
-    for part in stack-blocks tell-failed; do
+    for part in stack-blocks tell-failed tell-progress; do
         install -D -m 755 "$root/tools/$part" "$tree/usr/lib/hail/$part"
     done
     awk '/^## / { within = $0 == "## Each status" } within' "$root/docs/guide.md" >"$tree/usr/lib/hail/each-status.md"
@@ -75,6 +75,7 @@ Architecture: $architecture
 Maintainer: The hail authors <hail@localhost>
 Installed-Size: $(du -sk "$tree/usr" | cut -f 1)
 Depends: libc6 (>= 2.34), bash (>= 5.0), coreutils (>= 8.31), findutils (>= 4.6), util-linux (>= 2.30), mawk | awk, python3 (>= 3.10)
+Recommends: python3-paramiko
 Suggests: restic, rclone, sshfs, git-annex
 Section: utils
 Priority: optional

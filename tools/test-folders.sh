@@ -4,38 +4,21 @@
 # Homes are made in memory where that can be: a put's time is its syncs.
 set -u
 
-root=$(CDPATH='' cd -P -- "$(dirname "$0")/.." && pwd -P)
-export HAIL=${HAIL:-$root/hail}
-if [ "$HAIL" = "$root/hail" ] && "$HAIL" - row 4 1 1 7 7 7 9 >/dev/null </dev/null && [ -x "$root/out/hail" ]; then HAIL=$root/out/hail; fi
-export TOOLS=${TOOLS:-$root/tools}
-scratch=$(mktemp -d -p /dev/shm 2>/dev/null || mktemp -d) || exit 1
-trap 'chmod -R u+w "$scratch"; rm -rf "$scratch"' EXIT
+called=folders room=/dev/shm
+. "$(dirname "$0")/test-lib.sh"
+without_launcher
 export HOME=$scratch TMPDIR=$scratch XDG_CACHE_HOME=$scratch/cache
-failed=0
-
-wrong() {
-    echo "folders: $*" >&2
-    failed=1
-}
-
-# Whether these programs are there; else what is passed over is told.
-have() {
-    local program
-    for program in "$@"; do
-        command -v "$program" >/dev/null 2>&1 || { echo "folders: there is no $program: ${FUNCNAME[1]} is passed over" >&2; return 1; }
-    done
-}
 
 # A home at 5 2 1, and a set of it.
 new_home() {
-    head -c 32 /dev/urandom | od -An -v -tx1 | tr -d ' \n' | "$TOOLS/hail-init" "$1" 5 2 1 4 16 64 0 >out && "$TOOLS/hail-sftp" --init "$1" || wrong "no home $1"
+    make_key | "$TOOLS/hail-init" "$1" 5 2 1 4 16 64 0 >out && "$TOOLS/hail-sftp" --init "$1" || wrong "no home $1"
 }
 
 # The modules of tests, each by itself.
 modules() {
     local module running=() names=("$@")
     have /usr/bin/python3 || return
-    /usr/bin/python3 -c 'import paramiko' 2>/dev/null || echo 'folders: there is no python3-paramiko: tests by its client are passed over' >&2
+    is_there python3-paramiko || echo 'folders: there is no python3-paramiko: tests of hail-sftp are passed over' >&2
     for module in "${names[@]}"; do
         (cd "$root/tools" && /usr/bin/python3 -B -m unittest "folders_tests.$module") >"$scratch/$module.log" 2>&1 &
         running+=($!)
@@ -57,7 +40,7 @@ types() {
 
 # The client of OpenSSH, over a home whose name has a blank.
 openssh() {
-    have sftp || return
+    have sftp python3-paramiko || return
     new_home 'a home'
     seq 1 9000 >file
     printf '%s\n' 'mkdir d' 'put file d/one' 'rename d/one d/two' 'get d/two back' '-rename d nowhere' 'ls -l d' 'df' >batch
@@ -68,7 +51,7 @@ openssh() {
 
 # restic's life in short, with a provider lost on the way, and all that is kept beside the home's files.
 restic_life() {
-    have restic || return
+    have restic python3-paramiko || return
     new_home home
     export RESTIC_PASSWORD=a
     restic() { command restic -q -o sftp.command="$TOOLS/hail-sftp $PWD/home" -r sftp:x:/repo "$@"; }
@@ -86,25 +69,11 @@ restic_life() {
 annex() {
     have git git-annex || return
     export PATH=$TOOLS:$PATH GIT_AUTHOR_NAME=a GIT_AUTHOR_EMAIL=a@b GIT_COMMITTER_NAME=a GIT_COMMITTER_EMAIL=a@b
-    head -c 32 /dev/urandom | od -An -v -tx1 | tr -d ' \n' | "$TOOLS/hail-init" home 4 1 1 4 4 8 0 >out || wrong "no home: $(cat out)"
+    make_key | "$TOOLS/hail-init" home 4 1 1 4 4 8 0 >out || wrong "no home: $(cat out)"
     git init -q repo && cd repo && git annex init -q here >out 2>&1 || wrong "git-annex does not begin: $(cat out)"
     git annex initremote -q hail type=external externaltype=hail homes=../home chunk=4MiB encryption=none >out 2>&1 || wrong "initremote: $(cat out)"
     git annex testremote --fast --size=20000 hail >out 2>&1 || { wrong 'testremote --fast fails'; tail -n 30 out >&2; }
 }
 
-# A test in a folder of its own.
-run() {
-    mkdir -p "$scratch/$1" && cd "$scratch/$1" || exit 1
-    "$1"
-    exit $failed
-}
-
-running=()
-for test in ${*:-python types openssh restic_life annex}; do
-    (run "$test") &
-    running+=($!)
-done
-for test in "${running[@]}"; do
-    wait "$test" || failed=1
-done
+run_all ${*:-python types openssh restic_life annex}
 exit $failed

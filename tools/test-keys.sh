@@ -4,17 +4,8 @@
 # NAME .. runs these tests alone.
 set -u
 
-root=$(CDPATH='' cd -P -- "$(dirname "$0")/.." && pwd -P)
-export HAIL=${HAIL:-$root/hail}
-tools=${TOOLS:-$root/tools}
-scratch=$(mktemp -d) || exit 1
-trap 'rm -rf "$scratch"' EXIT
-failed=0
-
-wrong() {
-    echo "keys: $*" >&2
-    failed=1
-}
+called=keys
+. "$(dirname "$0")/test-lib.sh"
 
 # The companion ends with this status.
 ends() {
@@ -30,16 +21,12 @@ told() {
     cat out err | grep -qF -- "$1" || wrong "$1 is not told, but $(cat out err)"
 }
 
-make_key() {
-    head -c 32 /dev/urandom | od -An -v -tx1 | tr -d ' \n'
-}
-
 # A new home with these numbers and a key of its own.
 new_home() {
     local home=$1
     shift
     make_key >key
-    "$tools/hail-init" "$home" "$@" <key >out || wrong "hail-init $*: $(cat out)"
+    "$tools/hail-init" -f "$home" "$@" <key >out || wrong "hail-init $*: $(cat out)"
 }
 
 # A home of which files were put, replaced and dropped: in effect are 2 `long`, 3 `empty`, 5 `small` at profile 2, 7 `notes`; with the word
@@ -362,6 +349,22 @@ stacked() {
     told 'number 2: stripe 3 is at 4 providers only'
 }
 
+# Each table of the documents below a line `<!-- hail-plan WORDS -->` is the one that these words make, blanks beside its bars aside.
+tables_are_as_planned() {
+    local page words
+    grep -c '^<!-- hail-plan ' "$root"/docs/*.md | grep -v ':0$' | cut -d: -f1 >pages
+    [ -s pages ] || wrong 'no document has a table of hail-plan'
+    while read -r page; do
+        sed -n 's/^<!-- hail-plan \(.*\) -->$/\1/p' "$page" >plans
+        while IFS= read -r words; do
+            eval "ends 0 hail-plan $words"
+            grep '^|' out | sed 's/ *| */|/g' >planned
+            awk -v plan="<!-- hail-plan $words -->" '$0 == plan { found = 1; next } found && /^\|/ { print; table = 1; next } table { exit }' "$page" | sed 's/ *| */|/g' >shown
+            cmp -s planned shown || wrong "$page has another table than hail-plan $words"
+        done <plans
+    done <pages
+}
+
 # What hail-plan tells, as worked out by hand, and as the program over memory comes to.
 planning() {
     local shape
@@ -377,10 +380,7 @@ planning() {
     for shape in 6-3-2 3-1-1 17-3-1 6-0-1 6-3 a; do ends 2 hail-plan --shapes $shape; done
     for shape in '--loss 2' '--days 0' '--profile 5' '--length 0' '--audits 65-1' '--measured x' '--only all' '--pages 0'; do ends 2 hail-plan $shape; done
     ends 1 hail-plan --svg nowhere/plan.svg
-    ends 0 hail-plan --only choice --shapes 5-2-1 6-3-1 7-2-2 9-4-2 12-7-2 16-9-3 --days 7 30
-    while read -r line; do
-        [[ $line != '|'* ]] || grep -qxF "$line" "$root/docs/guide.md" || wrong "the guide has not the line $line"
-    done <out
+    tables_are_as_planned
     ends 0 hail-plan --only choice --shapes 5-2-1 6-3-1 7-2-2 9-4-2 12-7-2 16-9-3 --svg losses.svg
     cmp -s losses.svg "$root/docs/losses.svg" || wrong 'the picture of the guide is another'
     for shape in 5-2-1 9-4-2 16-9-3; do planned $shape; done
@@ -660,7 +660,7 @@ standing() {
     told "to do: the copy of the journal is behind: $PWD/two"
     told 'copies      1, of which 1 are behind'
     pgrep -f '^sleep 99.3$' >/dev/null && wrong 'a far end is left'
-    echo '4 "$HAIL" far serve 4' >home/remotes && mkdir far
+    echo '4 90s "$HAIL" far serve 4' >home/remotes && mkdir far
     ends 1 hail-status home
     grep -Eq '^  4 +remote +yes +- ' out || wrong "of a remote provider is told $(cat out)"
     as_a_page
@@ -708,7 +708,7 @@ homes() {
     makes 0 4 1 1 0 1 1 0 base-0 base-1 base-2 base-3
     [ "$(cat out)" = "$PWD/homes/home-001: ready
 $PWD/homes/home-002: ready" ] || wrong "of new homes is told $(cat out)"
-    seq 1 9 | "$HAIL" homes/home-002 put notes >out && [ -e base-3/home-002/1-0 ] || wrong 'a home has no folder at its provider'
+    seq 1 9 | "$HAIL" homes/home-002 put notes >out && [ -e base-3/home-002/1 ] || wrong 'a home has no folder at its provider'
     "$tools/hail-homes" -k 2 <root >second
     [ "$(od -An -v -tx1 -j 18 -N 32 homes/home-002/journal | tr -d ' \n')" = "$(cat second)" ] || wrong 'a home has another key than is told'
     [ "$(cat second)" != "$("$tools/hail-homes" -k 1 <root)" ] && [ "$(cat second)" != "$(cat root)" ] || wrong 'homes have one key'
@@ -810,23 +810,7 @@ moving_refused() {
     [ "$("$HAIL" old list | wc -l)" -eq 5 ] || wrong 'a file was dropped, and no place had the journal'
 }
 
-# A test in a folder of its own, with one for what the companions write for a while.
-run() {
-    mkdir -p "$scratch/$1/tmp" && cd "$scratch/$1" || exit 1
-    export TMPDIR=$PWD/tmp
-    "$1"
-    [ -z "$(ls -A tmp)" ] || wrong "$1 leaves below TMPDIR $(ls -A tmp)"
-    exit $failed
-}
-
 all='rebuilding by_name from_paper rebuilding_damaged rebuilding_two refusing leaving_out rebuilding_harmed stacked
     planning keeping not_copied listing standing homes moving'
-running=()
-for test in ${*:-$all}; do
-    run "$test" &
-    running+=($!)
-done
-for test in "${running[@]}"; do
-    wait "$test" || failed=1
-done
+run_all ${*:-$all}
 exit $failed

@@ -24,8 +24,8 @@ number 4: during, whose put was under way when the copy was made; hail-salvage m
 # A store of two files behind an upgrade, and a copy of its journal.
 two_files() {
     rm -rf home
-    head -c 32 /dev/urandom | od -An -v -tx1 | tr -d ' \n' >key
-    "$tools/hail-init" home 6 3 1 1 4 8 0 <key >out
+    make_key >key
+    "$tools/hail-init" -f home 6 3 1 1 4 8 0 <key >out
     seq 1 100 | "$HAIL" home put a >out
     seq 1 200 | "$HAIL" home put b >out
     "$HAIL" home upgrade >out
@@ -70,7 +70,7 @@ set_switch() {
 altered_switch() {
     local byte tool
     rm -rf home
-    head -c 32 /dev/urandom | od -An -v -tx1 | tr -d ' \n' | "$tools/hail-init" home 5 2 1 0 1 1 0 >out
+    make_key | "$tools/hail-init" -f home 5 2 1 0 1 1 0 >out
     "$HAIL" home upgrade >out && "$HAIL" home pack >out
     says 0 '' hail-watch -j home
     echo f | "$HAIL" home put f >out && "$HAIL" home drop f >out
@@ -113,7 +113,7 @@ other_home() {
     local tool
     new_home 6 3 1 1 4 8 0
     rm -rf mine && mv home mine
-    head -c 32 /dev/urandom | od -An -v -tx1 | tr -d ' \n' | "$tools/hail-init" home 6 3 1 1 4 8 0 >out
+    make_key | "$tools/hail-init" -f home 6 3 1 1 4 8 0 >out
     for tool in 1 2 3 4; do seq 1 30 | "$HAIL" home put f >out; done
     cp home/journal foreign
     seq 1 30 | "$HAIL" home put f >out && seq 1 300 | "$HAIL" home put g >out && "$HAIL" home drop f >out
@@ -127,13 +127,57 @@ hail-watch: the journal is that of another home, or an older copy: put nothing, 
             told 'no file of the journal has blocks, and other numbers have'
         done
     done
-    rm -rf home && mkdir home && head -c 32 /dev/urandom | od -An -v -tx1 | tr -d ' \n' | "$HAIL" home init 6 3 1 1 4 8 0 >out
+    rm -rf home && mkdir home && make_key | "$HAIL" home init 6 3 1 1 4 8 0 >out
     for tool in 1 2 3; do echo x | "$HAIL" home put $tool >out; done
     cp home/journal mine/journal
     says 3 'the blocks of number 1 are those of another file than the journal names
 hail-watch: the journal is that of another home, or an older copy: put nothing, remove nothing; hail-restore the right one, or drop each file that lost its blocks' hail-watch mine
     says 3 '' hail-gc mine remove
     [ "$(find mine/provider-? -type f | wc -l)" -eq 54 ] || wrong 'under the journal of another home blocks are removed'
+}
+
+# While the store is verified, at the first reading of `other`, this is done over the home; then hail-verify ends with this status and text.
+verifies_beside() {
+    echo "timeout 300 $1" >due
+    HAIL=$PWD/beside says "$2" "$3" hail-verify home
+    [ "$(cat ended)" = 0 ] || wrong "beside hail-verify $1 ends with $(cat ended): $(cat said)"
+    rm -f ended
+}
+
+# Commands that come while the store is verified don't wait for it, and nothing that they changed is called lost or wrong.
+changing_while_verified() {
+    new_home 6 3 1 1 4 8 0
+    seq 1 250 >new
+    cat >beside <<BESIDE
+#!/bin/bash
+if [ "\$2 \${3-}" = 'get other' ] && mv "$PWD/due" "$PWD/doing" 2>/dev/null; then
+    bash "$PWD/doing" >"$PWD/said" 2>&1 <"$PWD/new"
+    echo \$? >"$PWD/ended"
+fi
+exec "$HAIL" "\$@"
+BESIDE
+    chmod +x beside
+    verifies_beside "$HAIL home put other" 0 ''
+    verifies_beside "$HAIL home put third" 0 ''
+    verifies_beside "$HAIL home drop third" 0 ''
+    spoil provider-2/1-0
+    verifies_beside "$HAIL home drop other" 1 'notes: comes back; wrong blocks at provider 2'
+    "$HAIL" home put other <new >out
+    "$HAIL" home scrub >out
+    rm -r home/provider-3
+    "$HAIL" home audit >out
+    verifies_beside "$HAIL home repair" 1 'notes: comes back; wrong blocks at provider 3'
+    "$HAIL" home put third <new >out
+    spoil provider-1/6-0
+    spoil provider-4/6-0
+    verifies_beside "$HAIL home audit" 1 'other: lost from stripe 0 on; blocks are missing at provider none'
+    "$HAIL" home drop other >out
+    "$HAIL" home repair >out 2>&1
+    "$HAIL" home put other <new >out
+    spoil "provider-1/$("$tools/hail-salvage" home 3 | sed -n 's/ .* other .*//p')-0"
+    verifies_beside "sh -c '$HAIL home drop third && $HAIL home put third'" 1 'other: comes back; wrong blocks at provider 1'
+    "$HAIL" home scrub >out
+    verifies_beside "sh -c 'for name in notes third; do $HAIL home drop \$name; done; $HAIL home put other'" 0 ''
 }
 
 # A mount that comes and goes costs no repair; one that stays away is audited in the end.
@@ -184,14 +228,14 @@ far_outage() {
     rm -rf home far
     mkdir -m 700 home far
     printf '2 "$HAIL" far serve 2\n' >home/remotes
-    head -c 32 /dev/urandom | od -An -v -tx1 | tr -d ' \n' | "$tools/hail-init" home 6 3 1 1 4 8 0 >out 2>err
+    make_key | "$tools/hail-init" -f home 6 3 1 1 4 8 0 >out 2>err
     [ -d home/remote-2 ] || wrong 'hail-init makes no remote provider'
     seq 1 400 | "$tools/hail-remote" home put notes >out 2>err || wrong "a put says $(cat out err)"
     says 0 '' hail-watch -w 60 home
     echo '2 sleep 99.8' >home/remotes
     "$tools/hail-watch" -w 3 home >watched 2>err &
     sleep 1
-    [ "$(timeout 20 "$HAIL" home list)" = 'notes 1492' ] || wrong 'a list waits for a far end that does not answer'
+    [ "$(timeout 120 "$HAIL" home list)" = 'notes 1492' ] || wrong 'a list waits for a far end that does not answer'
     wait $!
     [ "$? $(cat watched)" = '4 provider 2 does not answer' ] || wrong "a far end that does not answer is watched with $(cat watched err)"
     for far in false 'cat >&2' 'printf "\2"' 'exec setsid sleep 98.9'; do
@@ -316,7 +360,7 @@ killed_gc() {
 # Wherever hail-init is killed it can be called again, unless the store is set up.
 killed_init() {
     local at
-    head -c 32 /dev/urandom | od -An -v -tx1 | tr -d ' \n' >key
+    make_key >key
     for ((at = 1; at < 60; at++)); do
         rm -rf home && mkdir home && echo '2 true' >home/remotes
         kills_behind "$at"
@@ -325,6 +369,18 @@ killed_init() {
         [ -s home/journal ] || "$tools/hail-init" -s home 6 3 1 1 4 8 0 <key >out 2>err || wrong "hail-init called again says $(cat out err)"
         [ "$(ls home | tr '\n' ' ')" = 'journal remote-2 remotes stack-0 stack-1 stack-3 stack-4 stack-5 ' ] || wrong "hail-init killed behind call $at leaves $(ls home)"
     done
+}
+
+# At some of their calls that write or read, the program and its companions are killed, or the call fails. `tools/calls/try_calls.py -a` does so at each.
+struck() {
+    local struck=("put stacks" "repair folders" "gc folders" "restore folders" "rebuild stacks" init "keep put" stack)
+    have /usr/bin/python3 || return
+    /usr/bin/python3 -B "$root/tools/calls/try_calls.py" -j 2 "${struck[@]}" >out 2>err
+    case $? in
+        0) ;;
+        3) cat err >&2 ;;
+        *) wrong "$(cat err)" ;;
+    esac
 }
 
 # The blocks of a home's provider become a stacked folder: one file an object, with the block and its mark at each stripe's place.

@@ -3,17 +3,8 @@
 # where none does. What is due was worked out by hand. test.sh NAME .. runs these tests alone.
 set -u
 
-root=$(CDPATH='' cd -P -- "$(dirname "$0")/.." && pwd -P)
-export HAIL=${HAIL:-$root/hail}
-tools=${TOOLS:-$root/tools}
-scratch=$(mktemp -d) || exit 1
-trap 'rm -rf "$scratch"' EXIT
-failed=0
-
-wrong() {
-    echo "tools: $*" >&2
-    failed=1
-}
+called=tools
+. "$(dirname "$0")/test-lib.sh"
 
 # The companion ends with this status and writes this text.
 says() {
@@ -33,8 +24,8 @@ told() {
 # A new home with these numbers, a key of its own, and the files of 1492, 692 and 1092 bytes: numbers 1 to 3.
 new_home() {
     rm -rf home
-    head -c 32 /dev/urandom | od -An -v -tx1 | tr -d ' \n' >key
-    "$tools/hail-init" home "$@" <key >out || wrong "hail-init $*: $(cat out)"
+    make_key >key
+    "$tools/hail-init" -f home "$@" <key >out || wrong "hail-init $*: $(cat out)"
     seq 1 400 | "$HAIL" home put notes >out
     seq 1 200 | "$HAIL" home put other >out
     seq 1 300 | "$HAIL" home put third >out
@@ -319,7 +310,7 @@ flip_some() {
 flipping() {
     local name worker
     rm -rf home
-    head -c 32 /dev/urandom | od -An -v -tx1 | tr -d ' \n' | "$tools/hail-init" home 6 3 1 0 1 1 0 >out
+    make_key | "$tools/hail-init" -f home 6 3 1 0 1 1 0 >out
     for name in 0 1 2 3 4; do echo "$name" | "$HAIL" home put "$name" >out; done
     "$HAIL" home upgrade >out </dev/null
     for name in 5 6 7 8 9; do echo "$name" | "$HAIL" home put "$name" $((name - 5)) >out; done
@@ -648,7 +639,7 @@ third 1092' hail-remote -t 5 home list
 remotes() {
     local command
     mkdir -m 700 home far-2 far-3
-    head -c 32 /dev/urandom | od -An -v -tx1 | tr -d ' \n' >key
+    make_key >key
     printf '# two of six\n\n2 "$HAIL" far-2 serve 2\n3 echo hello >&2; "$HAIL" far-3 serve 3; exit 9\n' >home/remotes
     [ "$("$tools/hail-remote" home init 6 3 1 1 4 8 0 <key 2>err)" = ready ] || wrong 'there is no store with remote providers'
     told 'provider 3: hello'
@@ -714,11 +705,11 @@ bears() {
     local status seconds=${3:-2}
     rm -rf home far && cp -a before/. .
     echo "2 $1" >home/remotes
-    timeout 60 "$tools/hail-remote" -t "$seconds" home put x <key >out 2>err
+    timeout 300 "$tools/hail-remote" -t "$seconds" home put x <key >out 2>err
     status=$?
     [[ " $2 " = *" $status "* ]] || wrong "with the far end $1 a put ends with $status: $(cat out err)"
-    seq 1 400 | cmp -s - <(timeout 60 "$tools/hail-remote" -t "$seconds" home get notes 2>err) || wrong "with the far end $1 a get says $(cat err)"
-    timeout 60 "$tools/hail-remote" -t "$seconds" home audit >out 2>err </dev/null
+    seq 1 400 | cmp -s - <(timeout 300 "$tools/hail-remote" -t "$seconds" home get notes 2>err) || wrong "with the far end $1 a get says $(cat err)"
+    timeout 300 "$tools/hail-remote" -t "$seconds" home audit >out 2>err </dev/null
     status=$?
     [ "$status" -eq 0 ] && ! grep 'flagged$' out | grep -qv '^provider 2 ' || wrong "with the far end $1 an audit ends with $status: $(cat out err)"
     [ "$(ls home)" = "$names" ] || wrong "with the far end $1 there are $(ls home)"
@@ -758,15 +749,15 @@ silent_remotes() {
     rm -r home/provider-2
     for far in 'setsid sleep 98.6 & sleep 98.6' 'exec sleep 98.6' 'trap "" HUP INT TERM PIPE; while :; do sleep 98.6; done'; do
         echo "2 1s $far" >home/remotes
-        timeout 60 "$tools/hail-remote" home put x <key >out 2>err
+        timeout 300 "$tools/hail-remote" home put x <key >out 2>err
         [ $? -eq 13 ] || wrong "with the far end $far a put says $(cat out err)"
         told 'hail-remote: provider 2 is given up: no answer for 1 seconds'
         told 'hail: provider fault 2'
-        seq 1 400 | cmp -s - <(timeout 60 "$tools/hail-remote" home get notes 2>err) || wrong "with the far end $far a get says $(cat err)"
+        seq 1 400 | cmp -s - <(timeout 300 "$tools/hail-remote" home get notes 2>err) || wrong "with the far end $far a get says $(cat err)"
         told 'hail-remote: provider 2 is given up: no answer for 1 seconds'
         ! pgrep -f '^sleep 98.6$' >/dev/null || wrong "the far end $far is left"
     done
-    timeout 60 "$tools/hail-watch" home >out 2>err
+    timeout 300 "$tools/hail-watch" home >out 2>err
     [ "$? $(cat out)" = '4 provider 2 does not answer' ] || wrong "with a silent far end hail-watch says $(cat out err)"
 }
 
@@ -774,7 +765,7 @@ silent_remotes() {
 serves() {
     rm -f begun served
     echo "2 20s $1" >home/remotes
-    HAIL=$PWD/client timeout 60 "$tools/hail-remote" home x >out 2>err </dev/null
+    HAIL=$PWD/client timeout 300 "$tools/hail-remote" home x >out 2>err </dev/null
     [ "$(cat out)" = "$2" ] || wrong "over the far end $1 come $(cat out err)"
     [ "$(cat served)" = "$3" ] || wrong "the far end $1 serves $(cat served)"
 }
@@ -844,8 +835,8 @@ false_remotes() {
         'mkdir home/remote-2; ln -s /dev/fd/98 home/remote-2/requests; ln -s /dev/fd/98 home/remote-2/answers'; do
         eval "$shape"
         find home/remote-2 fifo -printf '%p %y %s %l\n' >before 2>/dev/null
-        seq 1 400 | cmp -s - <(timeout 20 "$HAIL" home get notes 2>err 98<>fifo-98) || wrong "behind $shape a get says $(cat err)"
-        timeout 20 "$HAIL" home put x <key >out 2>err 98<>fifo-98
+        seq 1 400 | cmp -s - <(timeout 120 "$HAIL" home get notes 2>err 98<>fifo-98) || wrong "behind $shape a get says $(cat err)"
+        timeout 120 "$HAIL" home put x <key >out 2>err 98<>fifo-98
         [ "$? $(cat err)" = '13 hail: provider fault 2' ] || wrong "behind $shape a put says $(cat out err)"
         [ "$("$HAIL" home list | wc -l)" -eq 3 ] || wrong "behind $shape the list is another"
         find home/remote-2 fifo -printf '%p %y %s %l\n' 2>/dev/null | cmp -s - before || wrong "behind $shape there is $(find home/remote-2)"
@@ -853,32 +844,23 @@ false_remotes() {
         rm -rf home/remote-2 fifo
     done
     mkdir home/remote-2 && ln -s /dev/fd/1 home/remote-2/requests && ln -s /dev/fd/0 home/remote-2/answers
-    printf '\\1%.0s' {1..999} | timeout 20 "$HAIL" home get notes 2>err | cmp -s - <(seq 1 400) || wrong "behind the standard streams a get says $(cat err)"
+    printf '\\1%.0s' {1..999} | timeout 120 "$HAIL" home get notes 2>err | cmp -s - <(seq 1 400) || wrong "behind the standard streams a get says $(cat err)"
 }
 
 . "$root/tools/test-losses.sh"
-
-# A test in a folder of its own, with one for what the companions write for a while.
-run() {
-    mkdir -p "$scratch/$1/tmp" && cd "$scratch/$1" || exit 1
-    export TMPDIR=$PWD/tmp
-    "$1"
-    exit $failed
-}
+. "$root/tools/test-places.sh"
 
 all='setting_up words watching verifying_one stuck_repair verifying_two verifying_three no_key_is_left collecting flipping reading counting
     own_profiles restoring packing swelling salvaging long_journal remote_words remotes hostile_remotes silent_remotes used_up_remotes
     false_remotes copy_during_put restoring_over_packed altered_switch other_home outages far_outage odd_remotes stray_links short_reading
-    killed_restore killed_gc killed_init stacks helping telling'
-running=()
-for test in ${*:-$all}; do
-    run "$test" &
-    running+=($!)
-done
-for test in "${running[@]}"; do
-    wait "$test" || failed=1
-done
+    killed_restore killed_gc killed_init stacks helping telling changing_while_verified linked_journal odd_paths read_only_home full_disk two_at_once coming_and_going
+    coming_and_going_mounts launched struck'
+run_all ${*:-$all}
 [ $# -gt 0 ] || "$root/tools/test-keys.sh" || failed=1
 [ $# -gt 0 ] || "$root/tools/test-folders.sh" || failed=1
 [ $# -gt 0 ] || "$root/tools/test-stack.sh" || failed=1
+[ $# -gt 0 ] || "$root/tools/test-progress" || failed=1
+[ $# -gt 0 ] || "$root/tools/test-remotes.sh" || failed=1
+[ $# -gt 0 ] || "$root/tools/test-forms.sh" first_form whole lost_blocks left_behind no_block_at_all other_journals misread several || failed=1
+[ $# -gt 0 ] || "$root/tools/test-cuts" || failed=1
 exit $failed

@@ -15,6 +15,7 @@ import sys
 import time
 from typing import BinaryIO, Callable, Iterator, Sequence
 
+from .copies import Copies
 from .home import LONGEST, MOST_NAMES, Answer, Doubt, Home, Missing, NoAnswer, Refused, answer_of, is_stored, told
 
 STATUS_FULL = (11, 21)
@@ -39,6 +40,7 @@ class Homes:
 
     def __init__(self, homes: Sequence[Home]) -> None:
         self.homes = list(homes)
+        self.copies = Copies(homes)
 
     def _turn(self, name: str) -> list[Home]:
         """The homes, from the one that the checksum of a name tells."""
@@ -60,6 +62,7 @@ class Homes:
         for home in self._turn(name):
             source.seek(0)
             answer = _wait(home.start(('put', name), source), source, tell)
+            self.copies.changed(home)
             if is_stored(answer, name, length):
                 return
             if answer.status == 0:
@@ -89,6 +92,7 @@ class Homes:
                 home.drop(name)
             except (Doubt, NoAnswer) as refused:
                 fault = refused
+            self.copies.changed(home)
         if fault:
             raise fault
 
@@ -155,8 +159,14 @@ class Remote:
         return value
 
     def converse(self) -> int:
-        """Answers until git-annex ends. 1 where it ends for a fault."""
+        """Answers until git-annex ends, and copies the journals. 1 where it ends for a fault."""
         self._say('VERSION 1')
+        try:
+            return self._answer_all()
+        finally:
+            self._homes.copies.close()
+
+    def _answer_all(self) -> int:
         for line in self._lines():
             word, _, rest = line.partition(' ')
             if word == 'ERROR':

@@ -10,6 +10,7 @@ import secrets
 from dataclasses import dataclass
 from typing import Sequence
 
+from .copies import Copies
 from .home import Home, NoAnswer, Refused
 
 TAG = 'sftp1-set'
@@ -137,3 +138,6 @@ def _put(home: Home, tag: Tag) -> None:
     fault = home.put(TAG, text.encode())
     if fault:
         raise NoAnswer(fault)
+    copies = Copies([home])
+    copies.changed(home)
+    copies.close()

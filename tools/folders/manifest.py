@@ -102,7 +102,7 @@ def _sizes_fit(manifest: Manifest) -> bool:
 
 def is_path(path: str) -> bool:
     """A full path in its shortest form, of names that UTF-8 can write."""
-    return path.startswith('/') and '\0' not in path and normal(path) == path and path.encode('utf-8', 'strict') is not None
+    return path.startswith('/') and '\0' not in path and normal(path) == path and not any('\ud800' <= letter <= '\udfff' for letter in path)
 
 
 def normal(path: str) -> str:

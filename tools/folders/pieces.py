@@ -8,6 +8,7 @@ import threading
 from concurrent.futures import Future, ThreadPoolExecutor
 from typing import Iterator, Sequence, Union
 
+from .copies import Copies
 from .home import MOST_NAMES, Doubt, Home, Refused, say
 from .manifest import PIECE, Key, Manifest, Piece, digest_of
 
@@ -27,6 +28,7 @@ class Places:
     def __init__(self, homes: Sequence[Home], users: int) -> None:
         self.homes = list(homes)
         self.users = users
+        self.copies = Copies(homes)
         self.used = [0] * len(homes)
         self.held: set[Key] = set()
         self._full = [False] * len(homes)
@@ -53,6 +55,7 @@ class Places:
         for place in self._turns(spare, tried):
             key = Key(place, f'sftp1-{kind}-{secrets.token_hex(10)}')
             fault = self.homes[place].put(key.name, data, [self.users, *lock])
+            self.copies.changed(self.homes[place])
             if not fault:
                 with self._guard:
                     self.held.add(key)
@@ -81,16 +84,22 @@ class Places:
     def _undo(self, key: Key, fault: str, lock: Sequence[int]) -> None:
         """Behind a put that went wrong: the name is not in effect. A home whose names or journal are full is passed over from now on."""
         try:
-            self.homes[key.place].drop(key.name, [self.users, *lock])
+            self._drop(key, lock)
         except Doubt as doubt:
             raise Doubt(f'{fault}; {doubt}') from doubt
         with self._guard:
             self.used[key.place] -= 1
             self._full[key.place] = self._full[key.place] or any(f'status {status} ' in fault for status in (11, 21))
 
+    def _drop(self, key: Key, lock: Sequence[int]) -> bool:
+        try:
+            return self.homes[key.place].drop(key.name, [self.users, *lock])
+        finally:
+            self.copies.changed(self.homes[key.place])
+
     def drop(self, key: Key, lock: Sequence[int] = ()) -> None:
         """Removes a file. Doubt where its home does not say that it is gone."""
-        there = self.homes[key.place].drop(key.name, [self.users, *lock])
+        there = self._drop(key, lock)
         with self._guard:
             self.held.discard(key)
             self.used[key.place] -= there

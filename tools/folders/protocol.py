@@ -1,57 +1,265 @@
-"""Answers requests of SFTP, version 3, from a store. Writes are taken in the order in which they come; all else goes on beside one another, but
-for what is asked of one path, which is done in its order: clients send the next request without the answer to the last."""
+"""What each request of SFTP does to a store. paramiko, as Debian has it, reads and writes the packets.
+
+Writes are taken in the order in which they come; all else goes on beside one another, but for what is asked of one path, which is done in its
+order: clients send the next request without the answer to the last.
+"""
+# mypy: allow-subclassing-any
 from __future__ import annotations
 
 import os
 import posixpath
 import stat
 import threading
-import time
 from concurrent.futures import Future, ThreadPoolExecutor
-from typing import Callable, Union
+from typing import Any, Callable
 
-from . import wire
+import paramiko  # type: ignore[import]
+from paramiko import sftp
+
 from .home import MOST_NAMES, Missing, ReadOnly, Refused, Unsupported, say
 from .manifest import PIECE, is_path, normal
 from .store import Entry, Status, Store
-from .wire import Attributes, Broken, Channel, Code, Fields, Flag, Kind
 from .writer import Writer
 
-EXTENSIONS = {'posix-rename@openssh.com': '1', 'statvfs@openssh.com': '2', 'limits@openssh.com': '1'}
 LONGEST_DATA = 261_120
-"""Bytes that one read or write may be about, as clients are told."""
+"""Bytes that one read is answered with, at most."""
 
-NAMES_AT_ONCE = 100
+RENAME = 'posix-rename@openssh.com'
+SPACE = 'statvfs@openssh.com'
+EXTENSIONS = {RENAME: '1', SPACE: '2'}
 
-
-class Listing:
-    """A folder that is being listed: the names that are not told yet."""
-
-    def __init__(self, path: str, names: list[str]) -> None:
-        self.path, self.names = path, names
+OF_HANDLES = (sftp.CMD_CLOSE, sftp.CMD_READ, sftp.CMD_WRITE, sftp.CMD_FSTAT, sftp.CMD_FSETSTAT, sftp.CMD_READDIR)
+"""The requests whose first field is a handle."""
 
 
-Handle = Union[Entry, Writer, Listing]
+class Broken(Refused):
+    """What came is no SFTP."""
 
 
-def code_of(fault: BaseException) -> Code:
-    """How SFTP calls what was refused."""
-    kinds = {Missing: Code.NO_SUCH_FILE, Unsupported: Code.OP_UNSUPPORTED, ReadOnly: Code.PERMISSION_DENIED, Broken: Code.BAD_MESSAGE}
-    return next((code for kind, code in kinds.items() if isinstance(fault, kind)), Code.FAILURE)
+CODES = {
+    Missing: sftp.SFTP_NO_SUCH_FILE, Unsupported: sftp.SFTP_OP_UNSUPPORTED, ReadOnly: sftp.SFTP_PERMISSION_DENIED,
+    Broken: sftp.SFTP_BAD_MESSAGE, UnicodeDecodeError: sftp.SFTP_BAD_MESSAGE,
+}
+"""How SFTP calls what was refused; all else is a failure."""
 
 
-def attributes_of(status: Status) -> Attributes:
+class Pipes:
+    """Two descriptors, as paramiko takes a channel."""
+
+    def __init__(self, source: int, target: int) -> None:
+        self._source, self._target = source, target
+
+    def recv(self, count: int) -> bytes:
+        """Some of the bytes that come; none at the end."""
+        return os.read(self._source, count)
+
+    def send(self, data: bytes) -> int:
+        """Writes some of these bytes; how many."""
+        return os.write(self._target, data)
+
+    def get_transport(self) -> Pipes:
+        """There is nothing below the channel."""
+        return self
+
+    def get_log_channel(self) -> str:
+        """The name under which paramiko logs, which goes nowhere."""
+        return 'hail-sftp'
+
+    def get_name(self) -> str:
+        """The same for the channel."""
+        return 'pipes'
+
+    def get_hexdump(self) -> bool:
+        """Packets are not logged."""
+        return False
+
+
+class Fields(paramiko.Message):
+    """The fields of a request. Broken where they end too early: a plain message would give zeros."""
+
+    def get_bytes(self, n: int) -> bytes:
+        """The next bytes, all of them."""
+        found: bytes = self.packet.read(n)
+        if len(found) < n:
+            raise Broken('a packet ends too early')
+        return found
+
+
+def attributes_of(path: str, status: Status) -> Any:
     """What a client is told of a file or folder. Rights are those of the owner alone."""
-    mode = stat.S_IFDIR | 0o700 if status.is_folder else stat.S_IFREG | 0o600
-    return Attributes(status.size, mode, min(max(status.mtime, 0), 0xffffffff))
+    told = paramiko.SFTPAttributes()
+    told.filename, told.st_size, told.st_uid, told.st_gid = posixpath.basename(path), status.size, os.getuid(), os.getgid()
+    told.st_mode = stat.S_IFDIR | 0o700 if status.is_folder else stat.S_IFREG | 0o600
+    told.st_atime = told.st_mtime = min(max(status.mtime, 0), 0xffffffff)
+    return told
 
 
-def name_line(name: str, status: Status) -> bytes:
-    """A name with what `ls -l` would say and the attributes."""
-    told = attributes_of(status)
-    day = time.strftime('%b %d %Y', time.gmtime(told.mtime))
-    line = f'{stat.filemode(told.mode or 0)} 1 {os.getuid()} {os.getgid()} {status.size:>10} {day} {name}'
-    return wire.string(name) + wire.string(line) + wire.attributes(told)
+def path_of(text: str) -> str:
+    """The path that a client names. Refused where no file can have it."""
+    path = normal(text)
+    if not is_path(path):
+        raise Refused('no such name can be')
+    return path
+
+
+class Reading(paramiko.SFTPHandle):
+    """A file that is open for reading: what it was when it was opened."""
+
+    def __init__(self, store: Store, entry: Entry) -> None:
+        super().__init__()
+        self._store, self._entry = store, entry
+
+    def is_near(self, offset: int) -> bool:
+        """Whether this byte is read without a command of hail."""
+        return self._store.is_near(self._entry, offset)
+
+    def read(self, offset: int, length: int) -> bytes:
+        """Some of the bytes from this place on; none behind the end."""
+        return self._store.read(self._entry, offset, min(length, LONGEST_DATA))
+
+    def write(self, offset: int, data: bytes) -> int:
+        """It was opened for reading."""
+        raise ReadOnly('it was opened for reading')
+
+    def stat(self) -> Any:
+        """Its size and time."""
+        manifest = self._entry.manifest
+        return attributes_of(manifest.path, Status(False, manifest.size, manifest.mtime))
+
+    def chattr(self, attr: Any) -> int:
+        """Rights and owners are not kept; all else is for those who write."""
+        if attr.st_size is not None or attr.st_mtime is not None:
+            raise Unsupported('a file that is open for reading is not changed')
+        return int(sftp.SFTP_OK)
+
+    def close(self) -> None:
+        """Nothing is held."""
+
+
+class Writing(paramiko.SFTPHandle):
+    """A file that is being written; it is made at the close."""
+
+    def __init__(self, store: Store, path: str, others: dict[str, Writing]) -> None:
+        super().__init__()
+        self._store, self.path, self._writer, self._others = store, path, Writer(store, path), others
+        others[path] = self
+
+    def read(self, offset: int, length: int) -> bytes:
+        """There is no file yet."""
+        raise Unsupported('a file is read once it is closed')
+
+    def write(self, offset: int, data: bytes) -> int:
+        """Takes bytes of this place."""
+        self._writer.write(offset, data)
+        return int(sftp.SFTP_OK)
+
+    def stat(self) -> Any:
+        """As far as it is written."""
+        return attributes_of(self.path, self._store.status(self.path))
+
+    def chattr(self, attr: Any) -> int:
+        """It may get a time."""
+        if attr.st_size not in (None, self._writer.size):
+            raise Unsupported('a file is as long as it was written')
+        if attr.st_mtime is not None:
+            self._writer.set_time(attr.st_mtime)
+        return int(sftp.SFTP_OK)
+
+    def close(self) -> None:
+        """Makes the file."""
+        self._others.pop(self.path, None)
+        self._writer.finish()
+
+    def abort(self) -> None:
+        """The client went: the file is not made."""
+        self._writer.abort()
+
+
+class Files(paramiko.SFTPServerInterface):
+    """What is asked of paths."""
+
+    def __init__(self, server: object, store: Store) -> None:
+        super().__init__(server)
+        self._store = store
+        self._written: dict[str, Writing] = {}
+
+    def open(self, path: str, flags: int, attr: Any) -> Reading | Writing:
+        """A file as it is, or one that is written anew."""
+        path = path_of(path)
+        if not flags & (os.O_WRONLY | os.O_RDWR):
+            return Reading(self._store, self._store.entry(path))
+        if flags & os.O_APPEND:
+            raise Unsupported('a file is written anew, not in place')
+        self._store.may_be_written(path, bool(flags & os.O_CREAT), bool(flags & os.O_EXCL), bool(flags & os.O_TRUNC))
+        writing = Writing(self._store, path, self._written)
+        if attr.st_mtime is not None:
+            writing.chattr(attr)
+        return writing
+
+    def canonicalize(self, path: str) -> str:
+        """The full path."""
+        return path_of(path)
+
+    def stat(self, path: str) -> Any:
+        """What is at a path."""
+        path = path_of(path)
+        self._store.look()
+        return attributes_of(path, self._store.status(path))
+
+    lstat = stat
+
+    def list_folder(self, path: str) -> list[Any]:
+        """What is in a folder."""
+        path = path_of(path)
+        self._store.look()
+        found = []
+        for name in self._store.children(path):
+            inner = posixpath.join(path, name)
+            try:
+                found.append(attributes_of(inner, self._store.status(inner)))
+            except Missing:     # it went meanwhile
+                pass
+        return found
+
+    def chattr(self, path: str, attr: Any) -> int:
+        """A file may be made empty, and given a time. Rights and owners are not kept."""
+        path = path_of(path)
+        if path in self._written:
+            return self._written[path].chattr(attr)
+        self._store.look()
+        status = self._store.status(path)
+        if not status.is_folder and attr.st_size not in (None, status.size):
+            if attr.st_size:
+                raise Unsupported('a file is written anew, not in place')
+            Writer(self._store, path).finish()
+        if not status.is_folder and attr.st_mtime is not None:
+            self._store.set_time(path, attr.st_mtime)
+        return int(sftp.SFTP_OK)
+
+    def remove(self, path: str) -> int:
+        """Removes a file."""
+        self._store.remove(path_of(path))
+        return int(sftp.SFTP_OK)
+
+    def rename(self, oldpath: str, newpath: str) -> int:
+        """A file gets a path at which nothing is."""
+        self._store.rename(path_of(oldpath), path_of(newpath), False)
+        return int(sftp.SFTP_OK)
+
+    def posix_rename(self, oldpath: str, newpath: str) -> int:
+        """A file gets a path, over the file there."""
+        self._store.rename(path_of(oldpath), path_of(newpath), True)
+        return int(sftp.SFTP_OK)
+
+    def mkdir(self, path: str, attr: Any) -> int:
+        """Makes a folder."""
+        self._store.make_folder(path_of(path))
+        return int(sftp.SFTP_OK)
+
+    def rmdir(self, path: str) -> int:
+        """Removes an empty folder."""
+        self._store.remove_folder(path_of(path))
+        return int(sftp.SFTP_OK)
 
 
 class Turns:
@@ -80,270 +288,145 @@ class Turns:
         self._workers.shutdown(wait=True)
 
 
-class Session:
-    """One client, from its first packet to its last."""
+class Session(paramiko.SFTPServer):
+    """One client, from its first packet to its last: paramiko's server, which answers several requests at once."""
 
-    def __init__(self, store: Store, channel: Channel) -> None:
-        self._store, self._channel = store, channel
-        self._handles: dict[bytes, Handle] = {}
-        self._number = 0
-        self._guard = threading.Lock()
-        self._turns = Turns()
-        self._answers: dict[int, Callable[[int, Fields], None]] = {
-            Kind.OPEN: self._open, Kind.CLOSE: self._close, Kind.READ: self._read, Kind.WRITE: self._write, Kind.LSTAT: self._stat,
-            Kind.FSTAT: self._stat_open, Kind.SETSTAT: self._change, Kind.FSETSTAT: self._change_open, Kind.OPENDIR: self._open_folder,
-            Kind.READDIR: self._list, Kind.REMOVE: self._remove, Kind.MKDIR: self._make_folder, Kind.RMDIR: self._remove_folder,
-            Kind.REALPATH: self._full_path, Kind.STAT: self._stat, Kind.RENAME: self._rename, Kind.EXTENDED: self._extended,
-        }
+    def __init__(self, store: Store, channel: Pipes) -> None:
+        super().__init__(channel, 'sftp', None, Files, store)
+        self._store, self._pipes, self._turns = store, channel, Turns()
+        self._fault: Exception | None = None
+        self._sending, self._naming = threading.Lock(), threading.Lock()
 
     def serve(self) -> None:
         """Answers until the client goes. What it had not closed is not made. Broken where what comes is no SFTP."""
         try:
-            self._greet()
-            packet = self._channel.receive()
-            while packet is not None:
-                self._take(packet)
-                packet = self._channel.receive()
+            self.start_subsystem('sftp', None, self._pipes)
+        except EOFError:
+            pass
         finally:
             self._turns.close()
-            for handle in list(self._handles.values()):
-                if isinstance(handle, Writer):
+            for handle in list(self.file_table.values()):
+                if isinstance(handle, Writing):
                     handle.abort()
+        if self._fault:
+            raise self._fault
 
-    def _greet(self) -> None:
-        packet = self._channel.receive()
-        if packet is None:
-            return
-        if packet[0] != Kind.INIT:
+    # Packets.
+
+    def _send_server_version(self) -> None:
+        kind, _ = self._read_packet()
+        if kind != sftp.CMD_INIT:
             raise Broken('the first packet is no SFTP')
-        told = b''.join(wire.string(name) + wire.string(version) for name, version in EXTENSIONS.items())
-        self._channel.send(Kind.VERSION, wire.word(3) + told)
+        told = paramiko.Message()
+        told.add_int(3)
+        for name, version in EXTENSIONS.items():
+            told.add_string(name)
+            told.add_string(version)
+        self._send_packet(sftp.CMD_VERSION, told)
 
-    def _take(self, packet: bytes) -> None:
-        """Answers a request, now or in its turn."""
-        kind, fields = packet[0], Fields(packet[1:])
-        number = fields.word()
-        if kind in (Kind.WRITE, Kind.READDIR) or (kind == Kind.READ and self._is_near(Fields(packet[5:]))):
-            self._answer(kind, number, fields)
-        else:
-            self._turns.do(self._paths_of(kind, Fields(packet[5:])), lambda: self._answer(kind, number, fields))
-
-    def _paths_of(self, kind: int, fields: Fields) -> list[str]:
-        """The paths that a request is about."""
+    def _read_packet(self) -> tuple[int, bytes]:
+        """The next packet; what ends the session but for the client's end is kept."""
         try:
-            if kind in (Kind.CLOSE, Kind.FSTAT, Kind.FSETSTAT):
-                handle = self._handles.get(fields.bytes())
-                return [handle.path] if isinstance(handle, Writer) else []
-            if kind == Kind.READ or (kind == Kind.EXTENDED and fields.text() != 'posix-rename@openssh.com'):
-                return []
-            return [normal(fields.text()) for _ in range(2 if kind in (Kind.RENAME, Kind.EXTENDED) else 1)]
-        except Broken:
-            return []
+            kind, data = super()._read_packet()
+            if len(data) < 4:
+                raise Broken('a packet without a number')
+        except EOFError:
+            raise
+        except Exception as fault:
+            self._fault = Broken(str(fault))
+            raise self._fault from fault
+        return kind, data
+
+    def _send_packet(self, t: int, packet: Any) -> None:
+        """Answers of several threads do not mix. paramiko would spell a message out before it takes its bytes."""
+        data = packet.asbytes() if isinstance(packet, paramiko.Message) else packet
+        with self._sending:
+            super()._send_packet(t, data)
+
+    def _send_handle_response(self, request_number: int, handle: Any, folder: bool = False) -> None:
+        with self._naming:
+            super()._send_handle_response(request_number, handle, folder)
+
+    # Requests.
+
+    def _process(self, t: int, request_number: int, msg: Any) -> None:
+        """Answers a request, now or in its turn."""
+        fields = msg.get_remainder()
+        if t in (sftp.CMD_WRITE, sftp.CMD_READDIR) or (t == sftp.CMD_READ and self._is_near(Fields(fields))):
+            self._answer(t, request_number, fields)
+        else:
+            self._turns.do(self._paths_of(t, Fields(fields)), lambda: self._answer(t, request_number, fields))
 
     def _is_near(self, fields: Fields) -> bool:
         try:
-            handle, offset = self._handles.get(fields.bytes()), fields.long()
+            handle, offset = self.file_table.get(fields.get_binary()), fields.get_int64()
         except Broken:
             return False
-        return isinstance(handle, Entry) and self._store.is_near(handle, offset)
+        return isinstance(handle, Reading) and handle.is_near(offset)
 
-    def _answer(self, kind: int, number: int, fields: Fields) -> None:
+    def _paths_of(self, t: int, fields: Fields) -> list[str]:
+        """The paths that a request is about."""
+        try:
+            if t in OF_HANDLES:
+                handle = self.file_table.get(fields.get_binary())
+                return [handle.path] if isinstance(handle, Writing) else []
+            if t == sftp.CMD_EXTENDED and fields.get_text() != RENAME:
+                return []
+            return [normal(fields.get_text()) for _ in range(2 if t in (sftp.CMD_RENAME, sftp.CMD_EXTENDED) else 1)]
+        except (Broken, UnicodeDecodeError):
+            return []
+
+    def _answer(self, t: int, request_number: int, fields: bytes) -> None:
         """Does what is asked. Whatever goes wrong is told the client, and the session goes on."""
         try:
-            answer = self._answers.get(kind)
-            if not answer:
-                raise Unsupported('no such request')
-            answer(number, fields)
+            self._do(t, request_number, fields)
         except BrokenPipeError:
-            pass
+            pass    # the client went: so its requests end
         except Exception as fault:
-            if not isinstance(fault, (Refused, Broken)):
-                say(f'request {kind}: {fault!r}')
-            self._status(number, code_of(fault), str(fault)[:200])
+            code = next((code for kind, code in CODES.items() if isinstance(fault, kind)), sftp.SFTP_FAILURE)
+            if not isinstance(fault, Refused) and code == sftp.SFTP_FAILURE:
+                say(f'request {t}: {fault!r}')
+            self._refuse(request_number, code, str(fault)[:200])
 
-    # Answers.
-
-    def _send(self, kind: Kind, number: int, body: bytes) -> None:
+    def _refuse(self, request_number: int, code: int, text: str) -> None:
         try:
-            self._channel.send(kind, wire.word(number) + body)
+            self._send_status(request_number, code, text)
         except BrokenPipeError:
             pass
 
-    def _status(self, number: int, code: Code = Code.OK, text: str = '') -> None:
-        self._send(Kind.STATUS, number, wire.word(code) + wire.string(text or code.name) + wire.string(''))
-
-    def _told(self, number: int, status: Status) -> None:
-        self._send(Kind.ATTRS, number, wire.attributes(attributes_of(status)))
-
-    def _opened(self, number: int, handle: Handle) -> None:
-        with self._guard:
-            self._number += 1
-            name = b'%d' % self._number
-            self._handles[name] = handle
-        self._send(Kind.HANDLE, number, wire.string(name))
-
-    def _handle(self, fields: Fields) -> Handle:
-        handle = self._handles.get(fields.bytes())
-        if handle is None:
-            raise Refused('no such handle')
-        return handle
-
-    @staticmethod
-    def _path(fields: Fields) -> str:
-        path = normal(fields.text())
-        if not is_path(path):
-            raise Refused('no such name can be')
-        return path
-
-    # Files.
-
-    def _open(self, number: int, fields: Fields) -> None:
-        path, flags = self._path(fields), fields.word()
-        if not flags & Flag.WRITE:
-            self._opened(number, self._store.entry(path))
-            return
-        if flags & Flag.APPEND:
-            raise Unsupported('a file is written anew, not in place')
-        anew, create, alone = bool(flags & Flag.TRUNCATE), bool(flags & Flag.CREATE), bool(flags & Flag.EXCLUSIVE)
-        self._store.may_be_written(path, create, alone, anew)
-        writer = Writer(self._store, path)
-        mtime = fields.attributes().mtime
-        if mtime is not None:
-            writer.set_time(mtime)
-        self._opened(number, writer)
-
-    def _close(self, number: int, fields: Fields) -> None:
-        handle = self._handles.pop(fields.bytes(), None)
-        if handle is None:
-            raise Refused('no such handle')
-        if isinstance(handle, Writer):
-            handle.finish()
-        self._status(number)
-
-    def _read(self, number: int, fields: Fields) -> None:
-        handle, offset, length = self._handle(fields), fields.long(), fields.word()
-        if not isinstance(handle, Entry):
-            raise Unsupported('a file is read once it is closed')
-        data = self._store.read(handle, offset, min(length, LONGEST_DATA))
-        if data:
-            self._send(Kind.DATA, number, wire.string(data))
-        else:
-            self._status(number, Code.EOF)
-
-    def _write(self, number: int, fields: Fields) -> None:
-        handle, offset, data = self._handle(fields), fields.long(), fields.bytes()
-        if not isinstance(handle, Writer):
-            raise ReadOnly('it was opened for reading')
-        handle.write(offset, data)
-        self._status(number)
-
-    # What is at a path.
-
-    def _stat(self, number: int, fields: Fields) -> None:
-        self._store.look()
-        self._told(number, self._store.status(self._path(fields)))
-
-    def _stat_open(self, number: int, fields: Fields) -> None:
-        handle = self._handle(fields)
-        if isinstance(handle, Entry):
-            self._told(number, Status(False, handle.manifest.size, handle.manifest.mtime))
-        else:
-            self._told(number, self._store.status(handle.path))
-
-    def _change(self, number: int, fields: Fields) -> None:
-        path, said = self._path(fields), fields.attributes()
-        writer = self._writer_of(path)
-        if writer:
-            self._change_writer(writer, said)
-        else:
-            self._change_file(path, said)
-        self._status(number)
-
-    def _writer_of(self, path: str) -> Writer | None:
-        handles = list(self._handles.values())
-        return next((handle for handle in handles if isinstance(handle, Writer) and handle.path == path), None)
-
-    def _change_open(self, number: int, fields: Fields) -> None:
-        handle, said = self._handle(fields), fields.attributes()
-        if isinstance(handle, Writer):
-            self._change_writer(handle, said)
-        elif said.size is not None or said.mtime is not None:
-            raise Unsupported('a file that is open for reading is not changed')
-        self._status(number)
-
-    @staticmethod
-    def _change_writer(writer: Writer, said: Attributes) -> None:
-        if said.size not in (None, writer.size):
-            raise Unsupported('a file is as long as it was written')
-        if said.mtime is not None:
-            writer.set_time(said.mtime)
-
-    def _change_file(self, path: str, said: Attributes) -> None:
-        """A file may be made empty, and given a time. Rights and owners are not kept."""
-        self._store.look()
-        status = self._store.status(path)
-        if status.is_folder:
-            return
-        if said.size not in (None, status.size):
-            if said.size:
-                raise Unsupported('a file is written anew, not in place')
-            Writer(self._store, path).finish()
-        if said.mtime is not None:
-            self._store.set_time(path, said.mtime)
-
-    # Folders and names.
-
-    def _open_folder(self, number: int, fields: Fields) -> None:
-        self._store.look()
-        path = self._path(fields)
-        self._opened(number, Listing(path, self._store.children(path)))
-
-    def _list(self, number: int, fields: Fields) -> None:
-        handle = self._handle(fields)
-        if not isinstance(handle, Listing):
-            raise Refused('it is no folder')
-        lines: list[bytes] = []
-        while handle.names and len(lines) < NAMES_AT_ONCE:
-            name = handle.names.pop(0)
-            try:
-                lines.append(name_line(name, self._store.status(posixpath.join(handle.path, name))))
-            except Missing:     # it went meanwhile
-                pass
-        if lines:
-            self._send(Kind.NAME, number, wire.word(len(lines)) + b''.join(lines))
-        else:
-            self._status(number, Code.EOF)
-
-    def _full_path(self, number: int, fields: Fields) -> None:
-        path = wire.string(self._path(fields))
-        self._send(Kind.NAME, number, wire.word(1) + path + path + wire.attributes(Attributes()))
-
-    def _remove(self, number: int, fields: Fields) -> None:
-        self._store.remove(self._path(fields))
-        self._status(number)
-
-    def _rename(self, number: int, fields: Fields, over_it: bool = False) -> None:
-        old, new = self._path(fields), self._path(fields)
-        self._store.rename(old, new, over_it)
-        self._status(number)
-
-    def _make_folder(self, number: int, fields: Fields) -> None:
-        self._store.make_folder(self._path(fields))
-        self._status(number)
-
-    def _remove_folder(self, number: int, fields: Fields) -> None:
-        self._store.remove_folder(self._path(fields))
-        self._status(number)
-
-    def _extended(self, number: int, fields: Fields) -> None:
-        name = fields.text()
-        if name == 'posix-rename@openssh.com':
-            self._rename(number, fields, over_it=True)
-        elif name == 'limits@openssh.com':
-            self._send(Kind.EXTENDED_REPLY, number, wire.longs(LONGEST_DATA + 1024, LONGEST_DATA, LONGEST_DATA, 0))
-        elif name == 'statvfs@openssh.com':
-            self._store.look()
-            free, names = self._store.places.free(), MOST_NAMES * len(self._store.homes)
-            self._send(Kind.EXTENDED_REPLY, number, wire.longs(PIECE, PIECE, names, free, free, names, free, free, 0, 0, 255))
-        else:
+    def _do(self, t: int, request_number: int, fields: bytes) -> None:
+        """What paramiko leaves out or does otherwise; all else it does."""
+        if t not in sftp.CMD_NAMES:
             raise Unsupported('no such request')
+        if t in OF_HANDLES and not self._knows(t, Fields(fields).get_binary()):
+            raise Refused('no such handle')
+        if t == sftp.CMD_CLOSE:
+            self._close(request_number, Fields(fields).get_binary())
+        elif t == sftp.CMD_EXTENDED and Fields(fields).get_text() == SPACE:
+            self._tell_space(request_number)
+        elif t == sftp.CMD_EXTENDED and Fields(fields).get_text() != RENAME:
+            raise Unsupported('no such request')
+        else:
+            super()._process(t, request_number, Fields(fields))
+
+    def _knows(self, t: int, name: bytes) -> bool:
+        files, folders = t != sftp.CMD_READDIR, t in (sftp.CMD_READDIR, sftp.CMD_CLOSE)
+        return (files and name in self.file_table) or (folders and name in self.folder_table)
+
+    def _close(self, request_number: int, name: bytes) -> None:
+        """The handle is gone first: none is closed twice, also where the close goes wrong."""
+        handle = self.file_table.pop(name, None) or self.folder_table.pop(name, None)
+        if handle is None:
+            raise Refused('no such handle')
+        handle.close()
+        self._send_status(request_number, sftp.SFTP_OK)
+
+    def _tell_space(self, request_number: int) -> None:
+        """What is free, in pieces, as `df` asks for it."""
+        self._store.look()
+        free, names = self._store.places.free(), MOST_NAMES * len(self._store.homes)
+        told = paramiko.Message()
+        told.add_int(request_number)
+        for count in (PIECE, PIECE, names, free, free, names, free, free, 0, 0, 255):
+            told.add_int64(count)
+        self._send_packet(sftp.CMD_EXTENDED_REPLY, told)

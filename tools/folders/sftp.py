@@ -8,9 +8,7 @@ from typing import Sequence
 
 from .home import NoAnswer, Refused, say
 from .homes import NotASet, add_to_set, make_set, open_set
-from .protocol import Session
 from .store import Store
-from .wire import Broken, Channel
 
 USAGE = """usage: hail-sftp [--init | --add] HOME ..
        hail-sftp HOME .. [-- WORD ..]"""
@@ -27,7 +25,7 @@ def main(words: Sequence[str]) -> int:
         {'--init': make_set, '--add': add_to_set, '': serve}[task](paths)
     except BrokenPipeError:
         return 0
-    except (Refused, Broken, OSError) as fault:
+    except (Refused, OSError) as fault:
         say(str(fault))
         return 3 if isinstance(fault, NotASet) else 4 if isinstance(fault, NoAnswer) else 1
     return 0
@@ -43,11 +41,15 @@ def read_words(words: Sequence[str]) -> tuple[str, list[str]]:
 
 def serve(paths: Sequence[str]) -> None:
     """Answers on standard input and output until the client goes."""
+    try:
+        from .protocol import Pipes, Session
+    except ImportError as fault:
+        raise Refused(f'{fault}: install python3-paramiko, which reads and writes SFTP') from fault
     sys.setswitchinterval(0.0005)
     signal.signal(signal.SIGINT, signal.SIG_IGN)    # Ctrl-C at a client: that one says what is to be done
     source, target = os.dup(0), os.dup(1)
     store = Store(open_set(paths))
     try:
-        Session(store, Channel(source, target)).serve()
+        Session(store, Pipes(source, target)).serve()
     finally:
         store.close()

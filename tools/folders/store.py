@@ -16,7 +16,7 @@ from pathlib import Path
 from typing import Iterable, Iterator, Mapping, NamedTuple, Sequence
 
 from .home import Doubt, Home, Missing, NoAnswer, ReadOnly, Refused, Unsupported, say
-from .manifest import INLINE, MANIFEST_NAME, PIECE_NAME, Key, Manifest, Piece, decode, digest_of, encode, from_json, to_json
+from .manifest import INLINE, MANIFEST_NAME, PIECE_NAME, Key, Manifest, Piece, decode, digest_of, encode, from_json, is_path, to_json
 from .pieces import Places, Reading, Room
 from .shared import Shared
 
@@ -77,8 +77,10 @@ class Store:
                 say(f'leftovers stay: {fault}')
 
     def close(self) -> None:
-        """Waits for what is being dropped, keeps what was read of manifests, and is no user of the set any more."""
+        """Waits for what is being dropped, copies journals, keeps what was read of manifests, and is no user of the set any more."""
+        self.places.copies.start()
         self.room.close()
+        self.places.copies.close()
         self.reading.close()
         self._workers.shutdown(wait=True)
         _keep(self._shared, self._known)
@@ -103,7 +105,7 @@ class Store:
             self._unread = self._learn(sorted(keys - set(self._known)))
             self._files = in_effect(self._known)
             folders = self._shared.load('folders')
-            self._folders = {path for path in folders if isinstance(path, str)} if isinstance(folders, list) else set()
+            self._folders = {path for path in folders if isinstance(path, str) and is_path(path)} if isinstance(folders, list) else set()
             self._seen = count
 
     def _learn(self, keys: Sequence[Key]) -> str:

@@ -5,6 +5,7 @@ import os
 import secrets
 import select
 import shutil
+import struct
 import subprocess
 import sys
 import tempfile
@@ -45,6 +46,26 @@ def names_in(homes: Sequence[str]) -> list[str]:
     """The names of a set's files in its homes, without the tags."""
     found = [name for home in homes for name in Home(home).names() if name.startswith('sftp1-') and name != 'sftp1-set']
     return sorted(found)
+
+
+def word(number: int) -> bytes:
+    """A field of SFTP: a number of four bytes."""
+    return struct.pack('>I', number)
+
+
+def long(number: int) -> bytes:
+    """A field of SFTP: a number of eight bytes."""
+    return struct.pack('>Q', number)
+
+
+def string(data: bytes | str) -> bytes:
+    """A field of SFTP: bytes, or text, behind their count."""
+    data = data.encode() if isinstance(data, str) else data
+    return word(len(data)) + data
+
+
+INIT = string(b'\1' + word(3))
+"""The first packet of a client."""
 
 
 class InFolder(unittest.TestCase):
@@ -94,6 +115,18 @@ class Pipes:
     def recv_ready(self) -> bool:
         return bool(select.select([self.running.stdout], [], [], 0)[0])
 
+    def receive(self) -> bytes:
+        """The next packet, without its length."""
+        return self._whole(int.from_bytes(self._whole(4), 'big'))
+
+    def _whole(self, count: int) -> bytes:
+        found = b''
+        while len(found) < count:
+            part = self.recv(count - len(found))
+            assert part, 'hail-sftp says no more'
+            found += part
+        return found
+
     def get_name(self) -> str:
         return 'pipes'
 
@@ -101,8 +134,9 @@ class Pipes:
         pass
 
     def close(self) -> int:
-        """Ends the session; returns the status of hail-sftp."""
+        """Ends the session; returns the status of hail-sftp. What it told on standard error is in `told` then."""
         self.running.stdin.close()  # type: ignore[union-attr]
+        self.told = self.running.stderr.read().decode()  # type: ignore[union-attr]
         status = self.running.wait()
         self.running.stdout.close()  # type: ignore[union-attr]
         self.running.stderr.close()  # type: ignore[union-attr]

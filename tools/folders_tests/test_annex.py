@@ -100,6 +100,17 @@ class Remote(InFolder):
         self.assertEqual(self.speaks(home, 'CHECKPRESENT a', 'REMOVE a'),
                          [f'CHECKPRESENT-UNKNOWN a {home}: a: {spoilt}', f'REMOVE-FAILURE a {home}: a is not dropped: {spoilt}'])
 
+    def test_the_journal_is_copied(self) -> None:
+        home = self.home('home')
+        os.mkdir('copies')
+        Path('home/copies').write_text(os.path.realpath('copies') + '\n')
+        Path('file').write_bytes(b'hello')
+        self.assertEqual(self.speaks(home, 'TRANSFER STORE a file'), ['TRANSFER-SUCCESS STORE a'])
+        stored = Path('copies/journal').read_bytes()
+        self.assertEqual(self.speaks(home, 'REMOVE a'), ['REMOVE-SUCCESS a'])
+        self.assertNotEqual(Path('copies/journal').read_bytes(), stored)
+        self.assertEqual(subprocess.run([TOOLS / 'hail-keep', '-c', home]).returncode, 0)
+
     def test_full_homes(self) -> None:
         homes = [self.home(f'home{k}', '4 1 1 0 1 1 0') for k in range(3)]
         keys = [f'KEY--{k}' for k in range(9)]

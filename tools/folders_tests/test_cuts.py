@@ -119,14 +119,13 @@ class Small(InFolder):
         return files
 
 
-class Cuts(Small):
-    """The program is killed."""
+class Cutting(Small):
+    """Work that is cut off."""
 
-    def cut(self, work: Work, at: int, how: str) -> bool:
+    def cut(self, work: Work, cut: Callable[..., Answer]) -> bool:
         """Does the work in a process of its own that is cut. Whether it was acknowledged before."""
         child = os.fork()
         if child == 0:
-            cut = Cut(at, how)
             with mock.patch.object(Home, 'run', lambda *w, **m: cut(*w, **m)):
                 try:
                     opened = Store(open_set(self.paths))
@@ -143,6 +142,10 @@ class Cuts(Small):
         self.was_cut = ended == 9
         return (self.place / 'acknowledged').exists()
 
+
+class Cuts(Cutting):
+    """The program is killed."""
+
     def test_each_step(self) -> None:
         warnings.simplefilter('ignore', ResourceWarning)    # of processes that are left on purpose
         steps = 0
@@ -153,7 +156,7 @@ class Cuts(Small):
                 while self.was_cut:
                     at += 1
                     self.again()
-                    acknowledged = self.cut(work, at, how)
+                    acknowledged = self.cut(work, Cut(at, how))
                     if at % 2:
                         for file in (self.place / 'h0/folders').iterdir():
                             file.write_bytes(b'')   # what was not synced is lost
@@ -186,6 +189,57 @@ class Cuts(Small):
                         write(opened, '/x', NEW)
                         self.assertEqual(opened.read(opened.entry('/x'), 0, 5000), NEW)
                         opened.close()
+
+
+WRITES = ('write', 'fsync', 'fdatasync', 'rename', 'unlink', 'mkdir', 'ftruncate')
+"""The system calls by which hail changes what is on a disk."""
+
+
+class Killed:
+    """Home.run, of which the step `at` of the puts and drops is killed at its k-th system call of a kind, and this program with it."""
+
+    def __init__(self, at: int, call: str, k: int) -> None:
+        self.at, self.step, self.real, self.words = at, 0, Home.run, Home.words
+        self.tracer = ['strace', '-f', '-qq', '-o', os.devnull, '-e', f'trace={call}', '-e', f'inject={call}:signal=KILL:when={k}']
+
+    def __call__(self, *words: object, **more: object) -> Answer:
+        self.step += words[1] in ('put', 'drop')
+        if words[1] not in ('put', 'drop') or self.step != self.at:
+            return self.real(*words, **more)  # type: ignore[arg-type]
+        with mock.patch.object(Home, 'words', lambda home, *given: [*self.tracer, *self.words(home, *given)]):
+            answer = self.real(*words, **more)  # type: ignore[arg-type]
+        if answer.status in (-9, 137):
+            os._exit(9)
+        return answer
+
+
+@unittest.skipUnless(FULL and shutil.which('strace'), 'it is long, and needs strace')
+class Writes(Cutting):
+    """The hail below is killed at each of its system calls that write, as the power may end between any two."""
+
+    def test_each_step(self) -> None:
+        kills = 0
+        for name, (work, new) in WORKS.items():
+            at, is_step = 0, True
+            while is_step:
+                at, is_step = at + 1, False
+                for call in WRITES:
+                    count = self.kills_of(name, work, new, at, call)
+                    kills, is_step = kills + count, is_step or count > 0
+        print(f'{kills} kills at system calls that write')
+        self.assertGreater(kills, 20 * len(WORKS))
+
+    def kills_of(self, name: str, work: Work, new: dict[str, bytes], at: int, call: str) -> int:
+        """A step is killed at each of its calls of a kind, one after the other. How many there were."""
+        k = 0
+        self.was_cut = True
+        while self.was_cut:
+            k += 1
+            self.again()
+            acknowledged = self.cut(work, Killed(at, call, k))
+            with self.subTest(name, at=at, call=call, k=k):
+                self.assertIn(self.found(), [new] if acknowledged else [OLD, new])
+        return k - 1
 
 
 class Faults(Small):

@@ -1,17 +1,19 @@
 """The forms that are written and read: manifests, packets, words. No home is needed."""
 from __future__ import annotations
 
-import os
 import unittest
 
-from .common import TOOLS  # noqa: F401, which finds the package
-from folders import wire
+from .common import long, string, word
 from folders.annex import name_of
 from folders.home import Refused
 from folders.manifest import INLINE, PIECE, Key, Manifest, Piece, decode, digest_of, encode, is_path, normal
 from folders.sftp import read_words
 from folders.store import in_effect
-from folders.wire import Attributes, Broken, Channel, Fields, Kind
+
+try:
+    import paramiko
+except ImportError:
+    paramiko = None
 
 DIGEST = digest_of(b'')
 
@@ -57,7 +59,7 @@ class Manifests(unittest.TestCase):
     def test_paths(self) -> None:
         self.assertEqual([normal(p) for p in ('', '.', '/', '//a', 'a/./b/../c', '/../x')], ['/', '/', '/', '/a', '/a/c', '/x'])
         self.assertTrue(is_path('/a b/ä'))
-        self.assertFalse(is_path('/a//b'))
+        self.assertEqual([is_path(path) for path in ('/a//b', '/\ud800', '/\udcff')], [False] * 3)
 
     def test_what_is_in_effect(self) -> None:
         first, second, third = (Key(0, f'sftp1-file-{k:020x}') for k in range(3))
@@ -66,36 +68,29 @@ class Manifests(unittest.TestCase):
 
 
 class Packets(unittest.TestCase):
-    def channel(self, data: bytes) -> Channel:
-        source, target = os.pipe()
-        os.write(target, data)
-        os.close(target)
-        self.addCleanup(os.close, source)
-        return Channel(source, 1)
+    """What is not left to paramiko."""
 
-    def test_packets_come_whole_or_are_refused(self) -> None:
-        self.assertIsNone(self.channel(b'').receive())
-        channel = self.channel(b'\0\0\0\2ab\0\0\0\1c')
-        self.assertEqual([channel.receive(), channel.receive(), channel.receive()], [b'ab', b'c', None])
-        for data in (b'\0', b'\0\0\0\2a', b'\0\0\0\0', b'\0\x10\0\1' + bytes(9)):
-            self.assertRaises(Broken, self.channel(data).receive)
+    def setUp(self) -> None:
+        if not paramiko:
+            self.skipTest('there is no python3-paramiko')
 
-    def test_fields(self) -> None:
-        fields = Fields(b'\7' + wire.word(9) + wire.longs(1 << 40) + wire.string('ä') + wire.string(b'\xff'))
-        self.assertEqual([fields.byte(), fields.word(), fields.long(), fields.text()], [7, 9, 1 << 40, 'ä'])
-        self.assertRaises(Broken, fields.text)
-        self.assertRaises(Broken, Fields(b'\0\0\0\5abcd').bytes)
+    def test_fields_that_end_too_early(self) -> None:
+        from folders.protocol import Broken, Fields
+        data = word(9) + long(1 << 40) + string('ä') + string(b'\xff')
+        fields = Fields(data)
+        self.assertEqual([fields.get_int(), fields.get_int64(), fields.get_text(), fields.get_binary()], [9, 1 << 40, 'ä', b'\xff'])
+        for count in range(len(data)):
+            fields = Fields(data[:count])
+            with self.assertRaises(Broken):
+                fields.get_int(), fields.get_int64(), fields.get_text(), fields.get_binary()
 
-    def test_attributes(self) -> None:
-        sent = wire.attributes(Attributes(5, 0o100600, 7))
-        self.assertEqual(Fields(sent).attributes(), Attributes(5, 0o100600, 7))
-        self.assertEqual(Fields(wire.attributes(Attributes())).attributes(), Attributes())
-        more = wire.word(0x80000001) + wire.longs(4) + wire.word(1) + wire.string('a') + wire.string('b')
-        self.assertEqual(Fields(more).attributes(), Attributes(4))
-        self.assertRaises(Broken, Fields(more[:-1]).attributes)
-
-    def test_kinds_by_hand(self) -> None:
-        self.assertEqual([Kind.OPEN, Kind.RENAME, Kind.EXTENDED, Kind.STATUS], [3, 18, 200, 101])
+    def test_what_is_told_of_files(self) -> None:
+        from folders.protocol import attributes_of
+        from folders.store import Status
+        for status, mode in ((Status(False, 5, 7), 0o100600), (Status(True, 0, 0), 0o40700)):
+            told = attributes_of('/a/b', status)
+            self.assertEqual((told.filename, told.st_size, told.st_mode, told.st_mtime), ('b', status.size, mode, status.mtime))
+        self.assertEqual([attributes_of('/a', Status(False, 0, time)).st_mtime for time in (-1, 1 << 40)], [0, (1 << 32) - 1])
 
 
 class Words(unittest.TestCase):

@@ -7,14 +7,14 @@ import random
 import shutil
 import signal
 import subprocess
+import sys
 import unittest
 from pathlib import Path
 from typing import Any, Callable
 
-from .common import BRIDGE, InFolder, Pipes, client_of, close_file, fill, get, hail, make_home, names_in, put
+from .common import BRIDGE, INIT, TOOLS, InFolder, Pipes, client_of, close_file, fill, get, hail, long, make_home, names_in, put, string, word
 from folders.home import Home, program
 from folders.manifest import Key, Manifest, encode
-from folders import wire
 
 try:
     import paramiko
@@ -59,7 +59,7 @@ class ByClient(InFolder):
 
 UNSUPPORTED = ('a file is written anew, not in place', 'a file is written from its front on, no place twice', 'no such request',
                'a file is written from its front on: this is too far ahead', 'a file is as long as it was written',
-               'a folder is not renamed: it would be many files', 'a file is read once it is closed')
+               'a folder is not renamed: it would be many files', 'a file is read once it is closed', 'Operation unsupported')
 """What is never done here. paramiko tells the text and not the number; `Packets` looks at numbers."""
 
 
@@ -346,6 +346,31 @@ class Wrong(ByClient):
         put(client, '/b', b'x')
         self.assertEqual(sorted(client.listdir('/')), ['a', 'b'])
 
+    def test_journals_are_copied(self) -> None:
+        """To the places that homes name, by the end of the session; a place that is away is told, and nothing else goes otherwise."""
+        homes = [make_home(self.place / f'h{k}') for k in range(2)]
+        places = [self.place / f'copies{k}' for k in range(2)]
+        for home, place in zip(homes, places):
+            place.mkdir()
+            Path(home, 'copies').write_text(f'{place}\n')
+        self.assertEqual(self.bridge('--init', *homes)[0], 0)
+        self.assertTrue(all(self.is_copied(home) for home in homes))
+        client = self.client(homes)
+        put(client, '/a', DATA)
+        self.assertFalse(all(self.is_copied(home) for home in homes))
+        self.assertEqual(self.end(client), 0)
+        self.assertEqual((client.pipes.told, all(self.is_copied(home) for home in homes)), ('', True))
+        places[1].rename(self.place / 'away')
+        client = self.client(homes)
+        put(client, '/b', DATA)
+        self.assertEqual(self.end(client), 0)
+        self.assertEqual(client.pipes.told, f'hail-sftp: {homes[1]}: no copy of the journal: {places[1]}: is away\n')
+        self.assertEqual([self.is_copied(home) for home in homes], [True, False])
+
+    @staticmethod
+    def is_copied(home: str) -> bool:
+        return subprocess.run([TOOLS / 'hail-keep', '-c', home], stdout=subprocess.DEVNULL).returncode == 0
+
     def test_what_stays_of_others(self) -> None:
         homes = self.homes(1)
         client = self.client(homes)
@@ -371,14 +396,23 @@ class Wrong(ByClient):
 
 
 class Sets(InFolder):
-    """Which homes are taken. No client is needed."""
+    """Which homes are taken."""
 
+    def test_no_paramiko(self) -> None:
+        """Debian's package is named, and sets can be made without it."""
+        home = make_home(self.place / 'home')
+        program = 'import sys; sys.modules["paramiko"] = None; sys.path.insert(0, sys.argv.pop(1)); from folders.sftp import main; sys.exit(main(sys.argv[1:]))'
+        start = [sys.executable, '-c', program, str(TOOLS)]
+        self.assertEqual(subprocess.run([*start, '--init', home]).returncode, 0)
+        served = subprocess.run([*start, home], stdin=subprocess.DEVNULL, stderr=subprocess.PIPE)
+        self.assertEqual((served.returncode, b'install python3-paramiko' in served.stderr), (1, True), served.stderr)
+
+    @unittest.skipUnless(paramiko, 'there is no python3-paramiko')
     def test_sets(self) -> None:
         one, two, other = self.homes(2) + [make_home(self.place / 'other')]
         os.symlink('h0', self.place / 'link')
-        init = wire.word(5) + b'\1' + wire.word(3)
-        self.assertEqual(self.bridge(one, two, data=init)[0], 0)
-        self.assertEqual(self.bridge(two, one, data=init)[0], 0)
+        self.assertEqual(self.bridge(one, two, data=INIT)[0], 0)
+        self.assertEqual(self.bridge(two, one, data=INIT)[0], 0)
         self.assertEqual([self.bridge(task, one, two)[0] for task in ('--init', '--add')], [0, 0])     # what is done already
         for words in ([one], [two], [one, two, other], [one, one], [one, two, str(self.place / 'link')], [other], [one, other], ['--init', one, other],
                       ['--init', two, one], ['--init', other, two], ['--add', other], ['--add', one, other], ['--add', two, other]):
@@ -392,6 +426,7 @@ class Sets(InFolder):
             self.assertEqual(self.bridge(*words)[0], 4, words)
         self.assertEqual(names_in([one, two, other]), [])
 
+    @unittest.skipUnless(paramiko, 'there is no python3-paramiko')
     def test_a_home_whose_journal_is_older(self) -> None:
         """Its tag is gone, and the others' pieces are no leftovers."""
         homes = self.homes(2)
@@ -402,6 +437,7 @@ class Sets(InFolder):
             self.assertEqual(self.bridge(*words)[0], 3)
         self.assertEqual(len(names_in(homes)), 1)
 
+    @unittest.skipUnless(paramiko, 'there is no python3-paramiko')
     def test_a_tag_of_others(self) -> None:
         homes = self.homes(1)
         for text in (b'', b'[]', b'{"set": "x", "own": "y", "members": ["y"]}',
@@ -410,24 +446,21 @@ class Sets(InFolder):
             self.assertEqual(self.bridge(*homes)[0], 3)
 
 
-class Packets(InFolder):
-    """Packets made by hand, with SFTP's numbers. No client is needed."""
-
-    INIT = wire.word(5) + b'\1' + wire.word(3)
+class Packets(ByClient):
+    """Packets made by hand, with SFTP's numbers."""
 
     def talk(self, home: str, *packets: bytes) -> tuple[int, list[bytes]]:
         """The status, and the answers but for the version."""
         pipes = Pipes([home])
-        channel = wire.Channel(pipes.running.stdout.fileno(), pipes.running.stdin.fileno())  # type: ignore[union-attr]
-        pipes.send(self.INIT)
-        self.assertEqual((channel.receive() or b'')[:5], b'\2\0\0\0\3')
+        pipes.send(INIT)
+        self.assertEqual(pipes.receive()[:5], b'\2\0\0\0\3')
         answers = []
         for packet in packets:
-            pipes.send(wire.word(len(packet)) + packet)
+            pipes.send(string(packet))
             if packet[0] == 3:      # who opens knows the handle by the answer
-                answers.append(channel.receive() or b'')
+                answers.append(pipes.receive())
         while len(answers) < len(packets):
-            answers.append(channel.receive() or b'')
+            answers.append(pipes.receive())
         return pipes.close(), answers
 
     def codes(self, home: str, *packets: bytes) -> list[tuple[int, int, int]]:
@@ -438,41 +471,71 @@ class Packets(InFolder):
 
     def test_codes(self) -> None:
         home = self.homes(1)[0]
-        path, none = wire.string('/x'), wire.word(0)
+        path, none, file = string('/x'), word(0), string('hx1')
         answers = self.codes(
             home,
-            b'\3' + wire.word(1) + path + wire.word(2 | 8 | 16) + none,                 # a file is made: handle 1
-            b'\6' + wire.word(2) + wire.string('1') + wire.longs(0) + wire.string('abc'),
-            b'\6' + wire.word(3) + wire.string('1') + wire.longs(1) + wire.string('d'),    # a place twice
-            b'\4' + wire.word(4) + wire.string('1'),
-            b'\x11' + wire.word(5) + path,                                               # so there is none
-            b'\3' + wire.word(6) + path + wire.word(2 | 4 | 8) + none,                   # to append
-            b'\x13' + wire.word(7) + path,                                               # a link is read
-            b'\x63' + wire.word(8),                                                      # no such kind
-            b'\3' + wire.word(9) + wire.string(b'\xff') + wire.word(1) + none,           # no UTF-8
-            b'\x11' + wire.word(10) + b'\0\0\0\x09/x',                                   # a packet that is too short
-            b'\6' + wire.word(11) + wire.string('9') + wire.longs(0) + wire.string('abc'),  # no such handle
-            b'\xc8' + wire.word(12) + wire.string('fsync@openssh.com') + wire.string('1'),
-            b'\x10' + wire.word(13) + wire.string('.'),
-            b'\x11' + wire.word(14) + wire.string('/a\0b'),
+            b'\3' + word(1) + path + word(2 | 8 | 16) + none,          # a file is made: its handle is hx1
+            b'\6' + word(2) + file + long(0) + string('abc'),
+            b'\6' + word(3) + file + long(1) + string('d'),            # a place twice
+            b'\4' + word(4) + file,
+            b'\x11' + word(5) + path,                                  # so there is none
+            b'\3' + word(6) + path + word(2 | 4 | 8) + none,           # to append
+            b'\x13' + word(7) + path,                                  # a link is read
+            b'\x63' + word(8),                                         # no such kind
+            b'\3' + word(9) + string(b'\xff') + word(1) + none,        # no UTF-8
+            b'\x11' + word(10) + b'\0\0\0\x09/x',                      # a packet that is too short
+            b'\6' + word(11) + string('9') + long(0) + string('abc'),  # no such handle
+            b'\xc8' + word(12) + string('fsync@openssh.com') + file,
+            b'\x10' + word(13) + string('.'),
+            b'\x11' + word(14) + string('/a\0b'),
+            b'\4' + word(15) + file,                                   # a second close
+            b'\x0a' + word(16) + string('9') + none,
+            b'\xc8' + word(17) + string('check-file') + file + string('md5') + long(0) + long(0) + word(0),
+            b'\xc8' + word(18) + string('statvfs@openssh.com') + string('/'),
+            b'\x14' + word(19) + path + path,                          # a link is made
+            b'\x09' + word(20) + path + word(1) + long(0),
         )
-        self.assertEqual(answers, [(102, 1, -1), (101, 2, 0), (101, 3, 8), (101, 4, 4), (101, 5, 2), (101, 6, 8), (101, 7, 8), (101, 8, 8), (101, 9, 5),
-                                   (101, 10, 5), (101, 11, 4), (101, 12, 8), (104, 13, -1), (101, 14, 4)])
+        self.assertEqual(answers, [
+            (102, 1, -1), (101, 2, 0), (101, 3, 8), (101, 4, 4), (101, 5, 2), (101, 6, 8), (101, 7, 8), (101, 8, 8), (101, 9, 5), (101, 10, 5), (101, 11, 4),
+            (101, 12, 8), (104, 13, -1), (101, 14, 4), (101, 15, 4), (101, 16, 4), (101, 17, 8), (201, 18, -1), (101, 19, 8), (101, 20, 2)])
         self.assertEqual(names_in([home]), [])
+
+    def test_handles_of_another_kind(self) -> None:
+        home = self.homes(1)[0]
+        path, none, file, folder = string('/x'), word(0), string('hx1'), string('hx2')
+        answers = self.codes(
+            home,
+            b'\3' + word(1) + path + word(2 | 8 | 16) + none,
+            b'\x0b' + word(2) + string('/'),
+            b'\x0c' + word(3) + file,
+            b'\5' + word(4) + folder + long(0) + word(9),
+            b'\x0a' + word(5) + folder + none,
+            b'\5' + word(6) + file + long(0) + word(9),
+            b'\x0a' + word(7) + file + word(1) + long(5),
+            b'\x0a' + word(8) + file + word(8) + word(7) + word(7),
+            b'\x0c' + word(9) + folder,
+            b'\x0c' + word(10) + folder,
+            b'\4' + word(11) + folder,
+            b'\4' + word(12) + file,
+        )
+        self.assertEqual(answers, [(102, 1, -1), (102, 2, -1), (101, 3, 4), (101, 4, 4), (101, 5, 4), (101, 6, 8), (101, 7, 8), (101, 8, 0),
+                                   (104, 9, -1), (101, 10, 1), (101, 11, 0), (101, 12, 0)])
+        self.assertEqual(len(names_in([home])), 1)
 
     def test_what_is_no_sftp(self) -> None:
         home = self.homes(1)[0]
-        for data in (b'\0\0\0\5\3\0\0\0\1', b'SSH-2.0-x\r\n', self.INIT + b'\0', self.INIT + b'\0\0\0\1\3', self.INIT + b'\xff\xff\xff\xff'):
+        for data in (b'\0\0\0\5\3\0\0\0\1', b'SSH-2.0-x\r\n', INIT + b'\0\0\0\1\3', INIT + b'\xff\xff\xff\xff'):
             self.assertEqual(self.bridge(home, data=data)[0], 1, data)
-        self.assertEqual(self.bridge(home)[0], 0)
-        self.assertEqual(self.bridge(home, '--', '-s', 'x', data=self.INIT)[0], 0)
+        for data in (b'', INIT, INIT + b'\0', INIT + b'\0\0\0\7\3\0\0'):     # the client went
+            self.assertEqual(self.bridge(home, data=data)[0], 0, data)
+        self.assertEqual(self.bridge(home, '--', '-s', 'x', data=INIT)[0], 0)
 
     def test_a_request_behind_an_unanswered_close(self) -> None:
         home = self.homes(1)[0]
-        path = wire.string('/x')
-        write = b'\3' + wire.word(1) + path + wire.word(2 | 8 | 16) + wire.word(0)
-        answers = self.codes(home, write, b'\6' + wire.word(2) + wire.string('1') + wire.longs(0) + wire.string('abc'), b'\4' + wire.word(3) + wire.string('1'),
-                             b'\x12' + wire.word(4) + path + wire.string('/y'), b'\x11' + wire.word(5) + wire.string('/y'), b'\x0d' + wire.word(6) + wire.string('/y'))
+        path = string('/x')
+        write = b'\3' + word(1) + path + word(2 | 8 | 16) + word(0)
+        answers = self.codes(home, write, b'\6' + word(2) + string('hx1') + long(0) + string('abc'), b'\4' + word(3) + string('hx1'),
+                             b'\x12' + word(4) + path + string('/y'), b'\x11' + word(5) + string('/y'), b'\x0d' + word(6) + string('/y'))
         self.assertEqual(answers, [(102, 1, -1), (101, 2, 0), (101, 3, 0), (101, 4, 0), (105, 5, -1), (101, 6, 0)])
 
 

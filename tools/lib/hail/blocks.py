@@ -15,6 +15,7 @@ from .shapes import block_bytes
 MAGIC = b"HAILstk1"
 HEADER_BYTES = 16
 MARK_BYTES = 8
+MOST_BYTES = HEADER_BYTES + 131_072 * (block_bytes(0) + MARK_BYTES)  # of the longest file, at any profile; behind it may be a hole
 _BLOCK = re.compile(r"(0|[1-9][0-9]{0,19})-(0|[1-9][0-9]{0,9})")
 _OBJECT = re.compile(r"0|[1-9][0-9]{0,19}")
 
@@ -71,10 +72,18 @@ def _stacked(entry: os.DirEntry[str]) -> Iterator[Block]:
     descriptor = os.open(entry.path, os.O_RDONLY | os.O_NOFOLLOW | os.O_NONBLOCK)
     with open(descriptor, "rb") as file:
         status = os.fstat(descriptor)
-        data = file.read() if stat.S_ISREG(status.st_mode) else b""
+        data = file.read(MOST_BYTES) if stat.S_ISREG(status.st_mode) else b""
     size, stripes = stripes_in(data)
     for stripe in stripes:
         yield Block(int(entry.name), stripe, size, int(status.st_mtime))
+
+
+def is_misread(home: str, place: int) -> bool:
+    """Whether a provider's folder has files of the form alone that is not in effect. Raises OSError where it can't be read."""
+    own, other = (_OBJECT, _BLOCK) if is_stacked(home, place) else (_BLOCK, _OBJECT)
+    with os.scandir(folder_of(home, place)) as entries:
+        names = [entry.name for entry in entries if entry.is_file(follow_symlinks=False)]
+    return any(map(other.fullmatch, names)) and not any(map(own.fullmatch, names))
 
 
 def blocks_of(home: str, place: int) -> Iterator[Block]:

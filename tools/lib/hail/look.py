@@ -65,7 +65,7 @@ def remote_command(home: str, place: int) -> str | None:
             rights, lines = os.fstat(file.fileno()).st_mode, file.read().splitlines()
     except (OSError, UnicodeError):
         return None
-    found = [re.fullmatch(rf"[ \t]*{place}[ \t]+([^ \t].*)", line) for line in lines]
+    found = [re.fullmatch(rf"[ \t]*{place}[ \t]+(?:[1-9][0-9]{{0,6}}s[ \t]+)?([^ \t].*)", line) for line in lines]
     commands = [match[1] for match in found if match]
     return commands[0] if commands and not rights & (stat.S_IWGRP | stat.S_IWOTH) else None
 

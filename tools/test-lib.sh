@@ -1,0 +1,59 @@
+# What the tests of the companions share. Sourced by bash; `called` begins what is told, and `room` is where they are made, if not below TMPDIR.
+# HAIL names the program, TOOLS the folder of the companions.
+root=$(CDPATH='' cd -P -- "$(dirname "${BASH_SOURCE[0]}")/.." && pwd -P)
+export HAIL=${HAIL:-$root/hail} TOOLS=${TOOLS:-$root/tools}
+tools=$TOOLS
+scratch=$(mktemp -d -p "${room:-${TMPDIR:-/tmp}}" 2>/dev/null || mktemp -d) || exit 1
+trap 'chmod -R u+w "$scratch"; rm -rf "$scratch"' EXIT
+failed=0
+
+wrong() {
+    echo "$called: $*" >&2
+    failed=1
+}
+
+# Whether there is a program or, by the name of its package, a module of Python.
+is_there() {
+    case $1 in
+        python3-*) /usr/bin/python3 -c "import ${1#python3-}" 2>/dev/null ;;
+        *) command -v "$1" >/dev/null 2>&1 ;;
+    esac
+}
+
+# Whether these programs are there; else what is passed over is told.
+have() {
+    local program
+    for program in "$@"; do
+        is_there "$program" || { echo "$called: there is no $program: ${FUNCNAME[1]} is passed over" >&2; return 1; }
+    done
+}
+
+# The program without its launcher, which looks at each call whether it is to be built.
+without_launcher() {
+    if [ "$HAIL" = "$root/hail" ] && "$HAIL" - row 4 1 1 7 7 7 9 >/dev/null </dev/null && [ -x "$root/out/hail" ]; then HAIL=$root/out/hail; fi
+}
+
+make_key() {
+    head -c 32 /dev/urandom | od -An -v -tx1 | tr -d ' \n'
+}
+
+# A test in a folder of its own, with one for what the companions write for a while, which is empty behind it.
+run() {
+    mkdir -p "$scratch/$1/tmp" && cd "$scratch/$1" || exit 1
+    export TMPDIR=$PWD/tmp
+    "$1"
+    [ -z "$(ls -A tmp)" ] || wrong "$1 leaves below TMPDIR $(ls -A tmp)"
+    exit $failed
+}
+
+# These tests, all at once.
+run_all() {
+    local test running=()
+    for test in "$@"; do
+        run "$test" &
+        running+=($!)
+    done
+    for test in "${running[@]}"; do
+        wait "$test" || failed=1
+    done
+}
