@@ -2,30 +2,12 @@
 use Rattle.std.proofs.Common.{◌≡◌, ℕ, ◌<◌, ◌≤◌, true, false, List, length, take, Option, None, Some, refl, ap, sym, subst, ◌∙◌, inl, inr, arith}
 use Rattle.std.specs.Prelude.{is_some, IfSome}
 use Rattle.std.proofs.lemmas.Bool.{false≢true}
-use Rattle.hail_field.specs.Shape.{IsShape}
-use Rattle.device_defs.specs.Cells.{Cells, reads, firm}
-use Rattle.device_defs.specs.Disks.{synced, Stopped}
-use Rattle.device_defs.specs.Images.{IsImage, EachImage}
+use Rattle.command_laws.specs.Words.{IsShape, Cells, reads, firm, synced, Stopped, IsImage, EachImage, Record, Setup, largest_journal, Area, StandsActive, Kind, PutJob, GetJob, DropJob, AuditJob, RepairJob, UpgradeJob, Command, Numbers, RowOf, InitWith, PutUnder, PutAt, GetOf, DropOf, ListAll, AuditAll, RepairAll, UpgradeJournal, ScrubAll, PackJournal, WritesLine, TellsLine, IsResynced, IsRead, Seen, Ending, IsRefused, sinking, Unstarted, setup_in_effect, setup_with, AnswersInit, InitsDisk, AnswersJob, AnswersScrub, AnswersPack, AnswersPut, AnswersAlone, AnswersList, Answers, IsKnown, IsSure, Follows, is_refusal}
 use Rattle.device_defs.specs.Told.{Goes}
 use Rattle.device_defs.proofs.Lasting.{reads-firm, image-firm, each_image-mono}
 use Rattle.device_defs.proofs.PickLaws.{IsImage-reads}
-use Rattle.record_defs.specs.Records.{Record, Setup, largest_journal}
-use Rattle.record_defs.specs.Areas.{Area, StandsActive}
-use Rattle.machine_defs.specs.Jobs.{Kind, PutJob, GetJob, DropJob, AuditJob, RepairJob, UpgradeJob}
-use Rattle.command_defs.specs.Forms.{Command, Numbers, RowOf, InitWith, PutUnder, PutAt, GetOf, DropOf, ListAll, AuditAll, RepairAll, UpgradeJournal, ScrubAll, PackJournal}
-use Rattle.command_defs.specs.Sinking.{WritesLine, TellsLine}
-use Rattle.opening_defs.specs.Journals.{IsResynced, IsRead}
-use Rattle.command_defs.specs.Seen.{Seen, Ending, IsRefused, sinking}
-use Rattle.command_defs.specs.Opens.{Unstarted, setup_in_effect}
-use Rattle.command_defs.specs.Inits.{setup_with, AnswersInit, InitsDisk}
-use Rattle.command_defs.specs.Jobs.{AnswersJob}
-use Rattle.command_defs.specs.Scrubs.{AnswersScrub}
-use Rattle.command_defs.specs.Packs.{AnswersPack}
-use Rattle.command_defs.specs.Commands.{AnswersPut, AnswersAlone, AnswersList, Answers}
 use Rattle.state_laws.proofs.Records.{is_some-at}
 use Rattle.opening_defs.proofs.Resyncs.{resynced-equal}
-use Rattle.command_laws.specs.Ends.{IsKnown}
-use Rattle.command_laws.specs.After.{IsSure, Follows, is_refusal}
 use Rattle.command_laws.proofs.Known.{EndStatus, status-ended}
 use Rattle.command_laws.proofs.JobEnds.{unstarted-refused, given-status}
 use Rattle.command_laws.proofs.Images.{init-kept, refused-keeps}

@@ -3,38 +3,17 @@ use Rattle.std.proofs.Common.{◌≡◌, ℕ, zero, suc, ◌+◌, ◌<◌, ◌�
 use Rattle.std.specs.Prelude.{IfSome, nat_lt, is_some, is_none}
 use Rattle.std.specs.List.{range_with_len}
 use Rattle.std.proofs.lemmas.Bool.{cases_Bool, cases_eq, false≢true, or_parts}
-use Rattle.algebra_laws.specs.Lists.{In}
+use Rattle.command_laws.specs.Words.{In, IsShape, upto, Object, stripes, symbols_in, is_wrong_block, is_wrong, columns, column_of_symbols, block_at, GivesSymbols, is_flagged, Held, sized, Record, File, Due, file_of, files_of, find_file, due_of, is_same_name, stripes_of, profiled, RepairJob, Seen, Ending, setup_in_effect, with_number, files_by_number, Ran, setup_at_begin, object_at_begin, stripes_at_begin, object_numbered, Place, Gave, IsTruth, places_of, blocks_at, held_at, flags, IfFlagged, GivesPlace, RewrittenOn, RewritesAll, missing, IsTruthful, AnswersAlone, has_risen, is_bad_with, is_bad, bad_count, bad_seen, IsDone, IsKnown, HoldsFile, IsRepaired, ran_to, after_repair, AreAccepted}
 use Rattle.algebra_laws.proofs.Each.{in_flat}
-use Rattle.hail_field.specs.Shape.{IsShape}
-use Rattle.code_defs.specs.Points.{upto}
-use Rattle.column_defs.specs.Objects.{Object, stripes, symbols_in}
-use Rattle.column_defs.specs.Columns.{is_wrong_block, is_wrong, columns, column_of_symbols}
-use Rattle.column_defs.specs.Opened.{block_at, GivesSymbols}
-use Rattle.column_defs.specs.Verdicts.{is_flagged}
 use Rattle.column_laws.proofs.Counts.{count_of-within}
 use Rattle.column_laws.proofs.RightRows.{symbols-right}
-use Rattle.device_defs.specs.Providers.{Held, sized}
 use Rattle.device_defs.specs.Told.{Goes}
-use Rattle.record_defs.specs.Records.{Record}
-use Rattle.record_defs.specs.Table.{File, Due, file_of, files_of, find_file, due_of, is_same_name}
 use Rattle.record_defs.proofs.FilesLaws.{find-files_of}
-use Rattle.machine_defs.specs.Setups.{stripes_of, profiled}
-use Rattle.machine_defs.specs.Jobs.{RepairJob}
 use Rattle.machine_defs.proofs.JobLists.{cond_true, cond_false, same_value}
-use Rattle.command_defs.specs.Seen.{Seen, Ending}
-use Rattle.command_defs.specs.Opens.{setup_in_effect}
-use Rattle.command_defs.specs.Audits.{with_number, files_by_number}
-use Rattle.command_defs.specs.Ran.{Ran, setup_at_begin, object_at_begin, stripes_at_begin, object_numbered}
-use Rattle.command_defs.specs.Repairs.{Place, Gave, IsTruth, places_of, blocks_at, held_at, flags, IfFlagged, GivesPlace, RewrittenOn, RewritesAll}
-use Rattle.command_defs.specs.Truthful.{missing, IsTruthful}
-use Rattle.command_defs.specs.Commands.{AnswersAlone}
-use Rattle.job_laws.specs.Failing.{has_risen, is_bad_with, is_bad, bad_count, bad_seen}
-use Rattle.command_laws.specs.Ends.{IsDone, IsKnown, HoldsFile, IsRepaired, ran_to, after_repair}
 use Rattle.job_laws.proofs.Complete.{block_at-map, wrong-sized, not-wrong-each, not-risen}
 use Rattle.command_laws.proofs.Known.{known-once}
 use Rattle.command_laws.proofs.GetEnds.{shape-at}
 use Rattle.command_laws.proofs.JobEnds.{repair-done}
-use Rattle.record_defs.specs.Acceptance.{AreAccepted}
 use Rattle.job_laws.proofs.Profiles.{numbered-file}
 
 -- ---- elements of lists

@@ -1,21 +1,7 @@
 -- How a get, a list and a repair end over any devices, also those that tell nothing.
 use Rattle.std.proofs.Common.{◌≡◌, ℕ, ◌⊎◌, List, refl, inl, inr, None}
-use Rattle.device_defs.specs.Faults.{Rose}
-use Rattle.record_defs.specs.Records.{Record}
-use Rattle.record_defs.specs.Areas.{Area}
-use Rattle.machine_defs.specs.Jobs.{GetJob, RepairJob}
+use Rattle.command_laws.specs.Words.{Rose, Record, Area, GetJob, RepairJob, Answer, GetOf, ListAll, RepairAll, Seen, Ending, provider_at, setup_in_effect, text_of, GetLeaves, RepairGives, AnswersJob, LeftAlone, EndsByAnswer, AnswersAlone, AnswersList, EndsInOrder, LosesFile, LosesRepair}
 use Rattle.machine_defs.specs.Answers as answer
-use Rattle.machine_defs.specs.Answers.{Answer}
-use Rattle.command_defs.specs.Forms.{GetOf, ListAll, RepairAll}
-use Rattle.command_defs.specs.Seen.{Seen, Ending, provider_at}
-use Rattle.command_defs.specs.Opens.{setup_in_effect}
-use Rattle.command_defs.specs.Lines.{text_of}
-use Rattle.command_defs.specs.Gets.{GetLeaves}
-use Rattle.command_defs.specs.Repairs.{RepairGives}
-use Rattle.command_defs.specs.Jobs.{AnswersJob, LeftAlone, EndsByAnswer}
-use Rattle.command_defs.specs.Commands.{AnswersAlone, AnswersList}
-use Rattle.command_laws.specs.Ends.{EndsInOrder}
-use Rattle.command_laws.specs.Kept.{LosesFile, LosesRepair}
 use Rattle.command_laws.proofs.Known.{written-well}
 use Rattle.command_laws.proofs.GetEnds.{ran_left}
 use Rattle.command_laws.proofs.JobEnds.{calm-disk, in-order, zero-or-memory}

@@ -3,26 +3,11 @@
 use Rattle.std.proofs.Common.{◌≡◌, ℕ, ◌+◌, ◌<◌, ◌≤◌, ◌⊎◌, List, [], ◌∷◌, length, reverse, Option, None, Some, refl, ap, sym, subst, ◌∙◌, inl, inr, arith, length-append}
 use Rattle.std.specs.Prelude.{IfSome, IsSomeAnd}
 use Rattle.std.proofs.lemmas.List.{length-reverse}
-use Rattle.device_defs.specs.Cells.{Cells, reads}
-use Rattle.device_defs.specs.Images.{EachImage}
-use Rattle.record_defs.specs.Records.{Record, AuditDone, largest_journal}
-use Rattle.record_defs.specs.Areas.{Area, StandsActive}
-use Rattle.record_defs.specs.Journal.{StandsFor}
-use Rattle.record_defs.specs.Table.{next_audit}
+use Rattle.command_laws.specs.Words.{Cells, reads, EachImage, Record, AuditDone, largest_journal, Area, StandsActive, StandsFor, next_audit, AuditJob, Answer, Seen, Ending, IsRefused, journal_read, Ran, HearsRounds, CountsHeard, AuditIsCut, AuditGives, AnswersJob, LeftAlone, AnswersAlone, IsKnown, after_audit, ran_to, IsSure, Follows}
 use Rattle.record_defs.proofs.Standing.{active-front}
 use Rattle.journal_core.proofs.Meanings.{one_list}
-use Rattle.machine_defs.specs.Jobs.{AuditJob}
 use Rattle.machine_defs.specs.Answers as answer
-use Rattle.machine_defs.specs.Answers.{Answer}
 use Rattle.machine_defs.proofs.JobLists.{same_value}
-use Rattle.command_defs.specs.Seen.{Seen, Ending, IsRefused}
-use Rattle.opening_defs.specs.Journals.{journal_read}
-use Rattle.command_defs.specs.Ran.{Ran}
-use Rattle.command_defs.specs.Audits.{HearsRounds, CountsHeard, AuditIsCut, AuditGives}
-use Rattle.command_defs.specs.Jobs.{AnswersJob, LeftAlone}
-use Rattle.command_defs.specs.Commands.{AnswersAlone}
-use Rattle.command_laws.specs.Ends.{IsKnown, after_audit, ran_to}
-use Rattle.command_laws.specs.After.{IsSure, Follows}
 use Rattle.command_laws.proofs.Known.{known-both}
 use Rattle.command_laws.proofs.GetEnds.{ran_left}
 use Rattle.command_laws.proofs.JobEnds.{unstarted-refused}

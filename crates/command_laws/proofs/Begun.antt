@@ -3,15 +3,8 @@ use Rattle.std.proofs.Common.{◌≡◌, ℕ, ◌+◌, ◌-◌, ◌^◌, ◌<◌
 use Rattle.std.specs.Prelude.{nat_lt, nat_le}
 use Rattle.std.proofs.lemmas.Bool.{le-ltb}
 use Rattle.std.proofs.lemmas.Bool.Decides.{nat_tests}
-use Rattle.record_defs.specs.Records.{Record, is_name, largest_file, largest_journal, all_profiles}
-use Rattle.record_defs.specs.Areas.{Area, end_in}
-use Rattle.record_defs.specs.Table.{version_of, next_id}
-use Rattle.machine_defs.specs.Jobs.{PutJob, UpgradeJob, ToPut, ToUpgrade}
+use Rattle.command_laws.specs.Words.{Record, is_name, largest_file, largest_journal, all_profiles, Area, end_in, version_of, next_id, PutJob, UpgradeJob, ToPut, ToUpgrade, is_too_full, are_numbers_used_up, is_crowded_for, append_sizes, setup_in_effect, sight_over, refusal_over, reaches_over, pack_refusal_over}
 use Rattle.machine_defs.specs.Refusals as refusal
-use Rattle.machine_defs.specs.Sights.{is_too_full, are_numbers_used_up, is_crowded_for}
-use Rattle.machine_defs.specs.Space.{append_sizes}
-use Rattle.command_defs.specs.Opens.{setup_in_effect}
-use Rattle.command_defs.specs.Refusals.{sight_over, refusal_over, reaches_over, pack_refusal_over}
 
 -- an upgrade of a journal of the first version with room for its record is not refused
 pub upgrade-begins : (area : Area) (records : List Record) → version_of records ≡ 1 →

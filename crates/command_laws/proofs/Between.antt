@@ -4,25 +4,11 @@ use Rattle.std.specs.Prelude.{is_some, nat_lt, slice_get, slice_set, IsSome}
 use Rattle.std.proofs.lemmas.Bool.{cases_Bool, false≢true, eq-eqb, eqb-true, lt-ltb}
 use Rattle.std.proofs.lemmas.List.{length-set}
 use Rattle.algebra_laws.proofs.Lists.{get-set_other, get-set_same}
-use Rattle.device_defs.specs.Cells.{firm}
-use Rattle.device_defs.specs.Providers.{Held, Provider, with_symbol, without_block, HasPlace}
-use Rattle.device_defs.specs.ProviderCalls.{Replaces}
+use Rattle.command_laws.specs.Words.{firm, Held, Provider, with_symbol, without_block, HasPlace, Replaces, Record, Area, Event, Alter, Lose, Stop, Outcome, Replaced, NothingHeld, Happens, ReplacesIf, Moment, now, IsRun, StandsPlain, StandsForState, State, with_provider, IsSound, Seen, AreHanded, IsSure, IsStore, IsCall, moment, ReplacesHeld, AreReplaced, IsLater, AreBetween, Call, last_seen, IsChain, AreCalls}
 use Rattle.device_defs.proofs.Lasting.{image-firm, each_image-mono}
-use Rattle.record_defs.specs.Records.{Record}
-use Rattle.record_defs.specs.Areas.{Area}
-use Rattle.machine_defs.specs.Events.{Event, Alter, Lose, Stop, Outcome, Replaced, NothingHeld, Stopped as HasStopped}
-use Rattle.machine_defs.specs.Machine.{Happens}
-use Rattle.machine_defs.specs.Replacements.{ReplacesIf}
-use Rattle.machine_defs.specs.Runs.{Moment, now, IsRun}
-use Rattle.machine_defs.specs.Stands.{StandsPlain, StandsForState}
-use Rattle.machine_defs.specs.States.{State, with_provider}
+use Rattle.machine_defs.specs.Events.{Stopped as HasStopped}
 use Rattle.machine_defs.proofs.JobLists.{cond_true, cond_false}
-use Rattle.state_laws.specs.Sound.{IsSound}
 use Rattle.state_laws.proofs.Resting.{rest-sound}
-use Rattle.command_defs.specs.Seen.{Seen}
-use Rattle.opening_defs.specs.Opened.{AreHanded}
-use Rattle.command_laws.specs.After.{IsSure}
-use Rattle.command_laws.specs.Pieces.{IsStore, IsCall, moment, ReplacesHeld, AreReplaced, IsLater, AreBetween, Call, last_seen, IsChain, AreCalls}
 use Rattle.job_laws.proofs.Telling.{opened_state, state-over}
 use Rattle.command_laws.proofs.Knowing.{StandsInState}
 use Rattle.command_laws.proofs.Afterwards.{stopped-at}

@@ -2,27 +2,10 @@
 use Rattle.std.proofs.Common.{◌≡◌, ℕ, ◌==◌, Bool, true, false, List, Option, refl, ap, sym, ◌∙◌, subst, inl, inr, arith}
 use Rattle.std.specs.Prelude.{if◌then◌else◌}
 use Rattle.std.proofs.lemmas.Bool.{false≢true}
-use Rattle.device_defs.specs.Faults.{Rose}
+use Rattle.command_laws.specs.Words.{Rose, Record, Area, Kind, PutJob, GetJob, DropJob, AuditJob, RepairJob, UpgradeJob, Answer, Refusal, Command, Numbers, RowOf, InitWith, PutUnder, PutAt, GetOf, DropOf, ListAll, AuditAll, RepairAll, UpgradeJournal, ScrubAll, PackJournal, WritesLine, Seen, Ending, provider_at, sinking, Unstarted, status_of, Ran, AnswersJob, EndsByAnswer, LeavesBy, LeftAlone, AnswersInit, InitsDisk, ScrubbedAlone, AnswersScrub, PackLeaves, AnswersPack, AnswersPut, AnswersAlone, AnswersList, Answers, FaultsHaveCauses, opens_store}
 use Rattle.device_defs.proofs.Lasting.{rose-before}
-use Rattle.record_defs.specs.Records.{Record}
-use Rattle.record_defs.specs.Areas.{Area}
-use Rattle.machine_defs.specs.Jobs.{Kind, PutJob, GetJob, DropJob, AuditJob, RepairJob, UpgradeJob}
 use Rattle.machine_defs.specs.Answers as answer
-use Rattle.machine_defs.specs.Answers.{Answer}
 use Rattle.machine_defs.specs.Refusals as refusal
-use Rattle.machine_defs.specs.Refusals.{Refusal}
-use Rattle.command_defs.specs.Forms.{Command, Numbers, RowOf, InitWith, PutUnder, PutAt, GetOf, DropOf, ListAll, AuditAll, RepairAll, UpgradeJournal, ScrubAll, PackJournal}
-use Rattle.command_defs.specs.Sinking.{WritesLine}
-use Rattle.command_defs.specs.Seen.{Seen, Ending, provider_at, sinking}
-use Rattle.command_defs.specs.Opens.{Unstarted}
-use Rattle.command_defs.specs.Refusals.{status_of}
-use Rattle.command_defs.specs.Ran.{Ran}
-use Rattle.command_defs.specs.Jobs.{AnswersJob, EndsByAnswer, LeavesBy, LeftAlone}
-use Rattle.command_defs.specs.Inits.{AnswersInit, InitsDisk}
-use Rattle.command_defs.specs.Scrubs.{ScrubbedAlone, AnswersScrub}
-use Rattle.command_defs.specs.Packs.{PackLeaves, AnswersPack}
-use Rattle.command_defs.specs.Commands.{AnswersPut, AnswersAlone, AnswersList, Answers}
-use Rattle.command_laws.specs.Ends.{FaultsHaveCauses, opens_store}
 use Rattle.command_laws.proofs.GetEnds.{ran_left}
 
 -- a status of a fault

@@ -4,37 +4,13 @@ use Rattle.std.specs.Prelude.{is_some, nat_lt, ◌&&◌, ◌||◌}
 use Rattle.std.proofs.lemmas.Bool.{cases_Bool, le-ltb}
 use Rattle.std.proofs.lemmas.Bool.Decides.{nat_tests}
 use Rattle.algebra_laws.proofs.Options.{is_some-none}
-use Rattle.column_defs.specs.Verdicts.{is_flagged}
-use Rattle.device_defs.specs.Cells.{Cells}
-use Rattle.device_defs.specs.Faults.{Rose}
-use Rattle.device_defs.specs.Told.{told_then}
-use Rattle.record_defs.specs.Records.{Record, Setup, SetUp, AuditStart, is_name, largest_file, largest_journal}
+use Rattle.command_laws.specs.Words.{is_flagged, Cells, Rose, told_then, Record, Setup, SetUp, AuditStart, is_name, largest_file, largest_journal, Area, Due, next_audit, setup_of, file_of, due_of, exceeds, refused, PutJob, GetJob, DropJob, AuditJob, RepairJob, ToPut, is_too_full, Numbers, AuditAll, IsKeyForm, Seen, Ending, provider_at, IsFree, setup_in_effect, ready_line, stored_line, audit_lines, audit_records, IsTold, AnswersInit, setup_with, sight_over, refusal_over, AnswersScrub, AnswersPut, AnswersAlone, Answers, IsDone, IsKnown, GivesText, GivesUnlessMemory, after_put, after_drop, after_audit, after_repair, Follows, IsThen, HasRightFile, IsUntouched, IsSteady, spoilt_below, IsFaultless, IsKeyed}
 use Rattle.record_defs.specs.Areas as areas
-use Rattle.record_defs.specs.Areas.{Area}
-use Rattle.record_defs.specs.Table.{Due, next_audit, setup_of, file_of, due_of, exceeds}
-use Rattle.record_defs.specs.Acceptance.{refused}
 use Rattle.record_defs.proofs.FilesLaws.{find-files_of, same-refl}
 use Rattle.record_defs.proofs.Sizes.{is_name-short}
-use Rattle.machine_defs.specs.Jobs.{PutJob, GetJob, DropJob, AuditJob, RepairJob, ToPut}
 use Rattle.machine_defs.specs.Refusals as refusal
-use Rattle.machine_defs.specs.Sights.{is_too_full}
 use Rattle.machine_defs.proofs.JobLists.{cond_true, cond_false}
-use Rattle.command_defs.specs.Forms.{Numbers, AuditAll}
-use Rattle.command_defs.specs.Keys.{IsKeyForm}
-use Rattle.command_defs.specs.Seen.{Seen, Ending, provider_at}
-use Rattle.opening_defs.specs.Journals.{IsFree}
-use Rattle.command_defs.specs.Opens.{setup_in_effect}
-use Rattle.command_defs.specs.Lines.{ready_line, stored_line, audit_lines}
-use Rattle.command_defs.specs.Audits.{audit_records}
-use Rattle.command_defs.specs.Jobs.{IsTold}
-use Rattle.command_defs.specs.Inits.{AnswersInit, setup_with}
-use Rattle.command_defs.specs.Refusals.{sight_over, refusal_over}
-use Rattle.command_defs.specs.Scrubs.{AnswersScrub}
-use Rattle.command_defs.specs.Commands.{AnswersPut, AnswersAlone, Answers}
 use Rattle.state_laws.proofs.Records.{file-spelled}
-use Rattle.command_laws.specs.Ends.{IsDone, IsKnown, GivesText, GivesUnlessMemory, after_put, after_drop, after_audit, after_repair}
-use Rattle.command_laws.specs.After.{Follows, IsThen, HasRightFile, IsUntouched, IsSteady, spoilt_below, IsFaultless}
-use Rattle.command_laws.specs.Opened.{IsKeyed}
 use Rattle.command_laws.proofs.Known.{known-once, known-always}
 use Rattle.command_laws.proofs.GetEnds.{seen-complete, seen-right}
 use Rattle.command_laws.proofs.JobEnds.{put-well, put-setup, put-audits, drop-done, repair-done}

@@ -1,18 +1,7 @@
 -- Commands whose source failed, or has more bytes than a file may have: which end so, and what they leave.
 use Rattle.std.proofs.Common.{◌≡◌, ◌⊎◌, ℕ, List, Option, Some, None, refl, sym, ◌∙◌, inl, inr, arith}
-use Rattle.record_defs.specs.Records.{Record}
-use Rattle.record_defs.specs.Areas.{Area}
-use Rattle.machine_defs.specs.Jobs.{Kind, PutJob, GetJob, DropJob, AuditJob, RepairJob, UpgradeJob}
+use Rattle.command_laws.specs.Words.{Record, Area, Kind, PutJob, GetJob, DropJob, AuditJob, RepairJob, UpgradeJob, Command, Numbers, RowOf, InitWith, PutUnder, PutAt, GetOf, DropOf, ListAll, AuditAll, RepairAll, UpgradeJournal, ScrubAll, PackJournal, Seen, Ending, IsRefused, sinking, WritesLine, refusal_over, pack_refusal_over, AnswersInit, InitsDisk, AnswersScrub, AnswersPack, AnswersPut, AnswersAlone, AnswersList, Answers, put_of, GivesUpPut}
 use Rattle.machine_defs.specs.Refusals as refusal
-use Rattle.command_defs.specs.Forms.{Command, Numbers, RowOf, InitWith, PutUnder, PutAt, GetOf, DropOf, ListAll, AuditAll, RepairAll, UpgradeJournal, ScrubAll, PackJournal}
-use Rattle.command_defs.specs.Seen.{Seen, Ending, IsRefused, sinking}
-use Rattle.command_defs.specs.Sinking.{WritesLine}
-use Rattle.command_defs.specs.Refusals.{refusal_over, pack_refusal_over}
-use Rattle.command_defs.specs.Inits.{AnswersInit, InitsDisk}
-use Rattle.command_defs.specs.Scrubs.{AnswersScrub}
-use Rattle.command_defs.specs.Packs.{AnswersPack}
-use Rattle.command_defs.specs.Commands.{AnswersPut, AnswersAlone, AnswersList, Answers}
-use Rattle.command_laws.specs.Ends.{put_of, GivesUpPut}
 use Rattle.command_laws.proofs.Known.{refused-not, told-refusal, status-written, status-ended}
 use Rattle.command_laws.proofs.RowCauses.{none-at}
 use Rattle.command_laws.proofs.JobEnds.{never, short-never, cut-not, unstarted-cut, ended-cut, job-cut, given-gives}

@@ -6,47 +6,19 @@ use Rattle.std.proofs.lemmas.Bool.{and_from, false≢true}
 use Rattle.std.proofs.lemmas.Bool.Decides.{nat_tests}
 use Rattle.hex.proofs.HexLemmas.{decode_of-ok}
 use Rattle.algebra_laws.proofs.Options.{is_some-option_map}
-use Rattle.device_defs.specs.Cells.{Cells, reads, firm}
-use Rattle.device_defs.specs.Disks.{synced, Stopped}
-use Rattle.device_defs.specs.Images.{EachImage}
+use Rattle.command_laws.specs.Words.{Cells, reads, firm, synced, Stopped, EachImage, Record, Setup, SetUp, is_master, is_setup, is_in_grammar, largest_file, largest_journal, Area, other_area, StandsActive, StandsFor, AreAlike, packed, Due, next_audit, due_of, Kind, PutJob, GetJob, DropJob, AuditJob, RepairJob, UpgradeJob, Answer, Refusal, Command, Numbers, RowOf, InitWith, PutUnder, PutAt, GetOf, DropOf, ListAll, AuditAll, RepairAll, UpgradeJournal, ScrubAll, PackJournal, IsKeyForm, Seen, Ending, IsRefused, IsSynced, ReadsUpTo, journal_read, IsSetUpOn, IsOpened, Unstarted, setup_in_effect, status_of, refusal_over, pack_refusal_over, audit_lines, setup_with, AnswersInit, GetLeaves, AnswersJob, SameOutside, outside, with_next, IsTold, put_stripe, after_begin, StopsReading, PartRuns, PartLeft, ScrubsAlone, AnswersScrub, PackedAlone, AnswersPack, AnswersPut, AnswersAlone, AnswersList, Answers, MayName, IsDone, IsKnown, profile_named, RunsKind, DiskHas, opens_store, after_put, after_drop, after_audit, after_repair, after_upgrade, IsAfter, IsSure, Follows, IsThen}
 use Rattle.device_defs.specs.Told.{Goes}
 use Rattle.device_defs.proofs.Lasting.{reads-firm, image-firm, each_image-mono}
 use Rattle.device_defs.proofs.PickLaws.{IsImage-reads}
-use Rattle.record_defs.specs.Records.{Record, Setup, SetUp, is_master, is_setup, is_in_grammar, largest_file, largest_journal}
 use Rattle.record_defs.specs.Areas as areas
-use Rattle.record_defs.specs.Areas.{Area, other_area, StandsActive}
-use Rattle.record_defs.specs.Journal.{StandsFor}
-use Rattle.record_defs.specs.Packed.{AreAlike, packed}
-use Rattle.record_defs.specs.Table.{Due, next_audit, due_of}
 use Rattle.record_defs.proofs.Standing.{active-front}
 use Rattle.record_codec.proofs.Takes.{IsBytes-all}
 use Rattle.journal_core.proofs.Meanings.{one_list}
-use Rattle.machine_defs.specs.Jobs.{Kind, PutJob, GetJob, DropJob, AuditJob, RepairJob, UpgradeJob}
 use Rattle.machine_defs.specs.Answers as answer
-use Rattle.machine_defs.specs.Answers.{Answer}
-use Rattle.machine_defs.specs.Refusals.{Refusal}
 use Rattle.machine_defs.proofs.JobLists.{same_value}
-use Rattle.command_defs.specs.Forms.{Command, Numbers, RowOf, InitWith, PutUnder, PutAt, GetOf, DropOf, ListAll, AuditAll, RepairAll, UpgradeJournal, ScrubAll, PackJournal}
-use Rattle.command_defs.specs.Keys.{IsKeyForm}
-use Rattle.command_defs.specs.Seen.{Seen, Ending, IsRefused, IsSynced, ReadsUpTo}
-use Rattle.opening_defs.specs.Journals.{journal_read, IsSetUpOn}
-use Rattle.command_defs.specs.Opens.{IsOpened, Unstarted, setup_in_effect}
-use Rattle.command_defs.specs.Refusals.{status_of, refusal_over, pack_refusal_over}
-use Rattle.command_defs.specs.Lines.{audit_lines}
-use Rattle.command_defs.specs.Inits.{setup_with, AnswersInit}
-use Rattle.command_defs.specs.Gets.{GetLeaves}
-use Rattle.command_defs.specs.Jobs.{AnswersJob, SameOutside, outside, with_next, IsTold}
-use Rattle.command_defs.specs.GivenUp.{put_stripe, after_begin, StopsReading, PartRuns, PartLeft}
-use Rattle.command_defs.specs.Scrubs.{ScrubsAlone, AnswersScrub}
-use Rattle.command_defs.specs.Packs.{PackedAlone, AnswersPack}
-use Rattle.command_defs.specs.Commands.{AnswersPut, AnswersAlone, AnswersList, Answers}
 use Rattle.state_laws.proofs.Records.{is_some-at}
 use Rattle.command_defs.proofs.Keys.{IsKeyForm-once}
 use Rattle.opening_defs.proofs.SetUps.{set_up-firm, set_up-stands}
-use Rattle.lone_laws.specs.Walked.{MayName}
-use Rattle.command_laws.specs.Ends.{IsDone, IsKnown, profile_named, RunsKind, DiskHas, opens_store, after_put, after_drop, after_audit, after_repair, after_upgrade}
-use Rattle.command_laws.specs.Kept.{IsAfter}
-use Rattle.command_laws.specs.After.{IsSure, Follows, IsThen}
 use Rattle.command_laws.proofs.Known.{known-once, known-both, alone-known, unstarted-known, refused-not}
 use Rattle.command_laws.proofs.JobEnds.{unstarted-refused, put-done, drop-done, audit-done, repair-done, upgrade-done, read-all, given-status, given-kind, images-have, cut-not, unstarted-cut, job-cut, short-never}
 use Rattle.command_laws.proofs.GetEnds.{ran_left}

@@ -1,21 +1,9 @@
 -- An empty text makes no call of the sink, so its fault ends neither a list without a file nor a get of an
 -- empty file.
 use Rattle.std.proofs.Common.{◌≡◌, ◌≢◌, ℕ, List, [], ◌∷◌, take, Some, refl, ap, sym, ◌∙◌, inl, inr, arith, None}
-use Rattle.record_defs.specs.Records.{Record}
-use Rattle.record_defs.specs.Areas.{Area}
-use Rattle.record_defs.specs.Table.{File, file_of, files_of}
-use Rattle.machine_defs.specs.Jobs.{GetJob}
+use Rattle.command_laws.specs.Words.{Record, Area, File, file_of, files_of, GetJob, Answer, WritesLine, Seen, Ending, sinking, setup_in_effect, list_lines, text_of, GetLeaves, AnswersJob, EndsByAnswer, LeftAlone, AnswersAlone, AnswersList, IsKnown}
 use Rattle.machine_defs.specs.Answers as answer
-use Rattle.machine_defs.specs.Answers.{Answer}
 use Rattle.machine_defs.proofs.JobLists.{same_value}
-use Rattle.command_defs.specs.Sinking.{WritesLine}
-use Rattle.command_defs.specs.Seen.{Seen, Ending, sinking}
-use Rattle.command_defs.specs.Opens.{setup_in_effect}
-use Rattle.command_defs.specs.Lines.{list_lines, text_of}
-use Rattle.command_defs.specs.Gets.{GetLeaves}
-use Rattle.command_defs.specs.Jobs.{AnswersJob, EndsByAnswer, LeftAlone}
-use Rattle.command_defs.specs.Commands.{AnswersAlone, AnswersList}
-use Rattle.command_laws.specs.Ends.{IsKnown}
 use Rattle.command_laws.proofs.Known.{known-once, alone-known, unstarted-known, refused-not}
 use Rattle.command_laws.proofs.GetEnds.{ran_left}
 

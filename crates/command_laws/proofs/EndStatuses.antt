@@ -1,26 +1,8 @@
 -- The statuses with which commands end, and those of a row with their causes.
 use Rattle.std.proofs.Common.{◌≡◌, ◌≢◌, ℕ, ◌+◌, ◌*◌, ◌⊎◌, true, false, List, Option, refl, ap, sym, ◌∙◌, inl, inr, arith}
 use Rattle.std.proofs.lemmas.Bool.{cases_Bool, cases_lt, false≢true}
-use Rattle.hail_field.specs.Shape.{IsShape}
-use Rattle.code_defs.specs.Points.{upto}
-use Rattle.code_defs.specs.DispersalCode.{AcceptsNone}
-use Rattle.record_defs.specs.Records.{Record}
-use Rattle.record_defs.specs.Areas.{Area}
-use Rattle.machine_defs.specs.Jobs.{Kind, PutJob, GetJob, DropJob, AuditJob, RepairJob, UpgradeJob}
+use Rattle.command_laws.specs.Words.{IsShape, upto, AcceptsNone, Record, Area, Kind, PutJob, GetJob, DropJob, AuditJob, RepairJob, UpgradeJob, Refusal, Command, Numbers, RowOf, InitWith, PutUnder, PutAt, GetOf, DropOf, ListAll, AuditAll, RepairAll, UpgradeJournal, ScrubAll, PackJournal, WritesLine, TellsLine, Seen, Ending, sinking, Unstarted, status_of, AnswersRow, AnswersInit, InitsDisk, AnswersJob, AnswersScrub, AnswersPack, AnswersPut, AnswersAlone, AnswersList, Answers, is_ending}
 use Rattle.machine_defs.specs.Refusals as refusal
-use Rattle.machine_defs.specs.Refusals.{Refusal}
-use Rattle.command_defs.specs.Forms.{Command, Numbers, RowOf, InitWith, PutUnder, PutAt, GetOf, DropOf, ListAll, AuditAll, RepairAll, UpgradeJournal, ScrubAll, PackJournal}
-use Rattle.command_defs.specs.Sinking.{WritesLine, TellsLine}
-use Rattle.command_defs.specs.Seen.{Seen, Ending, sinking}
-use Rattle.command_defs.specs.Opens.{Unstarted}
-use Rattle.command_defs.specs.Refusals.{status_of}
-use Rattle.command_defs.specs.Row.{AnswersRow}
-use Rattle.command_defs.specs.Inits.{AnswersInit, InitsDisk}
-use Rattle.command_defs.specs.Jobs.{AnswersJob}
-use Rattle.command_defs.specs.Scrubs.{AnswersScrub}
-use Rattle.command_defs.specs.Packs.{AnswersPack}
-use Rattle.command_defs.specs.Commands.{AnswersPut, AnswersAlone, AnswersList, Answers}
-use Rattle.command_laws.specs.After.{is_ending}
 use Rattle.command_laws.proofs.Known.{EndStatus, status-ended}
 use Rattle.command_laws.proofs.RowCauses.{none-at}
 use Rattle.command_laws.proofs.JobEnds.{given-status}

@@ -2,32 +2,8 @@
 use Rattle.std.proofs.Common.{◌≡◌, ℕ, ◌<◌, ◌≤◌, ◌⊎◌, true, List, length, Option, None, Some, refl, ap, sym, subst, ◌∙◌, inl, inr, arith}
 use Rattle.std.proofs.lemmas.Bool.{cases_lt}
 use Rattle.algebra_laws.proofs.Numbers.{not_two}
-use Rattle.column_defs.specs.Verdicts.{is_flagged}
-use Rattle.device_defs.specs.Faults.{Rose}
-use Rattle.device_defs.specs.Providers.{Provider}
-use Rattle.record_defs.specs.Records.{Record, largest_file}
-use Rattle.record_defs.specs.Areas.{Area}
-use Rattle.record_defs.specs.Table.{Due, due_of}
-use Rattle.machine_defs.specs.Jobs.{Kind, PutJob, GetJob, DropJob, AuditJob, RepairJob, UpgradeJob}
+use Rattle.command_laws.specs.Words.{is_flagged, Rose, Provider, Record, largest_file, Area, Due, due_of, Kind, PutJob, GetJob, DropJob, AuditJob, RepairJob, UpgradeJob, Answer, Refusal, Command, Numbers, RowOf, InitWith, PutUnder, PutAt, GetOf, DropOf, ListAll, AuditAll, RepairAll, UpgradeJournal, ScrubAll, PackJournal, WritesLine, Seen, Ending, ReadsFront, provider_at, sinking, IsOpened, Unstarted, setup_in_effect, status_of, Ran, text_of, pack_text, PutLeaves, GetLeaves, LosesStripe, flags, RepairGives, LosesAtPlace, AnswersJob, EndsByAnswer, LeavesBy, LeftAlone, AnswersInit, InitsDisk, PackLeaves, AnswersPack, AnswersPut, AnswersAlone, AnswersList, Answers, ran_to, SameFetches, stores_blocks, opens_rows, FailsToPut, FailsToRepair, LosesFile, LosesRepair}
 use Rattle.machine_defs.specs.Answers as answer
-use Rattle.machine_defs.specs.Answers.{Answer}
-use Rattle.machine_defs.specs.Refusals.{Refusal}
-use Rattle.command_defs.specs.Forms.{Command, Numbers, RowOf, InitWith, PutUnder, PutAt, GetOf, DropOf, ListAll, AuditAll, RepairAll, UpgradeJournal, ScrubAll, PackJournal}
-use Rattle.command_defs.specs.Sinking.{WritesLine}
-use Rattle.command_defs.specs.Seen.{Seen, Ending, ReadsFront, provider_at, sinking}
-use Rattle.command_defs.specs.Opens.{IsOpened, Unstarted, setup_in_effect}
-use Rattle.command_defs.specs.Refusals.{status_of}
-use Rattle.command_defs.specs.Ran.{Ran}
-use Rattle.command_defs.specs.Lines.{text_of, pack_text}
-use Rattle.command_defs.specs.Puts.{PutLeaves}
-use Rattle.command_defs.specs.Gets.{GetLeaves, LosesStripe}
-use Rattle.command_defs.specs.Repairs.{flags, RepairGives, LosesAtPlace}
-use Rattle.command_defs.specs.Jobs.{AnswersJob, EndsByAnswer, LeavesBy, LeftAlone}
-use Rattle.command_defs.specs.Inits.{AnswersInit, InitsDisk}
-use Rattle.command_defs.specs.Packs.{PackLeaves, AnswersPack}
-use Rattle.command_defs.specs.Commands.{AnswersPut, AnswersAlone, AnswersList, Answers}
-use Rattle.command_laws.specs.Ends.{ran_to}
-use Rattle.command_laws.specs.Kept.{SameFetches, stores_blocks, opens_rows, FailsToPut, FailsToRepair, LosesFile, LosesRepair}
 use Rattle.command_laws.proofs.Known.{refused-not}
 use Rattle.command_laws.proofs.GetEnds.{ran_left}
 use Rattle.command_laws.proofs.RowCauses.{none-at}

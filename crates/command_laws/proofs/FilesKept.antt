@@ -2,37 +2,14 @@
 use Rattle.std.proofs.Common.{◌≡◌, ◌≢◌, ℕ, zero, suc, ◌<◌, ◌≤◌, ◌==◌, ◌&&◌, Bool, true, false, not, List, [], ◌∷◌, ◌++◌, length, reverse, take, Option, None, Some, refl, ap, sym, subst, ◌∙◌, inl, inr, arith, cond}
 use Rattle.std.specs.Prelude.{is_some, IfSome}
 use Rattle.std.proofs.lemmas.Bool.{cases_Bool, false≢true, eq-eqb}
-use Rattle.column_defs.specs.Objects.{Object}
-use Rattle.column_defs.specs.Columns.{columns, is_wrong_block}
-use Rattle.column_defs.specs.Verdicts.{is_flagged}
-use Rattle.device_defs.specs.Providers.{Held}
+use Rattle.command_laws.specs.Words.{Object, columns, is_wrong_block, is_flagged, Held, Record, Setup, PutStart, Drop, AuditStart, AuditDone, Version, Area, File, Due, next_id, next_audit, file_of, due_of, started_as, is_start_of, setup_or_none, profiled, object_of, stripes_of, PutJob, DropJob, RepairJob, Answer, Command, RowOf, InitWith, PutUnder, PutAt, GetOf, DropOf, ListAll, AuditAll, RepairAll, UpgradeJournal, ScrubAll, PackJournal, chosen, Seen, Ending, IsRefused, provider_at, setup_in_effect, object_in_effect, StoredOn, PartlyStored, DroppedFrom, put_done, put_records, PutIsCut, PutLeaves, DropLeaves, IfFlagged, AnswersJob, LeftAlone, PartLeft, AnswersPut, AnswersAlone, Answers, IsDone, IsKnown, SameHolds, put_of, after_put, after_repair, IsRepaired, AreAppended, is_wrong_or_untold, HasRightFile, IsThen, HasGrown, IsSteady, spoilt_below, keeps_blocks, IsOfAnother}
 use Rattle.device_defs.specs.Told.{Goes}
 use Rattle.column_laws.proofs.Worked.{column-right}
-use Rattle.record_defs.specs.Records.{Record, Setup, PutStart, Drop, AuditStart, AuditDone, Version}
-use Rattle.record_defs.specs.Areas.{Area}
-use Rattle.record_defs.specs.Table.{File, Due, next_id, next_audit, file_of, due_of, started_as, is_start_of}
-use Rattle.machine_defs.specs.Setups.{setup_or_none, profiled, object_of, stripes_of}
-use Rattle.machine_defs.specs.Jobs.{PutJob, DropJob, RepairJob}
 use Rattle.machine_defs.specs.Answers as answer
-use Rattle.machine_defs.specs.Answers.{Answer}
 use Rattle.machine_defs.proofs.JobLists.{cond_true, cond_false, same_value}
 use Rattle.machine_defs.proofs.RecordFacts.{AreSound, other_name}
-use Rattle.command_defs.specs.Forms.{Command, RowOf, InitWith, PutUnder, PutAt, GetOf, DropOf, ListAll, AuditAll, RepairAll, UpgradeJournal, ScrubAll, PackJournal}
-use Rattle.machine_defs.specs.Begins.{chosen}
-use Rattle.command_defs.specs.Seen.{Seen, Ending, IsRefused, provider_at}
-use Rattle.command_defs.specs.Opens.{setup_in_effect, object_in_effect}
-use Rattle.command_defs.specs.Blocks.{StoredOn, PartlyStored, DroppedFrom}
-use Rattle.command_defs.specs.Puts.{put_done, put_records, PutIsCut, PutLeaves}
-use Rattle.command_defs.specs.Drops.{DropLeaves}
-use Rattle.command_defs.specs.Repairs.{IfFlagged}
-use Rattle.command_defs.specs.Jobs.{AnswersJob, LeftAlone}
-use Rattle.command_defs.specs.GivenUp.{PartLeft}
-use Rattle.command_defs.specs.Commands.{AnswersPut, AnswersAlone, Answers}
 use Rattle.state_laws.proofs.Records.{sound-accepted}
 use Rattle.state_laws.proofs.Packs.{file-alike}
-use Rattle.command_laws.specs.Ends.{IsDone, IsKnown, SameHolds, put_of, after_put, after_repair, IsRepaired}
-use Rattle.command_laws.specs.Kept.{AreAppended}
-use Rattle.command_laws.specs.After.{is_wrong_or_untold, HasRightFile, IsThen, HasGrown, IsSteady, spoilt_below, keeps_blocks, IsOfAnother}
 use Rattle.job_laws.proofs.Complete.{each-not-wrong, not-wrong-each}
 use Rattle.command_laws.proofs.Known.{known-once, known-both}
 use Rattle.command_laws.proofs.GetEnds.{ran_left}

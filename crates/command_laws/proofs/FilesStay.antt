@@ -3,25 +3,10 @@ use Rattle.std.proofs.Common.{◌≡◌, ℕ, ◌+◌, ◌<◌, ◌≤◌, ◌||
 use Rattle.std.specs.Prelude.{is_some, nat_lt, nat_le}
 use Rattle.std.proofs.lemmas.Bool.{cases_Bool, cases_lt, false≢true}
 use Rattle.std.proofs.lemmas.Bool.Decides.{nat_tests}
-use Rattle.column_defs.specs.Objects.{Object}
-use Rattle.column_defs.specs.Columns.{is_wrong_block}
+use Rattle.command_laws.specs.Words.{Object, is_wrong_block, Rose, last_count, Held, Provider, Record, largest_file, Setup, File, file_as, next_id, file_of, profiled, object_of, chosen, AreBytes, Seen, Ending, provider_at, setup_in_effect, object_in_effect, StoredOn, AnswersPut, has_risen, is_bad_with, is_bad_for, bad_seen, IsDone, IsKnown, after_put, IsWholePut, is_wrong_or_untold, HasRightFile, IsUntouched, IsSteady, spoilt_below}
 use Rattle.column_laws.proofs.Counts.{count_of-within}
-use Rattle.device_defs.specs.Faults.{Rose, last_count}
-use Rattle.device_defs.specs.Providers.{Held, Provider}
 use Rattle.device_defs.specs.Told.{Goes}
 use Rattle.column_laws.proofs.Worked.{column-right}
-use Rattle.record_defs.specs.Records.{Record, largest_file, Setup}
-use Rattle.record_defs.specs.Table.{File, file_as, next_id, file_of}
-use Rattle.machine_defs.specs.Setups.{profiled, object_of}
-use Rattle.machine_defs.specs.Begins.{chosen}
-use Rattle.machine_defs.specs.Events.{AreBytes}
-use Rattle.command_defs.specs.Seen.{Seen, Ending, provider_at}
-use Rattle.command_defs.specs.Opens.{setup_in_effect, object_in_effect}
-use Rattle.command_defs.specs.Blocks.{StoredOn}
-use Rattle.command_defs.specs.Commands.{AnswersPut}
-use Rattle.job_laws.specs.Failing.{has_risen, is_bad_with, is_bad_for, bad_seen}
-use Rattle.command_laws.specs.Ends.{IsDone, IsKnown, after_put, IsWholePut}
-use Rattle.command_laws.specs.After.{is_wrong_or_untold, HasRightFile, IsUntouched, IsSteady, spoilt_below}
 use Rattle.job_laws.proofs.Complete.{each-not-wrong}
 use Rattle.command_laws.proofs.Known.{known-once}
 use Rattle.command_laws.proofs.JobEnds.{put-done, put-setup}

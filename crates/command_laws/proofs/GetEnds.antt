@@ -1,32 +1,11 @@
 -- How a get ends over a disk that tells its records.
 use Rattle.std.proofs.Common.{◌≡◌, ℕ, ◌+◌, ◌≤◌, ◌⊎◌, true, cond, not, List, [], length, None, Some, refl, sym, subst, ◌∙◌, inl, inr, arith, Option}
 use Rattle.std.specs.Prelude.{is_some}
-use Rattle.hail_field.specs.Shape.{IsShape}
-use Rattle.device_defs.specs.Faults.{Rose}
-use Rattle.device_defs.specs.Told.{told_then, TakesFront}
-use Rattle.record_defs.specs.Records.{Record, is_name}
-use Rattle.record_defs.specs.Areas.{Area}
-use Rattle.record_defs.specs.Table.{File, file_of}
+use Rattle.command_laws.specs.Words.{IsShape, Rose, told_then, TakesFront, Record, is_name, Area, File, file_of, Kind, GetJob, Answer, AreBytes, Entry, HoldsForgery, Refusal, WritesLine, Seen, Ending, IsRefused, sinking, IsOpened, setup_in_effect, object_in_effect, refusal_over, Ran, ran_alone, job_number, text_of, GetLeaves, AnswersJob, EndsByAnswer, LeftAlone, AnswersAlone, bad_seen, IsKnown, GivesUnlessMemory}
 use Rattle.record_defs.proofs.FilesLaws.{find-files_of}
-use Rattle.machine_defs.specs.Jobs.{Kind, GetJob}
 use Rattle.machine_defs.specs.Answers as answer
-use Rattle.machine_defs.specs.Answers.{Answer}
-use Rattle.machine_defs.specs.Events.{AreBytes}
-use Rattle.machine_defs.specs.Heard.{Entry, HoldsForgery}
 use Rattle.machine_defs.specs.Refusals as refusal
-use Rattle.machine_defs.specs.Refusals.{Refusal}
-use Rattle.command_defs.specs.Sinking.{WritesLine}
-use Rattle.command_defs.specs.Seen.{Seen, Ending, IsRefused, sinking}
-use Rattle.command_defs.specs.Opens.{IsOpened, setup_in_effect, object_in_effect}
-use Rattle.command_defs.specs.Refusals.{refusal_over}
-use Rattle.command_defs.specs.Ran.{Ran, ran_alone, job_number}
-use Rattle.command_defs.specs.Lines.{text_of}
-use Rattle.command_defs.specs.Gets.{GetLeaves}
-use Rattle.command_defs.specs.Jobs.{AnswersJob, EndsByAnswer, LeftAlone}
-use Rattle.command_defs.specs.Commands.{AnswersAlone}
 use Rattle.state_laws.proofs.Records.{file-spelled}
-use Rattle.job_laws.specs.Failing.{bad_seen}
-use Rattle.command_laws.specs.Ends.{IsKnown, GivesUnlessMemory}
 use Rattle.job_laws.proofs.Complete.{shape-of, get-complete, get-right, get-forged}
 use Rattle.job_laws.proofs.Telling.{opened_state, state-over}
 use Rattle.command_laws.proofs.Known.{none-written, written-well, written-zero, written-front, alone-known}

@@ -5,59 +5,19 @@ use Rattle.std.specs.Option.{option_map}
 use Rattle.std.proofs.lemmas.Bool.{cases_Bool, false≢true}
 use Rattle.std.proofs.lemmas.List.{append-nil}
 use Rattle.algebra_laws.proofs.Options.{is_some-option_map}
-use Rattle.device_defs.specs.Cells.{Cells, reads}
-use Rattle.device_defs.specs.Disks.{synced}
-use Rattle.device_defs.specs.Faults.{Rose}
-use Rattle.device_defs.specs.Images.{EachImage}
-use Rattle.device_defs.specs.Providers.{Provider}
+use Rattle.command_laws.specs.Words.{Cells, reads, synced, Rose, EachImage, Provider, Record, Setup, largest_file, largest_journal, HasNoSetup, setup_of, files_of, Area, other_area, end_in, StandsActive, packed, Answer, Event, BeginScrub, BeginPack, Step, Reopen, Names, Continue, Outcome, Refused, Opened, More, Begun, Ended, Listed, Continued, AreBytes, IsSpelled, IsSpelledKind, Kind, PutJob, GetJob, DropJob, AuditJob, RepairJob, UpgradeJob, Happens, BeginsAt, refusal_of_begin, Refusal, Moment, now, IsRun, setup_or_none, StandsPlain, StandsForState, State, Doubt, given_up, continued, setup_in, Rereads, GoOn, IsSound, Command, RowOf, InitWith, PutUnder, PutAt, GetOf, DropOf, ListAll, AuditAll, RepairAll, UpgradeJournal, ScrubAll, PackJournal, WritesLine, Seen, Ending, NoCountFalls, IsRefused, IsSynced, ReadsFront, sinking, journal_read, IsRead, IsBadStart, IsResynced, IsOpened, Unstarted, setup_in_effect, AreHanded, IsJustOpened, MayName, AreSteps, GoesOnTo, PutLeaves, put_stripe, after_begin, StopsReading, PartRan, PartRuns, PartLeft, AnswersJob, EndsByAnswer, RunsAlone, RanAlone, outside, text_of, list_lines, scrub_text, pack_text, is_unknown, refusal_over, pack_refusal_over, status_of, RanScrub, ScrubsAlone, AnswersScrub, RanPack, PacksAlone, AnswersPack, MayBeWhole, AnswersPut, AnswersAlone, ListsFiles, AnswersList, Answers, profile_named, RunsKind, ReadsWhole, opens_store, IsStore, IsSpelledCommand, IsCall, begin_of, moment, unopened_status}
 use Rattle.device_defs.proofs.Lasting.{image-firm, each_image-mono}
 use Rattle.device_defs.proofs.PickLaws.{IsImage-reads}
-use Rattle.record_defs.specs.Records.{Record, Setup, largest_file, largest_journal}
 use Rattle.device_defs.specs.Told.{Goes}
-use Rattle.record_defs.specs.Reading.{HasNoSetup}
-use Rattle.record_defs.specs.Table.{setup_of, files_of}
 use Rattle.record_defs.specs.Areas as areas
-use Rattle.record_defs.specs.Areas.{Area, other_area, end_in, StandsActive}
-use Rattle.record_defs.specs.Packed.{packed}
 use Rattle.record_defs.proofs.Standing.{active-take}
 use Rattle.machine_defs.specs.Answers as answer
-use Rattle.machine_defs.specs.Answers.{Answer}
-use Rattle.machine_defs.specs.Events.{Event, BeginScrub, BeginPack, Step, Reopen, Names, Continue, Outcome, Refused, Opened, More, Begun, Ended, Listed, Continued, AreBytes, IsSpelled, IsSpelledKind}
-use Rattle.machine_defs.specs.Jobs.{Kind, PutJob, GetJob, DropJob, AuditJob, RepairJob, UpgradeJob}
-use Rattle.machine_defs.specs.Machine.{Happens}
-use Rattle.machine_defs.specs.Begins.{BeginsAt, refusal_of_begin}
 use Rattle.machine_defs.specs.Refusals as refusal
-use Rattle.machine_defs.specs.Refusals.{Refusal}
-use Rattle.machine_defs.specs.Runs.{Moment, now, IsRun}
-use Rattle.machine_defs.specs.Setups.{setup_or_none}
-use Rattle.machine_defs.specs.Stands.{StandsPlain, StandsForState}
-use Rattle.machine_defs.specs.States.{State, Doubt, given_up, continued, setup_in}
-use Rattle.machine_defs.specs.Openings.{Rereads}
-use Rattle.machine_defs.specs.Transcripts.{GoOn}
 use Rattle.machine_defs.proofs.JobLists.{same_value}
-use Rattle.state_laws.specs.Sound.{IsSound}
 use Rattle.state_laws.proofs.Events.{events-sound}
 use Rattle.state_laws.proofs.Records.{is_some-at, none-set_up, second-set_up, setup-more}
 use Rattle.state_laws.proofs.Packs.{switched-room}
 use Rattle.record_defs.proofs.PackLaws.{packed_are}
-use Rattle.command_defs.specs.Forms.{Command, RowOf, InitWith, PutUnder, PutAt, GetOf, DropOf, ListAll, AuditAll, RepairAll, UpgradeJournal, ScrubAll, PackJournal}
-use Rattle.command_defs.specs.Sinking.{WritesLine}
-use Rattle.command_defs.specs.Seen.{Seen, Ending, NoCountFalls, IsRefused, IsSynced, ReadsFront, sinking}
-use Rattle.opening_defs.specs.Journals.{journal_read, IsRead, IsBadStart, IsResynced}
-use Rattle.command_defs.specs.Opens.{IsOpened, Unstarted, setup_in_effect}
-use Rattle.opening_defs.specs.Opened.{AreHanded, IsJustOpened}
-use Rattle.lone_laws.specs.Walked.{MayName}
-use Rattle.command_defs.specs.JobRuns.{AreSteps, GoesOnTo}
-use Rattle.command_defs.specs.Puts.{PutLeaves}
-use Rattle.command_defs.specs.GivenUp.{put_stripe, after_begin, StopsReading, PartRan, PartRuns, PartLeft}
-use Rattle.command_defs.specs.Jobs.{AnswersJob, EndsByAnswer, RunsAlone, RanAlone, outside}
-use Rattle.command_defs.specs.Lines.{text_of, list_lines, scrub_text, pack_text}
-use Rattle.command_defs.specs.Refusals.{is_unknown, refusal_over, pack_refusal_over, status_of}
-use Rattle.command_defs.specs.Scrubs.{RanScrub, ScrubsAlone, AnswersScrub}
-use Rattle.command_defs.specs.Packs.{RanPack, PacksAlone, AnswersPack}
-use Rattle.command_defs.specs.Commands.{MayBeWhole, AnswersPut, AnswersAlone, ListsFiles, AnswersList, Answers}
-use Rattle.command_laws.specs.Ends.{profile_named, RunsKind, ReadsWhole, opens_store}
-use Rattle.command_laws.specs.Pieces.{IsStore, IsSpelledCommand, IsCall, begin_of, moment, unopened_status}
 use Rattle.opening_defs.proofs.Readings.{read-once, read-set_up, read-good as read-never-bad, fresh-good}
 use Rattle.command_laws.proofs.GetEnds.{ran_left}
 use Rattle.command_laws.proofs.JobEnds.{given-status, given-front}

@@ -5,39 +5,15 @@ use Rattle.std.specs.Option.{option_map}
 use Rattle.std.proofs.Math.Seq.{take-append_seam, take-append-add, take-length}
 use Rattle.std.proofs.lemmas.Bool.{false≢true}
 use Rattle.std.proofs.lemmas.List.{reverse-append}
-use Rattle.device_defs.specs.Cells.{Cells, reads}
-use Rattle.device_defs.specs.Disks.{synced}
-use Rattle.device_defs.specs.Images.{IsImage, EachImage}
+use Rattle.command_laws.specs.Words.{Cells, reads, synced, IsImage, EachImage, Record, PutStart, AuditStart, AuditDone, largest_journal, Area, other_area, StandsActive, packed, StandsFor, next_id, next_audit, Kind, PutJob, GetJob, DropJob, AuditJob, RepairJob, UpgradeJob, Answer, Command, Numbers, RowOf, InitWith, PutUnder, PutAt, GetOf, DropOf, ListAll, AuditAll, RepairAll, UpgradeJournal, ScrubAll, PackJournal, IsResynced, IsFree, IsSetUpOn, MayBeLeft, Seen, Ending, IsRefused, KeepsDisk, ReadsFront, IsOpened, Unstarted, Ran, IsWhole, IsCut, IsCutInDoubt, put_done, put_records, MayHaveEnd, PutIsCut, after_begin, audit_records, AuditIsCut, AnswersJob, LeavesBy, setup_with, AnswersInit, InitsDisk, AnswersScrub, PackLeaves, AnswersPack, MayBeWhole, AnswersPut, AnswersAlone, AnswersList, Answers, IsKnown, put_of, profile_named, RunsKind, ReadsWhole, opens_store, KeepsImages, AreAppended, IsAfter, LeavesImages, InitImages}
 use Rattle.device_defs.specs.Told.{Goes}
 use Rattle.device_defs.proofs.Lasting.{image-firm, each_image-mono}
 use Rattle.device_defs.proofs.PickLaws.{IsImage-reads}
-use Rattle.record_defs.specs.Records.{Record, PutStart, AuditStart, AuditDone, largest_journal}
-use Rattle.record_defs.specs.Areas.{Area, other_area, StandsActive}
-use Rattle.record_defs.specs.Packed.{packed}
-use Rattle.record_defs.specs.Journal.{StandsFor}
-use Rattle.record_defs.specs.Table.{next_id, next_audit}
 use Rattle.record_defs.proofs.Standing.{stands-front, stands-long}
 use Rattle.journal_core.proofs.Meanings.{one_list}
-use Rattle.machine_defs.specs.Jobs.{Kind, PutJob, GetJob, DropJob, AuditJob, RepairJob, UpgradeJob}
 use Rattle.machine_defs.specs.Answers as answer
-use Rattle.machine_defs.specs.Answers.{Answer}
-use Rattle.command_defs.specs.Forms.{Command, Numbers, RowOf, InitWith, PutUnder, PutAt, GetOf, DropOf, ListAll, AuditAll, RepairAll, UpgradeJournal, ScrubAll, PackJournal}
-use Rattle.opening_defs.specs.Journals.{IsResynced, IsFree, IsSetUpOn, MayBeLeft}
 use Rattle.opening_defs.proofs.Resyncs.{image-resynced, resynced}
 use Rattle.opening_defs.proofs.SetUps.{set_up-free}
-use Rattle.command_defs.specs.Seen.{Seen, Ending, IsRefused, KeepsDisk, ReadsFront}
-use Rattle.command_defs.specs.Opens.{IsOpened, Unstarted}
-use Rattle.command_defs.specs.Ran.{Ran, IsWhole, IsCut, IsCutInDoubt}
-use Rattle.command_defs.specs.Puts.{put_done, put_records, MayHaveEnd, PutIsCut}
-use Rattle.command_defs.specs.GivenUp.{after_begin}
-use Rattle.command_defs.specs.Audits.{audit_records, AuditIsCut}
-use Rattle.command_defs.specs.Jobs.{AnswersJob, LeavesBy}
-use Rattle.command_defs.specs.Inits.{setup_with, AnswersInit, InitsDisk}
-use Rattle.command_defs.specs.Scrubs.{AnswersScrub}
-use Rattle.command_defs.specs.Packs.{PackLeaves, AnswersPack}
-use Rattle.command_defs.specs.Commands.{MayBeWhole, AnswersPut, AnswersAlone, AnswersList, Answers}
-use Rattle.command_laws.specs.Ends.{IsKnown, put_of, profile_named, RunsKind, ReadsWhole, opens_store}
-use Rattle.command_laws.specs.Kept.{KeepsImages, AreAppended, IsAfter, LeavesImages, InitImages}
 use Rattle.command_laws.proofs.Known.{known-once}
 use Rattle.command_laws.proofs.GetEnds.{ran_left}
 use Rattle.command_laws.proofs.JobEnds.{unstarted-refused, named-by, put-kind, given-kind}

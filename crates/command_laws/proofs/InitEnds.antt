@@ -3,26 +3,12 @@ use Rattle.std.proofs.Common.{◌≡◌, ◌≢◌, ℕ, ◌+◌, ◌<◌, ◌�
 use Rattle.std.specs.Prelude.{IfSome}
 use Rattle.std.proofs.lemmas.Bool.{false≢true}
 use Rattle.std.proofs.lemmas.List.{append-nil}
-use Rattle.device_defs.specs.Cells.{Cells, reads}
-use Rattle.device_defs.specs.Faults.{Rose}
+use Rattle.command_laws.specs.Words.{Cells, reads, Rose, Record, Setup, SetUp, PutStart, PutDone, Drop, AuditStart, AuditDone, RepairDone, PutDoneIn, Version, Resume, InEffect, RepairDue, is_setup, largest_journal, base_of, files_of, Numbers, IsKeyForm, longest_key, WritesLine, Seen, Ending, IsRefused, ReadsUpTo, sinking, journal_read, BeginsWithSetup, BeginsOtherwise, IsBadInit, IsSetUpAlready, IsFree, IsSetUpOn, setup_with, AnswersInit, InitsDisk, ready_line, list_lines, AnswersList, IsDone, IsKnown, GivesUnlessMemory, IsKeyed, IsInit, IsListed}
 use Rattle.device_defs.specs.Told.{Goes}
-use Rattle.record_defs.specs.Records.{Record, Setup, SetUp, PutStart, PutDone, Drop, AuditStart, AuditDone, RepairDone, PutDoneIn, Version, Resume, InEffect, RepairDue, is_setup, largest_journal}
-use Rattle.record_defs.specs.Areas.{base_of}
-use Rattle.record_defs.specs.Table.{files_of}
 use Rattle.journal_core.proofs.Meanings.{one_meaning, one_list, bad_is_none, one_place}
 use Rattle.algebra_laws.proofs.Numbers.{not_two}
-use Rattle.command_defs.specs.Forms.{Numbers}
-use Rattle.command_defs.specs.Keys.{IsKeyForm, longest_key}
-use Rattle.command_defs.specs.Sinking.{WritesLine}
-use Rattle.command_defs.specs.Seen.{Seen, Ending, IsRefused, ReadsUpTo, sinking}
-use Rattle.opening_defs.specs.Journals.{journal_read, BeginsWithSetup, BeginsOtherwise, IsBadInit, IsSetUpAlready, IsFree, IsSetUpOn}
-use Rattle.command_defs.specs.Inits.{setup_with, AnswersInit, InitsDisk}
-use Rattle.command_defs.specs.Lines.{ready_line, list_lines}
-use Rattle.command_defs.specs.Commands.{AnswersList}
 use Rattle.command_defs.proofs.Keys.{IsKeyForm-once}
 use Rattle.opening_defs.proofs.SetUps.{set_up-free}
-use Rattle.command_laws.specs.Ends.{IsDone, IsKnown, GivesUnlessMemory}
-use Rattle.command_laws.specs.Opened.{IsKeyed, IsInit, IsListed}
 use Rattle.command_laws.proofs.Known.{none-written, written-well, known-once, unstarted-known}
 use Rattle.command_laws.proofs.JobEnds.{unstarted-done, not-done, memory-well}
 

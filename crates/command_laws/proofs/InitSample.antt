@@ -1,21 +1,10 @@
 -- An init of an empty disk with a key of zeros.
 use Rattle.std.proofs.Common.{[], refl, ap, inl, arith}
 use Rattle.std.proofs.lemmas.List.{get_or-replicate}
-use Rattle.hex.specs.Hex.{decode_pairs, is_hex_digit}
-use Rattle.command_defs.specs.Forms.{InitWith}
-use Rattle.command_defs.specs.Keys.{IsKeyForm, longest_key}
-use Rattle.command_defs.specs.Seen.{ReadsUpTo}
-use Rattle.command_defs.specs.Inits.{AnswersInit, InitsDisk}
-use Rattle.command_defs.specs.Commands.{Answers}
-use Rattle.device_defs.specs.Disks.{written}
-use Rattle.opening_defs.specs.Journals.{IsBlankIn}
-use Rattle.record_defs.specs.Areas.{A}
-use Rattle.record_defs.specs.Journal.{text}
-use Rattle.record_defs.specs.Spellings.{spelling}
-use Rattle.command_laws.specs.Opened.{IsKeyed}
-use Rattle.command_laws.specs.Instances.{small_setup, small_numbers, key_text, key_devices, ready_store, ends}
+use Rattle.command_laws.specs.Words.{decode_pairs, is_hex_digit, InitWith, IsKeyForm, longest_key, ReadsUpTo, AnswersInit, InitsDisk, Answers, written, IsBlankIn, A, text, spelling, IsKeyed, small_setup, small_numbers, key_text, key_devices, ready_store, ends}
 
-key-form : IsKeyForm key_text small_setup.master
+-- a key of zeros is a key
+pub key-form : IsKeyForm key_text small_setup.master
 unfolding decode_pairs
 key-form = record {
   digits = key_text;
@@ -31,7 +20,8 @@ key-form = record {
 pub keyed : IsKeyed small_numbers small_setup.master key_devices
 keyed = record { bytes = key_text; good = refl; enough = omega arith; source = refl; form = key-form }
 
-reads-key : ReadsUpTo longest_key key_devices.source ready_store.source key_text
+-- and is read whole
+pub reads-key : ReadsUpTo longest_key key_devices.source ready_store.source key_text
 reads-key = record { are_bytes = refl; front = refl; few = omega arith; end = λ l. refl }
 
 -- an init over these devices is done

@@ -3,44 +3,12 @@ use Rattle.std.proofs.Common.{◌≡◌, ◌≢◌, ℕ, ◌+◌, ◌*◌, ◌<�
 use Rattle.std.specs.Prelude.{IsSomeAnd, IfSome, IsTrue, nat_lt}
 use Rattle.std.proofs.lemmas.Bool.{cases_Bool, cases_lt, eq-eqb, false≢true}
 use Rattle.std.proofs.lemmas.List.{append-nil, take-append-drop}
-use Rattle.device_defs.specs.Cells.{Cells}
-use Rattle.device_defs.specs.Faults.{Rose}
-use Rattle.device_defs.specs.Images.{EachImage}
-use Rattle.device_defs.specs.Told.{then_told}
-use Rattle.device_defs.specs.Providers.{Held, Provider}
+use Rattle.command_laws.specs.Words.{Cells, Rose, EachImage, then_told, Held, Provider, Setup, Record, PutStart, PutDone, PutDoneIn, is_byte, largest_file, Area, StandsActive, File, Due, version_of, next_id, next_audit, file_of, due_of, started_as, is_start_of, file_as, profile_in, setup_of, Kind, PutJob, GetJob, DropJob, AuditJob, RepairJob, UpgradeJob, ToPut, ToUpgrade, Answer, AreBytes, Entry, setup_or_none, chosen, done_record, Refusal, causes, Command, DropOf, AuditAll, UpgradeJournal, Seen, Ending, IsRefused, ReadsUpTo, ReadsFront, provider_at, IsOpened, Unstarted, setup_in_effect, sight_over, is_unknown, refusal_over, status_of, text_of, stored_line, dropped_line, audit_lines, repaired_line, upgraded_line, Ran, SameHeld, put_done, MayHaveEnd, PutLeaves, put_stripe, StopsReading, PartLeft, DropLeaves, AuditGives, HearsRounds, CountsHeard, RepairGives, UpgradeLeaves, AnswersJob, EndsByAnswer, LeftAlone, IsTold, MayBeWhole, AnswersPut, AnswersAlone, AnswersList, Answers, bad_seen, IsDone, IsKnown, GivesUnlessMemory, EndsInOrder, GivesUpPut, RunsKind, SameHolds, put_of, profile_named, put_refusal, after_put, IsWholePut, IsDropped, IsAudited, IsRepaired, IsUpgraded}
 use Rattle.device_defs.proofs.Lasting.{rose-before}
-use Rattle.record_defs.specs.Records.{Setup, Record, PutStart, PutDone, PutDoneIn, is_byte, largest_file}
-use Rattle.record_defs.specs.Areas.{Area, StandsActive}
-use Rattle.record_defs.specs.Table.{File, Due, version_of, next_id, next_audit, file_of, due_of, started_as, is_start_of, file_as, profile_in, setup_of}
 use Rattle.record_defs.proofs.FilesLaws.{same-refl}
-use Rattle.machine_defs.specs.Jobs.{Kind, PutJob, GetJob, DropJob, AuditJob, RepairJob, UpgradeJob, ToPut, ToUpgrade}
 use Rattle.machine_defs.specs.Answers as answer
-use Rattle.machine_defs.specs.Answers.{Answer}
-use Rattle.machine_defs.specs.Events.{AreBytes}
-use Rattle.machine_defs.specs.Heard.{Entry}
-use Rattle.machine_defs.specs.Setups.{setup_or_none}
-use Rattle.machine_defs.specs.Begins.{chosen}
-use Rattle.machine_defs.specs.Appends.{done_record}
 use Rattle.machine_defs.specs.Refusals as refusal
-use Rattle.machine_defs.specs.Refusals.{Refusal}
-use Rattle.machine_defs.specs.Sights.{causes}
 use Rattle.machine_defs.proofs.JobLists.{cond_true, cond_false, same_value}
-use Rattle.command_defs.specs.Forms.{Command, DropOf, AuditAll, UpgradeJournal}
-use Rattle.command_defs.specs.Seen.{Seen, Ending, IsRefused, ReadsUpTo, ReadsFront, provider_at}
-use Rattle.command_defs.specs.Opens.{IsOpened, Unstarted, setup_in_effect}
-use Rattle.command_defs.specs.Refusals.{sight_over, is_unknown, refusal_over, status_of}
-use Rattle.command_defs.specs.Lines.{text_of, stored_line, dropped_line, audit_lines, repaired_line, upgraded_line}
-use Rattle.command_defs.specs.Ran.{Ran, SameHeld}
-use Rattle.command_defs.specs.Puts.{put_done, MayHaveEnd, PutLeaves}
-use Rattle.command_defs.specs.GivenUp.{put_stripe, StopsReading, PartLeft}
-use Rattle.command_defs.specs.Drops.{DropLeaves}
-use Rattle.command_defs.specs.Audits.{AuditGives, HearsRounds, CountsHeard}
-use Rattle.command_defs.specs.Repairs.{RepairGives}
-use Rattle.command_defs.specs.Upgrades.{UpgradeLeaves}
-use Rattle.command_defs.specs.Jobs.{AnswersJob, EndsByAnswer, LeftAlone, IsTold}
-use Rattle.command_defs.specs.Commands.{MayBeWhole, AnswersPut, AnswersAlone, AnswersList, Answers}
-use Rattle.job_laws.specs.Failing.{bad_seen}
-use Rattle.command_laws.specs.Ends.{IsDone, IsKnown, GivesUnlessMemory, EndsInOrder, GivesUpPut, RunsKind, SameHolds, put_of, profile_named, put_refusal, after_put, IsWholePut, IsDropped, IsAudited, IsRepaired, IsUpgraded}
 use Rattle.state_laws.proofs.Begun.{none-applies}
 use Rattle.state_laws.proofs.Records.{version-either}
 use Rattle.job_laws.proofs.Complete.{put-end, drop-end, audit-end, upgrade-end}

@@ -4,33 +4,11 @@ use Rattle.std.specs.Prelude.{is_some, IfSome}
 use Rattle.std.specs.List.{list_all}
 use Rattle.std.proofs.lemmas.Bool.{false≢true}
 use Rattle.std.proofs.lemmas.Bool.Decides.{nat_tests}
-use Rattle.device_defs.specs.Cells.{Cells, reads}
-use Rattle.device_defs.specs.Images.{EachImage}
+use Rattle.command_laws.specs.Words.{Cells, reads, EachImage, Record, Setup, is_byte, is_name_byte, is_name, largest_journal, Area, end_in, StandsActive, setup_of, AreAccepted, Kind, PutJob, GetJob, DropJob, AuditJob, RepairJob, UpgradeJob, Answer, AreBytes, IsSpelledKind, Entry, Refusal, setup_or_none, State, setup_in, StandsPlain, StandsWithDoubt, StandsSwitched, StandsForState, Seen, journal_read, IsRead, IsOpened, setup_in_effect, refusal_over, RunsAlone, PartRuns, MayName, IsKnown, DiskHas, IsSure}
 use Rattle.device_defs.proofs.PickLaws.{IsImage-reads}
-use Rattle.record_defs.specs.Records.{Record, Setup, is_byte, is_name_byte, is_name, largest_journal}
-use Rattle.record_defs.specs.Areas.{Area, end_in, StandsActive}
-use Rattle.record_defs.specs.Table.{setup_of}
-use Rattle.record_defs.specs.Acceptance.{AreAccepted}
 use Rattle.record_defs.proofs.Standing.{active-take, stands-long}
 use Rattle.journal_core.proofs.Meanings.{one_meaning}
-use Rattle.machine_defs.specs.Jobs.{Kind, PutJob, GetJob, DropJob, AuditJob, RepairJob, UpgradeJob}
-use Rattle.machine_defs.specs.Answers.{Answer}
-use Rattle.machine_defs.specs.Events.{AreBytes, IsSpelledKind}
-use Rattle.machine_defs.specs.Heard.{Entry}
-use Rattle.machine_defs.specs.Refusals.{Refusal}
-use Rattle.machine_defs.specs.Setups.{setup_or_none}
-use Rattle.machine_defs.specs.States.{State, setup_in}
-use Rattle.machine_defs.specs.Stands.{StandsPlain, StandsWithDoubt, StandsSwitched, StandsForState}
-use Rattle.command_defs.specs.Seen.{Seen}
-use Rattle.opening_defs.specs.Journals.{journal_read, IsRead}
-use Rattle.command_defs.specs.Opens.{IsOpened, setup_in_effect}
-use Rattle.command_defs.specs.Refusals.{refusal_over}
-use Rattle.command_defs.specs.Jobs.{RunsAlone}
-use Rattle.command_defs.specs.GivenUp.{PartRuns}
 use Rattle.state_laws.proofs.Records.{setup-more}
-use Rattle.lone_laws.specs.Walked.{MayName}
-use Rattle.command_laws.specs.Ends.{IsKnown, DiskHas}
-use Rattle.command_laws.specs.After.{IsSure}
 use Rattle.job_laws.proofs.Telling.{opened_state, state-over}
 use Rattle.command_laws.proofs.LastStates.{IsLast, last-state, part-state}
 

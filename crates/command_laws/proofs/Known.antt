@@ -2,26 +2,11 @@
 use Rattle.std.proofs.Common.{◌≡◌, ◌≢◌, ℕ, ◌<◌, ◌≤◌, ◌==◌, ◌⊎◌, Bool, true, false, List, [], ◌∷◌, length, take, Option, None, Some, refl, ap, sym, subst, ◌∙◌, inl, inr, arith}
 use Rattle.std.specs.Prelude.{IfSome, if◌then◌else◌}
 use Rattle.std.proofs.lemmas.List.{append-nil}
-use Rattle.device_defs.specs.Faults.{Rose}
-use Rattle.device_defs.specs.Told.{told_then, TakesFront}
-use Rattle.record_defs.specs.Records.{Record}
-use Rattle.record_defs.specs.Areas.{Area}
-use Rattle.record_defs.specs.Reading.{HasNoSetup}
-use Rattle.machine_defs.specs.Jobs.{Kind}
+use Rattle.command_laws.specs.Words.{Rose, told_then, TakesFront, Record, Area, HasNoSetup, Kind, Answer, Refusal, WritesLine, Seen, Ending, IsRefused, sinking, journal_read, IsRead, IsBadStart, IsOpened, Unstarted, setup_in_effect, refusal_over, status_of, AnswersJob, EndsByAnswer, AnswersAlone, IsKnown, GivesUnlessMemory}
 use Rattle.machine_defs.specs.Answers as answer
-use Rattle.machine_defs.specs.Answers.{Answer}
 use Rattle.machine_defs.specs.Refusals as refusal
-use Rattle.machine_defs.specs.Refusals.{Refusal}
 use Rattle.machine_defs.proofs.JobLists.{same_value}
-use Rattle.command_defs.specs.Sinking.{WritesLine}
-use Rattle.command_defs.specs.Seen.{Seen, Ending, IsRefused, sinking}
-use Rattle.opening_defs.specs.Journals.{journal_read, IsRead, IsBadStart}
-use Rattle.command_defs.specs.Opens.{IsOpened, Unstarted, setup_in_effect}
-use Rattle.command_defs.specs.Refusals.{refusal_over, status_of}
-use Rattle.command_defs.specs.Jobs.{AnswersJob, EndsByAnswer}
-use Rattle.command_defs.specs.Commands.{AnswersAlone}
 use Rattle.state_laws.proofs.Records.{is_some-at}
-use Rattle.command_laws.specs.Ends.{IsKnown, GivesUnlessMemory}
 use Rattle.opening_defs.proofs.Readings.{read-once, read-set_up, read-good}
 
 -- ---- what was written

@@ -1,24 +1,10 @@
 -- The state in which a job ended is sound, and has the setup and the providers that it began with.
 use Rattle.std.proofs.Common.{◌≡◌, ℕ, ◌+◌, true, false, List, length, Option, Some, refl, ap, sym, subst, ◌∙◌, arith}
 use Rattle.std.specs.Prelude.{is_some}
-use Rattle.record_defs.specs.Table.{setup_of}
-use Rattle.machine_defs.specs.Jobs.{Kind, Job}
-use Rattle.machine_defs.specs.Actions.{Action, WriteBody, SyncBody, WriteGate, SyncGate, Store, Work, End}
+use Rattle.command_laws.specs.Words.{setup_of, Kind, Job, Action, WriteBody, SyncBody, WriteGate, SyncGate, Store, Work, End, Answer, Step, Ended, IsSpelledKind, Entry, State, Append, setup_in, setup_or_none, chosen, beginning, Acts, now, AreSteps, GoesOnTo, RunsJob, RunsPart, IsSound, IsOpenAtRest, MayName, WalkedAt}
 use Rattle.machine_defs.specs.Answers as answer
-use Rattle.machine_defs.specs.Answers.{Answer}
-use Rattle.machine_defs.specs.Events.{Step, Ended, IsSpelledKind}
-use Rattle.machine_defs.specs.Heard.{Entry}
-use Rattle.machine_defs.specs.States.{State, Append, setup_in}
-use Rattle.machine_defs.specs.Setups.{setup_or_none}
-use Rattle.machine_defs.specs.Begins.{chosen, beginning}
 use Rattle.machine_defs.specs.Appends.{Moves}
-use Rattle.machine_defs.specs.Steps.{Acts}
-use Rattle.machine_defs.specs.Runs.{now}
-use Rattle.command_defs.specs.JobRuns.{AreSteps, GoesOnTo, RunsJob, RunsPart}
-use Rattle.state_laws.specs.Sound.{IsSound}
 use Rattle.state_laws.proofs.Events.{events-sound}
-use Rattle.opening_defs.specs.Opened.{IsOpenAtRest}
-use Rattle.lone_laws.specs.Walked.{MayName, WalkedAt}
 use Rattle.lone_laws.proofs.Walk.{walk-begin, walk-last}
 use Rattle.job_laws.proofs.Runs.{walk-steps}
 use Rattle.job_laws.proofs.Keeping.{part-keeps, runs-keep}

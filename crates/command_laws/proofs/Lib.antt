@@ -32,13 +32,10 @@ pub mod Spelled
 pub mod Between
 pub mod EndStatuses
 pub mod AnyDisk
+pub mod SureStores
 pub mod Samples
-pub mod PutSample
+pub mod JobSamples
 pub mod LongSample
-pub mod AuditSample
-pub mod RepairSample
-pub mod UpgradeSample
-pub mod OwnSample
 pub mod ScrubSample
 pub mod PackSample
 pub mod InitSample

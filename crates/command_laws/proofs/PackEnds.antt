@@ -1,28 +1,11 @@
 -- How packs end, and what they have done where they are done.
 use Rattle.std.proofs.Common.{◌≡◌, ◌≢◌, ℕ, ◌⊎◌, ◌==◌, Bool, true, false, cond, List, Option, None, Some, refl, ap, sym, subst, ◌∙◌, inl, inr, arith}
 use Rattle.std.proofs.lemmas.Bool.{false≢true, eq-eqb}
-use Rattle.device_defs.specs.Faults.{Rose}
-use Rattle.device_defs.specs.Providers.{Provider}
-use Rattle.record_defs.specs.Records.{Record}
-use Rattle.record_defs.specs.Areas.{Area, other_area, text_length}
-use Rattle.record_defs.specs.Table.{version_of, setup_of}
-use Rattle.record_defs.specs.Acceptance.{AreAccepted}
-use Rattle.record_defs.specs.Packed.{AreAlike, packed}
+use Rattle.command_laws.specs.Words.{Rose, Provider, Record, Area, other_area, text_length, version_of, setup_of, AreAccepted, AreAlike, packed, Answer, Refusal, PackJournal, Seen, Ending, IsRefused, provider_at, IsOpened, pack_refusal_over, status_of, packed_line, pack_text, EndsByAnswer, IsTold, PackLeaves, PackedAlone, AnswersPack, IsDone, IsKnown, GivesUnlessMemory, EndsInOrder, SameHolds, IsPacked, SameFetches}
 use Rattle.record_defs.proofs.PackLaws.{packed_are}
 use Rattle.machine_defs.specs.Answers as answer
-use Rattle.machine_defs.specs.Answers.{Answer}
-use Rattle.machine_defs.specs.Refusals.{Refusal}
 use Rattle.machine_defs.proofs.JobLists.{same_value}
-use Rattle.command_defs.specs.Forms.{PackJournal}
-use Rattle.command_defs.specs.Seen.{Seen, Ending, IsRefused, provider_at}
-use Rattle.command_defs.specs.Opens.{IsOpened}
-use Rattle.command_defs.specs.Refusals.{pack_refusal_over, status_of}
-use Rattle.command_defs.specs.Lines.{packed_line, pack_text}
-use Rattle.command_defs.specs.Jobs.{EndsByAnswer, IsTold}
-use Rattle.command_defs.specs.Packs.{PackLeaves, PackedAlone, AnswersPack}
 use Rattle.state_laws.proofs.Records.{is_some-at, version-either, second-set_up}
-use Rattle.command_laws.specs.Ends.{IsDone, IsKnown, GivesUnlessMemory, EndsInOrder, SameHolds, IsPacked}
-use Rattle.command_laws.specs.Kept.{SameFetches}
 use Rattle.command_laws.proofs.Known.{EndStatus, status-ended, known-both, unstarted-known, none-written, written-well, own-status, told-refusal}
 use Rattle.command_laws.proofs.JobEnds.{unstarted-done, not-done, refused-done, memory-well, in-order, zero-or-memory, refused-same, unstarted-same}
 

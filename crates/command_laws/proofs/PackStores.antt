@@ -2,16 +2,8 @@
 use Rattle.std.proofs.Common.{◌≡◌, ℕ, ◌≤◌, List, length, None, refl, ap, sym, subst, ◌∙◌, inl, inr}
 use Rattle.std.specs.Prelude.{is_some}
 use Rattle.device_defs.proofs.Lasting.{each_image-mono}
-use Rattle.record_defs.specs.Records.{Record}
-use Rattle.record_defs.specs.Areas.{other_area, StandsActive}
-use Rattle.record_defs.specs.Packed.{AreAlike, packed}
+use Rattle.command_laws.specs.Words.{Record, other_area, StandsActive, AreAlike, packed, Answer, setup_or_none, IsOpened, setup_in_effect, PackLeaves, PackedAlone, pack_refusal_over, Seen}
 use Rattle.machine_defs.specs.Answers as answer
-use Rattle.machine_defs.specs.Answers.{Answer}
-use Rattle.machine_defs.specs.Setups.{setup_or_none}
-use Rattle.command_defs.specs.Opens.{IsOpened, setup_in_effect}
-use Rattle.command_defs.specs.Packs.{PackLeaves, PackedAlone}
-use Rattle.command_defs.specs.Refusals.{pack_refusal_over}
-use Rattle.command_defs.specs.Seen.{Seen}
 use Rattle.state_laws.proofs.Packs.{switched-room}
 use Rattle.state_laws.proofs.Records.{second-set_up}
 use Rattle.command_laws.proofs.Knowing.{MayBeGood, AreGood, LeavesGood, none-up}

@@ -4,31 +4,11 @@ use Rattle.std.proofs.Common.{◌≡◌, ℕ, ◌+◌, ◌<◌, ◌≤◌, ◌�
 use Rattle.std.specs.Prelude.{is_some, IfSome, IsSomeAnd}
 use Rattle.std.proofs.lemmas.Bool.{false≢true}
 use Rattle.std.proofs.lemmas.List.{length-reverse}
-use Rattle.device_defs.specs.Cells.{Cells, reads}
-use Rattle.device_defs.specs.Disks.{Stopped}
-use Rattle.device_defs.specs.Images.{EachImage}
+use Rattle.command_laws.specs.Words.{Cells, reads, Stopped, EachImage, Record, PutStart, largest_journal, Area, StandsActive, StandsFor, next_id, AreBytes, PutJob, Answer, Seen, Ending, IsRefused, provider_at, journal_read, setup_in_effect, refusal_over, Ran, put_records, MayHaveEnd, PutIsCut, PutLeaves, after_begin, AnswersJob, LeftAlone, MayBeWhole, AnswersPut, IsKnown, after_put, IsSure, Follows, HasRightFile}
 use Rattle.device_defs.specs.Told.{Goes}
-use Rattle.record_defs.specs.Records.{Record, PutStart, largest_journal}
-use Rattle.record_defs.specs.Areas.{Area, StandsActive}
-use Rattle.record_defs.specs.Journal.{StandsFor}
-use Rattle.record_defs.specs.Table.{next_id}
 use Rattle.record_defs.proofs.Standing.{active-front}
 use Rattle.journal_core.proofs.Meanings.{one_list}
-use Rattle.machine_defs.specs.Events.{AreBytes}
-use Rattle.machine_defs.specs.Jobs.{PutJob}
 use Rattle.machine_defs.specs.Answers as answer
-use Rattle.machine_defs.specs.Answers.{Answer}
-use Rattle.command_defs.specs.Seen.{Seen, Ending, IsRefused, provider_at}
-use Rattle.opening_defs.specs.Journals.{journal_read}
-use Rattle.command_defs.specs.Opens.{setup_in_effect}
-use Rattle.command_defs.specs.Refusals.{refusal_over}
-use Rattle.command_defs.specs.Ran.{Ran}
-use Rattle.command_defs.specs.Puts.{put_records, MayHaveEnd, PutIsCut, PutLeaves}
-use Rattle.command_defs.specs.GivenUp.{after_begin}
-use Rattle.command_defs.specs.Jobs.{AnswersJob, LeftAlone}
-use Rattle.command_defs.specs.Commands.{MayBeWhole, AnswersPut}
-use Rattle.command_laws.specs.Ends.{IsKnown, after_put}
-use Rattle.command_laws.specs.After.{IsSure, Follows, HasRightFile}
 use Rattle.command_laws.proofs.Known.{known-once}
 use Rattle.command_laws.proofs.GetEnds.{ran_left}
 use Rattle.command_laws.proofs.JobEnds.{unstarted-refused, put-in_effect, read-all}

@@ -3,30 +3,12 @@
 use Rattle.std.proofs.Common.{◌≡◌, ℕ, ◌<◌, ◌≤◌, ◌&&◌, Bool, true, false, not, List, [], ◌∷◌, ◌++◌, length, reverse, None, Some, ap, subst, inl, inr, arith, length-append}
 use Rattle.std.specs.Prelude.{is_some, IfSome}
 use Rattle.std.proofs.lemmas.Bool.{cases_Bool}
-use Rattle.column_defs.specs.Verdicts.{is_flagged}
-use Rattle.device_defs.specs.Cells.{reads}
-use Rattle.device_defs.specs.Images.{EachImage}
+use Rattle.command_laws.specs.Words.{is_flagged, reads, EachImage, Record, RepairDone, largest_journal, Area, StandsActive, StandsFor, Due, due_of, RepairJob, Answer, Seen, Ending, IsRefused, provider_at, journal_read, setup_in_effect, object_in_effect, Ran, flags, RewritesAll, RepairGives, AnswersJob, LeftAlone, AnswersAlone, bad_seen, IsKnown, after_repair, is_wrong_or_untold, IsSure, Follows, HasRightFile, IsSteady, spoilt_below}
 use Rattle.device_defs.proofs.Lasting.{each_image-mono}
-use Rattle.record_defs.specs.Records.{Record, RepairDone, largest_journal}
-use Rattle.record_defs.specs.Areas.{Area, StandsActive}
-use Rattle.record_defs.specs.Journal.{StandsFor}
-use Rattle.record_defs.specs.Table.{Due, due_of}
 use Rattle.record_defs.proofs.Standing.{active-front}
 use Rattle.journal_core.proofs.Meanings.{one_list}
-use Rattle.machine_defs.specs.Jobs.{RepairJob}
 use Rattle.machine_defs.specs.Answers as answer
-use Rattle.machine_defs.specs.Answers.{Answer}
 use Rattle.machine_defs.proofs.JobLists.{same_value}
-use Rattle.command_defs.specs.Seen.{Seen, Ending, IsRefused, provider_at}
-use Rattle.opening_defs.specs.Journals.{journal_read}
-use Rattle.command_defs.specs.Opens.{setup_in_effect, object_in_effect}
-use Rattle.command_defs.specs.Ran.{Ran}
-use Rattle.command_defs.specs.Repairs.{flags, RewritesAll, RepairGives}
-use Rattle.command_defs.specs.Jobs.{AnswersJob, LeftAlone}
-use Rattle.command_defs.specs.Commands.{AnswersAlone}
-use Rattle.job_laws.specs.Failing.{bad_seen}
-use Rattle.command_laws.specs.Ends.{IsKnown, after_repair}
-use Rattle.command_laws.specs.After.{is_wrong_or_untold, IsSure, Follows, HasRightFile, IsSteady, spoilt_below}
 use Rattle.command_laws.proofs.Known.{known-both}
 use Rattle.command_laws.proofs.GetEnds.{shape-at, ran_left}
 use Rattle.command_laws.proofs.JobEnds.{unstarted-refused, images-have}

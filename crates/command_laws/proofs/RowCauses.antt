@@ -1,12 +1,7 @@
 -- A status of a fault comes of a row only where the sink's count rose.
 use Rattle.std.proofs.Common.{◌≡◌, ◌≢◌, ℕ, List, Option, sym, ◌∙◌, inl, inr, arith}
 use Rattle.std.proofs.lemmas.Bool.{cases_lt}
-use Rattle.hail_field.specs.Shape.{IsShape}
-use Rattle.device_defs.specs.Faults.{Rose}
-use Rattle.command_defs.specs.Sinking.{WritesLine, TellsLine}
-use Rattle.command_defs.specs.Seen.{Seen, Ending, sinking}
-use Rattle.command_defs.specs.Row.{AnswersRow}
-use Rattle.command_laws.specs.Ends.{FaultsHaveCauses}
+use Rattle.command_laws.specs.Words.{IsShape, Rose, WritesLine, TellsLine, Seen, Ending, sinking, AnswersRow, FaultsHaveCauses}
 
 module _ (n l b : ℕ) (seen : List (Option ℕ)) (old new : Seen) (end : Ending)
     (A : AnswersRow n l b seen end.status (sinking old new)) where

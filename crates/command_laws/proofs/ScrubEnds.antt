@@ -2,28 +2,11 @@
 use Rattle.std.proofs.Common.{◌≡◌, ℕ, ◌<◌, ◌⊎◌, List, [], Option, None, Some, refl, sym, subst, inl, inr, arith}
 use Rattle.std.specs.Option.{option_map}
 use Rattle.algebra_laws.proofs.Numbers.{not_two}
-use Rattle.device_defs.specs.Cells.{Cells, reads}
-use Rattle.device_defs.specs.Disks.{synced}
-use Rattle.device_defs.specs.Faults.{Rose}
-use Rattle.device_defs.specs.Images.{EachImage}
+use Rattle.command_laws.specs.Words.{Cells, reads, synced, Rose, EachImage, Record, largest_journal, Area, StandsActive, Answer, ScrubAll, Seen, Ending, IsSynced, provider_at, IsOpened, setup_in_effect, scrub_text, Ran, ran_alone, LosesAtPlace, EndsByAnswer, everyone, ScrubGives, ScrubbedAlone, AnswersScrub, IsRead, IsDone, IsKnown, EndsInOrder, AreSafe, IsScrubbed, ran_to, FailsToScrub, LosesScrub}
 use Rattle.device_defs.proofs.Lasting.{image-firm}
-use Rattle.record_defs.specs.Records.{Record, largest_journal}
-use Rattle.record_defs.specs.Areas.{Area, StandsActive}
 use Rattle.record_defs.proofs.Standing.{active-front}
 use Rattle.machine_defs.specs.Answers as answer
-use Rattle.machine_defs.specs.Answers.{Answer}
-use Rattle.command_defs.specs.Forms.{ScrubAll}
-use Rattle.command_defs.specs.Seen.{Seen, Ending, IsSynced, provider_at}
-use Rattle.command_defs.specs.Opens.{IsOpened, setup_in_effect}
-use Rattle.command_defs.specs.Lines.{scrub_text}
-use Rattle.command_defs.specs.Ran.{Ran, ran_alone}
-use Rattle.command_defs.specs.Repairs.{LosesAtPlace}
-use Rattle.command_defs.specs.Jobs.{EndsByAnswer}
-use Rattle.command_defs.specs.Scrubs.{everyone, ScrubGives, ScrubbedAlone, AnswersScrub}
-use Rattle.opening_defs.specs.Journals.{IsRead}
 use Rattle.job_laws.proofs.Mended.{lost-none}
-use Rattle.command_laws.specs.Ends.{IsDone, IsKnown, EndsInOrder, AreSafe, IsScrubbed, ran_to}
-use Rattle.command_laws.specs.Kept.{FailsToScrub, LosesScrub}
 use Rattle.command_laws.proofs.Known.{known-once, unstarted-known, written-well}
 use Rattle.command_laws.proofs.GetEnds.{shape-at}
 use Rattle.command_laws.proofs.JobEnds.{unstarted-done, not-done, in-order, zero-or-memory}

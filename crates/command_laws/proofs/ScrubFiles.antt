@@ -4,26 +4,11 @@ use Rattle.std.proofs.Common.{◌≡◌, ℕ, zero, suc, ◌<◌, ◌≤◌, ◌
 use Rattle.std.specs.Prelude.{is_some}
 use Rattle.std.proofs.lemmas.Bool.{cases_eq, false≢true}
 use Rattle.std.proofs.lemmas.List.{append-nil}
-use Rattle.algebra_laws.specs.Lists.{In}
-use Rattle.column_defs.specs.Objects.{Object}
-use Rattle.column_defs.specs.Columns.{is_wrong, is_wrong_block, column_of_symbols}
+use Rattle.command_laws.specs.Words.{In, Object, is_wrong, is_wrong_block, column_of_symbols, Held, Record, File, file_of, profiled, stripes_of, Answer, Seen, Ending, provider_at, setup_in_effect, object_in_effect, Ran, object_numbered, Place, Gave, places_of, RewrittenOn, PartlyRewrittenOn, RewritesAll, RewritesPart, SweepsAll, everyone, ScrubGives, ScrubbedAlone, AnswersScrub, bad_seen, IsDone, IsKnown, HoldsFile, IsScrubbed, ran_to, is_wrong_or_untold, HasRightFile, IsSteady, spoilt_below}
 use Rattle.column_laws.proofs.Worked.{column-right}
-use Rattle.device_defs.specs.Providers.{Held}
 use Rattle.device_defs.specs.Told.{Goes}
-use Rattle.record_defs.specs.Records.{Record}
-use Rattle.record_defs.specs.Table.{File, file_of}
-use Rattle.machine_defs.specs.Setups.{profiled, stripes_of}
 use Rattle.machine_defs.specs.Answers as answer
-use Rattle.machine_defs.specs.Answers.{Answer}
-use Rattle.command_defs.specs.Seen.{Seen, Ending, provider_at}
-use Rattle.command_defs.specs.Opens.{setup_in_effect, object_in_effect}
-use Rattle.command_defs.specs.Ran.{Ran, object_numbered}
-use Rattle.command_defs.specs.Repairs.{Place, Gave, places_of, RewrittenOn, PartlyRewrittenOn, RewritesAll, RewritesPart}
-use Rattle.command_defs.specs.Scrubs.{SweepsAll, everyone, ScrubGives, ScrubbedAlone, AnswersScrub}
-use Rattle.job_laws.specs.Failing.{bad_seen}
 use Rattle.job_laws.proofs.Complete.{each-not-wrong, not-wrong-each}
-use Rattle.command_laws.specs.Ends.{IsDone, IsKnown, HoldsFile, IsScrubbed, ran_to}
-use Rattle.command_laws.specs.After.{is_wrong_or_untold, HasRightFile, IsSteady, spoilt_below}
 use Rattle.command_laws.proofs.Known.{known-once}
 use Rattle.command_laws.proofs.GetEnds.{shape-at}
 use Rattle.command_laws.proofs.JobEnds.{unstarted-refused}

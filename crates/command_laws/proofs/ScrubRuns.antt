@@ -1,18 +1,7 @@
 -- A scrub leaves how many providers are handed in.
 use Rattle.std.proofs.Common.{◌≡◌, ℕ, ◌+◌, ◌==◌, Bool, true, false, List, [], ◌∷◌, length, Option, None, Some, refl, ap, sym, subst, ◌∙◌}
-use Rattle.record_defs.specs.Records.{Record}
-use Rattle.machine_defs.specs.Answers.{Answer}
-use Rattle.machine_defs.specs.Events.{Outcome, More, Ended}
-use Rattle.machine_defs.specs.Jobs.{job_of}
-use Rattle.machine_defs.specs.Alone.{number_alone}
-use Rattle.machine_defs.specs.Runs.{Moment, now}
-use Rattle.machine_defs.specs.States.{State, Alone}
-use Rattle.machine_defs.specs.Steps.{StepsJob, StepsMine, StepsOne, StepsOpen, Steps}
+use Rattle.command_laws.specs.Words.{Record, Answer, Outcome, More, Ended, job_of, number_alone, Moment, now, State, Alone, StepsJob, StepsMine, StepsOne, StepsOpen, Steps, AreSteps, IsOpened, RunsScrub, RanScrub, ScrubsAlone, Seen}
 use Rattle.machine_defs.proofs.Asides.{steps_aside}
-use Rattle.command_defs.specs.JobRuns.{AreSteps}
-use Rattle.command_defs.specs.Opens.{IsOpened}
-use Rattle.command_defs.specs.Scrubs.{RunsScrub, RanScrub, ScrubsAlone}
-use Rattle.command_defs.specs.Seen.{Seen}
 use Rattle.job_laws.proofs.Telling.{opened_state, state-over}
 
 -- a step went on, or ended

@@ -8,10 +8,7 @@ use Rattle.std.proofs.lemmas.Bool.Decides.{nat_tests}
 use Rattle.std.proofs.lemmas.Str.{IsUtf8-string_bytes}
 use lib.Utf8.{scalar, scalars, encode, encodes, next, scalar_cases}
 use lib.Dec.{ltb}
-use Rattle.record_defs.specs.Records.{is_byte}
-use Rattle.machine_defs.specs.Events.{AreBytes}
-use Rattle.command_defs.specs.Forms.{Command, RowOf, InitWith, PutUnder, PutAt, GetOf, DropOf, ListAll, AuditAll, RepairAll, UpgradeJournal, ScrubAll, PackJournal, IsNamedForm, IsForm}
-use Rattle.command_laws.specs.Pieces.{IsSpelledCommand}
+use Rattle.command_laws.specs.Words.{is_byte, AreBytes, Command, RowOf, InitWith, PutUnder, PutAt, GetOf, DropOf, ListAll, AuditAll, RepairAll, UpgradeJournal, ScrubAll, PackJournal, IsNamedForm, IsForm, IsSpelledCommand}
 
 -- ---- a character's bytes
 

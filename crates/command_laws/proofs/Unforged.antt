@@ -2,35 +2,13 @@
 use Rattle.std.proofs.Common.{◌≡◌, ℕ, zero, suc, ◌+◌, ◌<◌, ◌≤◌, ◌==◌, ◌&&◌, Bool, true, false, List, [], ◌∷◌, ◌++◌, map, None, Some, refl, ap, sym, subst, ◌∙◌, inl, inr, arith}
 use Rattle.std.specs.List.{range_with_len, flat_map}
 use Rattle.std.proofs.lemmas.Bool.{cases_Bool, cases_lt, ne_eqb, and_parts, false≢true}
-use Rattle.algebra_laws.specs.Lists.{Each}
+use Rattle.command_laws.specs.Words.{Each, IsShape, value, is_seen, upto, Object, point, is_wrong_block, is_wrong, SeenBlock, OpensTo, symbol_in, block_at, is_agreeing, IsForgery, Record, Area, File, file_of, GetJob, Given, Fetched, Answered, Worked, block_given, blocks_given, Answer, Entry, given_to, HoldsForgery, Seen, Ending, setup_in_effect, object_in_effect, Ran, ran_alone, setup_at_begin, job_number, object_at_begin, stripes_at_begin, block_heard, HearsStripes, GetGives, GetLeaves, AnswersJob, AnswersAlone, is_bad, bad_count, bad_seen, IsKnown}
 use Rattle.algebra_laws.proofs.Each.{each_append, each_map}
-use Rattle.hail_field.specs.Shape.{IsShape}
 use Rattle.algebra_laws.specs.Poly.{is_seen as is_seen_over}
-use Rattle.code_defs.specs.Polynomials.{value, is_seen}
-use Rattle.code_defs.specs.Points.{upto}
-use Rattle.column_defs.specs.Objects.{Object, point}
-use Rattle.column_defs.specs.Columns.{is_wrong_block, is_wrong}
-use Rattle.column_defs.specs.Opened.{SeenBlock, OpensTo, symbol_in, block_at}
-use Rattle.column_defs.specs.Forgeries.{is_agreeing, IsForgery}
 use Rattle.column_laws.proofs.Counts.{count_of-within, opens-at}
 use Rattle.column_laws.proofs.OtherRows.{forgery-of_other}
-use Rattle.record_defs.specs.Records.{Record}
-use Rattle.record_defs.specs.Areas.{Area}
-use Rattle.record_defs.specs.Table.{File, file_of}
-use Rattle.machine_defs.specs.Jobs.{GetJob, Given, Fetched, Answered, Worked}
-use Rattle.machine_defs.specs.Given.{block_given, blocks_given}
 use Rattle.machine_defs.specs.Answers as answer
-use Rattle.machine_defs.specs.Answers.{Answer}
-use Rattle.machine_defs.specs.Heard.{Entry, given_to, HoldsForgery}
 use Rattle.machine_defs.proofs.JobLists.{cond_true, cond_false, same_value}
-use Rattle.command_defs.specs.Seen.{Seen, Ending}
-use Rattle.command_defs.specs.Opens.{setup_in_effect, object_in_effect}
-use Rattle.command_defs.specs.Ran.{Ran, ran_alone, setup_at_begin, job_number, object_at_begin, stripes_at_begin}
-use Rattle.command_defs.specs.Gets.{block_heard, HearsStripes, GetGives, GetLeaves}
-use Rattle.command_defs.specs.Jobs.{AnswersJob}
-use Rattle.command_defs.specs.Commands.{AnswersAlone}
-use Rattle.job_laws.specs.Failing.{is_bad, bad_count, bad_seen}
-use Rattle.command_laws.specs.Ends.{IsKnown}
 use Rattle.job_laws.proofs.Complete.{block_at-map, bad-block}
 use Rattle.command_laws.proofs.Known.{alone-known}
 use Rattle.command_laws.proofs.GetEnds.{shape-at, ran_left}

@@ -2,21 +2,7 @@
 use Rattle.std.proofs.Common.{◌≡◌, ℕ, ◌<◌, ◌≤◌, ◌⊎◌, true, false, List, length, Option, Some, ap, sym, subst, ◌∙◌, inl, inr, arith, None}
 use Rattle.std.specs.Prelude.{IfSome}
 use Rattle.std.proofs.lemmas.Bool.{false≢true}
-use Rattle.device_defs.specs.Cells.{Cells}
-use Rattle.device_defs.specs.Faults.{Rose}
-use Rattle.record_defs.specs.Records.{Record}
-use Rattle.record_defs.specs.Areas.{Area}
-use Rattle.record_defs.specs.Reading.{HasNoSetup}
-use Rattle.machine_defs.specs.Jobs.{Kind, GetJob, DropJob, AuditJob, RepairJob, UpgradeJob}
-use Rattle.command_defs.specs.Forms.{Command, RowOf, InitWith, PutUnder, PutAt, GetOf, DropOf, ListAll, AuditAll, RepairAll, UpgradeJournal, ScrubAll, PackJournal}
-use Rattle.command_defs.specs.Sinking.{WritesLine}
-use Rattle.command_defs.specs.Seen.{Seen, Ending, sinking}
-use Rattle.opening_defs.specs.Journals.{journal_read, IsRead, IsBadStart}
-use Rattle.command_defs.specs.Opens.{IsOpened, Unstarted, setup_in_effect}
-use Rattle.command_defs.specs.Scrubs.{AnswersScrub}
-use Rattle.command_defs.specs.Packs.{AnswersPack}
-use Rattle.command_defs.specs.Commands.{AnswersPut, AnswersAlone, AnswersList, Answers}
-use Rattle.command_laws.specs.Ends.{opens_store}
+use Rattle.command_laws.specs.Words.{Cells, Rose, Record, Area, HasNoSetup, Kind, GetJob, DropJob, AuditJob, RepairJob, UpgradeJob, Command, RowOf, InitWith, PutUnder, PutAt, GetOf, DropOf, ListAll, AuditAll, RepairAll, UpgradeJournal, ScrubAll, PackJournal, WritesLine, Seen, Ending, sinking, journal_read, IsRead, IsBadStart, IsOpened, Unstarted, setup_in_effect, AnswersScrub, AnswersPack, AnswersPut, AnswersAlone, AnswersList, Answers, opens_store}
 use Rattle.opening_defs.proofs.Readings.{read-once, read-set_up, read-good, fresh-good, bad-once}
 use Rattle.command_laws.proofs.Known.{is_unopened, refused-opened, ended-opened, status-ended, job-opened}
 use Rattle.command_laws.proofs.JobEnds.{given-status}

@@ -1,22 +1,12 @@
 -- Disks that runs leave on which nothing is set up: one before its first use, and one of which an init failed.
 use Rattle.std.proofs.Common.{◌≡◌, ℕ, zero, suc, ◌<◌, ◌≤◌, false, List, [], ◌∷◌, length, None, Some, refl, sym, subst, inl, inr, arith}
 use Rattle.std.proofs.lemmas.Bool.{false≢true}
-use Rattle.device_defs.specs.Images.{IsImage}
+use Rattle.command_laws.specs.Words.{IsImage, SetUp, A, end_in, Init, Refused, DiskFault, IsRun, State, Doubt, IsSound, provider_at, small_setup, idle_providers, empty_devices, failed_devices, IsStore, moment}
 use Rattle.device_defs.proofs.Lasting.{image-firm}
-use Rattle.record_defs.specs.Records.{SetUp}
-use Rattle.record_defs.specs.Areas.{A, end_in}
-use Rattle.machine_defs.specs.Events.{Init, Refused}
-use Rattle.machine_defs.specs.Refusals.{DiskFault}
-use Rattle.machine_defs.specs.Runs.{IsRun}
-use Rattle.machine_defs.specs.States.{State, Doubt}
-use Rattle.state_laws.specs.Sound.{IsSound}
 use Rattle.state_laws.proofs.Packs.{journal-whole}
 use Rattle.state_laws.proofs.Resting.{rest-sound}
 use Rattle.job_laws.proofs.Telling.{opened_state}
 use Rattle.std.specs.Prelude.{slice_get}
-use Rattle.command_defs.specs.Seen.{provider_at}
-use Rattle.command_laws.specs.Instances.{small_setup, idle_providers, empty_devices, failed_devices}
-use Rattle.command_laws.specs.Pieces.{IsStore, moment}
 use Rattle.command_laws.proofs.GoingOn.{run-sound}
 
 -- nothing is in effect, and no vault is open

@@ -1,6 +1,6 @@
 -- What runs alone, whose steps are computed: scrubs of the file of one byte and packs of a journal, from
 -- every state that was just opened; and a get from a packed store.
-use Rattle.std.proofs.Common.{◌≡◌, ℕ, ◌+◌, ◌==◌, false, List, [], ◌∷◌, ◌++◌, length, map, Some, None, refl, sym, ◌∙◌, arith, ◌≤◌, true, Option, ap, subst, inl, ◌^◌, length-append, if◌then◌else◌, replicate, is_some, flat_map, option_map, eq-eqb}
+use Rattle.std.proofs.Common.{◌≡◌, ℕ, ◌+◌, ◌==◌, false, List, [], ◌∷◌, ◌++◌, length, map, Some, None, refl, sym, ◌∙◌, arith, ◌≤◌, Option, ap, subst, inl, ◌^◌, length-append, if◌then◌else◌, replicate, flat_map, option_map, eq-eqb}
 use Rattle.std.proofs.lemmas.List.{drop_at, length-replicate}
 use Rattle.code_defs.specs.ServerCode.{differences}
 use Rattle.code_defs.proofs.Codewords.{differences-same}
@@ -10,28 +10,26 @@ use Rattle.column_defs.proofs.ColumnLaws.{length-column_of_symbols}
 use Rattle.column_laws.proofs.RightBlocks.{opens-right}
 use Rattle.column_laws.proofs.Worked.{column-right, none-lose}
 use Rattle.column_laws.proofs.RightRows.{given-right, kept-symbol}
-use Rattle.machine_defs.specs.Alone.{differs, new_scrub, unalone, new_pack, barred_pack}
+use Rattle.machine_defs.specs.Alone.{differs, new_scrub, unalone, barred_pack}
 use Rattle.machine_defs.specs.Given.{block_given}
 use Rattle.machine_defs.specs.Refusals as refusal
-use Rattle.job_laws.proofs.Alike.{scrub-alike}
-use Rattle.job_laws.proofs.BeginRefusals.{pack-refusal-of}
-use Rattle.job_laws.proofs.Packs.{packed-alone}
 use Rattle.scrub_laws.proofs.Telling.{scrubbed-alone}
 use Rattle.second_half_laws.proofs.ByteSteps.{symbols, block_sized, own_work, byte_back}
-use Rattle.command_laws.proofs.Samples.{same-disk}
-use Rattle.made_runs.specs.Sweeps.{Sweep, Brings, Opens, Mends, swept_so, swept, FitsSweep, Moves}
-use Rattle.made_runs.specs.Instructions.{with_alone, sweep_run}
-use Rattle.made_runs.proofs.Sweeps.{sweeps-so}
+use Rattle.command_laws.proofs.Samples.{same-disk, pack-refused}
+use Rattle.made_runs.specs.Sweeps.{Sweep, Brings, Opens, Mends, swept, Moves}
+use Rattle.made_runs.specs.Instructions.{with_alone}
 use Rattle.damage_run.proofs.Values.{thing, shown, all_open, whole, altered_is, without_two_give}
-use Rattle.command_runs.specs.Words.{upto, column_of_symbols, is_wrong_block, Store, End, actions_of, Fetched, job_of, GetJob, Kind, byte, firm, synced, EachImage, A, StandsActive, Area, B, four, text, Answer, Scrubbed, Lost, ProviderFault, Packed, DiskFault, Got, Step, More, Ended, Happens, now, State, Scrubbing, setup_in, Packing, IsJustOpened, IsOpenAtRest, Answers, ScrubAll, PackJournal, AreSteps, GoesOnTo, EndsByAnswer, RunsAlone, scrub_text, pack_text, RanScrub, ScrubsAlone, AnswersScrub, Seen, Ending, SameSource, provider_at, called, ends, Record, spelling, RanPack, PacksAlone, AnswersPack, Works, Came, Gives, IsSure, IsChain, Entry, IsOpened}
+use Rattle.command_runs.specs.Words.{upto, column_of_symbols, is_wrong_block, Store, End, actions_of, Fetched, GetJob, Kind, byte, firm, synced, EachImage, A, StandsActive, B, four, text, Answer, Scrubbed, Lost, ProviderFault, Packed, DiskFault, Got, State, Scrubbing, setup_in, IsJustOpened, Answers, ScrubAll, PackJournal, EndsByAnswer, RunsAlone, scrub_text, ScrubsAlone, AnswersScrub, Seen, Ending, SameSource, provider_at, called, ends, Record, spelling, Works, Came, Gives, IsSure, IsChain, Entry, IsOpened}
 use Rattle.command_runs.specs.Devices.{own_block, altered_block, each, byte_records, failed_store, two_damaged, symbols_off, blocks_off, scrub_failed, damaged, all_lost, found_lost, ends_at, named, byte_upgraded_records, upgraded_kept, byte_kept, all_hold, holds, own_blocks_heard, disk_failed, ends_hearing}
 use Rattle.command_runs.specs.Packed.{packed_records, IsFilling, named_second, second_text, in_second, packed_kept, packed_store, fetched_hold, got_packed, pack_call, get_packed}
 use Rattle.command_runs.specs.Lone.{RunsSomewhere, ScrubsSomewhere}
 use Rattle.command_runs.specs.Devices as devices
-use Rattle.command_runs.proofs.Shape.{one_byte, sure, stands_for, AreFitIn, always, placed, placed-is, sure_in, stands}
-use Rattle.command_runs.proofs.Stores.{fits, byte-fit, upgraded-fit, stored-sure, upgraded_kept-sure}
-use Rattle.command_runs.proofs.Made.{Left, left_by, seen_as, stand-so, handed-four, spelled, spelled-is, byte-held, Run, ran, turn}
-use Rattle.command_runs.proofs.Refusals.{quiet}
+use Rattle.turn_laws.specs.Turned.{seen_as}
+use Rattle.turn_laws.proofs.Shape.{always}
+use Rattle.turn_laws.proofs.Swept.{after_sweeps, AreGoing, GoesAlone, scrubs-so, Pack, pack-so}
+use Rattle.command_laws.proofs.SureStores.{AreFitIn, fits, sure, stands_for, sure_in, stands}
+use Rattle.command_runs.proofs.Stores.{byte-fit, upgraded-fit, stored-sure, upgraded_kept-sure}
+use Rattle.command_runs.proofs.Made.{one_byte, before, byte-held, Run, ran, turn}
 
 -- ---- the blocks of a scrub, of which one has a symbol altered, and one is lost
 
@@ -78,51 +76,11 @@ pub finds : (first : List ℕ) (x : ℕ) → differences first (own_block 0) ≡
 finds first x e = by (off_with first) x e (differences-same (own_block 1)) (length-block 2)
     (differences-same (own_block 3))
 
--- ---- what runs alone
-
--- the state after such steps
-abbrev pub after_sweeps : State → List Sweep → State
-after_sweeps w sweeps = now w (sweep_run w [] 1 sweeps)
-
--- it can go so, and each step answers more
-abbrev pub AreGoing : State → List Sweep → Type 0
-AreGoing w [] = Unit {0}
-AreGoing w (sweep ∷ sweeps) =
-    (swept_so sweep ≡ More) × FitsSweep (after_sweeps w sweeps) 1 sweep × AreGoing w sweeps
-
-going : (w : State) (m : ℕ) (sweeps : List Sweep) → AreGoing w sweeps →
-    AreSteps w m 1 (sweep_run w [] 1 sweeps)
-going w m [] g = tt
-going w m (s ∷ sweeps) g = (let k = m + length (sweep_run w [] 1 sweeps) in
-    let u = after_sweeps w sweeps in (
-      refl,
-      g.0,
-      subst (λ o. Happens 8 k u (Step 1) o (swept u s)) g.0 (sweeps-so 8 k u 1 s g.1),
-      going w m sweeps g.2,
-    ))
-
--- it goes so from a state, ends, and leaves this
-abbrev pub GoesAlone : State → List Sweep → Answer → Left → State → Type 0
-GoesAlone w sweeps answer left last = AreGoing w sweeps
-    × Happens 8 0 (after_sweeps w sweeps) (Step 1) (Ended answer) last
-    × (left_by last (job_of (after_sweeps w sweeps).jobs 1) ≡ left)
-
--- so it goes on to its end
-pub goes-on : (w : State) (m : ℕ) (sweeps : List Sweep) {answer : Answer} {left : Left} {last : State} →
-    left.heard ≡ [] → GoesAlone w sweeps answer left last → GoesOnTo w m 1 answer [] last
-goes-on w m sweeps none g = record {
-  steps = sweep_run w [] 1 sweeps;
-  are_steps = going w m sweeps g.0;
-  ends = g.1;
-  heard_is = sym (ap (λ (l : Left). l.heard) g.2 ∙ none);
-}
-
 -- ---- scrubs
 
 -- a scrub has begun
 abbrev begun : Seen → State → ℕ → State
-begun old w n = (let v = spelled A byte_records (one_byte w.bytes) old.providers w in
-    with_alone v (Scrubbing (new_scrub v n)))
+begun old w n = with_alone (before byte_records old w) (Scrubbing (new_scrub (before byte_records old w) n))
 
 -- its fetches bring these
 abbrev fetching : Option (List ℕ) → Option (List ℕ) → List Sweep
@@ -158,32 +116,10 @@ scrub {answer} {old} {new} sweeps last finds ends goes = record {
 }
   where
     alone : ScrubsAlone A byte_records answer old new
-    alone = record {
-      faults = 0;
-      before = omega (arith, finds.2);
-      ran = λ w n V. let U : IsJustOpened w A byte_records 1 0 (each (provider_at old.providers))
-          = subst (λ ps. IsJustOpened w A byte_records 1 0 ps) finds.3 V in
-          let end = last (after_sweeps (begun old w n) sweeps) in let e = (goes w n).2 in
-          scrub-alike w U.at_rest byte_records answer old new 0 n
-          (subst (λ u. RanScrub byte_records answer old new 0 u n)
-          (spelled-is A byte_records (one_byte w.bytes) old.providers w
-          (byte-held A byte_records w refl U) U) (record {
-            last = end;
-            runs = record {
-              begun = begun old w n;
-              job = 1;
-              begins = (refl, refl, refl, refl);
-              goes_on = goes-on (begun old w n) (n + 1) sweeps refl (goes w n);
-            };
-            images = stand-so new.disk end (job_of (after_sweeps (begun old w n) sweeps).jobs 1)
-                (seen_as A byte_records new [] w.handed) e
-                (subst (λ told. EachImage told (λ image. StandsActive image A byte_records)) (sym finds.1)
-                (stands_for byte-fit));
-            faults_are = ap (λ (l : Left). l.faults) e;
-            handed = handed-four end (ap (λ (l : Left). l.handed) e ∙ U.handed.count)
-                (ap (λ (l : Left). l.providers) e);
-          }));
-    }
+    alone = scrubs-so A byte_records one_byte answer old new sweeps last finds.2 finds.3
+        (λ w V. byte-held A byte_records w refl V)
+        (subst (λ told. EachImage told (λ image. StandsActive image A byte_records)) (sym finds.1)
+        (stands_for byte-fit)) goes
 
 -- it opens a stripe of which a symbol is altered and a block lost
 abbrev opening : List Sweep
@@ -269,80 +205,25 @@ module _ (filling : List ℕ) (fills : IsFilling filling) where
 
 -- ---- packs
 
--- a state over the store, spelled out, and with a pack begun
-abbrev before : State → State
-before w = placed A byte_upgraded_records w.bytes (holds 0) (holds 1) (holds 2) (holds 3) w
-
-abbrev pack_begun : State → State
-pack_begun w = with_alone (before w) (Packing (new_pack (before w)))
-
--- a pack runs alone over the store, and its command ends so
-pub record Pack (answer : Answer) (new : Seen) (status : ℕ) : Type 0 where
-  pub alone : PacksAlone A byte_upgraded_records answer upgraded_kept new
-  pub answers : Answers PackJournal upgraded_kept new (ends status)
-
--- a pack that goes so runs so
-pack : {answer : Answer} {new : Seen} {status : ℕ} (area : Area) (after : List Record) (sweeps : List Sweep)
-    (last : State → State) → is_some new.disk ≡ true → length new.providers ≡ 4 →
-    SameSource upgraded_kept new → EachImage new.disk (λ image. StandsActive image area after) →
-    EndsByAnswer (pack_text answer) answer upgraded_kept new (ends status) → ((w : State) →
-    GoesAlone (pack_begun w) sweeps answer (seen_as area after new [] w.handed)
-    (last (after_sweeps (pack_begun w) sweeps))) → Pack answer new status
-pack {answer} {new} area after sweeps last tells handed source images ends goes = record {
-  alone = alone;
-  answers = (
-    AnswersPack.ended byte_upgraded_records answer upgraded_kept-sure.known.opened refl refl alone
-        (packed-alone byte_upgraded_records answer upgraded_kept new upgraded_kept-sure.known.opened handed
-        alone) ends,
-    source,
-  );
-}
-  where
-    alone : PacksAlone A byte_upgraded_records answer upgraded_kept new
-    alone = record {
-      faults = 0;
-      before = omega arith;
-      tells = tells;
-      ran = λ w n V. let same = placed-is A byte_upgraded_records w.bytes (holds 0) (holds 1) (holds 2)
-          (holds 3) w refl V in
-          let opened = subst (λ s. IsOpenAtRest s 1) (sym same) V.at_rest in
-          let end = last (after_sweeps (pack_begun w) sweeps) in let e = (goes w).2 in
-          subst (λ s. RanPack byte_upgraded_records answer upgraded_kept new s n) same (record {
-            last = end;
-            runs = record {
-              begun = pack_begun w;
-              job = 1;
-              begins = (refl, pack-refusal-of (before w) opened, refl, refl);
-              goes_on = goes-on (pack_begun w) (n + 1) sweeps refl (goes w);
-            };
-            images = stand-so new.disk end (job_of (after_sweeps (pack_begun w) sweeps).jobs 1)
-                (seen_as area after new [] w.handed) e images;
-            faults_are = ap (λ (l : Left). l.faults) e;
-            handed = handed-four end (ap (λ (l : Left). l.handed) e ∙ V.handed.count)
-                (ap (λ (l : Left). l.providers) e);
-          });
-    }
-
 -- it makes its four moves, and ends with status 0
-pub packs : (filling : List ℕ) → IsFilling filling → Pack (Packed 80 81) (packed_store filling) 0
-packs filling fills = pack B packed_records (Moves ∷ Moves ∷ Moves ∷ Moves ∷ []) unalone refl refl
-    (refl, refl) (stands (in_second filling) (second-stands filling fills))
+pub packs : (filling : List ℕ) → IsFilling filling →
+    Pack A byte_upgraded_records (Packed 80 81) upgraded_kept (packed_store filling) (ends 0)
+packs filling fills = pack-so upgraded_kept-sure.known.opened B packed_records
+    (Moves ∷ Moves ∷ Moves ∷ Moves ∷ []) unalone (refl, refl, refl, refl, refl, (refl, refl)) refl
+    (stands (in_second filling) (second-stands filling fills))
     (record { written = inl (refl, refl); place = refl })
     (λ w. (turn tt (turn tt (turn tt (turn tt tt))), (refl, refl, refl), refl))
 
 -- or its first move fails, and it ends with status 12
-pub fails : Pack DiskFault (disk_failed upgraded_kept) 12
-fails = pack A byte_upgraded_records [] (λ s. record (barred_pack s) { disk_faults = 1 }) refl refl
-    (refl, refl) (stands_for upgraded-fit) (record { status_is = refl; place = refl; sink = refl })
+pub fails : Pack A byte_upgraded_records DiskFault upgraded_kept (disk_failed upgraded_kept) (ends 12)
+fails = pack-so upgraded_kept-sure.known.opened A byte_upgraded_records []
+    (λ s. record (barred_pack s) { disk_faults = 1 }) (refl, refl, refl, refl, refl, (refl, refl)) refl
+    (stands_for upgraded-fit) (record { status_is = refl; place = refl; sink = refl })
     (λ w. (tt, (1, omega arith, λ low. omega arith, refl), refl))
 
 -- over a journal of the first version a pack ends with status 23
 pub old-version : Answers PackJournal byte_kept byte_kept (ends 23)
-old-version = (
-  AnswersPack.refused byte_records refusal.OldVersion stored-sure.known.opened refl (same-disk byte_records)
-      (quiet refl refl refl),
-  (refl, refl),
-)
+old-version = pack-refused refusal.OldVersion stored-sure.known.opened refl (same-disk byte_records)
 
 -- ---- a get from the packed store
 

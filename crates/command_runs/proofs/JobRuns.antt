@@ -7,7 +7,8 @@ use Rattle.damage_run.proofs.Values.{without_zero_give, without_two_give, right,
 use Rattle.command_runs.specs.Words.{A, four, Drop, AuditStart, AuditDone, RepairDone, Version, spelling, actions_of, Got, Dropped, Audited, Repaired, Upgraded, Lost, ProviderFault, DiskFault, GetJob, DropJob, AuditJob, RepairJob, UpgradeJob, State, setup_in, counts, byte, ends, Turn, Goes, Works, Notes, Came, Heard, Gives, LosesOne, StoreFails, Cut, AreFitTurns}
 use Rattle.command_runs.specs.Devices.{named, byte_records, dropped_records, byte_audited_records, byte_repaired_records, byte_upgraded_records, own_block, byte_kept, byte_upgraded, upgrade_cut, dropped, drop_cut, damaged, byte_audited, audit_cut, answers_heard, due, repaired, repair_cut, repair_failed, due_lost, repair_lost, mended, got, own_blocks_heard, robbed_later, got_later, later_heard, all_lost, found_lost, all_hidden, hidden_fetched, no_blocks, ends_at, ends_hearing}
 use Rattle.command_runs.proofs.Stores.{byte-fit, dropped-fit, audited-fit, repaired-fit, upgraded-fit, stored-sure, robbed-old, robbed_due-old, damaged-sure, due-sure, mended-sure, hidden, stands_for, sure}
-use Rattle.command_runs.proofs.Made.{begun_with, Run, before, ran, turn, next, behind}
+use Rattle.made_runs.specs.Instructions.{with_new}
+use Rattle.command_runs.proofs.Made.{Run, before, ran, turn, next, behind}
 
 -- a provider gives its own block
 abbrev own : ℕ → Option (List ℕ)
@@ -67,7 +68,7 @@ abbrev works : List Turn
 works = Works symbols ∷ fetches (own 0) (own 1) None (own 3)
 
 works-fit : (w : State) (n : ℕ) →
-    AreFitTurns (begun_with (before byte_audited_records due w) n RepairJob None) [] 1 works
+    AreFitTurns (with_new (before byte_audited_records due w) n RepairJob None) [] 1 works
 unfolding setup_in actions_of
 works-fit w n = turn without_two_give (turn (block_sized 3) (turn refl (turn (block_sized 1)
     (turn (block_sized 0) tt))))
@@ -113,7 +114,7 @@ asks = Notes (AuditDone 1 0 counts) ∷ Heard (right 3) ∷ Heard None ∷ Heard
     ∷ Goes 4 ∷ []
 
 asks-fit : (w : State) (n : ℕ) →
-    AreFitTurns (begun_with (before byte_records damaged w) n AuditJob None) [] 1 asks
+    AreFitTurns (with_new (before byte_records damaged w) n AuditJob None) [] 1 asks
 unfolding setup_in actions_of
 asks-fit w n = (
   refl,

@@ -1,4 +1,3 @@
-pub mod Shape
 pub mod Stores
 pub mod Puts
 pub mod Made

@@ -1,4 +1,4 @@
--- What the laws ask for beside the commands. What they cite of Shape and Stores is passed on.
+-- What the laws ask for beside the commands. What they cite of Stores and of turn_laws is passed on.
 use Rattle.std.proofs.Common.{◌≡◌, ◌≢◌, ℕ, suc, ◌<◌, ◌==◌, ◌&&◌, Bool, true, false, List, Some, None, refl, inl, arith, is_some, not, if◌then◌else◌, length, reverse, take, ◌++◌, ne_eqb}
 use Rattle.column_laws.proofs.Worked.{column-right}
 use Rattle.record_defs.specs.Examples.{four as setup}
@@ -7,7 +7,9 @@ use Rattle.command_runs.specs.Words.{columns, is_wrong, is_flagged, Rose, Kind, 
 use Rattle.command_runs.specs.Devices.{named, byte_records, byte_audited_records, byte_stored, damaged, due, repaired, mended, got, none_hold, byte_kept, byte_upgraded_records, upgraded_kept, altered_block, two_damaged, swept, robbed_later, got_later}
 use Rattle.command_runs.proofs.Made.{kept}
 use Rattle.command_runs.proofs.Alone.{altered-right}
-pub use Rattle.command_runs.proofs.Shape.{always, first_of, four, from_some, sure}
+pub use Rattle.turn_laws.proofs.Shape.{always, four, from_some}
+pub use Rattle.command_laws.proofs.SureStores.{sure}
+pub use Rattle.command_runs.proofs.Made.{first_of}
 pub use Rattle.command_runs.proofs.Stores.{audited-fit, byte-fit, damaged-sure, due-sure, mended-sure, put-old, repaired-fit, stored-sure, to_put_other-sure, to_put_own-sure, two_damaged-sure, upgraded_kept-sure}
 
 -- the provider whose block is lost

@@ -1,14 +1,15 @@
 -- Puts of one byte, from every state that was just opened; one leaves a disk whose last gate is loose.
-use Rattle.std.proofs.Common.{◌⊎◌, ℕ, true, List, [], ◌∷◌, ◌++◌, take, refl, ap, sym, subst, inl, inr, ◌≡◌, false, length, Option, Some, None, arith, IfSome}
+use Rattle.std.proofs.Common.{◌⊎◌, ℕ, true, List, [], ◌∷◌, ◌++◌, take, refl, ap, sym, subst, inl, inr, Some, None, arith}
 use Rattle.std.proofs.lemmas.Bool.{false≢true}
 use Rattle.device_defs.proofs.Lasting.{reads-firm}
 use Rattle.device_defs.proofs.PickLaws.{IsImage-reads}
 use Rattle.journal_core.proofs.CellLemmas.{IsImage-firm}
 use Rattle.journal_core.proofs.ImageLemmas.{either-after}
-use Rattle.command_runs.specs.Words.{Cells, firm, Stopped, IsImage, EachImage, PutDone, Record, PutStart, spelling, magic, text, before_gate, A, IsSwitched, entries, StandsActive, Area, then_told, PutJob, actions_of, Answer, Put, ProviderFault, DiskFault, Memory, Ended, AreBytes, setup_in, RunsAlone, EndsByAnswer, text_of, IsOpened, setup_in_effect, is_unknown, refusal_over, Seen, provider_at, AnswersPut, MayName, byte, other_name, ends, Turn, Goes, Gives, StoreFails, Cut, told}
-use Rattle.command_runs.specs.Devices.{started_records, byte_records, each, named, four_records, both_records, byte_upgraded_records, byte_own_records, to_put, byte_stored, put_failed, put_cut, put_torn, put_unmade, all_hidden, to_put_other, stored_other, to_put_own, stored_own}
+use Rattle.command_runs.specs.Words.{Cells, firm, Stopped, IsImage, PutDone, PutStart, spelling, magic, text, before_gate, A, IsSwitched, entries, StandsActive, PutJob, actions_of, Put, ProviderFault, DiskFault, Memory, setup_in, MayName, byte, other_name, Goes, Gives, StoreFails, Cut}
+use Rattle.command_runs.specs.Devices.{started_records, byte_records, named, four_records, both_records, byte_upgraded_records, byte_own_records, to_put, byte_stored, put_failed, put_cut, put_torn, put_unmade, all_hidden, to_put_other, stored_other, to_put_own, stored_own}
 use Rattle.command_runs.proofs.Stores.{put_begins, started-fit, four-fit, byte-fit, both-fit, own-fit, put-old, hidden-fresh, to_put_other-sure, to_put_own-sure, stands_for}
-use Rattle.command_runs.proofs.Made.{GoesSo, after_turns, spelled, ends-by, alone-so, turns-so, job-ends, next, behind}
+use Rattle.turn_laws.specs.Turned.{spelled, after_turns}
+use Rattle.turn_laws.proofs.Turned.{PutRun, put-so, put-ends, alone-so, ends-by, next, behind}
 
 -- the last record with its closed gate
 abbrev last_entry : List ℕ
@@ -57,73 +58,36 @@ pub stopped-open : Stopped cells (firm (text byte_records))
 unfolding spelling
 stopped-open = (text byte_records, gate-image (before_gate started_records) last_entry 1 1, refl)
 
--- a put of the byte runs alone, and its command ends so
-pub record PutRun (area : Area) (rs : List Record) (name : List ℕ) (own : Option ℕ) (answer : Answer)
-    (old new : Seen) (status : ℕ) : Type 0 where
-  pub alone : RunsAlone area rs (PutJob name byte) own answer old new []
-  pub answers : AnswersPut name own old new (ends status)
-
--- it may begin, reads its source to the end, and finds and leaves four providers
-abbrev Finds : Area → List Record → List ℕ → Option ℕ → Seen → Seen → Type 0
-Finds area rs name own old new = (old.disk_faults ≡ 0) × (old.providers ≡ each (provider_at old.providers))
-    × (refusal_over area rs (PutJob name byte) own ≡ None) × AreBytes name × (is_unknown own ≡ false)
-    × (length new.providers ≡ length old.providers) × (old.source ≡ then_told byte new.source)
-    × IfSome new.source (λ left. left ≡ [])
-
-module _ {rs : List Record} {name : List ℕ} {own : Option ℕ} {answer : Answer} {old new : Seen}
-    {status : ℕ} (may : MayName (PutJob name byte) own) where
-  -- its command ends so
-  ends-so : (opened : IsOpened old rs) → Finds opened.area rs name own old new →
-      EndsByAnswer (text_of (setup_in_effect rs).tolerance (PutJob name byte) answer) answer old new
-      (ends status) → RunsAlone opened.area rs (PutJob name byte) own answer old new [] →
-      PutRun opened.area rs name own answer old new status
-  ends-so opened finds ends alone = record {
-    alone = alone;
-    answers = AnswersPut.begun rs byte opened finds.4 (record { are_bytes = refl; front = finds.6 })
-        (omega arith) (job-ends opened finds.5 (finds.3, refl) may finds.2 alone ends) (λ m. finds.7);
-  }
-
-  -- one that ends by a turn
-  put : (after : List Record) (turns : List Turn) (final : Turn) → told final ≡ Ended answer →
-      (opened : IsOpened old rs) → Finds opened.area rs name own old new →
-      EachImage new.disk (λ image. StandsActive image opened.area after) →
-      EndsByAnswer (text_of (setup_in_effect rs).tolerance (PutJob name byte) answer) answer old new
-      (ends status) → GoesSo opened.area rs (PutJob name byte) own answer old new [] (λ bytes. bytes) after
-      turns final (PutRun opened.area rs name own answer old new status)
-  put after turns final is opened finds images ends fit goes left same = ends-so opened finds ends
-      (turns-so opened.area rs (PutJob name byte) own answer old new [] (λ bytes. bytes) after turns final is
-      (λ w V. refl) (finds.0, finds.1, finds.2, (finds.3, refl), may) images fit goes left same)
-
 -- a put is done
-pub stored : PutRun A four_records named None Put to_put byte_stored 0
+pub stored : PutRun A four_records named byte None Put to_put byte_stored 0
 unfolding setup_in actions_of spelling
-stored = put (MayName.none refl) byte_records (Goes 12 ∷ []) (Gives Put) refl put-old.known.opened
-    (refl, refl, put_begins, refl, refl, refl, refl, refl) (stands_for byte-fit)
+stored = put-so (MayName.none refl) byte_records (Goes 12 ∷ []) (Gives Put) refl put-old.known.opened
+    (refl, refl, put_begins, (refl, refl), refl, refl, refl, refl, omega arith) (stands_for byte-fit)
     (record { written = inl (refl, refl); place = refl })
     (λ w n. (refl, refl, tt)) (λ w n. (refl, (refl, tt))) (λ w n. refl) (λ w n. refl)
 
 -- its first store fails, at provider 0
-pub failed : PutRun A four_records named None (ProviderFault 0) to_put put_failed 13
+pub failed : PutRun A four_records named byte None (ProviderFault 0) to_put put_failed 13
 unfolding setup_in actions_of spelling
-failed = put (MayName.none refl) started_records (Goes 4 ∷ []) (StoreFails 0) refl put-old.known.opened
-    (refl, refl, put_begins, refl, refl, refl, refl, refl) (stands_for started-fit)
+failed = put-so (MayName.none refl) started_records (Goes 4 ∷ []) (StoreFails 0) refl put-old.known.opened
+    (refl, refl, put_begins, (refl, refl), refl, refl, refl, refl, omega arith) (stands_for started-fit)
     (record { status_is = refl; place = refl; sink = refl })
     (λ w n. (refl, refl, tt)) (λ w n. (refl, (refl, refl))) (λ w n. refl) (λ w n. refl)
 
 -- a fault of the disk cuts it off at its last move
-pub cut : PutRun A four_records named None DiskFault to_put put_cut 12
+pub cut : PutRun A four_records named byte None DiskFault to_put put_cut 12
 unfolding setup_in actions_of spelling
-cut = put (MayName.none refl) byte_records (Goes 11 ∷ []) Cut refl put-old.known.opened
-    (refl, refl, put_begins, refl, refl, refl, refl, refl) (stands_for byte-fit)
+cut = put-so (MayName.none refl) byte_records (Goes 11 ∷ []) Cut refl put-old.known.opened
+    (refl, refl, put_begins, (refl, refl), refl, refl, refl, refl, omega arith) (stands_for byte-fit)
     (record { status_is = refl; place = refl; sink = refl })
     (λ w n. (refl, refl, tt)) (λ w n. (refl, (refl, refl))) (λ w n. refl)
     (λ w n. behind (PutDone 1 1) (next (PutStart 1 named ∷ []) refl refl) refl)
 
 -- so it is where it leaves the gate of its last record loose
-pub torn : PutRun A four_records named None DiskFault to_put put_torn 12
+pub torn : PutRun A four_records named byte None DiskFault to_put put_torn 12
 unfolding setup_in actions_of spelling
-torn = ends-so (MayName.none refl) put-old.known.opened
-    (refl, refl, put_begins, refl, refl, refl, refl, refl)
+torn = put-ends (MayName.none refl) put-old.known.opened
+    (refl, refl, put_begins, (refl, refl), refl, refl, refl, refl, omega arith)
     (record { status_is = refl; place = refl; sink = refl })
     (alone-so A four_records (PutJob named byte) None DiskFault to_put put_torn [] (λ bytes. bytes)
     byte_records (Goes 11 ∷ []) _ (λ w V. refl)
@@ -136,10 +100,10 @@ torn = ends-so (MayName.none refl) put-old.known.opened
     (λ w n. behind (PutDone 1 1) (next (PutStart 1 named ∷ []) refl refl) refl))
 
 -- it finds no memory at its first move
-pub unmade : PutRun A four_records named None Memory to_put put_unmade 70
+pub unmade : PutRun A four_records named byte None Memory to_put put_unmade 70
 unfolding setup_in actions_of spelling
-unmade = ends-so (MayName.none refl) put-old.known.opened
-    (refl, refl, put_begins, refl, refl, refl, refl, refl)
+unmade = put-ends (MayName.none refl) put-old.known.opened
+    (refl, refl, put_begins, (refl, refl), refl, refl, refl, refl, omega arith)
     (record { status_is = refl; place = refl; sink = refl })
     (alone-so A four_records (PutJob named byte) None Memory to_put put_unmade [] (λ bytes. bytes)
     four_records [] _ (λ w V. refl) (refl, refl, put_begins, (refl, refl), MayName.none refl)
@@ -147,25 +111,25 @@ unmade = ends-so (MayName.none refl) put-old.known.opened
     (λ w n. refl) (λ w n. record { next = None; is_next = tt; same = refl }))
 
 -- a put over devices that tell nothing
-pub hidden : PutRun A four_records named None Put all_hidden all_hidden 0
+pub hidden : PutRun A four_records named byte None Put all_hidden all_hidden 0
 unfolding setup_in actions_of spelling
-hidden = put (MayName.none refl) byte_records (Goes 12 ∷ []) (Gives Put) refl hidden-fresh
-    (refl, refl, put_begins, refl, refl, refl, refl, tt) tt
+hidden = put-so (MayName.none refl) byte_records (Goes 12 ∷ []) (Gives Put) refl hidden-fresh
+    (refl, refl, put_begins, (refl, refl), refl, refl, refl, tt, omega arith) tt
     (record { written = inl (refl, refl); place = refl })
     (λ w n. (refl, refl, tt)) (λ w n. (refl, (refl, tt))) (λ w n. refl) (λ w n. refl)
 
 -- a put of another file
-pub other : PutRun A byte_records other_name None Put to_put_other stored_other 0
+pub other : PutRun A byte_records other_name byte None Put to_put_other stored_other 0
 unfolding setup_in actions_of spelling
-other = put (MayName.none refl) both_records (Goes 12 ∷ []) (Gives Put) refl to_put_other-sure.known.opened
-    (refl, refl, refl, refl, refl, refl, refl, refl) (stands_for both-fit)
+other = put-so (MayName.none refl) both_records (Goes 12 ∷ []) (Gives Put) refl to_put_other-sure.known.opened
+    (refl, refl, refl, (refl, refl), refl, refl, refl, refl, omega arith) (stands_for both-fit)
     (record { written = inl (refl, refl); place = refl })
     (λ w n. (refl, refl, tt)) (λ w n. (refl, (refl, tt))) (λ w n. refl) (λ w n. refl)
 
 -- a put of another file with a profile of its own, over the upgraded store
-pub own : PutRun A byte_upgraded_records other_name (Some 1) Put to_put_own stored_own 0
+pub own : PutRun A byte_upgraded_records other_name byte (Some 1) Put to_put_own stored_own 0
 unfolding setup_in actions_of spelling
-own = put {own = Some 1} (MayName.put other_name byte refl) byte_own_records (Goes 12 ∷ []) (Gives Put) refl
-    to_put_own-sure.known.opened (refl, refl, refl, refl, refl, refl, refl, refl)
+own = put-so {own = Some 1} (MayName.put other_name byte refl) byte_own_records (Goes 12 ∷ []) (Gives Put) refl
+    to_put_own-sure.known.opened (refl, refl, refl, (refl, refl), refl, refl, refl, refl, omega arith)
     (stands_for own-fit) (record { written = inl (refl, refl); place = refl })
     (λ w n. (refl, refl, tt)) (λ w n. (refl, (refl, tt))) (λ w n. refl) (λ w n. refl)

@@ -1,52 +1,26 @@
 -- Commands that end before a job of theirs begins: refused, or by a fault, or for want of memory.
-use Rattle.std.proofs.Common.{◌≡◌, ◌<◌, ℕ, false, List, [], ◌∷◌, length, Option, Some, None, refl, ap, sym, subst, ◌∙◌, inl, inr, arith, length-append, replicate}
+use Rattle.std.proofs.Common.{◌≡◌, ◌<◌, ℕ, false, List, [], ◌∷◌, length, Option, Some, None, refl, ap, sym, ◌∙◌, inl, inr, arith, length-append, replicate}
 use Rattle.std.specs.Fmt.{digits}
-use Rattle.std.proofs.lemmas.List.{get_or-replicate}
-use Rattle.hex.specs.Hex.{decode_pairs, is_hex_digit}
 use Rattle.hail_field.specs.Nim.{nim_mul, nim_add, product}
 use Rattle.algebra_laws.specs.Poly.{value as value_over, agree as agree_over, is_seen as is_seen_over}
 use Rattle.code_defs.specs.Polynomials.{agree}
 use Rattle.code_defs.proofs.Points.{Apart-range}
 use Rattle.code_defs.proofs.Values.{value-constant}
 use Rattle.column_laws.proofs.UniqueLaws.{often_same, values_same}
-use Rattle.device_defs.specs.Told.{Goes}
 use Rattle.damage_run.proofs.LostGet.{at_most_two}
-use Rattle.command_laws.proofs.Samples.{same-disk}
-use Rattle.command_runs.specs.Words.{upto, values_at, Accepts, AcceptsNone, Cells, firm, text, A, HasNoFront, four, Record, spelling, Kind, PutJob, Refusal, byte, IsResynced, journal_read, ListAll, IsKeyForm, longest_key, Seen, Ending, IsRefused, IsSynced, SameSource, ReadsUpTo, IsOpened, Unstarted, is_unknown, refusal_over, status_of, AnswersJob, AnswersAlone, AnswersPut, AnswersList, TouchesSink, Answers, with_sink, key_text, ends}
+use Rattle.command_laws.proofs.Samples.{same-disk, quiet}
+use Rattle.command_runs.specs.Words.{upto, values_at, Accepts, AcceptsNone, firm, text, A, HasNoFront, spelling, PutJob, Refusal, byte, journal_read, ListAll, IsKeyForm, Seen, Ending, SameSource, Unstarted, is_unknown, refusal_over, status_of, AnswersJob, AnswersPut, AnswersList, TouchesSink, Answers, with_sink, ends}
 use Rattle.command_runs.specs.Devices.{four_records, byte_records, to_put, put_unmade, byte_kept}
 use Rattle.command_runs.proofs.Stores.{put-old, stored-sure}
 
 -- ---- a command that changes nothing
 
-keeps : (told : Option Cells) → Goes IsResynced told told
-keeps None = tt
-keeps (Some cells) = inl refl
-
--- it ended without a word
-pub quiet : {status at : ℕ} {old new : Seen} → new.disk ≡ old.disk → new.providers ≡ old.providers →
-    new.sink ≡ old.sink → IsRefused status at old new (record { status = status; at = at; heard = [] })
-quiet {old} disk providers sink = record {
-  status_is = refl;
-  place = refl;
-  heard = refl;
-  disk = subst (λ told. Goes IsResynced old.disk told) (sym disk) (keeps old.disk);
-  providers = providers;
-  sink = sink;
-}
-
--- so did a list
+-- a list ended without a word
 pub unlisted : {old new : Seen} {end : Ending} → Unstarted old new end → SameSource old new →
     AnswersList old new end × SameSource old new
 unlisted unstarted same = (AnswersList.unstarted unstarted, same)
 
--- its begin was refused
-pub refused : {kind : Kind} {s : Seen} {rs : List Record} (why : Refusal) → (opened : IsOpened s rs) →
-    refusal_over opened.area rs kind None ≡ Some why → IsSynced s s →
-    AnswersAlone kind s s (ends (status_of why)) × SameSource s s
-refused {rs} why opened is synced =
-    (AnswersAlone.begun rs opened (AnswersJob.refused why is synced (quiet refl refl refl)), (refl, refl))
-
--- so was that of a put
+-- the begin of a put was refused
 pub put-refused : (name : List ℕ) (own : Option ℕ) (why : Refusal) → is_unknown own ≡ false →
     refusal_over A four_records (PutJob name byte) own ≡ Some why →
     AnswersPut name own to_put put_unmade (ends (status_of why))
@@ -86,23 +60,6 @@ long_journal = (let e : length (journal_read (firm (text byte_records))) ≡ 77 
 -- no bytes are no key
 pub no_key : (key : List ℕ) → IsKeyForm [] key → ⊥
 no_key key form = omega (arith, ap length form.text_is, length-append form.digits form.behind, form.size)
-
--- a key of zeros is one
-pub key-form : IsKeyForm key_text four.master
-unfolding decode_pairs
-key-form = record {
-  digits = key_text;
-  behind = [];
-  text_is = refl;
-  size = refl;
-  hexadecimal = λ k d l. ap is_hex_digit (get_or-replicate 64 k 48 d l);
-  spelled = refl;
-  line_end = inl refl;
-}
-
--- and is read whole
-pub key-read : ReadsUpTo longest_key (Some key_text) (Some []) key_text
-key-read = record { are_bytes = refl; front = refl; few = omega arith; end = λ l. refl }
 
 -- ---- a row
 

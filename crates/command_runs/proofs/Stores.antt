@@ -1,17 +1,14 @@
--- Each store before and after the commands is known. What proofs cite of Shape is passed on.
-use Rattle.std.proofs.Common.{◌≡◌, None, ◌≤◌, List, ◌∷◌, refl, arith, IsTrue}
-use Rattle.std.specs.List.{list_all}
+-- Each store before and after the commands is known. What proofs cite of turn_laws and command_laws is passed on.
+use Rattle.std.proofs.Common.{◌≡◌, None, ◌≤◌, List, refl, arith}
 use Rattle.record_defs.specs.Examples.{four as setup}
 use Rattle.command_laws.proofs.Chains.{first-begins}
-use Rattle.command_runs.specs.Words.{PutJob, refusal_over, byte, AreAccepted, Area, A, end_in, Record, is_in_grammar, largest_journal, IsOpened, setup_in_effect, IsSure}
+use Rattle.command_runs.specs.Words.{PutJob, refusal_over, byte, A, Record, IsOpened, setup_in_effect, IsSure}
 use Rattle.command_runs.specs.Devices.{named, four_records, started_records, byte_records, dropped_records, byte_audited_records, byte_repaired_records, both_records, to_put_other, all_hidden, to_put, byte_stored, byte_kept, all_lost, due_lost, damaged, due, mended, byte_upgraded_records, byte_own_records, upgraded_kept, to_put_own, two_damaged}
-pub use Rattle.command_runs.proofs.Shape.{AreFitIn, formed, four, from_some, over, over-is, stands_for, sure}
+pub use Rattle.turn_laws.specs.Turned.{formed}
+pub use Rattle.turn_laws.proofs.Shape.{four, from_some, over-is}
+pub use Rattle.command_laws.proofs.SureStores.{AreFitIn, fits, stands_for, sure}
 
 -- ---- a journal may hold the records
-
-pub fits : {area : Area} {r : Record} {rs : List Record} → IsTrue (list_all is_in_grammar (r ∷ rs)) →
-    AreAccepted (r ∷ rs) → end_in area (r ∷ rs) ≤ largest_journal → AreFitIn area (r ∷ rs)
-fits all accepted room = record { some = λ e. cc; all = all; accepted = accepted; room = room }
 
 -- of a store that was set up
 pub four-fit : AreFitIn A four_records

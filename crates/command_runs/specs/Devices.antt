@@ -16,11 +16,8 @@
 --                                        wrote the last record of a command, and told that it failed
 use Rattle.std.specs.Prelude.{ℕ, true, ◌++◌, ◌==◌, List, [], ◌∷◌, map, replicate, slice_set, Some, None, if◌then◌else◌}
 use Rattle.column_defs.specs.Challenges.{challenge_of, right_answer}
+pub use Rattle.turn_laws.specs.Turned.{each}
 use Rattle.command_runs.specs.Words.{columns, firm, one_more, Provider, four, before_gate, Record, SetUp, PutStart, PutDone, PutDoneIn, Drop, AuditStart, AuditDone, RepairDone, Version, spelling, empty_provider, Entry, Given, Fetched, Answered, profiled, object_of, with_provider, Numbers, stored_line, dropped_line, audit_lines, repaired_line, upgraded_line, scrub_lines, Seen, Ending, nobody, store, with_sink, other_name, stored, removed, counts, byte}
-
--- of four providers
-abbrev pub each : {X : Type 0} → (ℕ → X) → List X
-each p = p 0 ∷ p 1 ∷ p 2 ∷ p 3 ∷ []
 
 -- ---- what is seen
 

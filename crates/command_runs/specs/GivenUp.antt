@@ -9,8 +9,9 @@
 --   to_put_source source       == before a put of such a source
 --   put_given_up               == after the put of the first one: its start is in effect
 --   put_too_long source        == after the put of a source that is too long
-use Rattle.std.specs.Prelude.{ℕ, zero, suc, ◌+◌, List, length, take, drop, replicate}
-use Rattle.command_runs.specs.Words.{columns, Provider, largest_file, four, empty_provider, object_of, stripes_of, Seen, stored}
+use Rattle.std.specs.Prelude.{ℕ, ◌+◌, List, length, take, drop, replicate}
+use Rattle.turn_laws.specs.Turned.{given_stripes}
+use Rattle.command_runs.specs.Words.{Provider, largest_file, four, empty_provider, stripes_of, Seen}
 use Rattle.command_runs.specs.Devices.{each, reading_devices, with_source, four_records, started_records, none_hold}
 
 -- so many bytes
@@ -31,9 +32,7 @@ longest_part source = take largest_file source
 
 -- a provider that holds its blocks of the first stripes of these bytes
 abbrev pub holds_stripes : List ℕ → ℕ → ℕ → Provider
-holds_stripes bytes j zero = empty_provider
-holds_stripes bytes j (suc t) =
-    stored 1 t (columns (object_of four 1) bytes j t) (holds_stripes bytes j t)
+holds_stripes bytes j t = given_stripes four empty_provider bytes j t
 
 -- a store that was set up once so many stripes of a put are stored
 abbrev pub storing : List ℕ → ℕ → Seen

@@ -1,12 +1,9 @@
 use Rattle.std.proofs.Common.{ℕ, ◌-◌, ◌^◌, refl, inl, arith}
 use Rattle.std.proofs.lemmas.List.{length-replicate}
-use Rattle.command_laws.specs.Instances.{store, held_records}
+use Rattle.command_laws.specs.Words.{store, held_records}
 use Rattle.command_laws.proofs.Between.{sure-store}
-use Rattle.command_laws.proofs.Samples.{never-rises, never-seen, set_up-sure, held-sure, held-file, none-bad, all-safe}
+use Rattle.command_laws.proofs.Samples.{never-rises, never-seen, set_up-sure, held-sure, due-sure, upgraded-sure, own-sure, held-file, none-bad, all-safe}
 use Rattle.command_laws.proofs.LongSample.{reading-sure}
-use Rattle.command_laws.proofs.RepairSample.{due-sure}
-use Rattle.command_laws.proofs.UpgradeSample.{upgraded-sure}
-use Rattle.command_laws.proofs.OwnSample.{own-sure}
 use Rattle.command_laws.proofs.PackSample.{packed-sure}
 use Rattle.command_laws.proofs.UnsetSample.{unset, unset-store, doubtful, doubtful-store}
 use Rattle.command_laws.proofs.instances.there_are_known_stores.Goals as goal

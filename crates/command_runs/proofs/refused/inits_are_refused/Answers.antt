@@ -1,7 +1,9 @@
 use Rattle.std.proofs.Common.{[], refl, inl, arith}
 use Rattle.command_runs.specs.Words.{A, four, AnswersInit, InitsDisk, key_text}
 use Rattle.command_runs.specs.Devices.{byte_records}
-use Rattle.command_runs.proofs.Refusals.{quiet, long, no_magic, long_journal, no_key, key-form, key-read}
+use Rattle.command_laws.proofs.InitSample.{key-form, reads-key}
+use Rattle.command_laws.proofs.Samples.{quiet}
+use Rattle.command_runs.proofs.Refusals.{long, no_magic, long_journal, no_key}
 use Rattle.command_runs.proofs.Stores.{stored-sure}
 use Rattle.command_runs.proofs.refused.inits_are_refused.Goals as goal
 
@@ -14,9 +16,9 @@ returns c = record {
   bad_key = AnswersInit.bad_key [] refl (omega arith)
       (record { are_bytes = refl; front = refl; few = omega arith; end = λ l. refl }) no_key
       (quiet refl refl refl);
-  already = AnswersInit.keyed key_text four.master refl (omega arith) key-read key-form
+  already = AnswersInit.keyed key_text four.master refl (omega arith) reads-key key-form
       (InitsDisk.already (long_journal, (byte_records, (A, stored-sure.known.opened.read.reads_are.1), tt))
       (quiet refl refl refl));
-  bad_journal = AnswersInit.keyed key_text four.master refl (omega arith) key-read key-form
+  bad_journal = AnswersInit.keyed key_text four.master refl (omega arith) reads-key key-form
       (InitsDisk.bad_journal 0 (long, inl (inl (no_magic, refl))) (quiet refl refl refl));
 }
