@@ -1,5 +1,6 @@
 -- What commands do not ask for, the moments that carry them out do not begin.
-use Rattle.std.proofs.Common.{◌≡◌, ℕ, List, [], ◌∷◌, ◌++◌, ap, sym, subst, ◌∙◌, inl, inr, append_assoc}
+use Rattle.std.proofs.Common.{◌≡◌, ℕ, true, not, List, [], ◌∷◌, ◌++◌, ap, sym, subst, ◌∙◌, inl, inr, append_assoc}
+use Rattle.std.proofs.lemmas.Bool.{and_parts, false≢true}
 use Rattle.machine_defs.specs.Jobs.{Kind, PutJob}
 use Rattle.machine_defs.specs.Events.{Event, Begin, BeginAt, Step, Outcome, Begun, More, Listed, Continue}
 use Rattle.machine_defs.specs.Heard.{NoneContinues}
@@ -8,7 +9,7 @@ use Rattle.machine_defs.specs.Began.{NoneBegan, GivesUp, IsPutBegin}
 use Rattle.machine_defs.specs.Transcripts.{Instruction, Once, RunJob, GoOn}
 use Rattle.machine_defs.specs.Untouched.{Touches, IsBeginFor, NoneBeganFor, NoneUnderWay, IsFree, NoneBeganOn, NoneAsksOn}
 use Rattle.effect_laws.specs.Puts.{PutsOnly}
-use Rattle.effect_laws.specs.Lists.{IsRead, NoneCalls, ReadsAs}
+use Rattle.effect_laws.specs.Lists.{IsRead, is_call, calls_none, NoneCalls, ReadsAs}
 use Rattle.effect_laws.specs.Transcripts.{NoneAsksFor, AsksPutsOnly, LeavesFree, NoneIsBegun}
 
 -- ---- moments
@@ -183,3 +184,12 @@ one_call (RunJob job ∷ cs) ms (r ∷ rs) (m, steps, older, is, runs, outcome, 
 one_call [] ms (r ∷ rs) E none = absurd E
 one_call (Once event ∷ cs) ms [] E none = absurd E
 one_call (RunJob job ∷ cs) ms [] E none = absurd E
+
+-- a test tells it of commands
+pub tested_calls : (cs : List Instruction) → calls_none cs ≡ true → NoneCalls cs
+tested_calls [] test = tt
+tested_calls (Once event ∷ cs) test = (let p = and_parts (not (is_call event)) (calls_none cs) test in (
+  (λ is. false≢true (ap (λ (e : Event). not (is_call e)) (sym is) ∙ p.0)),
+  tested_calls cs p.1,
+))
+tested_calls (RunJob job ∷ cs) test = tested_calls cs test

@@ -7,6 +7,7 @@ pub mod Since
 pub mod Gets
 pub mod Apart
 pub mod Asked
+pub mod Tested
 pub mod Over
 pub mod Jobs
 pub mod Lists

@@ -1,16 +1,18 @@
--- Whom commands damage, and that no get and no repair of theirs is under way behind them.
-use Rattle.std.proofs.Common.{◌≡◌, ℕ, List, [], ◌∷◌, ◌++◌, Option, None, Some, sym, ap, subst, ◌∙◌, inl, inr, append_assoc}
+-- Whom commands damage, and that no job of theirs of some kinds is under way behind them.
+use Rattle.std.proofs.Common.{◌≡◌, ℕ, List, [], ◌∷◌, ◌++◌, refl, sym, ap, subst, ◌∙◌, inl, inr, append_assoc}
+use Rattle.algebra_laws.specs.Lists.{In}
+use Rattle.machine_defs.specs.Jobs.{Kind}
 use Rattle.machine_defs.specs.Answers.{Answer}
 use Rattle.machine_defs.specs.Began.{GivesUp}
 use Rattle.machine_defs.specs.Damaged.{IsAmong, DamagesOnly, AsksDamageOf}
-use Rattle.machine_defs.specs.Events.{Event, Step, Outcome, Begun, Ended, Listed}
+use Rattle.machine_defs.specs.Events.{Step, Outcome, Begun, Ended, Listed}
 use Rattle.machine_defs.specs.Runs.{Moment}
-use Rattle.machine_defs.specs.Transcripts.{Instruction, Once, RunJob, RunsToEnd, GoOn}
-use Rattle.machine_defs.specs.Untouched.{Relies, IsBeginFor, BeginsNone, NoneUnderWay}
+use Rattle.machine_defs.specs.Transcripts.{Instruction, Once, RunJob, RunsToEnd}
+use Rattle.machine_defs.specs.Untouched.{Touches, IsBeginFor, NoneBeganFor, NoneUnderWay}
 use Rattle.machine_defs.proofs.Damaged.{both_only, steps_damage_none}
 use Rattle.effect_laws.specs.Lists.{IsRead, ReadsAs}
-use Rattle.effect_laws.specs.Transcripts.{IsOverBy, AreOver}
-use Rattle.effect_laws.proofs.Asked.{steps_none}
+use Rattle.effect_laws.specs.Transcripts.{LeavesFree, AreOverFor}
+use Rattle.effect_laws.proofs.Asked.{steps_none, both_none}
 
 -- commands damage only those whom they name
 pub damages : (ps : List ℕ) (cs : List Instruction) (ms : List Moment) (rs : List Outcome) →
@@ -27,86 +29,162 @@ damages ps [] ms (r ∷ rs) E asks = absurd E
 damages ps (Once event ∷ cs) ms [] E asks = absurd E
 damages ps (RunJob job ∷ cs) ms [] E asks = absurd E
 
--- ---- gets and repairs
+-- a job's last moment and its steps come apart from what is newer
+run-apart : (newer : List Moment) (m : Moment) (steps older base : List Moment) →
+    (newer ++ m ∷ steps) ++ (older ++ base) ≡ newer ++ (m ∷ (steps ++ older) ++ base)
+run-apart newer m steps older base = append_assoc newer (m ∷ steps) (older ++ base)
+    ∙ ap (λ l. newer ++ m ∷ l) (sym (append_assoc steps older base))
 
-abbrev None_reads : List Moment → Type 0
-None_reads ms = NoneUnderWay Relies ms
-
--- a step begins none
-step_begins_none : (m : Moment) (job : ℕ) → m.event ≡ Step job → BeginsNone Relies m
-step_begins_none m job step = λ t n is. subst (IsBeginFor Relies) step t
-
-steps_leave : (job : ℕ) (steps ms : List Moment) → GoOn job steps → None_reads ms → None_reads (steps ++ ms)
-steps_leave job [] ms on free = free
-steps_leave job (m ∷ steps) ms (event, outcome, on) free = NoneUnderWay.unbegun m (steps ++ ms)
-    (step_begins_none m job event) (steps_leave job steps ms on free)
-
-run_leaves : (job : ℕ) (m : Moment) (steps ms : List Moment) → RunsToEnd job m steps → None_reads ms →
-    None_reads (m ∷ (steps ++ ms))
-run_leaves job m steps ms runs free = NoneUnderWay.unbegun m (steps ++ ms) (step_begins_none m job runs.step)
-    (steps_leave job steps ms runs.before free)
-
--- an outcome is read as a begin, or as an end, only where it is one
+-- an outcome is read as a begin only where it is one
 begin_read : (x : Outcome) (n : ℕ) → IsRead x (Begun n) → x ≡ Begun n
 begin_read x n is = is
 
--- the moments of a command that ran a job to its end, if it did so, on top of others
-abbrev Behind : Option ℕ → List Moment → Type 0
-Behind None ms = None_reads ms
-Behind (Some job) ms = (m : Moment) (steps : List Moment) (how : Answer) → RunsToEnd job m steps →
-    m.outcome ≡ Ended how → None_reads (m ∷ (steps ++ ms))
+-- ---- jobs of some kinds
 
--- where none is under way none is behind the run of a job
-free_behind : (ran : Option ℕ) (ms : List Moment) → None_reads ms → Behind ran ms
-free_behind None ms free = free
-free_behind (Some job) ms free = λ m steps how runs is. run_leaves job m steps ms runs free
+module _ (Meant : Kind → Type 0) where
+  -- the newer of two lists of moments begins none, and none is under way behind the older
+  pub none_more : (newer ms : List Moment) → NoneBeganFor Meant newer → NoneUnderWay Meant ms →
+      NoneUnderWay Meant (newer ++ ms)
+  none_more [] ms none free = free
+  none_more (m ∷ newer) ms none free =
+      NoneUnderWay.unbegun m (newer ++ ms) none.0 (none_more newer ms none.1 free)
 
--- an event that asks for none, or for the job that is run then
-behind_begin : (ran : Option ℕ) (b : Moment) (older : List Moment) (event : Event) (r : Outcome) →
-    b.event ≡ event → IsRead b.outcome r → IsOverBy ran event r → None_reads older → Behind ran (b ∷ older)
-behind_begin ran b older event r here outcome (inl none) free = free_behind ran (b ∷ older)
-    (NoneUnderWay.unbegun b older (λ t n is. none (subst (IsBeginFor Relies) here t)) free)
-behind_begin None b older event r here outcome (inr (n, is, begun)) free =
-    absurd (let e : None ≡ Some n = is in cc)
-behind_begin (Some job) b older event r here outcome (inr (n, is, begun)) free = λ m steps how runs ended.
-    (let same : job ≡ n = some_number is in
-    NoneUnderWay.ended m b steps older job how runs.step ended (steps_none Relies job steps runs.before)
-    (begin_read b.outcome n (subst (IsRead b.outcome) begun outcome) ∙ ap Begun (sym same)) free)
-  where
-    some_number : {x y : ℕ} → Some x ≡ Some y → x ≡ y
-    some_number h = cc
+  -- among moments a job ended
+  record HasEnd (n : ℕ) (ms : List Moment) : Type 0 where
+    pub later : List Moment
+    pub end : Moment
+    pub between : List Moment
+    pub how : Answer
+    pub is : ms ≡ later ++ end ∷ between
+    pub step : end.event ≡ Step n
+    pub ended : end.outcome ≡ Ended how
 
--- an event that gives up all jobs
-behind_stop : (ran : Option ℕ) (b : Moment) (older : List Moment) (event : Event) → b.event ≡ event →
-    GivesUp event → Behind ran (b ∷ older)
-behind_stop ran b older event here up =
-    free_behind ran (b ∷ older) (NoneUnderWay.given_up b older (subst GivesUp (sym here) up))
+  -- these moments begin none, and each of these jobs ended among them
+  record Closes (ran : List ℕ) (newer : List Moment) : Type 0 where
+    pub none : NoneBeganFor Meant newer
+    pub ends : (n : ℕ) → In n ran → HasEnd n newer
 
-all_behind : (base : List Moment) → None_reads base → (cs : List Instruction) (ms : List Moment)
-    (rs : List Outcome) (ran : Option ℕ) → ReadsAs cs ms rs → AreOver ran cs rs → Behind ran (ms ++ base)
-all_behind base free [] ms [] ran is is_over =
-    subst (λ l. Behind ran (l ++ base)) (sym is) (free_behind ran base free)
-all_behind base free (Once event ∷ cs) ms (r ∷ rs) ran (b, older, is, here, outcome, more) (inl up) =
-    subst (λ l. Behind ran (l ++ base)) (sym is) (behind_stop ran b (older ++ base) event here up)
-all_behind base free (Once event ∷ cs) ms (r ∷ rs) ran (b, older, is, here, outcome, more) (inr (by, rest)) =
-    subst (λ l. Behind ran (l ++ base)) (sym is) (behind_begin ran b (older ++ base) event r here outcome by
-    (all_behind base free cs older rs None more rest))
-all_behind base free (RunJob job ∷ cs) ms (Ended how ∷ rs) ran (m, steps, older, is, runs, outcome, more) rest =
-    subst (λ l. Behind ran (l ++ base)) (sym is) (free_behind ran (m ∷ ((steps ++ older) ++ base))
-    (subst (λ l. None_reads (m ∷ l)) (sym (append_assoc steps older base))
-    (all_behind base free cs older rs (Some job) more rest m steps how runs outcome)))
-all_behind base free (RunJob job ∷ cs) ms (Listed files ∷ rs) ran (m, steps, older, is, runs, outcome, more) rest =
-    subst (λ l. Behind ran (l ++ base)) (sym is) (free_behind ran (m ∷ ((steps ++ older) ++ base))
-    (subst (λ l. None_reads (m ∷ l)) (sym (append_assoc steps older base))
-    (run_leaves job m steps (older ++ base) runs (all_behind base free cs older rs None more rest))))
-all_behind base free (RunJob job ∷ cs) ms (r ∷ rs) ran (m, steps, older, is, runs, outcome, more) rest =
-    subst (λ l. Behind ran (l ++ base)) (sym is) (free_behind ran (m ∷ ((steps ++ older) ++ base))
-    (subst (λ l. None_reads (m ∷ l)) (sym (append_assoc steps older base))
-    (run_leaves job m steps (older ++ base) runs (all_behind base free cs older rs None more rest))))
-all_behind base free [] ms (r ∷ rs) ran E is_over = absurd E
-all_behind base free (Once event ∷ cs) ms [] ran E is_over = absurd E
-all_behind base free (RunJob job ∷ cs) ms [] ran E is_over = absurd E
+  has-more : (n : ℕ) (newer ms : List Moment) → HasEnd n newer → HasEnd n (newer ++ ms)
+  has-more n newer ms H = record {
+    later = H.later;
+    end = H.end;
+    between = H.between ++ ms;
+    how = H.how;
+    is = ap (λ l. l ++ ms) H.is ∙ append_assoc H.later (H.end ∷ H.between) ms;
+    step = H.step;
+    ended = H.ended;
+  }
 
-pub over : (cs : List Instruction) (ms base : List Moment) (rs : List Outcome) → ReadsAs cs ms rs →
-    AreOver None cs rs → NoneUnderWay Relies base → NoneUnderWay Relies (ms ++ base)
-over cs ms base rs reads is_over free = all_behind base free cs ms rs None reads is_over
+  -- older moments that begin none stand behind them
+  closes-more : (ran : List ℕ) (newer ms : List Moment) → Closes ran newer → NoneBeganFor Meant ms →
+      Closes ran (newer ++ ms)
+  closes-more ran newer ms C none = record {
+    none = both_none Meant newer ms C.none none;
+    ends = λ n among. has-more n newer ms (C.ends n among);
+  }
+
+  -- the moments that run a job begin none
+  run-none : (job : ℕ) (m : Moment) (steps : List Moment) → RunsToEnd job m steps → NoneBeganFor Meant (m ∷ steps)
+  run-none job m steps runs =
+      ((λ t n is. subst (IsBeginFor Meant) runs.step t), steps_none Meant job steps runs.before)
+
+  -- so do those of a job that ended
+  closes-job : (ran : List ℕ) (newer : List Moment) (job : ℕ) (m : Moment) (steps : List Moment) (how : Answer) →
+      Closes ran newer → RunsToEnd job m steps → m.outcome ≡ Ended how → Closes (job ∷ ran) (newer ++ m ∷ steps)
+  closes-job ran newer job m steps how C runs ended = record {
+    none = both_none Meant newer (m ∷ steps) C.none (run-none job m steps runs);
+    ends = λ n among. by n among;
+  }
+    where
+      by : (n : ℕ) → In n (job ∷ ran) → HasEnd n (newer ++ m ∷ steps)
+      by n (inl is) = record {
+        later = newer;
+        end = m;
+        between = steps;
+        how = how;
+        is = refl;
+        step = runs.step ∙ ap Step (sym is);
+        ended = ended;
+      }
+      by n (inr among) = has-more n newer (m ∷ steps) (C.ends n among)
+
+  -- a job whose end stands among the newer moments, and that began before them
+  ended-there : (newer older : List Moment) (b : Moment) (n : ℕ) → NoneBeganFor Meant newer → HasEnd n newer →
+      b.outcome ≡ Begun n → NoneUnderWay Meant older → NoneUnderWay Meant (newer ++ b ∷ older)
+  ended-there newer older b n none H begun free =
+      (let parts = subst (NoneBeganFor Meant) H.is none in
+      subst (NoneUnderWay Meant) (sym (ap (λ l. l ++ b ∷ older) H.is
+      ∙ append_assoc H.later (H.end ∷ H.between) (b ∷ older)))
+      (none_more H.later (H.end ∷ (H.between ++ b ∷ older)) (front-none H.later (H.end ∷ H.between) parts)
+      (NoneUnderWay.ended H.end b H.between older n H.how H.step H.ended
+      (back-none H.later (H.end ∷ H.between) parts).1 begun free)))
+    where
+      front-none : (xs ys : List Moment) → NoneBeganFor Meant (xs ++ ys) → NoneBeganFor Meant xs
+      front-none [] ys h = tt
+      front-none (x ∷ xs) ys h = (h.0, front-none xs ys h.1)
+
+      back-none : (xs ys : List Moment) → NoneBeganFor Meant (xs ++ ys) → NoneBeganFor Meant ys
+      back-none [] ys h = h
+      back-none (x ∷ xs) ys h = back-none xs ys h.1
+
+  -- none is under way behind commands whose jobs of these kinds are over, and newer moments that begin none
+  closed : (base : List Moment) → NoneUnderWay Meant base → (cs : List Instruction) (ms : List Moment)
+      (rs : List Outcome) (ran : List ℕ) (newer : List Moment) → ReadsAs cs ms rs → AreOverFor Meant ran cs rs →
+      Closes ran newer → NoneUnderWay Meant (newer ++ (ms ++ base))
+  closed base free [] ms [] ran newer is is_over C =
+      subst (λ l. NoneUnderWay Meant (newer ++ (l ++ base))) (sym is) (none_more newer base C.none free)
+  closed base free (Once event ∷ cs) ms (r ∷ rs) ran newer (b, older, is, here, outcome, more) (inl up) C =
+      subst (λ l. NoneUnderWay Meant (newer ++ (l ++ base))) (sym is) (none_more newer (b ∷ (older ++ base)) C.none
+      (NoneUnderWay.given_up b (older ++ base) (subst GivesUp (sym here) up)))
+  closed base free (Once event ∷ cs) ms (r ∷ rs) ran newer (b, older, is, here, outcome, more)
+      (inr (inl (none, rest))) C =
+      subst (λ l. NoneUnderWay Meant (newer ++ (l ++ base))) (sym is)
+      (subst (NoneUnderWay Meant) (append_assoc newer (b ∷ []) (older ++ base))
+      (closed base free cs older rs ran (newer ++ b ∷ []) more rest (closes-more ran newer (b ∷ []) C
+      ((λ t n begun. none (subst (IsBeginFor Meant) here t)), tt))))
+  closed base free (Once event ∷ cs) ms (r ∷ rs) ran newer (b, older, is, here, outcome, more)
+      (inr (inr (n, among, begun, rest))) C =
+      subst (λ l. NoneUnderWay Meant (newer ++ (l ++ base))) (sym is)
+      (ended-there newer (older ++ base) b n C.none (C.ends n among)
+      (begin_read b.outcome n (subst (IsRead b.outcome) begun outcome))
+      (closed base free cs older rs [] [] more rest (record { none = tt; ends = λ n h. absurd h })))
+  closed base free (RunJob job ∷ cs) ms (Ended how ∷ rs) ran newer (m, steps, older, is, runs, outcome, more)
+      is_over C =
+      subst (λ l. NoneUnderWay Meant (newer ++ (l ++ base))) (sym is)
+      (subst (NoneUnderWay Meant) (run-apart newer m steps older base)
+      (closed base free cs older rs (job ∷ ran) (newer ++ m ∷ steps) more is_over
+      (closes-job ran newer job m steps how C runs outcome)))
+  closed base free (RunJob job ∷ cs) ms (Listed files ∷ rs) ran newer (m, steps, older, is, runs, outcome, more)
+      is_over C =
+      subst (λ l. NoneUnderWay Meant (newer ++ (l ++ base))) (sym is)
+      (subst (NoneUnderWay Meant) (run-apart newer m steps older base)
+      (closed base free cs older rs ran (newer ++ m ∷ steps) more is_over
+      (closes-more ran newer (m ∷ steps) C (run-none job m steps runs))))
+  closed base free (RunJob job ∷ cs) ms (r ∷ rs) ran newer (m, steps, older, is, runs, outcome, more) is_over C =
+      subst (λ l. NoneUnderWay Meant (newer ++ (l ++ base))) (sym is)
+      (subst (NoneUnderWay Meant) (run-apart newer m steps older base)
+      (closed base free cs older rs ran (newer ++ m ∷ steps) more is_over
+      (closes-more ran newer (m ∷ steps) C (run-none job m steps runs))))
+  closed base free [] ms (r ∷ rs) ran newer E is_over C = absurd E
+  closed base free (Once event ∷ cs) ms [] ran newer E is_over C = absurd E
+  closed base free (RunJob job ∷ cs) ms [] ran newer E is_over C = absurd E
+
+  pub over : (cs : List Instruction) (ms base : List Moment) (rs : List Outcome) → ReadsAs cs ms rs →
+      AreOverFor Meant [] cs rs → NoneUnderWay Meant base → NoneUnderWay Meant (ms ++ base)
+  over cs ms base rs reads is_over free =
+      closed base free cs ms rs [] [] reads is_over (record { none = tt; ends = λ n h. absurd h })
+
+-- a name that commands leave free, whatever came of them, is over
+pub leaves_over : (name : List ℕ) (cs : List Instruction) (ms : List Moment) (rs : List Outcome) (ran : List ℕ) →
+    ReadsAs cs ms rs → LeavesFree name cs → AreOverFor (Touches name) ran cs rs
+leaves_over name [] ms [] ran E leaves = tt
+leaves_over name (Once event ∷ cs) ms (r ∷ rs) ran E (inl up) = inl up
+leaves_over name (Once event ∷ cs) ms (r ∷ rs) ran (b, older, is, here, outcome, more) (inr (none, rest)) =
+    inr (inl (none, leaves_over name cs older rs ran more rest))
+leaves_over name (RunJob job ∷ cs) ms (Ended how ∷ rs) ran (m, steps, older, is, runs, outcome, more) leaves =
+    leaves_over name cs older rs (job ∷ ran) more leaves
+leaves_over name (RunJob job ∷ cs) ms (r ∷ rs) ran (m, steps, older, is, runs, outcome, more) leaves =
+    leaves_over name cs older rs ran more leaves
+leaves_over name [] ms (r ∷ rs) ran E leaves = absurd E
+leaves_over name (Once event ∷ cs) ms [] ran E leaves = absurd E
+leaves_over name (RunJob job ∷ cs) ms [] ran E leaves = absurd E

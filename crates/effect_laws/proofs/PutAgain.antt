@@ -6,7 +6,7 @@ use Rattle.record_defs.specs.Examples.{four}
 use Rattle.machine_defs.specs.Jobs.{PutJob, DropJob}
 use Rattle.machine_defs.specs.Actions.{actions_of}
 use Rattle.machine_defs.specs.Answers.{Put, Dropped}
-use Rattle.machine_defs.specs.Events.{Begin, BeginAt, Reopen, Names, Continue, Opened, Listed}
+use Rattle.machine_defs.specs.Events.{Begin, BeginAt, Reopen, Names, Opened, Listed}
 use Rattle.machine_defs.specs.Examples.{set_up}
 use Rattle.machine_defs.specs.Began.{IsPutBegin}
 use Rattle.machine_defs.proofs.Untouched.{run_back}
@@ -25,7 +25,7 @@ use Rattle.effect_laws.specs.Transcripts.{EndsApart, TellsJob}
 use Rattle.effect_laws.specs.Instances.{name, byte, other, told_file, first_commands, put_commands, commands, again_commands, again_outcomes, PutsAgain, first_outcomes, put_outcomes, outcomes, first, second, instructions, moments}
 use Rattle.effect_laws.proofs.Lists.{whole}
 use Rattle.effect_laws.proofs.Jobs.{tells, stores, drops, frees}
-use Rattle.effect_laws.proofs.Asked.{none_for, puts_only, free_behind}
+use Rattle.effect_laws.proofs.Asked.{none_for, puts_only, free_behind, tested_calls}
 use Rattle.effect_laws.proofs.Apart.{ends_apart}
 
 -- the store that was set up is a start of a run
@@ -69,22 +69,7 @@ unfolding setup_in actions_of digits
 lines = carries set_up instructions refl
 
 pub none-calls : NoneCalls commands
-none-calls = (
-  (λ is. (let e : Names ≡ Continue = is in cc)),
-  (
-    (λ is. (let e : Begin (DropJob name) ≡ Continue = is in cc)),
-    (
-      (λ is. (let e : Names ≡ Continue = is in cc)),
-      (
-        (λ is. (let e : Begin (PutJob name other) ≡ Continue = is in cc)),
-        (
-          (λ is. (let e : Begin (PutJob name byte) ≡ Continue = is in cc)),
-          ((λ is. (let e : Reopen ≡ Continue = is in cc)), tt),
-        ),
-      ),
-    ),
-  ),
-)
+none-calls = tested_calls commands refl
 
 pub all-told : AllByRecursion IsToldByLines outcomes
 all-told = (

@@ -8,13 +8,14 @@
 --   IsToldByLines outcome          == the lines of an outcome tell it, but for what a list leaves out
 --   NoneCalls commands             == none of these commands is a later call of the program, which writes
 --                                     nothing
+--   calls_none commands            == the same, as a test
 --   ReadsAs commands ms outcomes   == moments carry out the commands, which end as these outcomes are read, as
 --                                     many as commands
-use Rattle.std.specs.Prelude.{◌≡◌, ◌≢◌, ◌<◌, ◌^◌, IsTrue, List, [], ◌∷◌, ◌++◌, length, Option, None, Some}
+use Rattle.std.specs.Prelude.{◌≡◌, ◌≢◌, ◌<◌, ◌^◌, ◌&&◌, Bool, true, false, not, IsTrue, List, [], ◌∷◌, ◌++◌, length, Option, None, Some}
 use Rattle.std.specs.List.{AllByRecursion}
 use Rattle.record_defs.specs.Records.{is_name}
 use Rattle.record_defs.specs.Table.{File}
-use Rattle.machine_defs.specs.Events.{Continue, Outcome, Listed}
+use Rattle.machine_defs.specs.Events.{Event, Continue, Outcome, Listed}
 use Rattle.machine_defs.specs.Runs.{Moment}
 use Rattle.machine_defs.specs.Transcripts.{Instruction, Once, RunJob, RunsToEnd}
 use Rattle.line_laws.specs.Told.{IsToldByLine}
@@ -56,6 +57,17 @@ abbrev pub NoneCalls : List Instruction → Type 0
 NoneCalls [] = Unit {0}
 NoneCalls (Once event ∷ commands) = (event ≢ Continue) × NoneCalls commands
 NoneCalls (RunJob job ∷ commands) = NoneCalls commands
+
+-- an event is a later call of the program, as a test
+abbrev pub is_call : Event → Bool
+is_call Continue = true
+is_call event = false
+
+-- none of these commands is one, as a test
+abbrev pub calls_none : List Instruction → Bool
+calls_none [] = true
+calls_none (Once event ∷ commands) = not (is_call event) && calls_none commands
+calls_none (RunJob job ∷ commands) = calls_none commands
 
 -- moments carry out commands, which end as these outcomes are read
 abbrev pub ReadsAs : List Instruction → List Moment → List Outcome → Type 0

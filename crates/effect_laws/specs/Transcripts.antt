@@ -6,9 +6,11 @@
 --   AsksPutsOnly name bytes commands   == each begin of a put of the name is of these bytes
 --   LeavesFree name commands     == none is the begin of a put or a drop of the name, but before one that gives
 --                                   up all jobs: a stop, a reopening, a later call
---   AreOver ran commands outcomes  == each get and each repair that these commands began was run to its end by the
---                                   next of them, or given up by a later one; `ran` is the job that the command
---                                   behind them ran to its end, if it did so
+--   AreOverFor Meant ran commands outcomes  == each job of a kind that is meant, begun by these commands, was run to
+--                                   its end by a later one before another began, or given up by a later one; `ran`
+--                                   are the jobs that commands behind them have run to their end since
+--   AreOver commands outcomes    == it is so of gets and repairs
+--   AreOverOn name commands outcomes  == it is so of puts and drops of the name
 --   NoneIsBegun number outcomes  == none of these outcomes is the begin of the job of this number
 --   CarriesApart own others ms lines  == moments and lines of these commands stand behind those of the others
 --   EndsApart own others ms outcomes before  == moments of these commands, with these outcomes, stand behind
@@ -19,14 +21,15 @@
 --                                == the event came to the begin of that job, and its run to this answer, among
 --                                   these moments; those of the commands behind and before them have these
 --                                   outcomes
-use Rattle.std.specs.Prelude.{◌≡◌, ◌≢◌, ◌⊎◌, ℕ, List, [], ◌∷◌, ◌++◌, Option, None, Some}
+use Rattle.std.specs.Prelude.{◌≡◌, ◌≢◌, ◌⊎◌, ℕ, List, [], ◌∷◌, ◌++◌}
+use Rattle.algebra_laws.specs.Lists.{In}
 use Rattle.machine_defs.specs.Jobs.{Kind}
 use Rattle.machine_defs.specs.Answers.{Answer}
 use Rattle.machine_defs.specs.Events.{Event, Step, Outcome, Begun, Ended}
 use Rattle.machine_defs.specs.Runs.{Moment}
 use Rattle.machine_defs.specs.Began.{NoneBegan, GivesUp, IsPutBegin}
 use Rattle.machine_defs.specs.Transcripts.{Instruction, Once, RunJob, CarriesOut}
-use Rattle.machine_defs.specs.Untouched.{Relies, IsBeginFor, IsBeginOn, NoneBeganOn, NoneAsksOn}
+use Rattle.machine_defs.specs.Untouched.{Touches, Relies, IsBeginFor, IsBeginOn, NoneBeganOn, NoneAsksOn}
 use Rattle.effect_laws.specs.Lists.{ReadsAs}
 use Rattle.effect_laws.specs.Puts.{PutsUnder, Drops}
 
@@ -57,17 +60,23 @@ LeavesFree name [] = Unit {0}
 LeavesFree name (Once event ∷ cs) = GivesUp event ⊎ ((IsBeginOn name event → ⊥) × LeavesFree name cs)
 LeavesFree name (RunJob job ∷ cs) = LeavesFree name cs
 
--- an event asks for no get and no repair, or for the job that the next command ran to its end
-abbrev pub IsOverBy : Option ℕ → Event → Outcome → Type 0
-IsOverBy ran event r = (IsBeginFor Relies event → ⊥) ⊎ ((n : ℕ) × (ran ≡ Some n) × (r ≡ Begun n))
+-- each job of a kind that is meant, begun by these commands, is over
+abbrev pub AreOverFor : (Kind → Type 0) → List ℕ → List Instruction → List Outcome → Type 0
+AreOverFor Meant ran [] [] = Unit {0}
+AreOverFor Meant ran (Once event ∷ cs) (r ∷ rs) =
+    GivesUp event ⊎ ((IsBeginFor Meant event → ⊥) × AreOverFor Meant ran cs rs)
+    ⊎ ((n : ℕ) × In n ran × (r ≡ Begun n) × AreOverFor Meant [] cs rs)
+AreOverFor Meant ran (RunJob job ∷ cs) (Ended how ∷ rs) = AreOverFor Meant (job ∷ ran) cs rs
+AreOverFor Meant ran (RunJob job ∷ cs) (r ∷ rs) = AreOverFor Meant ran cs rs
+AreOverFor Meant ran cs rs = ⊥
 
 -- each get and each repair that these commands began is over
-abbrev pub AreOver : Option ℕ → List Instruction → List Outcome → Type 0
-AreOver ran [] [] = Unit {0}
-AreOver ran (Once event ∷ cs) (r ∷ rs) = GivesUp event ⊎ (IsOverBy ran event r × AreOver None cs rs)
-AreOver ran (RunJob job ∷ cs) (Ended how ∷ rs) = AreOver (Some job) cs rs
-AreOver ran (RunJob job ∷ cs) (r ∷ rs) = AreOver None cs rs
-AreOver ran cs rs = ⊥
+abbrev pub AreOver : List Instruction → List Outcome → Type 0
+AreOver commands outcomes = AreOverFor Relies [] commands outcomes
+
+-- each put and each drop of the name that these commands began is over
+abbrev pub AreOverOn : List ℕ → List Instruction → List Outcome → Type 0
+AreOverOn name commands outcomes = AreOverFor (Touches name) [] commands outcomes
 
 -- none of these outcomes is the begin of the job of this number
 abbrev pub NoneIsBegun : ℕ → List Outcome → Type 0

@@ -1,5 +1,5 @@
 //! What a transcript tells: where each command stands among the moments, what was begun, and what stands since.
-ghost use Rattle.std.specs.Prelude.{◌≡◌, ◌∷◌, ◌++◌, ℕ, List, Option, None, Some, length};
+ghost use Rattle.std.specs.Prelude.{◌≡◌, ◌∷◌, ◌++◌, ℕ, true, List, Option, None, Some, length};
 ghost use Rattle.std.specs.List.{AllByRecursion};
 ghost use Rattle.device_defs.specs.Told.{told_then};
 ghost use Rattle.record_defs.specs.Table.{File, find_file};
@@ -17,9 +17,10 @@ ghost use Rattle.line_laws.specs.Read.{lines_of_all, EndsAs};
 ghost use Rattle.run_laws.specs.Stories.{Stored, GetEnds};
 ghost use Rattle.state_laws.specs.Sound.{IsLimit};
 ghost use Rattle.effect_laws.specs.Puts.{PutsOnly, NoPutBegan, NoDropBegan, DroppedOut};
-ghost use Rattle.effect_laws.specs.Lists.{IsListedAs, IsRead, IsToldByLines, NoneCalls, ReadsAs};
+ghost use Rattle.effect_laws.specs.Lists.{IsListedAs, IsRead, IsToldByLines, NoneCalls, calls_none, ReadsAs};
 ghost use Rattle.effect_laws.specs.Scrubs.{IsToldButBlocks, AreButBlocks};
-ghost use Rattle.effect_laws.specs.Transcripts.{NonePuts, NoneDrops, AsksPutsOnly, LeavesFree, AreOver, NoneIsBegun, CarriesApart, EndsApart, job_behind, TellsJob};
+ghost use Rattle.effect_laws.specs.Tests.{touches, puts_under, drops, asks_none, asks_puts_only};
+ghost use Rattle.effect_laws.specs.Transcripts.{NonePuts, NoneDrops, AsksPutsOnly, LeavesFree, AreOver, AreOverOn, NoneIsBegun, CarriesApart, EndsApart, job_behind, TellsJob};
 
 /// Where what a run of commands has written is what told outcomes write, as many as commands, lists of the names
 /// among them, the commands ended as these are read. A list tells of each name whether a file is in effect under
@@ -82,8 +83,26 @@ pub fn what_is_not_asked_is_not_begun()
         → ReadsAs commands ms outcomes → NoneCalls commands → NoneContinues ms }
 {}
 
+/// A test tells that no command is a later call of the program: of commands that are spelled out it holds by computing.
+pub fn calls_are_tested()
+    ensures { (commands : List Instruction) → calls_none commands ≡ true → NoneCalls commands }
+{}
+
+/// So tests tell that no command asks for a put or a drop of a name, for a put, for a drop, or for a put of it of other
+/// bytes.
+pub fn what_is_asked_is_tested()
+    ensures neither { (name : List ℕ) (commands : List Instruction) → asks_none (touches name) commands ≡ true
+        → NoneAsksOn name commands }
+    ensures puts { (name : List ℕ) (commands : List Instruction) → asks_none (puts_under name) commands ≡ true
+        → NonePuts name commands }
+    ensures drops { (name : List ℕ) (commands : List Instruction) → asks_none (drops name) commands ≡ true
+        → NoneDrops name commands }
+    ensures only { (name bytes : List ℕ) (commands : List Instruction) → asks_puts_only name bytes commands ≡ true
+        → AsksPutsOnly name bytes commands }
+{}
+
 /// A name that no put or drop under way holds stays free while none of it begins, and behind commands that leave
-/// it so.
+/// it so, or whose puts and drops of it are over.
 pub fn free_names_stay_free()
     ensures moments { (name : List ℕ) (later ms : List Moment) → IsFree name ms → NoneBeganOn name later
         → IsFree name (later ++ ms) }
@@ -92,12 +111,17 @@ pub fn free_names_stay_free()
         → IsFree name base → IsFree name (ms ++ base) }
     ensures asked { (name : List ℕ) (commands : List Instruction) → NoneAsksOn name commands
         → LeavesFree name commands }
+    ensures over { (name : List ℕ) (commands : List Instruction) (ms base : List Moment)
+        (outcomes : List Outcome) → ReadsAs commands ms outcomes → AreOverOn name commands outcomes
+        → IsFree name base → IsFree name (ms ++ base) }
+    ensures leaves { (name : List ℕ) (commands : List Instruction) (ms : List Moment) (outcomes : List Outcome)
+        → ReadsAs commands ms outcomes → LeavesFree name commands → AreOverOn name commands outcomes }
 {}
 
 /// No get and no repair is under way behind commands each of whose gets and repairs is over.
 pub fn told_readers_are_over()
     ensures { (commands : List Instruction) (ms base : List Moment) (outcomes : List Outcome)
-        → ReadsAs commands ms outcomes → AreOver None commands outcomes → NoneUnderWay Relies base
+        → ReadsAs commands ms outcomes → AreOver commands outcomes → NoneUnderWay Relies base
         → NoneUnderWay Relies (ms ++ base) }
 {}
 

@@ -1,9 +1,11 @@
 -- Behind a scrub that ended well a run goes on calm, whoever was damaged before.
-use Rattle.std.proofs.Common.{◌≡◌, ℕ, ◌≤◌, true, false, List, [], ◌∷◌, ◌++◌, length, Option, Some, None, refl, sym, subst, inl, inr, arith, append_assoc}
-use Rattle.std.specs.Prelude.{nat_le}
-use Rattle.std.proofs.lemmas.Bool.{cases_Bool, le-leb}
+use Rattle.std.proofs.Common.{◌≡◌, ℕ, ◌≤◌, true, false, List, [], ◌∷◌, ◌++◌, length, Option, Some, None, refl, sym, subst, ◌∙◌, inl, inr, arith, append_assoc}
+use Rattle.std.specs.Prelude.{nat_le, is_some}
+use Rattle.std.proofs.lemmas.Bool.{cases_Bool, le-leb, false≢true}
 use Rattle.algebra_laws.specs.Lists.{In}
 use Rattle.column_defs.specs.Columns.{columns}
+use Rattle.record_defs.specs.Records.{Setup}
+use Rattle.record_defs.specs.Table.{setup_of}
 use Rattle.machine_defs.specs.Answers.{Scrubbed}
 use Rattle.machine_defs.specs.Events.{Outcome, Ended}
 use Rattle.machine_defs.specs.States.{State, Alone, Scrubbing, Packing, IsStart, setup_in, file_object}
@@ -15,7 +17,9 @@ use Rattle.machine_defs.specs.Halves.{AllTell}
 use Rattle.machine_defs.specs.Untouched.{Relies, NoneRuns}
 use Rattle.machine_defs.proofs.Damaged.{among_since}
 use Rattle.machine_defs.proofs.JobLists.{cond_true, cond_false, found_none}
+use Rattle.machine_defs.proofs.PinFacts.{setup_same}
 use Rattle.machine_defs.proofs.Untouched.{begun_later, run_back}
+use Rattle.second_half_laws.proofs.Doubts.{setups_stay}
 use Rattle.second_half_laws.proofs.FewDamaged.{AreFew, few_now, few_before, few_calm, few_scrubs}
 use Rattle.second_half_laws.proofs.Finished.{exact_by_scrubs}
 use Rattle.epoch_laws.specs.Epochs.{IsSwept, AreExactBut}
@@ -112,6 +116,18 @@ few_first limit start ps clean [] ms run few = few
 few_first limit start ps clean (m ∷ later) ms run few = few_first limit start ps clean later ms run.2
     (few_before limit start m (later ++ ms) ps clean run few)
 
+-- a setup in effect stays so
+pub setup_stays : (limit : ℕ) (start : State) (later ms : List Moment) → IsStart start →
+    IsRun limit start (later ++ ms) → is_some (setup_of (now start ms).records) ≡ true →
+    setup_in (now start (later ++ ms)) ≡ setup_in (now start ms)
+setup_stays limit start later ms clean run up = by (setup_of (now start ms).records) refl up
+  where
+    by : (o : Option Setup) → setup_of (now start ms).records ≡ o → is_some o ≡ true →
+        setup_in (now start (later ++ ms)) ≡ setup_in (now start ms)
+    by None is up = absurd (false≢true up)
+    by (Some s) is up = setup_same (now start (later ++ ms)) (now start ms)
+        (setups_stay limit start later ms s clean run is ∙ sym is)
+
 -- where few are named, it is calm
 pub first_calm : (limit : ℕ) (start : State) (ms : List Moment) (ps : List ℕ) → IsStart start →
     IsRun limit start ms → DamagesOnly ps ms → length ps ≤ (setup_in (now start ms)).b → IsScrubCalm start ms
@@ -133,13 +149,12 @@ module _ (limit : ℕ) (start : State) (later recent older : List Moment) (qs : 
       (joined_only qs hs recent new (parts_only qs later recent only).1)
       (subst (λ all. is_replaced_since mark j all ≡ true) (sym (append_assoc hs recent older)) h)
 
-  pub calm_on : IsScrubCalm start (recent ++ older) →
-      length qs ≤ (setup_in (now start (later ++ (recent ++ older)))).b →
+  pub calm_on : IsScrubCalm start (recent ++ older) → AreFew qs (now start (later ++ (recent ++ older))) →
       IsScrubCalm start (later ++ (recent ++ older))
   calm_on calm few = goes_on limit start clean (length older) (recent ++ older)
       (let e = since.mark in omega arith) since.none since.late qs
       (λ number job runs reads. found_none (now start (recent ++ older)).jobs number job since.idle runs) calm
-      named later run (parts_only qs later recent only).0 (inr few)
+      named later run (parts_only qs later recent only).0 few
 
   -- who is not named was not replaced since the scrub's begin
   unnamed : (j : ℕ) → (In j qs → ⊥) →

@@ -1,5 +1,5 @@
 -- A file over scrubs, audits and repairs, as a transcript tells it.
-use Rattle.std.proofs.Common.{◌≡◌, ℕ, ◌≤◌, true, List, [], ◌∷◌, ◌++◌, length, Option, None, Some, refl, ap, sym, subst, ◌∙◌, inl, inr, append_assoc}
+use Rattle.std.proofs.Common.{◌≡◌, ℕ, ◌≤◌, true, List, [], ◌∷◌, ◌++◌, length, Option, Some, refl, ap, sym, subst, ◌∙◌, inl, inr, append_assoc}
 use Rattle.algebra_laws.specs.Lists.{In}
 use Rattle.column_defs.specs.Verdicts.{is_flagged}
 use Rattle.record_defs.specs.Records.{Setup}
@@ -31,7 +31,7 @@ use Rattle.state_laws.specs.Sound.{IsLimit}
 use Rattle.state_laws.proofs.Events.{run-sound}
 use Rattle.state_laws.proofs.Written.{runs-open, set_up-in}
 use Rattle.effect_laws.specs.Lists.{ReadsAs}
-use Rattle.effect_laws.specs.Transcripts.{NoneAsksFor, LeavesFree, AreOver}
+use Rattle.effect_laws.specs.Transcripts.{NoneAsksFor, AreOver, AreOverOn}
 use Rattle.effect_laws.proofs.Apart.{ends_apart}
 use Rattle.effect_laws.proofs.Asked.{both_none, none_for, none_on, steps_none}
 use Rattle.effect_laws.proofs.Over.{damages, over}
@@ -48,22 +48,31 @@ Gives start base ms name bytes g how named =
 
 -- ---- any commands between
 
+-- a get that a transcript tells last, behind a put of its name
+pub back : (base ms : List Moment) (front middle : List Instruction) (us ts : List Outcome)
+    (name bytes : List ℕ) (own : Option ℕ) (p g : ℕ) (how : Answer) →
+    ReadsAs (done_by (Begin (GetJob name)) g (middle ++ done_by (put_event own name bytes) p front)) ms
+    (Ended how ∷ Begun g ∷ (ts ++ Ended Put ∷ Begun p ∷ us)) → length ts ≡ length middle →
+    AreOverOn name front us → IsFree name base → NoneAsksOn name middle → GotBack base ms name bytes g how
+back base ms front middle us ts name bytes own p g how E many leaves free asks =
+    (let put = done_by (put_event own name bytes) p front in
+    let P = parts name g how [] (middle ++ put) [] (ts ++ Ended Put ∷ Begun p ∷ us) base ms E refl in
+    let S = stored-behind front middle name bytes own p P.apart.older base ts us P.apart.rest many asks leaves
+    free in
+    got-back name g how [] (middle ++ put) [] (ts ++ Ended Put ∷ Begun p ∷ us) base ms E refl P bytes S tt)
+
 pub kept : (limit : ℕ) (start : State) (base ms : List Moment) (front middle : List Instruction)
     (us ts : List Outcome) (name bytes : List ℕ) (own : Option ℕ) (p g : ℕ) (ps : List ℕ) (how : Answer) →
     IsStart start → AllTell start → IsRun limit start (ms ++ base) →
     ReadsAs (done_by (Begin (GetJob name)) g (middle ++ done_by (put_event own name bytes) p front)) ms
     (Ended how ∷ Begun g ∷ (ts ++ Ended Put ∷ Begun p ∷ us)) → length ts ≡ length middle →
-    LeavesFree name front → IsFree name base → NoneAsksOn name middle → DamagesOnly ps base →
+    AreOverOn name front us → IsFree name base → NoneAsksOn name middle → DamagesOnly ps base →
     AsksDamageOf ps (middle ++ done_by (put_event own name bytes) p front) →
     Gives start base ms name bytes g how (ps ∷ [])
 kept limit start base ms front middle us ts name bytes own p g ps how clean tell run E many leaves free asks
     before names =
     (let put = done_by (put_event own name bytes) p front in
-    let P = parts name g how [] (middle ++ put) [] (ts ++ Ended Put ∷ Begun p ∷ us) base ms E refl in
-    let S = stored-behind front middle name bytes own p P.apart.older base ts us P.apart.rest many asks leaves
-    free in
-    let G = got-back name g how [] (middle ++ put) [] (ts ++ Ended Put ∷ Begun p ∷ us) base ms E refl P bytes S
-    tt in (
+    let G = back base ms front middle us ts name bytes own p g how E many leaves free asks in (
       G,
       λ few. gives name bytes g how base ms limit (λ moments. 0) start G (few_marked limit start (ms ++ base) ps clean tell run
           (joined_only ps ms base (damages ps (done_by (Begin (GetJob name)) g (middle ++ put)) ms
@@ -91,7 +100,7 @@ module _ (limit : ℕ) (start : State) (base ms : List Moment) (front middle beh
 
   pub scrubs : ReadsAs (done_by (Begin (GetJob name)) g (behind ++ done_by BeginScrub s first)) ms
       (Ended how ∷ Begun g ∷ (rs ++ sweep_outcomes)) → length rs ≡ length behind →
-      length ts ≡ length middle → LeavesFree name front → IsFree name base → NoneAsksOn name middle →
+      length ts ≡ length middle → AreOverOn name front us → IsFree name base → NoneAsksOn name middle →
       NoneAsksOn name behind → DamagesOnly ps base → AsksDamageOf ps first → AsksDamageOf qs behind → Swept_get
   scrubs E many more leaves free asks asks_later before names names_later =
       (let cs = done_by BeginScrub s first in
@@ -144,7 +153,7 @@ module _ (limit : ℕ) (start : State) (base ms : List Moment) (front middle beh
             let few_new = subst (λ l. length qs ≤ (setup_in (now start l)).b) all few.1.0 in
             let calm_old : IsScrubCalm start (recent ++ older) = calm-up limit start new (recent ++ older) ps clean
             whole_run old_only few_old in
-            let calm = calm_on limit start new recent older qs clean whole_run swept new_only calm_old few_new in
+            let calm = calm_on limit start new recent older qs clean whole_run swept new_only calm_old (inr few_new) in
             let calm_all : IsScrubCalm start (ms ++ base) = subst (IsScrubCalm start) (sym all) calm in (
               gives name bytes g how base ms limit (scrubbed start) start G
                   (scrub_marked limit start (ms ++ base) clean tell run calm_all),
@@ -373,10 +382,10 @@ module _ (limit : ℕ) (start : State) (base ms : List Moment) (front middle bet
 
   pub repairs : ReadsAs (done_by (Begin (GetJob name)) g (behind ++ repair_first)) ms
       (Ended how ∷ Begun g ∷ (rs ++ repair_outcomes)) → length rs ≡ length behind →
-      length vs ≡ length between → length ts ≡ length middle → LeavesFree name front → IsFree name base →
+      length vs ≡ length between → length ts ≡ length middle → AreOverOn name front us → IsFree name base →
       NoneAsksOn name middle → NoneAsksOn name between → NoneAsksOn name behind → NoneBeganFor IsAudit base →
       NoneUnderWay Relies base → NoneAsksFor IsAudit front → NoneAsksFor IsAudit middle →
-      NoneAsksFor IsAudit between → AreOver None (between ++ audit_first) (vs ++ audit_outcomes) →
+      NoneAsksFor IsAudit between → AreOver (between ++ audit_first) (vs ++ audit_outcomes) →
       DamagesOnly ps base → AsksDamageOf ps (between ++ audit_first) → AsksDamageOf qs between →
       AsksDamageOf qs behind → Mended_get
   repairs E many some more leaves free asks asks_between asks_later none_audits none_reads audits_front
@@ -412,7 +421,7 @@ module _ (limit : ℕ) (start : State) (base ms : List Moment) (front middle bet
       (later-damages name g how behind repair_first rs repair_outcomes base ms E many P qs names_later)
       recent_only in
       let reads_over : NoneUnderWay Relies (recent ++ older) = subst (NoneUnderWay Relies) (tail ks M)
-      (over repair_first ks base repair_outcomes P.apart.rest (inr (inr (r, refl, refl), is_over)) none_reads) in
+      (over Relies repair_first ks base repair_outcomes P.apart.rest (inr (inr (r, inl refl, refl, is_over))) none_reads) in
       let same : setup_in (now start (new ++ (recent ++ older))) ≡ setup_in (now start (recent ++ older)) =
       same-setup limit start new ((M.repairing ++ M.repair_begin ∷ (M.gap ++ audit_part ks M)) ++ older)
       M.repair_end M.repair_begin M.repairing ((M.gap ++ audit_part ks M) ++ older) r number fits clean

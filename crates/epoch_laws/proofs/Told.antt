@@ -16,11 +16,11 @@ use Rattle.second_half_laws.specs.MarkedRuns.{IsMarkedRun}
 use Rattle.second_half_laws.specs.Flagging.{IsAudit}
 use Rattle.second_half_laws.proofs.GetsByEvents.{stored_got}
 use Rattle.effect_laws.specs.Lists.{ReadsAs}
-use Rattle.effect_laws.specs.Transcripts.{NoneAsksFor, LeavesFree, EndsApart, TellsJob}
+use Rattle.effect_laws.specs.Transcripts.{NoneAsksFor, AreOverOn, EndsApart, TellsJob}
 use Rattle.effect_laws.proofs.Apart.{ends_apart}
-use Rattle.effect_laws.proofs.Asked.{both_none, none_on, free_behind}
+use Rattle.effect_laws.proofs.Asked.{both_none, none_on}
 use Rattle.effect_laws.proofs.Jobs.{tells, stores}
-use Rattle.effect_laws.proofs.Over.{damages}
+use Rattle.effect_laws.proofs.Over.{damages, over}
 use Rattle.epoch_laws.specs.Told.{done_by, GotBack, IsWhole}
 
 -- the begin of a put, with a profile of its own or without, is one, and begins no audit
@@ -45,13 +45,13 @@ both-ask-none (RunJob job ∷ xs) ys a b = both-ask-none xs ys a b
 pub stored-behind : (front middle : List Instruction) (name bytes : List ℕ) (own : Option ℕ) (p : ℕ)
     (ms base : List Moment) (ts us : List Outcome) →
     ReadsAs (middle ++ done_by (put_event own name bytes) p front) ms (ts ++ Ended Put ∷ Begun p ∷ us) →
-    length ts ≡ length middle → NoneAsksOn name middle → LeavesFree name front → IsFree name base →
+    length ts ≡ length middle → NoneAsksOn name middle → AreOverOn name front us → IsFree name base →
     Stored (ms ++ base) name bytes
 stored-behind front middle name bytes own p ms base ts us E many asks leaves free =
     (let T : TellsJob middle [] front (put_event own name bytes) p Put ms ts us =
     tells middle [] front (put_event own name bytes) p Put ms ts [] us E many refl tt in
     stores middle [] front p name ms base ts us (put_event own name bytes) bytes (begins-put own name bytes) T
-    asks tt (free_behind name front T.older base us T.before leaves free))
+    asks tt (over (Touches name) front T.older base us T.before leaves free))
 
 -- it is so with moments behind it that begin no put and no drop of the name
 pub stored-more : (name bytes : List ℕ) (later ms : List Moment) → NoneBeganOn name later →

@@ -7,10 +7,15 @@
 --                              == a get ended with the newest moment and this answer, behind moments that stored the
 --                                 bytes under its name, and left them so
 --   IsWhole start G            == it gave the bytes, or is lost by calls of providers that failed
-use Rattle.std.specs.Prelude.{◌≡◌, ◌⊎◌, ◌≤◌, ℕ, List, ◌∷◌, ◌++◌, length}
+--   ByScrubs named commands outcomes
+--                              == scrubs among these commands ended well; of the lists each names who is damaged
+--                                 between one and the next, the newest first, and the last one who is before the first
+--   oldest named, newest named == the last of these lists, and the first
+use Rattle.std.specs.Prelude.{◌≡◌, ◌⊎◌, ◌≤◌, ℕ, List, [], ◌∷◌, ◌++◌, length}
 use Rattle.std.specs.List.{AllByRecursion}
-use Rattle.machine_defs.specs.Answers.{Answer, Got}
-use Rattle.machine_defs.specs.Events.{Event}
+use Rattle.machine_defs.specs.Answers.{Answer, Got, Scrubbed}
+use Rattle.machine_defs.specs.Damaged.{AsksDamageOf}
+use Rattle.machine_defs.specs.Events.{Event, BeginScrub, Outcome, Begun, Ended}
 use Rattle.machine_defs.specs.Runs.{Moment, now}
 use Rattle.machine_defs.specs.States.{State, setup_in}
 use Rattle.machine_defs.specs.Transcripts.{Instruction, Once, RunJob}
@@ -41,3 +46,23 @@ abbrev pub IsWhole : State → {base ms : List Moment} → {name bytes : List �
     → GotBack base ms name bytes g how → Type 0
 IsWhole start {base} {ms} {name} {bytes} {g} {how} G =
     (how ≡ Got bytes) ⊎ IsLostByFaults (now start (G.before ++ base)) G.last.state how
+
+-- commands with scrubs that ended well: between each and the next, and since the last, providers of these lists alone
+-- are damaged, those since the last first
+pub data ByScrubs : List (List ℕ) → List Instruction → List Outcome → Type 0 where
+  first : (ps : List ℕ) (commands : List Instruction) (outcomes : List Outcome) → AsksDamageOf ps commands
+      → ByScrubs (ps ∷ []) commands outcomes
+  swept : (qs : List ℕ) (named : List (List ℕ)) (behind front : List Instruction) (rs us : List Outcome)
+      (s stripes : ℕ) (symbols blocks : List ℕ) → length rs ≡ length behind → AsksDamageOf qs behind
+      → ByScrubs named front us → ByScrubs (qs ∷ named) (behind ++ done_by BeginScrub s front)
+      (rs ++ Ended (Scrubbed stripes symbols blocks) ∷ Begun s ∷ us)
+
+-- those of the first list that was damaged, and of the last
+abbrev pub oldest : List (List ℕ) → List ℕ
+oldest [] = []
+oldest (ps ∷ []) = ps
+oldest (ps ∷ qs ∷ named) = oldest (qs ∷ named)
+
+abbrev pub newest : List (List ℕ) → List ℕ
+newest [] = []
+newest (ps ∷ named) = ps

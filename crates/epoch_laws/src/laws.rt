@@ -1,12 +1,13 @@
 //! Who may be damaged behind a scrub, or behind an audit and its repair, and what providers hold then.
-ghost use Rattle.std.specs.Prelude.{◌≡◌, ◌≤◌, ◌∷◌, ◌++◌, ℕ, List, length};
+ghost use Rattle.std.specs.Prelude.{◌≡◌, ◌≤◌, ◌∷◌, ◌++◌, ℕ, true, List, length, Some, is_some};
+ghost use Rattle.record_defs.specs.Table.{setup_of};
 ghost use Rattle.machine_defs.specs.Answers.{Answer};
 ghost use Rattle.machine_defs.specs.Calm.{Mark, since};
 ghost use Rattle.machine_defs.specs.Damaged.{DamagesOnly};
 ghost use Rattle.machine_defs.specs.Halves.{AllTell};
 ghost use Rattle.machine_defs.specs.Runs.{Moment, IsRun, now};
 ghost use Rattle.machine_defs.specs.Scrubs.{IsScrubCalm, scrubbed};
-ghost use Rattle.machine_defs.specs.States.{State, IsStart, setup_in};
+ghost use Rattle.machine_defs.specs.States.{State, Scrub, Scrubbing, IsStart, setup_in};
 ghost use Rattle.machine_defs.specs.Untouched.{Relies, NoneUnderWay};
 ghost use Rattle.second_half_laws.specs.Epochs.{moved_mark};
 ghost use Rattle.second_half_laws.specs.Flagging.{FindsAll};
@@ -15,6 +16,7 @@ ghost use Rattle.second_half_laws.specs.Mended.{IsMended};
 ghost use Rattle.second_half_laws.specs.Sharp.{GivesOrIsLost};
 ghost use Rattle.run_laws.specs.Stories.{GetEnds};
 ghost use Rattle.epoch_laws.specs.Epochs.{IsSwept, AreExactBut, AreRightBut};
+ghost use Rattle.epoch_laws.specs.Sweeping.{HasSweptSoFar};
 
 use second_half_laws::laws::{few_damaged_providers_leave_runs_calm, flagging_audits_miss_none};
 
@@ -36,6 +38,16 @@ pub fn scrubs_begin_epochs()
         → IsStart start → AllTell start → IsRun limit start (later ++ (recent ++ older))
         → IsScrubCalm start (later ++ (recent ++ older)) → IsSwept older (recent ++ older)
         → DamagesOnly qs (later ++ recent) → AreExactBut qs (now start (later ++ (recent ++ older))) }
+{}
+
+/// A scrub while it runs, in a run of providers that tell, calm counted from finished scrubs: it works on each file
+/// in effect, has opened its stripes to the file's own symbols, and stores own blocks. Who was not replaced since
+/// its begin holds what was fetched from it, or its own block by now; and of a stripe that the scrub has not to do any
+/// more, its own block exactly.
+pub fn running_scrubs_have_swept()
+    ensures { (limit : ℕ) (start : State) (ms : List Moment) (scrub : Scrub) → IsStart start → AllTell start
+        → IsRun limit start ms → IsScrubCalm start ms → (now start ms).alone ≡ Some (Scrubbing scrub)
+        → HasSweptSoFar start ms scrub }
 {}
 
 /// Behind an audit and its repair that ended well others may go: in a calm run in which no audit missed damage,
@@ -70,4 +82,12 @@ pub fn gets_give_what_stood()
     ensures { (limit : ℕ) (mark : Mark) (start : State) (ms gaps : List Moment) (c g : Moment) (get : ℕ)
         (name : List ℕ) (how : Answer) → IsMarkedRun limit mark start (g ∷ (gaps ++ c ∷ ms))
         → GetEnds c gaps g get name how → GivesOrIsLost (now start ms) g.state name how }
+{}
+
+/// A setup in effect stays so: behind a moment at which one is, how many providers may be wrong, and the tolerance, are
+/// those of that moment.
+pub fn setups_in_effect_stay()
+    ensures { (limit : ℕ) (start : State) (later ms : List Moment) → IsStart start
+        → IsRun limit start (later ++ ms) → is_some (setup_of (now start ms).records) ≡ true
+        → setup_in (now start (later ++ ms)) ≡ setup_in (now start ms) }
 {}

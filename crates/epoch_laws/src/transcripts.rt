@@ -8,15 +8,17 @@ ghost use Rattle.machine_defs.specs.Events.{Begin, BeginScrub, Outcome, Begun, E
 ghost use Rattle.machine_defs.specs.Halves.{AllTell};
 ghost use Rattle.machine_defs.specs.Jobs.{GetJob, AuditJob, RepairJob};
 ghost use Rattle.machine_defs.specs.Runs.{Moment, IsRun, now};
+ghost use Rattle.machine_defs.specs.Scrubs.{IsScrubCalm, scrubbed};
 ghost use Rattle.machine_defs.specs.States.{State, IsStart, setup_in};
 ghost use Rattle.machine_defs.specs.Transcripts.{Instruction};
 ghost use Rattle.machine_defs.specs.Untouched.{Relies, NoneUnderWay, NoneBeganFor, IsFree, NoneAsksOn};
 ghost use Rattle.second_half_laws.specs.Flagging.{IsAudit};
+ghost use Rattle.second_half_laws.specs.MarkedRuns.{IsMarkedRun};
 ghost use Rattle.state_laws.specs.Sound.{IsLimit};
 ghost use Rattle.effect_laws.specs.Lists.{ReadsAs};
-ghost use Rattle.effect_laws.specs.Transcripts.{NoneAsksFor, LeavesFree, AreOver};
+ghost use Rattle.effect_laws.specs.Transcripts.{NoneAsksFor, AreOver, AreOverOn};
 ghost use Rattle.epoch_laws.specs.Epochs.{AreExactBut, AreRightBut};
-ghost use Rattle.epoch_laws.specs.Told.{done_by, AreFew, GotBack, IsWhole};
+ghost use Rattle.epoch_laws.specs.Told.{done_by, AreFew, GotBack, IsWhole, ByScrubs, oldest};
 
 /// A put, a scrub that ended well, and a get, with other commands between that begin no put and no drop of the name.
 /// While at most b providers are damaged up to the scrub's end, and at most b since its begin, the get gave the bytes
@@ -31,7 +33,7 @@ pub fn scrubbed_files_are_got()
         (middle ++ done_by (put_event own name bytes) p front))) ms
         (Ended how ∷ Begun g ∷ (rs ++ Ended (Scrubbed stripes symbols blocks) ∷ Begun s
         ∷ (ts ++ Ended Put ∷ Begun p ∷ us)))
-        → length rs ≡ length behind → length ts ≡ length middle → LeavesFree name front → IsFree name base
+        → length rs ≡ length behind → length ts ≡ length middle → AreOverOn name front us → IsFree name base
         → NoneAsksOn name middle → NoneAsksOn name behind → DamagesOnly ps base
         → AsksDamageOf ps (middle ++ done_by (put_event own name bytes) p front) → AsksDamageOf qs behind
         → (G : GotBack base ms name bytes g how) × (AreFew (ps ∷ qs ∷ []) (now start (ms ++ base))
@@ -53,10 +55,10 @@ pub fn repaired_files_are_got()
         (Ended how ∷ Begun g ∷ (rs ++ Ended (Repaired number) ∷ Begun r
         ∷ (vs ++ Ended (Audited number undecided counts) ∷ Begun a ∷ (ts ++ Ended Put ∷ Begun p ∷ us))))
         → length rs ≡ length behind → length vs ≡ length between → length ts ≡ length middle
-        → LeavesFree name front → IsFree name base → NoneAsksOn name middle → NoneAsksOn name between
+        → AreOverOn name front us → IsFree name base → NoneAsksOn name middle → NoneAsksOn name between
         → NoneAsksOn name behind → NoneBeganFor IsAudit base → NoneUnderWay Relies base
         → NoneAsksFor IsAudit front → NoneAsksFor IsAudit middle → NoneAsksFor IsAudit between
-        → AreOver None (between ++ done_by (Begin AuditJob) a
+        → AreOver (between ++ done_by (Begin AuditJob) a
         (middle ++ done_by (put_event own name bytes) p front))
         (vs ++ Ended (Audited number undecided counts) ∷ Begun a ∷ (ts ++ Ended Put ∷ Begun p ∷ us))
         → DamagesOnly ps base → AsksDamageOf ps (between ++ done_by (Begin AuditJob) a
@@ -77,8 +79,43 @@ pub fn kept_files_are_got()
         → IsStart start → AllTell start → IsRun limit start (ms ++ base)
         → ReadsAs (done_by (Begin (GetJob name)) g (middle ++ done_by (put_event own name bytes) p front)) ms
         (Ended how ∷ Begun g ∷ (ts ++ Ended Put ∷ Begun p ∷ us)) → length ts ≡ length middle
-        → LeavesFree name front → IsFree name base → NoneAsksOn name middle → DamagesOnly ps base
+        → AreOverOn name front us → IsFree name base → NoneAsksOn name middle → DamagesOnly ps base
         → AsksDamageOf ps (middle ++ done_by (put_event own name bytes) p front)
         → (G : GotBack base ms name bytes g how) × (AreFew (ps ∷ []) (now start (ms ++ base))
         → IsWhole start G) }
+{}
+
+/// Scrubs that ended well, one behind the other, with any commands between: while at most b providers are damaged
+/// between each and the next, whoever they are, the run is calm, counted from finished scrubs, and so by a mark; and
+/// each provider that was not damaged since the last one's begin holds its own blocks exactly, of every file.
+pub fn scrubs_in_a_row_begin_epochs()
+    ensures calm { (limit : ℕ) (start : State) (base ms : List Moment) (commands : List Instruction)
+        (outcomes : List Outcome) (named : List (List ℕ)) → IsStart start → IsRun limit start (ms ++ base)
+        → ReadsAs commands ms outcomes → ByScrubs named commands outcomes → DamagesOnly (oldest named) base
+        → AreFew named (now start (ms ++ base)) → IsScrubCalm start (ms ++ base) }
+    ensures marked { (limit : ℕ) (start : State) (base ms : List Moment) (commands : List Instruction)
+        (outcomes : List Outcome) (named : List (List ℕ)) → IsStart start → AllTell start
+        → IsRun limit start (ms ++ base) → ReadsAs commands ms outcomes → ByScrubs named commands outcomes
+        → DamagesOnly (oldest named) base → AreFew named (now start (ms ++ base))
+        → IsMarkedRun limit (scrubbed start) start (ms ++ base) }
+    ensures exact { (limit : ℕ) (start : State) (base ms : List Moment) (commands : List Instruction)
+        (outcomes : List Outcome) (qs ps : List ℕ) (named : List (List ℕ)) → IsStart start → AllTell start
+        → IsRun limit start (ms ++ base) → ReadsAs commands ms outcomes
+        → ByScrubs (qs ∷ ps ∷ named) commands outcomes → DamagesOnly (oldest (ps ∷ named)) base
+        → AreFew (qs ∷ ps ∷ named) (now start (ms ++ base)) → AreExactBut qs (now start (ms ++ base)) }
+{}
+
+/// So a put and a get, with any number of such scrubs before, between and behind: while at most b providers are
+/// damaged between each and the next the get gave the bytes that were put, or is lost by calls of providers that
+/// failed. Other commands may stand between, but no begin of a put or a drop of the name.
+pub fn files_behind_scrubs_are_got()
+    ensures { (limit : ℕ) (start : State) (base ms : List Moment) (front middle : List Instruction)
+        (us ts : List Outcome) (name bytes : List ℕ) (own : Option ℕ) (p g : ℕ) (named : List (List ℕ))
+        (how : Answer) → IsStart start → AllTell start → IsRun limit start (ms ++ base)
+        → ReadsAs (done_by (Begin (GetJob name)) g (middle ++ done_by (put_event own name bytes) p front)) ms
+        (Ended how ∷ Begun g ∷ (ts ++ Ended Put ∷ Begun p ∷ us)) → length ts ≡ length middle
+        → AreOverOn name front us → IsFree name base → NoneAsksOn name middle
+        → ByScrubs named (done_by (Begin (GetJob name)) g (middle ++ done_by (put_event own name bytes) p front))
+        (Ended how ∷ Begun g ∷ (ts ++ Ended Put ∷ Begun p ∷ us)) → DamagesOnly (oldest named) base
+        → (G : GotBack base ms name bytes g how) × (AreFew named (now start (ms ++ base)) → IsWhole start G) }
 {}

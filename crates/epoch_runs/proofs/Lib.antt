@@ -1,1 +1,2 @@
 mod Swept
+mod Missed

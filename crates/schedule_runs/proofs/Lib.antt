@@ -1,3 +1,4 @@
 pub mod Going
 pub mod Read
 pub mod Runs
+mod Idle

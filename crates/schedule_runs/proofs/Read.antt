@@ -1,7 +1,7 @@
 -- The commands that lines spell, read from left to right as schedule_text reads a line.
 use Rattle.std.proofs.Common.{refl, inl, inr, ◌∙◌, ◌≡◌, ℕ, List, [], ◌∷◌, Option, None, Some}
 use Rattle.hex.specs.Hex.{decode_pairs}
-use Rattle.schedule_text.specs.Reading.{numeral_at, number_word_at, profile_at, bytes_at, put_at, get_at, begun_at, begin_at, step_at, run_at, alter_at, lose_at, stop_at, apart_at, behind_at, line_at}
+use Rattle.schedule_text.specs.Reading.{numeral_at, number_word_at, profile_at, bytes_at, put_at, get_at, drop_words_at, begun_at, begin_at, step_at, run_at, alter_at, lose_at, stop_at, apart_at, behind_at, line_at}
 use Rattle.schedule_text.proofs.Again.{skipped-line, spelled-line}
 use Rattle.schedule_runs.specs.Words.{Instruction, words, AreLines}
 
@@ -13,7 +13,7 @@ read_before line others = None
 
 -- the commands of lines
 unfoldable pub read : List (List ℕ) → Option (List Instruction)
-unfolding decode_pairs numeral_at number_word_at profile_at bytes_at put_at get_at begun_at begin_at step_at
+unfolding decode_pairs numeral_at number_word_at profile_at bytes_at put_at get_at drop_words_at begun_at begin_at step_at
     run_at alter_at lose_at stop_at apart_at behind_at line_at
 read [] = Some []
 read (line ∷ others) = read_before (line_at (words line)) (read others)

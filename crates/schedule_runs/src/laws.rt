@@ -1,8 +1,10 @@
 //! What a replay and a trial suppose of their devices is met, and what they promise is used.
-ghost use Rattle.std.specs.Prelude.{◌≡◌, ◌⊎◌, ℕ, List, [], IsSome, reverse};
+ghost use Rattle.std.specs.Prelude.{◌≡◌, ◌⊎◌, ℕ, List, [], ◌∷◌, Some, IsSome, reverse};
 ghost use Rattle.std.specs.List.{AllByRecursion};
 ghost use Rattle.schedule_text.specs.Spelling.{CanBeSpelled};
+ghost use Rattle.line_laws.specs.Read.{AskForOneLine};
 ghost use Rattle.hail_replay.specs.Replayed.{Replays};
+ghost use Rattle.hail_replay.specs.declared.forms.Form.TheVariants.{Replay};
 ghost use Rattle.hail_replay.specs.Trials.{RunsTrial, RunsTo};
 ghost use Rattle.trial_maker.specs.Trials.{trial_commands};
 ghost use Rattle.second_half_laws.specs.Own.{IsExact};
@@ -11,6 +13,8 @@ ghost use Rattle.schedule_runs.specs.Left.{devices_left, GoesOnWith, KeepsItsFil
 ghost use Rattle.schedule_runs.specs.Schedule.{stopped_schedule, stopped_text, bad_text, IsStoppedRun, upgraded_schedule, upgraded_text, upgraded_file, IsUpgradedRun, scrubbed_schedule, scrubbed_text, IsScrubbedRun, packed_schedule, packed_text, IsPackedRun};
 
 use hail_client::laws::a_fresh_disk_has_a_start;
+use line_laws::laws::events_write_one_line;
+use schedule_text::laws::schedule_has_one_reading;
 
 /// Each run has left devices that tell, whatever area its journal is in: those of its last state. So have the
 /// run of no event, over a disk before its first use, and the runs given outright: one with damage, an
@@ -110,4 +114,17 @@ pub fn commands_go_on_with_them()
         × RunsTo start ms (trial_commands number) end.heard (devices_of_seen new)) }
 {
     runs_leave_devices();
+}
+
+/// A replay that reads its schedule, does none of it and ends with status 0 does not keep the headline, where the
+/// schedule's last command writes one line: none was written.
+pub fn idle_replays_break_the_headline()
+    ensures { (text : List ℕ) (command : Instruction) (older : List Instruction) (start : State)
+        (before : List Moment) (old new : Seen) (end : Ending) (taken : List ℕ) → old.source ≡ Some text
+        → new.source ≡ Some [] → IsSchedule text (reverse (command ∷ older)) → AskForOneLine (command ∷ [])
+        → IsSome old.disk → AreLeft start before (devices_of_seen old) → end.status ≡ 0
+        → old.sink ≡ Some taken → new.sink ≡ old.sink → KeepsTheHeadline Replay old new end → ⊥ }
+{
+    events_write_one_line();
+    schedule_has_one_reading();
 }

@@ -27,6 +27,28 @@ same-call : (after ahead : List Moment) → NoneContinues (after ++ ahead) → N
 same-call [] ahead none = tt
 same-call (m ∷ after) ahead none = (none.0, same-call after ahead none.1)
 
+-- what a get gave is the ones or the others, or a forgery is heard
+pub old-or-new : (start : State) (end : Ending) (g : ℕ) (name bytes other got : List ℕ) (at all : List Moment) →
+    end.heard ≡ heard_in start all →
+    (GotRight start at all g name bytes got ⊎ GotRight start at all g name other got) →
+    IsOldOrNew start at end g name bytes other got
+old-or-new start end g name bytes other got at all heard (inl (inl is)) = inl is
+old-or-new start end g name bytes other got at all heard (inr (inl is)) = inr (inl is)
+old-or-new start end g name bytes other got at all heard (inl (inr (file, stands, forged))) = inr (inr (
+  bytes,
+  inl refl,
+  file,
+  stands,
+  subst (HoldsForgery (file_object (now start at) file) bytes g) (sym heard) forged,
+))
+old-or-new start end g name bytes other got at all heard (inr (inr (file, stands, forged))) = inr (inr (
+  other,
+  inr refl,
+  file,
+  stands,
+  subst (HoldsForgery (file_object (now start at) file) other g) (sym heard) forged,
+))
+
 module _ (front behind : List Instruction) (name bytes other : List ℕ) (own : Option ℕ) (p : ℕ)
     (start : State) (ms : List Moment) (old new : Seen) (end : Ending) (leaves : LeavesFree name front)
     (only : AsksPutsOnly name other behind) (no_calls : NoneCalls behind) where
@@ -62,7 +84,7 @@ module _ (front behind : List Instruction) (name bytes other : List ℕ) (own : 
             ap (λ l. l ++ (A.older ++ called)) is
             ∙ (append_assoc after (last ∷ (gaps ++ begin ∷ ahead)) (A.older ++ called)
             ∙ ap (λ l. after ++ last ∷ l) (append_assoc gaps (begin ∷ ahead) (A.older ++ called))) in
-            by-bytes g got (ahead ++ (A.older ++ called))
+            old-or-new start end g name bytes other got (ahead ++ (A.older ++ called))
             (after ++ last ∷ (gaps ++ begin ∷ (ahead ++ (A.older ++ called))))
             (W.heard ∙ ap (heard_in start) (split ∙ seen))
             (gave_only 8 start after gaps begin last g name got left.starts
@@ -82,23 +104,3 @@ module _ (front behind : List Instruction) (name bytes other : List ℕ) (own : 
           ≡ (after ++ last ∷ (gaps ++ begin ∷ [])) ++ ahead
       behind-all after last gaps begin ahead = sym (append_assoc after (last ∷ (gaps ++ begin ∷ [])) ahead
           ∙ ap (λ l. after ++ last ∷ l) (append_assoc gaps (begin ∷ []) ahead))
-
-      by-bytes : (g : ℕ) (got : List ℕ) (at all : List Moment) → end.heard ≡ heard_in start all →
-          (GotRight start at all g name bytes got ⊎ GotRight start at all g name other got) →
-          IsOldOrNew start at end g name bytes other got
-      by-bytes g got at all heard (inl (inl is)) = inl is
-      by-bytes g got at all heard (inr (inl is)) = inr (inl is)
-      by-bytes g got at all heard (inl (inr (file, stands, forged))) = inr (inr (
-        bytes,
-        inl refl,
-        file,
-        stands,
-        subst (HoldsForgery (file_object (now start at) file) bytes g) (sym heard) forged,
-      ))
-      by-bytes g got at all heard (inr (inr (file, stands, forged))) = inr (inr (
-        other,
-        inr refl,
-        file,
-        stands,
-        subst (HoldsForgery (file_object (now start at) file) other g) (sym heard) forged,
-      ))

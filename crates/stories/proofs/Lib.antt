@@ -9,3 +9,16 @@ mod ByteSaid
 mod DamagedGet
 mod Told
 mod Keeping
+mod Among
+mod Since
+mod Listed
+mod Behind
+mod Reopened
+mod Replayed
+mod SweptReplay
+mod MendedReplay
+mod CutReplay
+mod PackedReplay
+mod ToldBy
+mod Packs
+mod ListedReplay

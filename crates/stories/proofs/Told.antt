@@ -1,12 +1,14 @@
 -- A replay as its text and what it wrote tell it, with the blocks that its scrubs found.
-use Rattle.std.proofs.Common.{◌≡◌, ◌⊎◌, ℕ, suc, List, [], ◌∷◌, ◌++◌, length, refl, ap, sym, subst, ◌∙◌, inl, inr, arith, append_assoc, reverse, Option, Some, None}
+use Rattle.std.proofs.Common.{◌≡◌, ◌⊎◌, ℕ, suc, List, [], ◌∷◌, ◌++◌, length, refl, ap, sym, subst, ◌∙◌, inl, inr, arith, append_assoc, reverse, Some}
 use Rattle.std.specs.List.{AllByRecursion}
 use Rattle.std.proofs.lemmas.List.{reverse-reverse}
 use Rattle.machine_defs.specs.Answers.{Scrubbed}
+use Rattle.machine_defs.specs.Events.{BeginScrub}
+use Rattle.machine_defs.specs.Jobs.{Kind}
 use Rattle.effect_laws.specs.Scrubs.{IsToldButBlocks, IsButBlocks, AreButBlocks}
-use Rattle.effect_laws.specs.Transcripts.{AreOver, NoneIsBegun}
+use Rattle.effect_laws.specs.Transcripts.{AreOverFor, NoneIsBegun}
 use Rattle.effect_laws.proofs.Scrubs.{whole}
-use Rattle.epoch_laws.specs.Told.{GotBack}
+use Rattle.epoch_laws.specs.Told.{done_by, GotBack, ByScrubs}
 use Rattle.run_laws.proofs.ByEvents.{put_is_got_later}
 use Rattle.stories.specs.Words.{File, Answer, Got, Outcome, Begun, Ended, HoldsForgery, heard_in, Moment, now, IsRun, State, file_in, file_object, GetEnds, Instruction, Once, RunJob, CarriesOut, NoneCalls, IsToldAnswer, lines_of_all, Seen, Ending, called_behind}
 use Rattle.stories.specs.Told.{WasTold}
@@ -31,7 +33,7 @@ was-told commands outcomes start ms old new end taken W calls before behind many
 
 -- ---- outcomes that are told but for blocks
 
-but-cons : (own : List Outcome) (s : Outcome) (ss : List Outcome) → AreButBlocks own (s ∷ ss) →
+pub but-cons : (own : List Outcome) (s : Outcome) (ss : List Outcome) → AreButBlocks own (s ∷ ss) →
     (r : Outcome) × (rs : List Outcome) × (own ≡ r ∷ rs) × IsButBlocks r s × AreButBlocks rs ss
 but-cons [] s ss h = absurd h
 but-cons (r ∷ rs) s ss h = (r, rs, refl, h.0, h.1)
@@ -130,6 +132,7 @@ pub record HasGet (own xs zs ys : List Outcome) (how : Answer) (n : ℕ) : Type 
   pub as_many : length first ≡ length xs
   pub nexts : length next ≡ length zs
   pub alike : AreButBlocks next zs
+  pub lasts : AreButBlocks last ys
 
 pub get-told : (own xs zs ys : List Outcome) (how : Answer) (n : ℕ) → IsToldAnswer how →
     AreButBlocks own (xs ++ Ended how ∷ (zs ++ Begun n ∷ ys)) → HasGet own xs zs ys how n
@@ -146,6 +149,7 @@ get-told own xs zs ys how n told h =
       as_many = A.as_many;
       nexts = D.as_many;
       alike = D.firsts;
+      lasts = E.4;
     })
 
 -- none of them is the begin of a job where none that is told is
@@ -161,34 +165,44 @@ begun-but n [] (s ∷ ss) h none = absurd h
 begun-but n (r ∷ own) [] h none = absurd h
 
 -- what is over as told is over
-pub over-but : (cs : List Instruction) (own ss : List Outcome) (ran : Option ℕ) → AreButBlocks own ss →
-    AreOver ran cs ss → AreOver ran cs own
-over-but [] [] [] ran h is_over = tt
-over-but (Once event ∷ cs) (r ∷ rs) (s ∷ ss) ran h (inl up) = inl up
-over-but (Once event ∷ cs) (r ∷ rs) (s ∷ ss) ran h (inr (inl none, rest)) =
-    inr (inl none, over-but cs rs ss None h.1 rest)
-over-but (Once event ∷ cs) (r ∷ rs) (s ∷ ss) ran h (inr (inr (n, is, begun), rest)) =
-    inr (inr (n, is, subst (IsButBlocks r) begun h.0), over-but cs rs ss None h.1 rest)
-over-but (RunJob job ∷ cs) (r ∷ rs) (Ended how ∷ ss) ran h rest =
-    (let e = ended how h.0 in subst (λ o. AreOver ran (RunJob job ∷ cs) (o ∷ rs)) (sym e.1)
-    (over-but cs rs ss (Some job) h.1 rest))
+pub over-but : (Meant : Kind → Type 0) (cs : List Instruction) (own ss : List Outcome) (ran : List ℕ) →
+    AreButBlocks own ss → AreOverFor Meant ran cs ss → AreOverFor Meant ran cs own
+over-but Meant [] [] [] ran h is_over = tt
+over-but Meant (Once event ∷ cs) (r ∷ rs) (s ∷ ss) ran h (inl up) = inl up
+over-but Meant (Once event ∷ cs) (r ∷ rs) (s ∷ ss) ran h (inr (inl (none, rest))) =
+    inr (inl (none, over-but Meant cs rs ss ran h.1 rest))
+over-but Meant (Once event ∷ cs) (r ∷ rs) (s ∷ ss) ran h (inr (inr (n, among, begun, rest))) =
+    inr (inr (n, among, subst (IsButBlocks r) begun h.0, over-but Meant cs rs ss [] h.1 rest))
+over-but Meant (RunJob job ∷ cs) (r ∷ rs) (Ended how ∷ ss) ran h rest =
+    (let e = ended how h.0 in subst (λ o. AreOverFor Meant ran (RunJob job ∷ cs) (o ∷ rs)) (sym e.1)
+    (over-but Meant cs rs ss (job ∷ ran) h.1 rest))
   where
     ended : (how : Answer) → IsButBlocks r (Ended how) → (own : Answer) × (r ≡ Ended own)
     ended (Scrubbed a xs ys) h = (Scrubbed a xs h.0, h.1)
     ended how h = (how, h)
-over-but (RunJob job ∷ cs) (r ∷ rs) (Begun n ∷ ss) ran h rest =
-    subst (λ o. AreOver ran (RunJob job ∷ cs) (o ∷ rs)) (sym h.0) (over-but cs rs ss None h.1 rest)
-over-but (RunJob job ∷ cs) (r ∷ rs) (s ∷ ss) ran h rest =
-    subst (λ o. AreOver ran (RunJob job ∷ cs) (o ∷ rs)) (sym h.0) (over-but cs rs ss None h.1 rest)
-over-but [] (r ∷ rs) [] ran h is_over = absurd h
-over-but [] (r ∷ rs) (s ∷ ss) ran h is_over = absurd is_over
-over-but [] [] (s ∷ ss) ran h is_over = absurd is_over
-over-but (Once event ∷ cs) [] [] ran h is_over = absurd is_over
-over-but (Once event ∷ cs) [] (s ∷ ss) ran h is_over = absurd h
-over-but (Once event ∷ cs) (r ∷ rs) [] ran h is_over = absurd h
-over-but (RunJob job ∷ cs) [] [] ran h is_over = absurd is_over
-over-but (RunJob job ∷ cs) [] (s ∷ ss) ran h is_over = absurd h
-over-but (RunJob job ∷ cs) (r ∷ rs) [] ran h is_over = absurd h
+over-but Meant (RunJob job ∷ cs) (r ∷ rs) (Begun n ∷ ss) ran h rest =
+    subst (λ o. AreOverFor Meant ran (RunJob job ∷ cs) (o ∷ rs)) (sym h.0) (over-but Meant cs rs ss ran h.1 rest)
+over-but Meant (RunJob job ∷ cs) (r ∷ rs) (s ∷ ss) ran h rest =
+    subst (λ o. AreOverFor Meant ran (RunJob job ∷ cs) (o ∷ rs)) (sym h.0) (over-but Meant cs rs ss ran h.1 rest)
+over-but Meant [] (r ∷ rs) [] ran h is_over = absurd h
+over-but Meant [] (r ∷ rs) (s ∷ ss) ran h is_over = absurd is_over
+over-but Meant [] [] (s ∷ ss) ran h is_over = absurd is_over
+over-but Meant (Once event ∷ cs) [] [] ran h is_over = absurd is_over
+over-but Meant (Once event ∷ cs) [] (s ∷ ss) ran h is_over = absurd h
+over-but Meant (Once event ∷ cs) (r ∷ rs) [] ran h is_over = absurd h
+over-but Meant (RunJob job ∷ cs) [] [] ran h is_over = absurd is_over
+over-but Meant (RunJob job ∷ cs) [] (s ∷ ss) ran h is_over = absurd h
+over-but Meant (RunJob job ∷ cs) (r ∷ rs) [] ran h is_over = absurd h
+
+-- epochs as told are those of it
+pub scrubs-but : (named : List (List ℕ)) (cs : List Instruction) (own ss : List Outcome) → AreButBlocks own ss →
+    ByScrubs named cs ss → ByScrubs named cs own
+scrubs-but _ _ own _ h (ByScrubs.first ps cs os asks) = ByScrubs.first ps cs own asks
+scrubs-but _ _ own _ h (ByScrubs.swept qs named behind front rs us s stripes symbols blocks many asks B) =
+    (let S = scrub-told own rs us stripes symbols blocks s h in
+    subst (ByScrubs (qs ∷ named) (behind ++ done_by BeginScrub s front)) (sym S.1.is)
+    (ByScrubs.swept qs named behind front S.1.behind S.1.before s stripes symbols S.0 (S.1.as_many ∙ many) asks
+    (scrubs-but named front S.1.before us S.1.rests B)))
 
 -- ---- what a get gave
 

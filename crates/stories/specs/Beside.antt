@@ -5,12 +5,17 @@
 --                                 other bytes: each get of the name among their moments that ended with bytes
 --                                 gave the ones or the others, whole, or the report holds a forgery against
 --                                 them; while none of them drops the name it has a file
+--   GivesOldOrNew start base new end g name bytes other how named
+--                              == a get that ended among the moments of a replay gave the ones or the others, or the
+--                                 report holds a forgery; where each list names few, whole, or it is lost by calls of
+--                                 providers that failed
 --   IsOldOrNew start ms end g name bytes other got
 --                              == what a get gave that began behind these moments
 use Rattle.std.specs.Prelude.{◌≡◌, ◌⊎◌, ℕ, List, [], ◌∷◌, ◌++◌, Option, Some}
 use Rattle.effect_laws.specs.Puts.{HasFile}
 use Rattle.effect_laws.specs.Transcripts.{NoneDrops}
-use Rattle.stories.specs.Words.{told_then, File, Put, Got, Begun, Ended, HoldsForgery, Moment, now, State, file_in, file_object, Instruction, CarriesOut, GetEnds, Seen, Ending, devices_of_seen, AreLeft}
+use Rattle.epoch_laws.specs.Told.{AreFew}
+use Rattle.stories.specs.Words.{told_then, File, Answer, Put, Got, Begun, Ended, HoldsForgery, Moment, now, State, file_in, file_object, Instruction, CarriesOut, GetEnds, IsLostByFaults, Seen, Ending, devices_of_seen, AreLeft}
 use Rattle.stories.specs.Files.{PutsFile}
 
 -- a get gave the ones or the others, or the report holds a forgery against them
@@ -37,3 +42,17 @@ pub record IsBeside (front behind : List Instruction) (own : Option ℕ) (start 
       → IsOldOrNew start (ahead ++ (older ++ base)) end g name bytes other got
   pub there : put.begin.outcome ≡ Begun p → put.end.outcome ≡ Ended Put → NoneDrops name behind
       → HasFile (now start (later ++ (older ++ base))) name
+
+-- a get among the moments of a replay, behind puts of the ones and of the others
+pub record GivesOldOrNew (start : State) (base : List Moment) (new : Seen) (end : Ending) (g : ℕ)
+    (name bytes other : List ℕ) (how : Answer) (named : List (List ℕ)) : Type 0 where
+  pub after : List Moment
+  pub last : Moment
+  pub gaps : List Moment
+  pub begin : Moment
+  pub before : List Moment
+  pub left : AreLeft start (after ++ last ∷ (gaps ++ begin ∷ (before ++ base))) (devices_of_seen new)
+  pub ends : GetEnds begin gaps last g name how
+  pub right : (got : List ℕ) → how ≡ Got got → IsOldOrNew start (before ++ base) end g name bytes other got
+  pub gives : AreFew named (now start (after ++ last ∷ (gaps ++ begin ∷ (before ++ base))))
+      → (how ≡ Got bytes) ⊎ (how ≡ Got other) ⊎ IsLostByFaults (now start (before ++ base)) last.state how

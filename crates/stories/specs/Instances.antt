@@ -3,7 +3,9 @@
 --
 --   opening               == the commands before the put: the store is opened
 --   byte_text, byte_lines == the text of that schedule, and what it writes
---   byte_commands, byte_outcomes == its commands, and how they end, the newest first
+--   before_text text      == what is seen before a replay of this text
+--   byte_front, byte_commands, byte_outcomes == its commands before the run of the get, all of them, and how they end,
+--                            the newest first
 --   get_of_byte           == the commands of the get, the newest first
 --   before_byte, behind_byte, byte_heard, byte_end
 --                         == what is seen before and behind it, what its jobs heard, and how it ends
@@ -27,6 +29,9 @@ byte_text = flat_map line (codes "reopen" ∷ codes "begin put a 6f" ∷ codes "
     ∷ codes "run 2" ∷ [])
 
 -- its commands
+abbrev pub byte_front : List Instruction
+byte_front = Once (Begin (GetJob named)) ∷ put_of opening named byte None 1
+
 abbrev pub byte_commands : List Instruction
 byte_commands = got_behind ([] ++ put_of opening named byte None 1) named 2
 
@@ -43,9 +48,12 @@ abbrev pub byte_lines : List ℕ
 byte_lines = flat_map line (codes "opened" ∷ codes "job 1" ∷ codes "put" ∷ codes "job 2"
     ∷ codes "got 6f" ∷ [])
 
--- what is seen before the replay
+-- what is seen before a replay
+abbrev pub before_text : List ℕ → Seen
+before_text text = with_source (reading_devices four_records none_hold) text
+
 abbrev pub before_byte : Seen
-before_byte = with_source (reading_devices four_records none_hold) byte_text
+before_byte = before_text byte_text
 
 -- and behind it
 abbrev pub behind_byte : Seen

@@ -6,3 +6,4 @@ pub mod Beside
 pub mod Told
 pub mod Upkeep
 pub mod Instances
+pub mod Replays

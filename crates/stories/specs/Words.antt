@@ -14,7 +14,7 @@ pub use Rattle.machine_defs.specs.Events.{AreBytes, Begin, Begun, Continue, Ende
 pub use Rattle.machine_defs.specs.Examples.{empty_provider}
 pub use Rattle.machine_defs.specs.Halves.{AllTell}
 pub use Rattle.machine_defs.specs.Heard.{Entry, HoldsForgery, heard_in}
-pub use Rattle.machine_defs.specs.Jobs.{Fetched, GetJob, UpgradeJob}
+pub use Rattle.machine_defs.specs.Jobs.{Fetched, GetJob, Given, UpgradeJob}
 pub use Rattle.machine_defs.specs.Lines.{line, lines_of}
 pub use Rattle.machine_defs.specs.Runs.{IsRun, Moment, now}
 pub use Rattle.machine_defs.specs.Setups.{setup_or_none}
@@ -32,7 +32,7 @@ pub use Rattle.command_laws.specs.After.{Follows, HasRightFile, IsSteady, IsThen
 pub use Rattle.command_laws.specs.Ends.{GivesUnlessMemory, IsDone, IsKnown, after_put, after_upgrade, opens_store, put_of}
 pub use Rattle.command_laws.specs.Instances.{empty_devices, ends, held_name, with_sink}
 pub use Rattle.damage_run.specs.Schedule.{byte}
-pub use Rattle.command_runs.specs.Devices.{answers_heard, byte_audited, byte_kept, byte_records, byte_stored, byte_upgraded, damaged, due, ends_hearing, fetched, four_records, got, got_later, heard, holds, later_heard, mended, named, none_hold, own_block, own_blocks_heard, reading_devices, repaired, robbed_later, swept, to_put, upgraded_kept, with_source}
+pub use Rattle.command_runs.specs.Devices.{answers_heard, byte_audited, byte_kept, byte_records, byte_repaired_records, byte_stored, byte_upgraded, damaged, due, ends_hearing, fetched, four_records, given_block, got, got_later, heard, holds, later_heard, mended, named, none_hold, own_block, own_blocks_heard, reading_devices, repaired, robbed_later, swept, to_put, upgraded_kept, with_source}
 pub use Rattle.command_runs.specs.Packed.{IsFilling, got_packed, packed_kept, packed_store}
 pub use Rattle.hail_client.specs.Stands.{ImageHasFile}
 pub use Rattle.hail_client.specs.Start.{TellAll, start_of}

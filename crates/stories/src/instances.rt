@@ -1,17 +1,27 @@
 //! Instances: what the laws of the other modules suppose, met by values.
-ghost use Rattle.std.specs.Prelude.{◌≡◌, ◌≢◌, ◌≤◌, ◌<◌, ◌==◌, ◌&&◌, ◌++◌, ℕ, not, true, false, List, [], length, String, Some, None, is_some, reverse};
+ghost use Rattle.std.specs.Prelude.{◌≡◌, ◌≢◌, ◌≤◌, ◌<◌, ◌==◌, ◌&&◌, ◌++◌, ◌∷◌, ℕ, not, true, false, List, [], length, String, Some, None, is_some, reverse};
 ghost use Rattle.std.specs.declared.alloc.Global.{Global};
 ghost use Rattle.damage_run.specs.Points.{counts};
-ghost use Rattle.stories.specs.Words.{is_flagged, DamagesOnly, AsksDamageOf, AreBytes, Begun, Ended, Put, Got, AllTell, NoneAsksOn, LeavesFree, AsksPutsOnly, NoneCalls, PutUnder, GetOf, AuditAll, RepairAll, UpgradeJournal, ScrubAll, PackJournal, IsForm, IsTold, audit_lines, setup_in_effect, provider_at, Follows, HasRightFile, IsUntouched, IsSteady, spoilt_below, IsKnown, ends, named, four_records, byte_records, to_put, byte_stored, damaged, byte_audited, answers_heard, due, repaired, mended, got, own_blocks_heard, swept, robbed_later, got_later, later_heard, byte_kept, byte_upgraded, upgraded_kept, ends_hearing, IsFilling, packed_kept, packed_store, got_packed, byte, next_audit, IsSchedule, devices_of_seen, IsReplayForm, AreLeft, called_behind, AnswersWords};
+ghost use Rattle.stories.specs.Words.{is_flagged, DamagesOnly, AsksDamageOf, AreBytes, Begin, Begun, Ended, Opened, Put, Got, AllTell, File, now, NoneAsksOn, LeavesFree, AsksPutsOnly, NoneCalls, PutUnder, GetOf, AuditAll, RepairAll, UpgradeJournal, ScrubAll, PackJournal, IsForm, IsTold, audit_lines, setup_in_effect, provider_at, Follows, HasRightFile, IsUntouched, IsSteady, spoilt_below, IsKnown, ends, named, four_records, byte_records, to_put, byte_stored, damaged, byte_audited, answers_heard, due, repaired, mended, got, own_blocks_heard, swept, robbed_later, got_later, later_heard, byte_kept, byte_upgraded, upgraded_kept, ends_hearing, IsFilling, packed_kept, packed_store, got_packed, byte, next_audit, IsSchedule, devices_of_seen, IsReplayForm, AreLeft, called_behind, AnswersWords};
 ghost use Rattle.stories.specs.Files.{put_of, got_behind, IsGot};
 ghost use Rattle.stories.specs.Said.{SaysBefore, SaysPut, SaysGot};
-ghost use Rattle.effect_laws.specs.Transcripts.{AreOver};
-ghost use Rattle.epoch_laws.specs.Told.{IsWhole};
+ghost use Rattle.machine_defs.specs.Jobs.{AuditJob};
+ghost use Rattle.second_half_laws.specs.Flagging.{IsAudit};
+ghost use Rattle.effect_laws.specs.Transcripts.{NoneAsksFor, NonePuts, AreOver, AreOverOn};
+ghost use Rattle.epoch_laws.specs.Epochs.{AreExactBut, AreRightBut};
+ghost use Rattle.epoch_laws.specs.Told.{IsWhole, ByScrubs};
 ghost use Rattle.stories.specs.Told.{IsToldReplay, IsGotBack};
-ghost use Rattle.stories.specs.Upkeep.{GivesOrLoses};
+ghost use Rattle.stories.specs.Upkeep.{GivesOrLoses, IsGotOver, IsKeptOver, IsUpkeep, AreSteps, TellsNames};
+ghost use Rattle.stories.specs.Beside.{GivesOldOrNew};
+ghost use Rattle.record_defs.specs.Table.{find_file};
 ghost use Rattle.stories.specs.Instances.{opening, byte_text, byte_lines, get_of_byte, byte_commands, byte_outcomes, before_byte, behind_byte, byte_end, first_state, damaged_got, three_heard, other_byte};
+ghost use Rattle.stories.specs.Replays.{IsToldSo, damaged2, damaged0, lost2, lost0, put_lost, swept_text, swept_commands, swept_outcomes, behind_swept, swept_end, audited_first, audited_outcomes, mended_text, mended_commands, mended_outcomes, behind_mended, mended_end, packed_text, packed_commands, packed_outcomes, behind_packed, packed_end, cut_text, cut_steps, cut_commands, cut_outcomes, behind_cut, cut_end, second, third, second_file, put_cut, got_cut, got_cut_outcomes, dropped_behind, listed_text, listed_commands, listed_outcomes, behind_listed, listed_end};
 
-use crate::upkeep::{every_get_ends_well, kept_files_are_got};
+use crate::upkeep::{
+    every_get_behind_scrubs_ends_well, every_get_ends_well, files_behind_scrubs_are_got,
+    files_survive_cut_upkeep, gets_give_old_or_new, kept_files_are_got, lists_tell_what_stands,
+    packed_files_are_got, repaired_files_are_got, scrubbed_files_are_got,
+};
 use command_runs::packs::packs_end;
 use command_runs::runs::commands_end;
 use command_words::laws::words_spell_one_command;
@@ -156,14 +166,103 @@ pub fn a_told_byte_is_got_whole()
     ensures told { (words : List (String Global)) → IsReplayForm words
         → IsToldReplay words byte_text byte_commands byte_outcomes first_state [] before_byte behind_byte
         byte_end }
-    ensures over { AreOver None byte_commands byte_outcomes }
+    ensures over { AreOver byte_commands byte_outcomes × AreOverOn named opening (Opened ∷ []) }
     ensures whole { (words : List (String Global)) → IsReplayForm words
         → (G : IsGotBack first_state (called_behind first_state []) behind_byte byte_end named byte 2 (Got byte))
         × IsWhole first_state G.get }
     ensures every { (words : List (String Global)) → IsReplayForm words
-        → GivesOrLoses first_state (called_behind first_state []) behind_byte 2 named (Got byte) [] }
+        → GivesOrLoses first_state (called_behind first_state []) behind_byte 2 named (Got byte) ([] ∷ []) }
 {
     a_byte_is_put_and_got();
     kept_files_are_got();
     every_get_ends_well();
+}
+
+/// A put of that file, the loss of a block of provider 2, a scrub that mends it, the loss of the block of provider 0, and
+/// a get, in one replay: so the get gave the byte, or is lost by calls that failed, and each provider but 0 holds its own
+/// block exactly.
+pub fn a_lost_block_is_scrubbed()
+    ensures told { (words : List (String Global)) → IsReplayForm words
+        → IsToldSo words swept_text swept_commands swept_outcomes behind_swept swept_end }
+    ensures asks { NoneAsksOn named lost2 × NoneAsksOn named lost0 × AsksDamageOf damaged2 put_lost
+        × AsksDamageOf damaged0 lost0 }
+    ensures epochs { ByScrubs (damaged0 ∷ damaged2 ∷ []) swept_commands swept_outcomes }
+    ensures whole { (words : List (String Global)) → IsReplayForm words
+        → (G : IsGotBack first_state (called_behind first_state []) behind_swept swept_end named byte 3 (Got byte))
+        × IsWhole first_state G.get
+        × AreExactBut damaged0 (now first_state (G.ms ++ called_behind first_state [])) }
+    ensures row { (words : List (String Global)) → IsReplayForm words
+        → IsGotOver first_state (called_behind first_state []) behind_swept swept_end named byte 3 (Got byte)
+        (damaged0 ∷ damaged2 ∷ []) }
+    ensures every { (words : List (String Global)) → IsReplayForm words
+        → GivesOrLoses first_state (called_behind first_state []) behind_swept 3 named (Got byte)
+        (damaged0 ∷ damaged2 ∷ []) }
+{
+    scrubbed_files_are_got();
+    files_behind_scrubs_are_got();
+    every_get_behind_scrubs_ends_well();
+}
+
+/// A put of that file, the loss of a block of provider 2, an audit that flags it, its repair, the loss of the block of
+/// provider 0, and a get, in one replay: so the get gave the byte, or is lost by calls that failed, and no provider but 0
+/// is wrong.
+pub fn a_lost_block_is_repaired()
+    ensures told { (words : List (String Global)) → IsReplayForm words
+        → IsToldSo words mended_text mended_commands mended_outcomes behind_mended mended_end }
+    ensures whole { (words : List (String Global)) → IsReplayForm words
+        → (G : IsGotBack first_state (called_behind first_state []) behind_mended mended_end named byte 4
+        (Got byte)) × IsWhole first_state G.get
+        × AreRightBut damaged0 (now first_state (G.ms ++ called_behind first_state [])) }
+    ensures asks { NoneAsksFor IsAudit opening × NoneAsksFor IsAudit lost2 × AsksDamageOf damaged2 audited_first
+        × AreOver audited_first audited_outcomes }
+{
+    repaired_files_are_got();
+}
+
+/// A put of that file, an upgrade, a pack and a get, in one replay: so the get gave the byte, or is lost by calls that
+/// failed. What lies between the areas of the disk may be any bytes, of which there are some.
+pub fn a_packed_byte_is_told()
+    ensures told { (words : List (String Global)) (filling : List ℕ) → IsReplayForm words → IsFilling filling
+        → IsToldSo words packed_text packed_commands packed_outcomes (behind_packed filling)
+        packed_end }
+    ensures whole { (words : List (String Global)) (filling : List ℕ) → IsReplayForm words → IsFilling filling
+        → (G : IsGotBack first_state (called_behind first_state []) (behind_packed filling) packed_end named byte 4
+        (Got byte)) × IsWhole first_state G.get }
+    ensures there_is_one { (filling : List ℕ) × IsFilling filling }
+{
+    packed_files_are_got();
+}
+
+/// A put of that file, an audit that a stop cuts behind its first step, a reopening and a get, in one replay: so the get
+/// gave the byte, or is lost by calls that failed, and each image of the disk has the file.
+pub fn a_cut_audit_keeps_a_byte()
+    ensures told { (words : List (String Global)) → IsReplayForm words
+        → IsToldSo words cut_text cut_commands cut_outcomes behind_cut cut_end }
+    ensures cut { IsUpkeep (Begin AuditJob) × AreSteps 2 cut_steps }
+    ensures kept { (words : List (String Global)) → IsReplayForm words
+        → IsKeptOver first_state (called_behind first_state []) behind_cut cut_end named byte 3 (Got byte) [] }
+{
+    files_survive_cut_upkeep();
+}
+
+/// A put of that file, a put of another byte under its name that a stop cuts behind its first step, a reopening, a get of
+/// the name, a put of that byte under another, a drop of the first, and a list, in one replay: so the get gave the
+/// one byte or the other, or is lost by calls that failed; and the list tells the second file, neither the first nor one
+/// that nobody put.
+pub fn a_cut_put_is_told()
+    ensures told { (words : List (String Global)) → IsReplayForm words
+        → IsToldSo words listed_text listed_commands listed_outcomes behind_listed listed_end }
+    ensures asks { AsksPutsOnly named other_byte put_cut × AreOverOn named got_cut got_cut_outcomes
+        × AreOverOn second got_cut got_cut_outcomes × NonePuts third dropped_behind }
+    ensures gave { (words : List (String Global)) → IsReplayForm words
+        → GivesOldOrNew first_state (called_behind first_state []) behind_listed listed_end 3 named byte other_byte
+        (Got byte) ([] ∷ []) }
+    ensures epochs { ByScrubs ([] ∷ []) listed_commands listed_outcomes }
+    ensures listed { (words : List (String Global)) → IsReplayForm words
+        → TellsNames first_state (called_behind first_state []) behind_listed (second_file ∷ [])
+        × ((file : File) × (find_file (second_file ∷ []) second ≡ Some file) × (file.size ≡ 1))
+        × (find_file (second_file ∷ []) named ≡ None) × (find_file (second_file ∷ []) third ≡ None) }
+{
+    gets_give_old_or_new();
+    lists_tell_what_stands();
 }

@@ -8,3 +8,4 @@ pub mod laws;
 pub mod schedules;
 pub mod texts;
 pub mod upkeep;
+pub mod worked;

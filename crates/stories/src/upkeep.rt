@@ -1,29 +1,27 @@
 //! A file over audits, repairs, scrubs, packs, upgrades and stops of a replay, told by its text and by what it
 //! wrote.
-ghost use Rattle.std.specs.Prelude.{◌≡◌, ◌++◌, ◌∷◌, ◌+◌, ℕ, List, String, Option, None, length};
+ghost use Rattle.std.specs.Prelude.{◌≡◌, ◌++◌, ◌∷◌, [], ◌+◌, ℕ, List, String, Option, None, Some, length};
 ghost use Rattle.std.specs.declared.alloc.Global.{Global};
-ghost use Rattle.machine_defs.specs.Jobs.{AuditJob, RepairJob};
-ghost use Rattle.machine_defs.specs.Answers.{Audited, Repaired, Scrubbed, Packed, Upgraded};
-ghost use Rattle.machine_defs.specs.Events.{BeginScrub, BeginPack, Stop};
+ghost use Rattle.record_defs.specs.Table.{find_file};
+ghost use Rattle.machine_defs.specs.Jobs.{DropJob, AuditJob, RepairJob};
+ghost use Rattle.machine_defs.specs.Answers.{Dropped, Audited, Repaired, Scrubbed, Packed, Upgraded};
+ghost use Rattle.machine_defs.specs.Events.{BeginScrub, BeginPack, Stop, Names, Listed, put_event};
 ghost use Rattle.machine_defs.specs.Untouched.{NoneBeganFor};
-ghost use Rattle.effect_laws.specs.Transcripts.{NoneAsksFor, AreOver, NoneIsBegun, job_behind};
+ghost use Rattle.effect_laws.specs.Transcripts.{NoneAsksFor, NonePuts, AsksPutsOnly, AreOver, AreOverOn, NoneIsBegun, job_behind};
+ghost use Rattle.effect_laws.specs.Puts.{NoPutBegan};
 ghost use Rattle.second_half_laws.specs.Flagging.{IsAudit};
-ghost use Rattle.stories.specs.Words.{DamagesOnly, AsksDamageOf, AllTell, Answer, Put, Event, Begin, Begun, Ended, Outcome, Reopen, GetJob, UpgradeJob, IsToldAnswer, Moment, State, Instruction, Once, NoneAsksOn, LeavesFree, Seen, Ending, called_behind};
+ghost use Rattle.stories.specs.Words.{DamagesOnly, AsksDamageOf, AllTell, File, Answer, Put, Event, Begin, Begun, Ended, Outcome, Reopen, GetJob, UpgradeJob, IsToldAnswer, Moment, State, Instruction, Once, NoneAsksOn, Seen, Ending, called_behind};
 ghost use Rattle.stories.specs.Files.{put_of, got_behind};
-ghost use Rattle.epoch_laws.specs.Told.{done_by};
+ghost use Rattle.epoch_laws.specs.Told.{done_by, ByScrubs, oldest};
 ghost use Rattle.stories.specs.Told.{IsToldReplay};
-ghost use Rattle.stories.specs.Upkeep.{IsExactBehind, IsRightBehind, IsGotOver, IsKeptOver, IsUpkeep, AreSteps, GivesOrLoses};
+ghost use Rattle.stories.specs.Beside.{GivesOldOrNew};
+ghost use Rattle.stories.specs.Upkeep.{IsExactBehind, IsRightBehind, IsGotOver, IsKeptOver, IsUpkeep, AreSteps, GivesOrLoses, TellsNames};
 
 use crate::texts::told_replays_are_read;
-use effect_laws::transcripts::{
-    told_jobs_leave, transcripts_tell_jobs, what_is_not_asked_is_not_begun,
-};
 use epoch_laws::laws::gets_give_what_stood;
 use epoch_laws::transcripts;
 use hail_client::laws::images_of_devices;
-use machine_defs::laws::commands_damage_only;
 use run_laws::laws::stored_files_are_kept;
-use second_half_laws::laws::few_damaged_providers_leave_runs_calm;
 use state_laws::laws::runs_are_sound;
 
 /// Whatever comes between a put and its get but a put or a drop of the name: audits, repairs, scrubs, packs, upgrades,
@@ -35,12 +33,11 @@ pub fn kept_files_are_got()
         (start : State) (ms : List Moment) (old new : Seen) (end : Ending)
         → IsToldReplay words text (got_behind (middle ++ put_of front name bytes own p) name g)
         (Ended how ∷ Begun g ∷ (ts ++ Ended Put ∷ Begun p ∷ us)) start ms old new end
-        → length ts ≡ length middle → IsToldAnswer how → LeavesFree name front → NoneAsksOn name middle
+        → length ts ≡ length middle → IsToldAnswer how → AreOverOn name front us → NoneAsksOn name middle
         → AllTell start → DamagesOnly ps ms → AsksDamageOf ps (middle ++ put_of front name bytes own p)
-        → IsGotOver start (called_behind start ms) new end name bytes g how ps }
+        → IsGotOver start (called_behind start ms) new end name bytes g how (ps ∷ []) }
 {
-    told_replays_are_read();
-    transcripts::kept_files_are_got();
+    files_behind_scrubs_are_got();
 }
 
 /// A scrub that ended well, then all others may go. A file is put; at most b providers are damaged; a scrub ends
@@ -56,7 +53,7 @@ pub fn scrubbed_files_are_got()
         (got_behind (behind ++ done_by BeginScrub s (middle ++ put_of front name bytes own p)) name g)
         (Ended how ∷ Begun g ∷ (rs ++ Ended (Scrubbed stripes symbols blocks) ∷ Begun s
         ∷ (ts ++ Ended Put ∷ Begun p ∷ us))) start ms old new end
-        → length rs ≡ length behind → length ts ≡ length middle → IsToldAnswer how → LeavesFree name front
+        → length rs ≡ length behind → length ts ≡ length middle → IsToldAnswer how → AreOverOn name front us
         → NoneAsksOn name middle → NoneAsksOn name behind → AllTell start → DamagesOnly ps ms
         → AsksDamageOf ps (middle ++ put_of front name bytes own p) → AsksDamageOf qs behind
         → IsExactBehind start (called_behind start ms) new end name bytes g how ps qs }
@@ -81,10 +78,10 @@ pub fn repaired_files_are_got()
         ∷ (vs ++ Ended (Audited number undecided counts) ∷ Begun a ∷ (ts ++ Ended Put ∷ Begun p ∷ us))))
         start ms old new end
         → length rs ≡ length behind → length vs ≡ length between → length ts ≡ length middle
-        → IsToldAnswer how → LeavesFree name front → NoneAsksOn name middle → NoneAsksOn name between
+        → IsToldAnswer how → AreOverOn name front us → NoneAsksOn name middle → NoneAsksOn name between
         → NoneAsksOn name behind → NoneBeganFor IsAudit ms → NoneAsksFor IsAudit front
         → NoneAsksFor IsAudit middle → NoneAsksFor IsAudit between
-        → AreOver None (between ++ done_by (Begin AuditJob) a (middle ++ put_of front name bytes own p))
+        → AreOver (between ++ done_by (Begin AuditJob) a (middle ++ put_of front name bytes own p))
         (vs ++ Ended (Audited number undecided counts) ∷ Begun a ∷ (ts ++ Ended Put ∷ Begun p ∷ us))
         → AllTell start → DamagesOnly ps ms → AsksDamageOf ps
         (between ++ done_by (Begin AuditJob) a (middle ++ put_of front name bytes own p))
@@ -107,10 +104,10 @@ pub fn packed_files_are_got()
         (Ended how ∷ Begun g ∷ (rs ++ Ended (Packed full short) ∷ Begun k
         ∷ (vs ++ Ended Upgraded ∷ Begun u ∷ (ts ++ Ended Put ∷ Begun p ∷ us)))) start ms old new end
         → length rs ≡ length behind → length vs ≡ length between → length ts ≡ length middle
-        → IsToldAnswer how → LeavesFree name front → NoneAsksOn name middle → NoneAsksOn name between
+        → IsToldAnswer how → AreOverOn name front us → NoneAsksOn name middle → NoneAsksOn name between
         → NoneAsksOn name behind → AllTell start → DamagesOnly ps ms → AsksDamageOf ps behind
         → AsksDamageOf ps between → AsksDamageOf ps (middle ++ put_of front name bytes own p)
-        → IsGotOver start (called_behind start ms) new end name bytes g how ps }
+        → IsGotOver start (called_behind start ms) new end name bytes g how (ps ∷ []) }
 {
     kept_files_are_got();
 }
@@ -127,7 +124,7 @@ pub fn files_survive_cut_upkeep()
         ∷ (cut ++ Once event ∷ (middle ++ put_of front name bytes own p))) name g)
         (Ended how ∷ Begun g ∷ (rs ++ (ts ++ Ended Put ∷ Begun p ∷ us))) start ms old new end
         → IsUpkeep event → AreSteps k cut → length rs ≡ 3 + length cut → length ts ≡ length middle
-        → IsToldAnswer how → LeavesFree name front → NoneAsksOn name middle → AllTell start → DamagesOnly ps ms
+        → IsToldAnswer how → AreOverOn name front us → NoneAsksOn name middle → AllTell start → DamagesOnly ps ms
         → AsksDamageOf ps (middle ++ put_of front name bytes own p)
         → IsKeptOver start (called_behind start ms) new end name bytes g how ps }
 {
@@ -148,13 +145,125 @@ pub fn every_get_ends_well()
         (rs ++ Ended how ∷ (ts ++ Begun g ∷ us)) start ms old new end → length rs ≡ length behind
         → length ts ≡ length between → NoneIsBegun g ts → IsToldAnswer how → AllTell start → DamagesOnly ps ms
         → AsksDamageOf ps (job_behind behind between (Begin (GetJob name)) g front)
-        → GivesOrLoses start (called_behind start ms) new g name how ps }
+        → GivesOrLoses start (called_behind start ms) new g name how (ps ∷ []) }
+{
+    every_get_behind_scrubs_ends_well();
+}
+
+/// Any number of scrubs that ended well, before the put, between it and its get, or behind: while at most b providers
+/// are damaged between each and the next, whoever they are, the get gives the bytes that were put, or is lost by calls of
+/// providers that failed.
+pub fn files_behind_scrubs_are_got()
+    ensures { (words : List (String Global)) (text : List ℕ) (front middle : List Instruction)
+        (us ts : List Outcome) (name bytes : List ℕ) (own : Option ℕ) (p g : ℕ) (named : List (List ℕ))
+        (how : Answer) (start : State) (ms : List Moment) (old new : Seen) (end : Ending)
+        → IsToldReplay words text (got_behind (middle ++ put_of front name bytes own p) name g)
+        (Ended how ∷ Begun g ∷ (ts ++ Ended Put ∷ Begun p ∷ us)) start ms old new end
+        → length ts ≡ length middle → IsToldAnswer how → AreOverOn name front us → NoneAsksOn name middle
+        → AllTell start → DamagesOnly (oldest named) ms
+        → ByScrubs named (got_behind (middle ++ put_of front name bytes own p) name g)
+        (Ended how ∷ Begun g ∷ (ts ++ Ended Put ∷ Begun p ∷ us))
+        → IsGotOver start (called_behind start ms) new end name bytes g how named }
 {
     told_replays_are_read();
-    transcripts_tell_jobs();
-    told_jobs_leave();
-    what_is_not_asked_is_not_begun();
-    commands_damage_only();
-    few_damaged_providers_leave_runs_calm();
+    transcripts::files_behind_scrubs_are_got();
+}
+
+/// So each get of such a replay ends well, wherever it stands and whoever runs beside it: it gave the bytes that stood
+/// under its name at its begin, or is lost by calls of providers that failed.
+pub fn every_get_behind_scrubs_ends_well()
+    ensures { (words : List (String Global)) (text : List ℕ) (front between behind : List Instruction)
+        (us ts rs : List Outcome) (name : List ℕ) (g : ℕ) (named : List (List ℕ)) (how : Answer)
+        (start : State) (ms : List Moment) (old new : Seen) (end : Ending)
+        → IsToldReplay words text (job_behind behind between (Begin (GetJob name)) g front)
+        (rs ++ Ended how ∷ (ts ++ Begun g ∷ us)) start ms old new end → length rs ≡ length behind
+        → length ts ≡ length between → NoneIsBegun g ts → IsToldAnswer how → AllTell start
+        → DamagesOnly (oldest named) ms
+        → ByScrubs named (job_behind behind between (Begin (GetJob name)) g front)
+        (rs ++ Ended how ∷ (ts ++ Begun g ∷ us))
+        → GivesOrLoses start (called_behind start ms) new g name how named }
+{
+    told_replays_are_read();
+    transcripts::scrubs_in_a_row_begin_epochs();
     gets_give_what_stood();
+}
+
+/// A put, and behind it any commands whose puts of the name are all of the same other bytes: cut by stops, run beside
+/// others, dropped in between. A get, wherever it stands and whoever runs beside it, gave the ones or the others, whole,
+/// or what it heard holds a forgery against them; while at most b providers are damaged it gave them, or is lost by
+/// calls of providers that failed.
+pub fn gets_give_old_or_new()
+    ensures { (words : List (String Global)) (text : List ℕ)
+        (front beside middle between behind : List Instruction) (us vs ts ws rs : List Outcome)
+        (name bytes other : List ℕ) (own : Option ℕ) (p g : ℕ) (ps : List ℕ) (how : Answer) (start : State)
+        (ms : List Moment) (old new : Seen) (end : Ending)
+        → IsToldReplay words text (job_behind behind between (Begin (GetJob name)) g
+        (job_behind middle beside (put_event own name bytes) p front))
+        (rs ++ Ended how ∷ (ws ++ Begun g ∷ (ts ++ Ended Put ∷ (vs ++ Begun p ∷ us)))) start ms old new end
+        → length rs ≡ length behind → length ws ≡ length between → length ts ≡ length middle
+        → length vs ≡ length beside → NoneIsBegun g ws → NoneIsBegun p vs → IsToldAnswer how
+        → AreOverOn name front us → NoneAsksOn name beside → AsksPutsOnly name other middle → AllTell start
+        → DamagesOnly ps ms → AsksDamageOf ps (job_behind behind between (Begin (GetJob name)) g
+        (job_behind middle beside (put_event own name bytes) p front))
+        → GivesOldOrNew start (called_behind start ms) new end g name bytes other how (ps ∷ []) }
+{
+    gets_behind_scrubs_give_old_or_new();
+}
+
+/// So it is with any number of scrubs that ended well, while at most b providers are damaged between each and the next,
+/// whoever they are.
+pub fn gets_behind_scrubs_give_old_or_new()
+    ensures { (words : List (String Global)) (text : List ℕ)
+        (front beside middle between behind : List Instruction) (us vs ts ws rs : List Outcome)
+        (name bytes other : List ℕ) (own : Option ℕ) (p g : ℕ) (named : List (List ℕ)) (how : Answer)
+        (start : State) (ms : List Moment) (old new : Seen) (end : Ending)
+        → IsToldReplay words text (job_behind behind between (Begin (GetJob name)) g
+        (job_behind middle beside (put_event own name bytes) p front))
+        (rs ++ Ended how ∷ (ws ++ Begun g ∷ (ts ++ Ended Put ∷ (vs ++ Begun p ∷ us)))) start ms old new end
+        → length rs ≡ length behind → length ws ≡ length between → length ts ≡ length middle
+        → length vs ≡ length beside → NoneIsBegun g ws → NoneIsBegun p vs → IsToldAnswer how
+        → AreOverOn name front us → NoneAsksOn name beside → AsksPutsOnly name other middle → AllTell start
+        → DamagesOnly (oldest named) ms
+        → ByScrubs named (job_behind behind between (Begin (GetJob name)) g
+        (job_behind middle beside (put_event own name bytes) p front))
+        (rs ++ Ended how ∷ (ws ++ Begun g ∷ (ts ++ Ended Put ∷ (vs ++ Begun p ∷ us))))
+        → GivesOldOrNew start (called_behind start ms) new end g name bytes other how named }
+{
+    told_replays_are_read();
+    transcripts::scrubs_in_a_row_begin_epochs();
+    gets_give_what_stood();
+}
+
+/// A list of the names in a replay tells of each name whether a file was in effect under it, and of which size: of one
+/// that was put, and neither put nor dropped since, the size of its bytes; of one that was dropped, and not put since,
+/// none; and none of one that nobody put. What comes behind the list is as it may be.
+pub fn lists_tell_what_stands()
+    ensures every { (words : List (String Global)) (text : List ℕ) (commands behind : List Instruction)
+        (outcomes rs : List Outcome) (told : List File) (start : State) (ms : List Moment) (old new : Seen)
+        (end : Ending)
+        → IsToldReplay words text (behind ++ Once Names ∷ commands) (rs ++ Listed told ∷ outcomes) start ms old
+        new end → length rs ≡ length behind → TellsNames start (called_behind start ms) new told }
+    ensures put { (words : List (String Global)) (text : List ℕ) (front middle behind : List Instruction)
+        (us ts rs : List Outcome) (told : List File) (name bytes : List ℕ) (own : Option ℕ) (p : ℕ)
+        (start : State) (ms : List Moment) (old new : Seen) (end : Ending)
+        → IsToldReplay words text (behind ++ Once Names ∷ (middle ++ put_of front name bytes own p))
+        (rs ++ Listed told ∷ (ts ++ Ended Put ∷ Begun p ∷ us)) start ms old new end
+        → length rs ≡ length behind → length ts ≡ length middle → AreOverOn name front us
+        → NoneAsksOn name middle
+        → (file : File) × (find_file told name ≡ Some file) × (file.size ≡ length bytes) }
+    ensures drop { (words : List (String Global)) (text : List ℕ) (front middle behind : List Instruction)
+        (us ts rs : List Outcome) (told : List File) (name : List ℕ) (d : ℕ) (start : State) (ms : List Moment)
+        (old new : Seen) (end : Ending)
+        → IsToldReplay words text (behind ++ Once Names ∷ (middle ++ done_by (Begin (DropJob name)) d front))
+        (rs ++ Listed told ∷ (ts ++ Ended Dropped ∷ Begun d ∷ us)) start ms old new end
+        → length rs ≡ length behind → length ts ≡ length middle → AreOverOn name front us
+        → NonePuts name middle → find_file told name ≡ None }
+    ensures none { (words : List (String Global)) (text : List ℕ) (commands behind : List Instruction)
+        (outcomes rs : List Outcome) (told : List File) (name : List ℕ) (start : State) (ms : List Moment)
+        (old new : Seen) (end : Ending)
+        → IsToldReplay words text (behind ++ Once Names ∷ commands) (rs ++ Listed told ∷ outcomes) start ms old
+        new end → length rs ≡ length behind → NonePuts name commands → NoPutBegan name ms
+        → find_file told name ≡ None }
+{
+    told_replays_are_read();
 }

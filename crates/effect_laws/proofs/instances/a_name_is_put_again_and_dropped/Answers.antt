@@ -1,4 +1,4 @@
-use Rattle.std.proofs.Common.{inl, arith}
+use Rattle.std.proofs.Common.{refl, inl, inr, arith}
 use Rattle.machine_defs.specs.Examples.{set_up}
 use Rattle.effect_laws.specs.Instances.{name, byte}
 use Rattle.effect_laws.proofs.PutAgain.{starts, run, lines, none-calls, all-told, reads, is-again, is-dropped, none-other}
@@ -9,8 +9,24 @@ returns c = record {
   run = (starts, run);
   lines = (none-calls, lines, all-told);
   reads = reads;
+  over = (
+    inr (inl (
+      (λ on. on),
+      inr (inr (
+        3,
+        inl refl,
+        refl,
+        inr (inl (
+          (λ on. on),
+          inr (inr (2, inl refl, refl, inr (inr (1, inl refl, refl, inl tt)))),
+        )),
+      )),
+    )),
+    refl,
+  );
   again = (let F = (c.stored_files_give_way_to_puts.ensures.there 8 set_up is-again.later is-again.older name
       byte (omega arith, omega arith) starts is-again.run is-again.stored is-again.drops).in_effect in
       (is-again, F.0, inl F.1));
+  tested = (refl, refl, refl, refl);
   dropped = (is-dropped, none-other);
 }

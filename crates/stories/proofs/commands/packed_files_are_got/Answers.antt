@@ -1,48 +1,9 @@
-use Rattle.std.proofs.Common.{◌≤◌, List, length, refl, sym, subst, ◌≡◌, ℕ, [], ◌∷◌, Option, ap, ◌∙◌, inl, inr}
-use Rattle.record_defs.specs.Packed.{packed, AreAlike}
-use Rattle.record_defs.specs.Acceptance.{AreAccepted}
-use Rattle.record_defs.proofs.PackLaws.{packed_are}
-use Rattle.state_laws.proofs.Records.{is_some-at, second-set_up}
+use Rattle.std.proofs.Common.{◌≤◌, List, length, refl, sym, subst}
+use Rattle.record_defs.specs.Packed.{packed}
 use Rattle.command_laws.proofs.JobEnds.{put-setup}
-use Rattle.stories.specs.Words.{Record, Setup, Version, setup_of, version_of, UpgradeJob, setup_or_none, GetOf, UpgradeJournal, PackJournal, setup_in_effect, Seen, IsUntouched, IsSteady, spoilt_below, IsThen, put_of, after_put, after_upgrade}
+use Rattle.stories.specs.Words.{Record, Setup, GetOf, UpgradeJournal, PackJournal, IsUntouched, IsSteady, spoilt_below, put_of, after_put, after_upgrade}
+use Rattle.stories.proofs.Packs.{upgraded-then, packed-then, setup-stays}
 use Rattle.stories.proofs.commands.packed_files_are_got.Goals as goal
-
--- the records of the second version are packed to such as a start makes the same table of
-packed-alike : (records : List Record) → AreAccepted records → version_of records ≡ 2 →
-    AreAlike (packed records) records
-packed-alike records accepted second =
-    (let s = is_some-at (setup_of records) (second-set_up records accepted second) in
-    (packed_are records accepted s.0 s.1 second).1)
-
--- the records after an upgrade
-upgraded-then : (records : List Record) (old new : Seen) →
-    IsThen UpgradeJournal records old new (after_upgrade records)
-upgraded-then records old new = inr (inl (record {
-  kind = UpgradeJob;
-  of_command = refl;
-  own = Version ∷ [];
-  are_own = refl;
-  count = 1;
-  whole = λ l. tt;
-  after_is = refl;
-}))
-
--- and after a pack
-packed-then : (records : List Record) (old new : Seen) → AreAccepted records → version_of records ≡ 2 →
-    IsThen PackJournal records old new (packed records)
-packed-then records old new accepted second = inr (inr (record {
-  of_command = refl;
-  after_is = refl;
-  alike = packed-alike records accepted second;
-}))
-
--- the setup stays
-setup-stays : (records : List Record) (name : List ℕ) (size : ℕ) (own : Option ℕ) →
-    AreAccepted (after_upgrade (after_put records name size own)) →
-    setup_in_effect records ≡ setup_in_effect (packed (after_upgrade (after_put records name size own)))
-setup-stays records name size own accepted = sym (put-setup records name size own)
-    ∙ sym (ap setup_or_none (packed-alike (after_upgrade (after_put records name size own)) accepted
-    refl).setup)
 
 pub returns : goal.returns
 returns c =

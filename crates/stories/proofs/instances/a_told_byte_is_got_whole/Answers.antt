@@ -38,11 +38,11 @@ told words answers form spells left = record {
 pub returns : goal.returns
 returns c = (let B = c.a_byte_is_put_and_got.ensures in record {
   told = λ words form. told words (B.replay words form) form B.spells B.left;
-  over = inr (inr (2, refl, refl), inr (inl (λ on. false≢true on), inl tt));
+  over = (inr (inr (2, inl refl, refl, inr (inl ((λ on. false≢true on), inl tt)))), inl tt);
   whole = λ words form.
       (let K = c.kept_files_are_got.ensures words byte_text opening [] (Opened ∷ []) [] named byte None 1 2 []
       (Got byte) first_state [] before_byte behind_byte byte_end
-      (told words (B.replay words form) form B.spells B.left) refl tt B.asks.0 B.asks.1 B.calm.0 tt B.calm.2 in
+      (told words (B.replay words form) form B.spells B.left) refl tt (inl tt) B.asks.1 B.calm.0 tt B.calm.2 in
       (K.0, K.1 (omega arith, tt)));
   every = λ words form. c.every_get_ends_well.ensures words byte_text _ [] [] _ [] [] named 2 [] (Got byte)
       first_state [] before_byte behind_byte byte_end (told words (B.replay words form) form B.spells B.left) refl

@@ -1,31 +1,9 @@
-use Rattle.std.proofs.Common.{◌∷◌, ◌++◌, ap, subst, ◌∙◌}
-use Rattle.stories.specs.Words.{Put, Begun, Ended, called_behind}
-use Rattle.stories.specs.Files.{put_of, got_behind}
-use Rattle.stories.specs.Told.{WasTold}
-use Rattle.stories.proofs.Puts.{called-free}
-use Rattle.stories.proofs.Told.{job-told, last-told, got-right}
+use Rattle.std.proofs.Common.{[], ◌∷◌}
+use Rattle.epoch_laws.specs.Told.{ByScrubs}
 use Rattle.stories.proofs.upkeep.kept_files_are_got.Goals as goal
 
 pub returns : goal.returns
 returns c =
-    λ words text front middle us ts name bytes own p g ps how start ms old new end I many told leaves asks tell
-    before names.
-    (let commands = got_behind (middle ++ put_of front name bytes own p) name g in
-    let first = ts ++ Ended Put ∷ Begun p ∷ us in
-    let R = c.told_replays_are_read.ensures words text commands (Ended how ∷ Begun g ∷ first) start ms old new end
-    I in
-    let G = last-told R.0 first how g told R.1 in
-    let P = job-told G.0 ts us Put p tt G.2 in
-    let W = subst (λ o. WasTold commands o start ms new end)
-    (G.1 ∙ ap (λ l. Ended how ∷ Begun g ∷ l) P.is) R.2 in
-    let B = c.kept_files_are_got.ensures 8 start (called_behind start ms) W.later front middle P.before P.behind
-    name bytes own p g ps how W.left.starts tell W.left.run W.reads (P.as_many ∙ many) leaves
-    (called-free name start ms) asks (tt, before) names in (
-      record {
-        ms = W.later;
-        left = W.left;
-        get = B.0;
-        right = got-right commands _ start ms new end W name bytes g how B.0;
-      },
-      B.1,
-    ))
+    λ words text front middle us ts name bytes own p g ps how start ms old new end I many told leaves asks tell before
+    names. c.files_behind_scrubs_are_got.ensures words text front middle us ts name bytes own p g (ps ∷ []) how start ms
+    old new end I many told leaves asks tell before (ByScrubs.first ps _ _ (tt, names))

@@ -1,7 +1,8 @@
-use Rattle.std.proofs.Common.{◌∷◌, ◌++◌, None, ap, subst, ◌∙◌, arith}
+use Rattle.std.proofs.Common.{[], ◌∷◌, ◌++◌, ap, subst, ◌∙◌, arith}
 use Rattle.machine_defs.specs.Answers.{Audited, Repaired}
 use Rattle.machine_defs.specs.Jobs.{AuditJob, RepairJob}
 use Rattle.effect_laws.specs.Transcripts.{AreOver}
+use Rattle.machine_defs.specs.Untouched.{Touches, Relies}
 use Rattle.epoch_laws.specs.Told.{done_by}
 use Rattle.stories.specs.Words.{Begin, Put, Begun, Ended, NoneUnderWay, call_from, called_behind, now}
 use Rattle.stories.specs.Files.{put_of, got_behind}
@@ -32,12 +33,12 @@ returns c =
     let W = subst (λ o. WasTold commands o start ms new end)
     (G.1 ∙ ap (λ l. Ended how ∷ Begun g ∷ l) (M.is
     ∙ ap (λ l. M.behind ++ Ended (Repaired number) ∷ Begun r ∷ l) audit_is)) R.2 in
-    let over = subst (AreOver None (between ++ audit)) audit_is
-    (over-but (between ++ audit) M.before audited None M.rests is_over) in
+    let over = subst (AreOver (between ++ audit)) audit_is
+    (over-but Relies (between ++ audit) M.before audited [] M.rests is_over) in
     let B = c.repaired_files_are_got.ensures 8 start (called_behind start ms) W.later front middle between behind
     P.before P.behind A.behind M.behind name bytes own p a r g number undecided counts ps qs how
     (omega arith, omega arith) W.left.starts tell W.left.run W.reads (M.as_many ∙ many) (A.as_many ∙ some)
-    (P.as_many ∙ more) leaves (called-free name start ms) asks asks_between asks_later
+    (P.as_many ∙ more) (over-but (Touches name) front P.before us [] P.rests leaves) (called-free name start ms) asks asks_between asks_later
     ((λ t n is. t), none_audits) (NoneUnderWay.given_up (call_from (now start ms)) ms tt) audits_front
     audits_middle audits_between over (tt, before) names names_between names_later in (
       record {

@@ -1,12 +1,13 @@
-use Rattle.std.proofs.Common.{◌∷◌, ◌++◌, ap, subst, ◌∙◌}
+use Rattle.std.proofs.Common.{[], ◌∷◌, ◌++◌, ap, subst, ◌∙◌}
 use Rattle.machine_defs.specs.Answers.{Scrubbed}
 use Rattle.machine_defs.specs.Events.{BeginScrub}
+use Rattle.machine_defs.specs.Untouched.{Touches}
 use Rattle.epoch_laws.specs.Told.{done_by}
 use Rattle.stories.specs.Words.{Put, Begun, Ended, called_behind}
 use Rattle.stories.specs.Files.{put_of, got_behind}
 use Rattle.stories.specs.Told.{WasTold}
 use Rattle.stories.proofs.Puts.{called-free}
-use Rattle.stories.proofs.Told.{job-told, scrub-told, last-told, got-right}
+use Rattle.stories.proofs.Told.{job-told, scrub-told, last-told, over-but, got-right}
 use Rattle.stories.proofs.upkeep.scrubbed_files_are_got.Goals as goal
 
 pub returns : goal.returns
@@ -27,7 +28,8 @@ returns c =
     ∙ ap (λ l. S.1.behind ++ Ended (Scrubbed stripes symbols S.0) ∷ Begun s ∷ l) P.is)) R.2 in
     let B = c.scrubbed_files_are_got.ensures 8 start (called_behind start ms) W.later front middle behind
     P.before P.behind S.1.behind name bytes own p s g stripes symbols S.0 ps qs how W.left.starts tell W.left.run
-    W.reads (S.1.as_many ∙ many) (P.as_many ∙ more) leaves (called-free name start ms) asks asks_later
+    W.reads (S.1.as_many ∙ many) (P.as_many ∙ more)
+    (over-but (Touches name) front P.before us [] P.rests leaves) (called-free name start ms) asks asks_later
     (tt, before) names names_later in (
       record {
         ms = W.later;

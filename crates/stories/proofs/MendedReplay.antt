@@ -1,0 +1,138 @@
+-- The replay in which an audit flags a provider that lost its block, and a repair mends it: its run is computed from
+-- the turns of its jobs.
+use Rattle.std.proofs.Common.{◌≡◌, ℕ, true, String, Global, List, [], ◌∷◌, ◌++◌, Some, None, refl, sym, subst, inl, inr, arith, lit≤, reverse}
+use Rattle.std.specs.Fmt.{digits}
+use Rattle.algebra_laws.specs.Lists.{In}
+use Rattle.column_defs.specs.Verdicts.{is_flagged}
+use Rattle.made_runs.proofs.Written.{carries}
+use Rattle.second_half_laws.proofs.ByteSteps.{block_sized, symbols, byte_back}
+use Rattle.damage_run.specs.Points.{counts}
+use Rattle.damage_run.specs.Words.{AuditStart, AuditDone, GetJob, AuditJob, RepairJob, actions_of, Got, Audited, Repaired, Begin, Reopen, Opened, State, setup_in, Moment, Goes, Works, Notes, Came, Heard, Gives, Instruction, Turns, Begins, Comes, run_of}
+use Rattle.damage_run.proofs.Run.{few}
+use Rattle.damage_run.proofs.Values.{without_two_give, without_zero_give, right, same_first, no_answer, sums, judged}
+use Rattle.command_runs.proofs.Stores.{mended-sure, four}
+use Rattle.schedule_runs.proofs.Read.{read, are-lines}
+use Rattle.epoch_laws.specs.Told.{done_by}
+use Rattle.stories.specs.Words.{CarriesOut, byte, named, own_block, lines, IsSchedule, devices_of_seen, AnswersReplay, IsReplayForm, AreLeft, Once, RunJob}
+use Rattle.stories.specs.Instances.{before_byte, before_text, first_state}
+use Rattle.stories.specs.Replays.{damaged2, lost0, audited_first, mended_text, mended_lines, mended_commands, mended_outcomes, mended_heard, behind_mended, mended_end}
+use Rattle.stories.specs.Told.{IsToldReplay}
+use Rattle.stories.proofs.Behind.{AreFitBehind, alone, behind-run}
+use Rattle.stories.proofs.Reopened as reopened
+use Rattle.stories.proofs.Replayed as replayed
+use Rattle.stories.proofs.ToldBy.{told-by}
+use Rattle.stories.proofs.SweptReplay.{damaged, fit-damaged, get_lost}
+
+-- the text spells the commands
+pub spelled : IsSchedule mended_text (reverse mended_commands)
+unfolding read
+spelled = are-lines (lines mended_text) (reverse mended_commands) refl
+
+abbrev audited : List Instruction
+audited = Turns 2 (Gives (Audited 1 0 counts) ∷ Goes 3 ∷ Notes (AuditDone 1 0 counts) ∷ Heard (right 3)
+    ∷ Heard None ∷ Heard (right 1) ∷ Heard (right 0) ∷ Goes 3 ∷ Notes (AuditStart 1) ∷ [])
+    ∷ Begins (Begin AuditJob) ∷ damaged
+
+abbrev mended : List Instruction
+mended = Turns 3 (Gives (Repaired 1) ∷ Goes 5 ∷ Works symbols ∷ Came (Some (own_block 3)) ∷ Came None
+    ∷ Came (Some (own_block 1)) ∷ Came (Some (own_block 0)) ∷ []) ∷ Begins (Begin RepairJob) ∷ audited
+
+abbrev got : List Instruction
+got = get_lost 4 mended
+
+module _ (start : State) (before : List Moment) where
+  abbrev first : List Moment
+  first = reopened.first start before
+
+  fit-audited : AreFitBehind start first audited
+  unfolding setup_in actions_of
+  fit-audited = (
+    (
+      omega arith,
+      (
+        (refl, (refl, (refl, (sums, (sums, judged, refl), refl)))),
+        (
+          refl,
+          (
+            (refl, (refl, (sums, (sums, (sums, judged, refl), refl), refl))),
+            (
+              (refl, (refl, same_first _ _ refl)),
+              (
+                (refl, (refl, sym (no_answer _ refl))),
+                (
+                  (refl, (refl, same_first _ _ refl)),
+                  ((refl, (refl, same_first _ _ refl)), (refl, ((assumption), tt))),
+                ),
+              ),
+            ),
+          ),
+        ),
+      ),
+    ),
+    ((assumption), fit-damaged start before),
+  )
+
+  fit-mended : AreFitBehind start first mended
+  unfolding setup_in actions_of
+  fit-mended = (
+    (omega arith, (assumption (without_two_give, block_sized 3, block_sized 1, block_sized 0))),
+    ((assumption), fit-audited),
+  )
+
+  fits : AreFitBehind start first got
+  unfolding setup_in actions_of
+  fits = (
+    (omega arith, (assumption (byte_back, without_zero_give, block_sized 3, block_sized 2, block_sized 1))),
+    (
+      (assumption),
+      ((omega arith, (_, ((λ x. refl, λ x. refl), refl), refl)), fit-mended),
+    ),
+  )
+
+-- it goes so
+goes : (start : State) (before : List Moment) → AreLeft start before (devices_of_seen before_byte) →
+    replayed.Goes start before mended_commands mended_lines mended_heard behind_mended
+unfolding setup_in actions_of digits
+goes start before L = replayed.goes-so got mended_commands mended_lines mended_heard behind_mended start before L
+    (fits start before) (carries (reopened.found start before) (replayed.alone-of got start before) refl) refl
+    mended-sure.images refl refl refl refl
+
+-- the replay
+pub mended-replayed : AnswersReplay (before_text mended_text) behind_mended mended_end
+mended-replayed = replayed.answers mended_text mended_lines (RunJob 4)
+    (Once (Begin (GetJob named)) ∷ (lost0 ++ done_by (Begin RepairJob) 3 audited_first)) mended_heard behind_mended
+    refl spelled (record { are_bytes = refl; front = refl; few = lit≤ tt; end = λ l. refl }) (lit≤ tt) goes
+
+-- its text and what it wrote tell it
+pub told : (words : List (String Global)) → IsReplayForm words →
+    IsToldReplay words mended_text mended_commands mended_outcomes first_state [] (before_text mended_text)
+    behind_mended mended_end
+unfolding digits
+told = told-by mended_text mended_commands mended_outcomes behind_mended mended_heard mended-replayed (assumption)
+    spelled refl refl refl (
+      tt,
+      (
+        omega arith,
+        (
+          tt,
+          (
+            omega arith,
+            (
+              omega arith,
+              (
+                omega arith,
+                (
+                  omega arith,
+                  (tt, (tt, (omega arith, (tt, tt)))),
+                ),
+              ),
+            ),
+          ),
+        ),
+      ),
+    )
+
+-- the audit flags provider 2
+pub flags : (j : ℕ) → In j damaged2 → is_flagged 0 counts j ≡ true
+flags j (inl is) = subst (λ j. is_flagged 0 counts j ≡ true) (sym is) refl
+flags j (inr none) = absurd none

@@ -1,0 +1,80 @@
+-- The replay in which the journal gets its second version and is packed: its run is computed from the turns of its jobs.
+use Rattle.std.proofs.Common.{◌≡◌, ◌^◌, ℕ, List, [], ◌∷◌, ◌++◌, length, Some, None, refl, inl, ◌∙◌, arith, lit≤, length-append, reverse}
+use Rattle.std.specs.Fmt.{digits}
+use Rattle.std.proofs.lemmas.List.{drop_at}
+use Rattle.made_runs.proofs.Written.{carries}
+use Rattle.second_half_laws.proofs.ByteSteps.{block_sized, symbols, own_work, byte_back}
+use Rattle.damage_run.specs.Words.{B, GetJob, UpgradeJob, actions_of, Got, Upgraded, Begin, BeginPack, Reopen, Opened, State, setup_in, Moment, Goes, Works, Came, Gives, Moves, Tells, Instruction, Turns, Sweeps, Begins, Comes, run_of}
+use Rattle.command_runs.specs.Packed.{packed_records, named_second, second_text, in_second}
+use Rattle.command_laws.proofs.SureStores.{stands}
+use Rattle.command_runs.proofs.Stores.{four}
+use Rattle.schedule_runs.proofs.Read.{read, are-lines}
+use Rattle.stories.specs.Words.{StandsActive, spelling, CarriesOut, byte, named, own_block, lines, IsSchedule, devices_of_seen, AnswersReplay, AreLeft, RunJob, IsFilling}
+use Rattle.stories.specs.Instances.{before_byte, before_text}
+use Rattle.stories.specs.Replays.{packed_front, packed_text, packed_lines, packed_commands, four_given, behind_packed, packed_end}
+use Rattle.stories.proofs.Behind.{AreFitBehind, alone, behind-run}
+use Rattle.stories.proofs.ByteReplay.{put, get_all, fit-put}
+use Rattle.stories.proofs.Reopened as reopened
+use Rattle.stories.proofs.Replayed as replayed
+
+-- the text spells the commands
+pub spelled : IsSchedule packed_text (reverse packed_commands)
+unfolding read
+spelled = are-lines (lines packed_text) (reverse packed_commands) refl
+
+-- the disk stands for the packed records, in its second area
+second-stands : (filling : List ℕ) → IsFilling filling → StandsActive (in_second filling) B packed_records
+unfolding spelling
+second-stands filling fills = record {
+  active = record { switch = 50; front = refl; names = refl };
+  holds = record {
+    in_grammar = refl;
+    gate = 0;
+    rest = [];
+    closed = λ e. omega (arith, e);
+    bytes_are = drop_at (named_second ++ filling) second_text (2 ^ 23) (length-append named_second filling
+        ∙ (let l : length named_second ≡ 80 = refl in omega (arith, l, fills)));
+  };
+}
+
+abbrev packed : List Instruction
+packed = Sweeps 3 (Tells 80 81 ∷ Moves ∷ Moves ∷ Moves ∷ Moves ∷ []) ∷ Begins BeginPack
+    ∷ Turns 2 (Gives Upgraded ∷ Goes 4 ∷ []) ∷ Begins (Begin UpgradeJob) ∷ put
+
+abbrev got : List Instruction
+got = get_all 4 packed
+
+-- it can go so
+fit-got : (start : State) (before : List Moment) → AreFitBehind start (reopened.first start before) got
+unfolding setup_in actions_of
+fit-got start before = (
+  (
+    omega arith,
+    (assumption (byte_back, own_work, block_sized 3, block_sized 2, block_sized 1, block_sized 0)),
+  ),
+  (
+    (assumption),
+    (
+      (omega arith, (assumption)),
+      ((assumption), ((omega arith, (assumption)), ((assumption), fit-put start before))),
+    ),
+  ),
+)
+
+-- it goes so
+goes : (filling : List ℕ) → IsFilling filling → (start : State) (before : List Moment) →
+    AreLeft start before (devices_of_seen before_byte) →
+    replayed.Goes start before packed_commands packed_lines (four_given 4) (behind_packed filling)
+unfolding setup_in actions_of digits
+goes filling fills start before L = replayed.goes-so got packed_commands packed_lines (four_given 4)
+    (behind_packed filling) start before L (fit-got start before)
+    (carries (reopened.found start before) (replayed.alone-of got start before) refl) refl
+    (stands (in_second filling) (second-stands filling fills)) refl refl refl refl
+
+-- the replay
+pub packed-replayed : (filling : List ℕ) → IsFilling filling →
+    AnswersReplay (before_text packed_text) (behind_packed filling) packed_end
+packed-replayed filling fills = replayed.answers packed_text packed_lines (RunJob 4) packed_front (four_given 4)
+    (behind_packed filling) refl spelled
+    (record { are_bytes = refl; front = refl; few = lit≤ tt; end = λ l. refl }) (lit≤ tt)
+    (goes filling fills)

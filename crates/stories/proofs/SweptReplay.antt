@@ -1,0 +1,100 @@
+-- The replay in which a scrub mends a lost block: its run is computed from the turns of its jobs.
+use Rattle.std.proofs.Common.{◌≡◌, ◌<◌, ◌^◌, ℕ, List, [], ◌∷◌, ◌++◌, Some, None, refl, inl, arith, lit≤, reverse}
+use Rattle.std.specs.Fmt.{digits}
+use Rattle.code_defs.proofs.Codewords.{differences-same}
+use Rattle.made_runs.proofs.Written.{carries}
+use Rattle.second_half_laws.proofs.ByteSteps.{block_sized, symbols, byte_back}
+use Rattle.damage_run.specs.Words.{GetJob, Action, Store, End, actions_of, Got, Begin, BeginScrub, Lose, Reopen, Opened, Replaced, State, setup_in, Moment, Works, Came, Gives, Brings, Opens, Mends, Finds, Instruction, Turns, Sweeps, Begins, Comes, run_of}
+use Rattle.damage_run.proofs.Run.{lose}
+use Rattle.damage_run.proofs.Values.{without_two_give, without_zero_give}
+use Rattle.command_runs.proofs.Alone.{finds}
+use Rattle.command_runs.proofs.Stores.{put-new, four}
+use Rattle.schedule_runs.proofs.Read.{read, are-lines}
+use Rattle.stories.specs.Words.{CarriesOut, byte, named, own_block, lines, IsSchedule, devices_of_seen, AnswersReplay, AreLeft, Once, RunJob}
+use Rattle.stories.specs.Instances.{before_byte, before_text}
+use Rattle.stories.specs.Replays.{lost0, put_lost, swept_text, swept_lines, swept_commands, symbols_off, blocks_off, behind_swept, swept_end, three_given}
+use Rattle.epoch_laws.specs.Told.{done_by}
+use Rattle.stories.proofs.Behind.{AreFitBehind, alone, behind-run}
+use Rattle.stories.proofs.ByteReplay.{put, fit-put}
+use Rattle.stories.proofs.Reopened as reopened
+use Rattle.stories.proofs.Replayed as replayed
+
+-- the text spells the commands
+pub spelled : IsSchedule swept_text (reverse swept_commands)
+unfolding read
+spelled = are-lines (lines swept_text) (reverse swept_commands) refl
+
+-- a block of provider 2 is lost behind the put
+abbrev pub damaged : List Instruction
+damaged = Comes (Lose 2 1 0) Replaced (lose 2) ∷ put
+
+-- a get as a job of this number, behind the loss of a block of provider 0
+abbrev pub get_lost : ℕ → List Instruction → List Instruction
+get_lost n is = Turns n (Gives (Got byte) ∷ Works symbols ∷ Came (Some (own_block 3)) ∷ Came (Some (own_block 2))
+    ∷ Came (Some (own_block 1)) ∷ Came None ∷ []) ∷ Begins (Begin (GetJob named))
+    ∷ Comes (Lose 0 1 0) Replaced (lose 0) ∷ is
+
+abbrev swept : List Instruction
+swept = Sweeps 2 (Finds 1 symbols_off blocks_off ∷ Mends ∷ Opens symbols (Store 2 1 0 ∷ End ∷ [])
+    ∷ Brings (Some (own_block 3)) ∷ Brings None ∷ Brings (Some (own_block 1)) ∷ Brings (Some (own_block 0)) ∷ [])
+    ∷ Begins BeginScrub ∷ damaged
+
+abbrev got : List Instruction
+got = get_lost 3 swept
+
+module _ (start : State) (before : List Moment) where
+  abbrev first : List Moment
+  first = reopened.first start before
+
+  pub fit-damaged : AreFitBehind start first damaged
+  unfolding setup_in actions_of
+  fit-damaged = ((omega arith, (_, ((λ x. refl, λ x. refl), refl), refl)), fit-put start before)
+
+  fit-swept : AreFitBehind start first swept
+  unfolding setup_in actions_of
+  fit-swept = (let f = finds (own_block 0) 0 (differences-same (own_block 0)) in (
+    (
+      omega arith,
+      (
+        (refl, (refl, (refl, f.1, f.2))),
+        (
+          (refl, (refl, tt)),
+          (
+            (refl, (refl, (without_two_give, f.0))),
+            (
+              (refl, (refl, block_sized 3)),
+              (
+                (refl, (refl, refl)),
+                ((refl, (refl, block_sized 1)), ((refl, (refl, block_sized 0)), tt)),
+              ),
+            ),
+          ),
+        ),
+      ),
+    ),
+    ((tt, refl, refl), fit-damaged),
+  ))
+
+  fits : AreFitBehind start first got
+  unfolding setup_in actions_of
+  fits = (
+    (omega arith, (assumption (byte_back, without_zero_give, block_sized 3, block_sized 2, block_sized 1))),
+    (
+      (assumption),
+      ((omega arith, (_, ((λ x. refl, λ x. refl), refl), refl)), fit-swept),
+    ),
+  )
+
+-- it goes so
+goes : (start : State) (before : List Moment) → AreLeft start before (devices_of_seen before_byte) →
+    replayed.Goes start before swept_commands swept_lines (three_given 3) behind_swept
+unfolding setup_in actions_of digits
+goes start before L = replayed.goes-so got swept_commands swept_lines (three_given 3) behind_swept start before L
+    (fits start before) (carries (reopened.found start before) (replayed.alone-of got start before) refl) refl
+    put-new.images refl refl refl refl
+
+-- the replay
+pub swept-replayed : AnswersReplay (before_text swept_text) behind_swept swept_end
+swept-replayed = replayed.answers swept_text swept_lines (RunJob 3)
+    (Once (Begin (GetJob named)) ∷ (lost0 ++ done_by BeginScrub 2 put_lost)) (three_given 3) behind_swept refl
+    spelled (record { are_bytes = refl; front = refl; few = lit≤ tt; end = λ l. refl }) (lit≤ tt) goes

@@ -1,0 +1,34 @@
+use Rattle.std.proofs.Common.{◌≡◌, ℕ, List, [], ◌∷◌, String, None, Global, refl, inl, arith}
+use Rattle.std.specs.Fmt.{digits}
+use Rattle.hail_client.proofs.Fresh.{start-tells}
+use Rattle.command_runs.proofs.Alone.{filling-of}
+use Rattle.stories.specs.Words.{Got, Opened, AllTell, none_hold, named, byte, IsFilling, IsReplayForm}
+use Rattle.stories.specs.Instances.{opening, before_text, first_state}
+use Rattle.stories.specs.Told.{IsToldReplay}
+use Rattle.stories.specs.Replays.{packed_text, packed_commands, packed_outcomes, behind_packed, packed_end, four_given}
+use Rattle.stories.proofs.Asked.{none-tell}
+use Rattle.stories.proofs.PackedReplay.{spelled, packed-replayed}
+use Rattle.stories.proofs.ToldBy.{told-by}
+use Rattle.stories.proofs.instances.a_packed_byte_is_told.Goals as goal
+
+told : (words : List (String Global)) (filling : List ℕ) → IsReplayForm words → IsFilling filling →
+    IsToldReplay words packed_text packed_commands packed_outcomes first_state [] (before_text packed_text)
+    (behind_packed filling) packed_end
+unfolding digits
+told words filling form fills = told-by packed_text packed_commands packed_outcomes (behind_packed filling) (four_given 4)
+    (packed-replayed filling fills) (assumption) spelled refl refl refl
+    (tt, (omega arith, (omega arith, (omega arith, (tt, (omega arith, (tt, (omega arith, (tt, tt))))))))) words form
+
+tells : AllTell first_state
+tells = start-tells none_hold none-tell
+
+pub returns : goal.returns
+returns c = record {
+  told = told;
+  whole = λ words filling form fills.
+      (let K = c.packed_files_are_got.ensures words packed_text opening [] [] [] (Opened ∷ []) [] [] [] named byte None 1
+      2 3 4 80 81 [] (Got byte) first_state [] (before_text packed_text) (behind_packed filling) packed_end
+      (told words filling form fills) refl refl refl tt (inl tt) tt tt tt tells tt tt tt (tt, (tt, tt)) in
+      (K.0, K.1 (omega arith, tt)));
+  there_is_one = filling-of _;
+}
