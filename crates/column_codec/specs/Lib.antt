@@ -7,3 +7,4 @@ pub mod Tables
 pub mod Agreement
 pub mod Views
 pub mod Bench
+pub mod Tabled

@@ -1,4 +1,4 @@
-ghost use Rattle.std.specs.Prelude.{◌≡◌, ◌≢◌, ◌≤◌, ◌<◌, ◌-◌, ◌*◌, ℕ, IfOk, IfSome, length, slice_index};
+ghost use Rattle.std.specs.Prelude.{◌≡◌, ◌≢◌, ◌≤◌, ◌<◌, ◌-◌, ◌*◌, ℕ, true, false, IfOk, IfSome, is_some, length, slice_index};
 ghost use Rattle.std.specs.Option.{ForSome};
 ghost use Rattle.column_codec.specs.ObjectKeys.{ArePoints, AreMaskKeys, HasWeights, AreTabled};
 
@@ -62,10 +62,13 @@ fn all_weights(shape: Shape, points: &[Symbol; 16]) -> [[Symbol; 16]; 16]
 }
 
 impl ObjectKeys {
+    ghost use Rattle.column_codec.specs.Tabled.{has_tables};
+
     /// The keys of a file's object under a master key, without tables and so without memory.
     pub fn new(master: &Master, file: &FileShape) -> ObjectKeys
         ensures master { result.master ≡ master.now }
         ensures file { result.file ≡ file.now }
+        ensures tables { has_tables result ≡ false }
     {
         let points = points(master, file);
         ObjectKeys {
@@ -87,6 +90,7 @@ impl ObjectKeys {
     ) -> Result<ObjectKeys, Memory>
         ensures master { IfOk result (λ keys. keys.master ≡ master.now) }
         ensures file { IfOk result (λ keys. keys.file ≡ file.now) }
+        ensures tables { IfOk result (λ keys. has_tables keys ≡ true) }
     {
         let mut keys = ObjectKeys::new(master, file);
         keys.tables = Some(WeightTables::new(alloc, file.shape, &keys.weights)?);
@@ -101,6 +105,7 @@ impl ObjectKeys {
         ensures length { self.new.file.length ≡ self.old.file.length }
         ensures shape { self.new.file.shape ≡ self.old.file.shape }
         ensures profile { self.new.file.profile ≡ self.old.file.profile }
+        ensures tables { has_tables self.new ≡ has_tables self.old }
     {
         let file = FileShape {
             id,
@@ -121,7 +126,8 @@ fn turned(
     weights: &[[Symbol; 16]; 16],
 ) -> Option<WeightTables>
     requires { IfSome tables (λ all. length all ≡ (shape.n - shape.l) * (shape.l - 1)) }
-    ensures { IfSome result (λ all. AreTabled shape.n shape.l weights.now all) }
+    ensures made { IfSome result (λ all. AreTabled shape.n shape.l weights.now all) }
+    ensures there { is_some result ≡ is_some tables }
 {
     match tables {
         Some(mut all) => {

@@ -3,3 +3,4 @@ pub mod SeenBlocks
 pub mod Gifts
 pub mod BenchIs
 pub mod Sights
+mod Below

@@ -1,8 +1,8 @@
 //! Benches for files of several shapes and profiles, one for each of these.
-ghost use Rattle.std.specs.Prelude.{◌≡◌, ◌++◌, ◌∷◌, [], ℕ, Some, IfSome, IfOk, OnOk, OnErr, map, slice_get};
+ghost use Rattle.std.specs.Prelude.{◌≡◌, ◌++◌, ◌∷◌, [], ℕ, Some, true, None, IfSome, IfOk, OnOk, OnErr, map, slice_get};
 ghost use Rattle.std.specs.Bool.{OnTrue};
 ghost use Rattle.column_defs.specs.Objects.{Object};
-ghost use Rattle.stripe_bench.specs.Bench.{bench_kind, file_kind};
+ghost use Rattle.stripe_bench.specs.Bench.{bench_kind, file_kind, Serves};
 
 use column_codec::Bench;
 use file_layout::FileShape;
@@ -12,17 +12,20 @@ use std::alloc::Global;
 
 /// A bench serves this file's object, once it is turned to its number.
 fn fits(bench: &Bench, master: &Master, file: &FileShape) -> bool
-    ensures { OnTrue result (bench_kind bench.now ≡ file_kind master.now.0 file.now) }
+    ensures kind { OnTrue result (bench_kind bench.now ≡ file_kind master.now.0 file.now) }
+    ensures served { Serves master.now.0 file.now bench.now → result ≡ true }
 {
     bench.keys.master == *master
         && bench.keys.file.shape == file.shape
         && bench.keys.file.profile == file.profile
 }
 
-/// The place of a bench that serves a file's object.
+/// The place of a bench that serves a file's object; none where no bench does.
 fn place_of(benches: &[Bench], master: &Master, file: &FileShape) -> Option<usize>
-    ensures { IfSome result (λ place. slice_get (map bench_kind benches.now) place
+    ensures found { IfSome result (λ place. slice_get (map bench_kind benches.now) place
         ≡ Some (file_kind master.now.0 file.now)) }
+    ensures none { result ≡ None → (place : ℕ)
+        → IfSome (slice_get benches.now place) (λ bench. Serves master.now.0 file.now bench → ⊥) }
 {
     for place in 0..benches.len() {
         if fits(&benches[place], master, file) {
@@ -49,7 +52,7 @@ fn add_bench(
     Ok(())
 }
 
-/// The place of a bench that serves a file's object, among these: where there is none, one is made.
+/// The place of a bench that serves a file's object, among these: where there is none, and only there, one is made.
 pub fn bench_place(
     alloc: Global,
     benches: &mut Vec<Bench>,
@@ -60,6 +63,8 @@ pub fn bench_place(
         ≡ Some (file_kind master.now.0 file.now)) }
     ensures stays { (place : ℕ) (kind : Object) → slice_get (map bench_kind benches.old.items) place
         ≡ Some kind → slice_get (map bench_kind benches.new.items) place ≡ Some kind }
+    ensures once { (place : ℕ) → IfSome (slice_get benches.old.items place)
+        (λ bench. Serves master.now.0 file.now bench → benches.new.items ≡ benches.old.items) }
 {
     if let Some(place) = place_of(benches, master, file) {
         return Ok(place);
