@@ -1,5 +1,6 @@
 #!/bin/bash
-# Kills the program at random moments of puts, drops, audits, repairs, scrubs, an upgrade and packs over a real home: kill.sh [KILLS [SEED]]
+# Kills the program at random moments of puts, drops, audits, repairs, scrubs, an upgrade and packs over a real home, of whose providers every
+# other is a stack: kill.sh [KILLS [SEED]]
 # After half of the kills the journal is upgraded; behind that each put names a profile, and the journal is packed.
 # One provider at a time loses its folder. After each kill the home is looked at: each acknowledged file must come back byte for
 # byte, and what the killed command was about as it was before or as it was to be. It prints 'N kills, L lost, W wrong', ends
@@ -142,6 +143,7 @@ turn() {
 }
 
 mkdir home
+touch home/stack-{0,2,4}
 head -c 32 /dev/urandom | od -An -v -tx1 | tr -d ' \n' >key
 source=key
 run init 6 3 1 1 4 8 0 || note_wrong "init ends with $?"

@@ -1,5 +1,5 @@
 #!/bin/bash
-# Refuses one allocation a run, over a real home: memory.sh [RUNS]
+# Refuses one allocation a run, over a real home, of whose providers every other is a stack: memory.sh [RUNS]
 # It goes through init, put, get, audit, repair, list, scrub, upgrade, a put at a profile and two packs, and refuses of each command the first allocation,
 # then the second and so on, at most RUNS of them, spread over all that the command makes. Such a run must end with 70, with a counted fault
 # of a device where an allocation of a call without an answer for want of memory was refused, or as it would have ended; where its very
@@ -152,6 +152,7 @@ goes_on() {
 }
 
 mkdir home
+touch home/stack-{0,2}
 source=key && goes_on init 4 1 1 0 1 1 0
 source=text && goes_on put a
 source=/dev/null
@@ -161,7 +162,7 @@ goes_on audit
 goes_on repair
 goes_on get a
 goes_on list
-rm home/provider-0/1-*
+rm home/provider-0/1
 goes_on scrub
 goes_on upgrade
 source=text && goes_on put a 2

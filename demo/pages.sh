@@ -77,10 +77,16 @@ do_block() {
     [ -z "$command" ]
 }
 
+# Does the block before a step once more.
+block_before() {
+    do_block "$before"
+}
+
 # Does the commands of a page, in the folder that it stands in.
 follow() {
-    local does tells status
-    for does in "$1"/*.does; do
+    local does='' before next tells status
+    for next in "$1"/*.does; do
+        before=$does does=$next
         [ -e "$does" ] || continue
         tells=${does%does}tells
         do_block "$does" >"$scratch/out" 2>&1 </dev/null

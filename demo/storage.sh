@@ -1,35 +1,43 @@
 #!/bin/bash
-# A store whose providers are mounts, by sshfs (a server of this user alone, behind a pipe), as folders and as stacks, and by rclone (without a
-# cache), as folders; stacks are refused there: storage.sh
+# A store whose providers are mounts, by sshfs (a server of this user alone, behind a pipe) and by NFS, as folders and as stacks, and by rclone
+# (without a cache), as folders; stacks are refused there: storage.sh [sshfs] [rclone] [nfs]
 # Each provider is a link to a folder inside its mount. A file is put, given and audited. Then a mount ends: a put and a repair are told as
 # its fault, the file comes back, the audit flags it, and nothing lands in the folder below. Mounted again it is repaired. With sshfs the
 # server also dies in the midst of a put: the old file or the new one is there, and the new one where it was told as stored; and where
 # the provider is the mount itself, what lands in the folder below is not told as stored.
 # It tells each case that goes otherwise, ends with 0 exactly where none does, and leaves nothing behind. A kind of mount that can't be had
-# here is named, and not tried: on Debian the packages sshfs, openssh-server (its sftp-server) and rclone, with /dev/fuse.
+# here is named, and not tried: on Debian the packages sshfs, openssh-server (its sftp-server) and rclone, with /dev/fuse; nfs-kernel-server
+# (it must run) and nfs-common, for root.
 set -u
 
+tools=${TOOLS:-$(CDPATH='' cd -P -- "$(dirname "$0")/../tools" && pwd -P)}
 . "$(dirname "$0")/common.sh"
 trap 'leave' EXIT
 program=${HAIL:-$(dirname "$hail")/out/hail}
-"$hail" - row 4 1 1 7 7 7 9 >/dev/null || { echo 'storage: there is no program' >&2; exit 1; }
 
 # Ends a mount, if it is one.
 end_mount() {
     local try
     for try in 1 2 3 4 5 6 7 8 9 10; do
         mountpoint -q "$scratch/near/$1" || return 0
-        fusermount3 -u "$scratch/near/$1" 2>/dev/null || sleep 0.2
+        fusermount3 -u "$scratch/near/$1" 2>/dev/null || umount "$scratch/near/$1" 2>/dev/null || sleep 0.2
     done
-    fusermount3 -u -z "$scratch/near/$1" 2>/dev/null
+    fusermount3 -u -z "$scratch/near/$1" 2>/dev/null || umount -l "$scratch/near/$1"
+}
+
+end_all() {
+    local place
+    for place in 0 1 2 3 4 5; do end_mount $place; done
+    [ "${kind-}" != nfs ] || exportfs -u "127.0.0.1:$scratch/far" 2>/dev/null
+    wait
 }
 
 leave() {
-    local place
-    for place in 0 1 2 3 4 5; do end_mount $place; done
-    wait
+    end_all
     cd / && rm -rf "$scratch"
 }
+
+"$hail" - row 4 1 1 7 7 7 9 >/dev/null || { echo 'storage: there is no program' >&2; exit 1; }
 
 # Waits until a mount is there.
 is_mounted() {
@@ -51,6 +59,12 @@ mount_by_sshfs() {
 mount_by_rclone() {
     rclone mount "$scratch/far/$1" "$scratch/near/$1" --vfs-cache-mode off --config /dev/null >>rclone.log 2>&1 &
     is_mounted "$1"
+}
+
+# One export of this machine holds all far folders.
+mount_by_nfs() {
+    exportfs -i -o rw,sync,no_root_squash,no_subtree_check,fsid=7100 "127.0.0.1:$scratch/far" >>nfs.log 2>&1 &&
+        mount -t nfs -o hard,vers=4.2 "127.0.0.1:$scratch/far/$1" "$scratch/near/$1" >>nfs.log 2>&1 && is_mounted "$1"
 }
 
 # The command ends so, and writes these lines: ends STATUS LINES WORDS, with the input of `source`.
@@ -138,43 +152,54 @@ bare_mount_ends() {
     esac
 }
 
-# A put to stacks over a mount that can't read what is being written ends with 13, and no file is there by it.
+# A put to stacks over a mount that can't read what is being written ends with 13, and no file is there by it. Turned into folders they take it.
 stacks_are_refused() {
+    local place
     source=first && ends 13 'hail: provider fault 0' put file
     source=/dev/null && ends 0 '' list
+    for place in 0 1 2 3 4 5; do "$tools/hail-stack" home $place back >out 2>&1 || wrong "$kind: hail-stack back says $(cat out)"; done
+    source=first && ends 0 'stored file 40000' put file
+    given first 'from stacks that became folders'
 }
 
-# The tools of one kind of mount are there, and something can be mounted.
+# The tools of the kind of mount are there, and what mounts it.
 can_mount() {
-    local tool
-    for tool in fusermount3 "$@"; do
+    local tool tools
+    case $kind in
+        sshfs) tools='fusermount3 sshfs /usr/lib/openssh/sftp-server' ;;
+        rclone) tools='fusermount3 rclone' ;;
+        nfs) tools='exportfs mount.nfs' ;;
+    esac
+    for tool in $tools; do
         command -v "$tool" >/dev/null 2>&1 || { echo "storage: $kind is not tried, there is no $tool"; return 1; }
     done
-    [ -w /dev/fuse ] || { echo "storage: $kind is not tried, there is no /dev/fuse"; return 1; }
+    if [ "$kind" = nfs ]; then
+        [ "$(cat /proc/fs/nfsd/threads 2>/dev/null || echo 0)" -gt 0 ] || { echo 'storage: nfs is not tried, there is no server'; return 1; }
+    else
+        [ -w /dev/fuse ] || { echo "storage: $kind is not tried, there is no /dev/fuse"; return 1; }
+    fi
 }
 
 # The story of one kind of mount and one form of folders, where it can be had.
 try_kind() {
-    local place
     kind=$1 form=$2
-    can_mount "${@:3}" || return 0
+    can_mount || return 0
     begin || { echo "storage: $kind is not tried, nothing can be mounted"; return 0; }
     if [ "$kind $form" = 'rclone stacks' ]; then
         stacks_are_refused
     else
         source=first && ends 0 'stored file 40000' put file
         mount_ends
-        [ "$kind" = rclone ] || { server_dies; bare_mount_ends; }
+        [ "$kind" != sshfs ] || { server_dies; bare_mount_ends; }
     fi
-    for place in 0 1 2 3 4 5; do end_mount $place; done
-    wait
+    end_all
 }
 
 head -c 40000 /dev/urandom >first
 head -c 50000 /dev/urandom >second
 head -c 300000 /dev/urandom >third
-try_kind sshfs folders sshfs /usr/lib/openssh/sftp-server
-try_kind sshfs stacks sshfs /usr/lib/openssh/sftp-server
-try_kind rclone folders rclone
-try_kind rclone stacks rclone
+for each in ${*:-sshfs rclone nfs}; do
+    try_kind "$each" folders
+    try_kind "$each" stacks
+done
 exit $failed

@@ -28,6 +28,8 @@ for command in hail hail-init hail-watch hail-verify hail-gc hail-restore hail-s
     hail-status hail-help hail-homes hail-move hail-stack hail-sftp git-annex-remote-hail; do
     [ -x "$fresh/usr/bin/$command" ] || wrong "there is no command $command"
     [ -f "$fresh/usr/share/man/man1/$command.1.gz" ] || wrong "there is no page of $command"
+    [ "$command" = hail ] || zcat "$fresh/usr/share/man/man1/$command.1.gz" | grep -q '^\.SH .*TRUST' || wrong "the page of $command does not tell what it trusts"
+    [ "$command" = git-annex-remote-hail ] || grep -q "^complete .* $command\b" "$fresh/usr/share/bash-completion/completions/hail" || wrong "$command has no completion"
 done
 for file in doc/hail/copyright doc/hail/changelog.gz doc/hail/README.md doc/hail/docs/guide.md doc/hail/docs/instances.tsv \
     bash-completion/completions/hail; do

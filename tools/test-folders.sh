@@ -32,12 +32,6 @@ python() {
     modules test_forms test_sftp test_cuts test_annex
 }
 
-# Types, where there is a reader of them.
-types() {
-    have mypy || return
-    (cd "$root/tools" && mypy --strict --cache-dir "$scratch/mypy" -p folders) >out 2>&1 || wrong "types do not fit: $(cat out)"
-}
-
 # The client of OpenSSH, over a home whose name has a blank.
 openssh() {
     have sftp python3-paramiko || return
@@ -75,5 +69,5 @@ annex() {
     git annex testremote --fast --size=20000 hail >out 2>&1 || { wrong 'testremote --fast fails'; tail -n 30 out >&2; }
 }
 
-run_all ${*:-python types openssh restic_life annex}
+run_all ${*:-python openssh restic_life annex}
 exit $failed

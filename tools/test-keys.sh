@@ -130,6 +130,7 @@ small $(stat -c %s small)" ] || wrong "names come back as $("$HAIL" h1 list)"
     cmp -s -n 300 <("$HAIL" h1 get hail-names) <("$HAIL" h1 get hail-names) && [ "$("$HAIL" h1 list | wc -l)" -eq 5 ] || wrong 'the list is another behind a rebuild'
     list_of_another
     list_that_is_old
+    list_of_a_set
 }
 
 # The key comes back from paper, and a slip is told with its line.
@@ -171,6 +172,19 @@ list_that_is_old() {
     rebuilds 0 h2
     [ "$("$HAIL" h2 list | grep -v hail-names | tr '\n' ' ')" = "empty 0 n10 384 n9 384 notes $(stat -c %s notes) small $(stat -c %s small) " ] ||
         wrong "behind an old list is listed $("$HAIL" h2 list)"
+}
+
+# Where hail-sftp keeps files, what has no name is kept in mind: it may name what is in other homes.
+list_of_a_set() {
+    rm -rf h2 h3 && cp -a home h2 && cp lost h2/journal
+    echo x | "$HAIL" h2 put sftp1-set >out
+    ends 0 hail-keep -n h2
+    cp -a h2 h3 && rm h2/journal
+    rebuilds 0 h2
+    [ ! -e h2/restored ] || wrong "of a set whose names are whole is told $(cat h2/restored)"
+    echo x | "$HAIL" h3 put sftp1-file-0 >out && rm h3/journal
+    rebuilds 0 h3
+    [ "$(cat h3/restored)" = 'n11: a file whose name is lost' ] || wrong "of a set without a name is told $(cat h3/restored)"
 }
 
 # One provider is away, or lies, and at B = 2 two do.
@@ -375,6 +389,10 @@ planning() {
     told '| 6 3 1 | 1.5e-04 | 1.0e-03 | 4.3e-03 | 1.2e-02 |'
     told '| beside: 2 copies | 1.5e-05 | 1.0e-04 | 4.4e-04 | 1.3e-03 |'
     python3 -c 'import sys, xml.dom.minidom as dom; sys.exit(len(dom.parse("plan.svg").getElementsByTagName("polyline")) != 12)' || wrong 'the picture has other lines'
+    ends 0 hail-plan --only costs --shapes 6-3-1 --gigabytes 40 --pages 4096 131072 # of 911 blocks of 2,048 bytes; 1,876,676 bytes are 15 pages
+    told '| 6 3 1 | 40 | 9537 | 10 | 107 | 214 | 6833 | 8688207 | 113 | 9537 |'
+    ends 0 hail-plan --only finds --shapes 6-3-1
+    told '| one block of 1 MiB | 86.9% | 57% | 1.11% |'
     ends 0 hail-plan --only times --gigabytes 40 --measured 'here: put=0.8 scrub=0.1'
     [ "$(tail -n 1 out)" = '| here, 40 | 2.1 h | - | - | 16 min | - |' ] || wrong "times are told as $(cat out)"
     for shape in 6-3-2 3-1-1 17-3-1 6-0-1 6-3 a; do ends 2 hail-plan --shapes $shape; done
@@ -536,7 +554,7 @@ not_copied() {
     told 'took a copy that is newer'
     cp journal home/journal
     echo "$PWD/one" >home/copies
-    cp -a home other && rm other/journal && rm -r other/provider-* && make_key | "$HAIL" other init 4 1 1 0 1 1 0 >out
+    cp -a home other && rm other/journal && rm -r other/provider-* && make_key | "$HAIL" other init 4 1 1 0 1 1 0 >out 2>err
     ends 3 hail-keep other
     told 'has a copy of another store, which is kept'
     diff -r one good || wrong 'a copy was replaced'
@@ -566,7 +584,7 @@ away_or_full() {
     [ ! -e one ] || wrong 'hail-keep makes the folder of a copy'
     mv away one
     "$HAIL" home list >out
-    for name in $(seq 1 12); do echo x | "$HAIL" home put "a-name-that-is-long-so-that-the-journal-becomes-so-too-$name" >out; done
+    for name in $(seq 1 12); do echo x | HAIL_KEEPS=1 "$HAIL" home put "a-name-that-is-long-so-that-the-journal-becomes-so-too-$name" >out; done
     (ulimit -f 1 && exec "$tools/hail-keep" home) >said 2>&1 && wrong 'a full disk is not told'
     (cd one && sha256sum -c --quiet journal.sum) || wrong 'a full disk spoils the copy'
     ends 0 hail-keep home
@@ -596,6 +614,13 @@ copies_of_others() {
     told 'others may write'
     [ ! -e run ] || wrong 'a command of others was run'
     chmod g-w home/copies
+    if [ "$(id -u)" -eq 0 ]; then
+        chown 12345 home/copies
+        ends 2 hail-keep home
+        told 'others may write'
+        [ ! -e run ] || wrong 'a command of its owner was run'
+        chown 0 home/copies
+    fi
     echo one >home/copies
     ends 2 hail-keep home
     told 'neither the whole path of a folder nor | and a command'
@@ -605,6 +630,85 @@ copies_of_others() {
     rm home/copies
     ends 0 hail-keep home
     ends 0 hail-keep -c home
+}
+
+# Behind what may have changed the journal, the launcher, hail-remote, hail-init and hail-restore copy it where the home names places.
+by_itself() {
+    local hail=$PWD/package/bin/hail
+    make_launcher
+    mkdir home one && echo "$PWD/one" >home/copies
+    new_home home 6 3 1 0 1 4 0
+    is_copied home one
+    [ "$(seq 1 9 | "$hail" home put notes 2>&1)" = 'stored notes 18' ] || wrong 'the launcher puts otherwise'
+    is_copied home one
+    mv home/provider-2 aside && : >home/provider-2
+    for command in "$hail" "$tools/hail-keep"; do
+        seq 1 9 | "$command" home put other >out 2>err
+        [ "$? $(cat err)" = '13 hail: provider fault 2' ] || wrong "a put that fails says $(cat out err)"
+        is_copied home one
+    done
+    rm home/provider-2 && mv aside home/provider-2
+    seq 1 9 | HAIL_KEEPS=1 "$hail" home put third >out
+    "$hail" home get notes >out
+    "$hail" home put no/name </dev/null >out 2>err
+    [ "$? $(cat err)" = '17 hail: bad name' ] || wrong "a name that is none is told as $(cat err)"
+    ends 1 hail-keep -c home
+    mv one away
+    seq 1 5 | "$hail" home put five >out 2>err
+    [ "$? $(cat out)" = '0 stored five 10' ] || wrong "with a place away the launcher puts $(cat out err)"
+    told "no copy of the journal: $PWD/one: is away"
+    mv away one
+    "$hail" home audit >out
+    is_copied home one
+    by_restoring
+    by_watching
+    mv home ./-home && { seq 1 4 | "$hail" -home put four >out 2>err || wrong "a home -home says $(cat out err)"; } && mv ./-home home
+    is_copied home one
+    mkdir far && mv home/provider-4 far/ && echo "4 '$HAIL' '$PWD/far' serve 4" >home/remotes
+    seq 1 6 | "$tools/hail-remote" home put six >out 2>err || wrong "a put over a far end says $(cat out err)"
+    is_copied home one
+    ln -sf nowhere home/copies
+    seq 1 3 | "$hail" home put three >out 2>err
+    told "home/copies can't be read"
+}
+
+# hail-watch copies, and tells of a place that is away, also where it makes no audit: a repair is due, or a provider does not answer.
+by_watching() {
+    rm -r home/provider-3
+    ends 1 hail-watch home
+    mv one away
+    ends 1 hail-watch home
+    told 'a repair is due'
+    told "no copy of the journal: $PWD/one: is away"
+    HAIL_KEEPS=1 "$HAIL" home repair >out
+    mv home/provider-5 aside && ln -s nowhere home/provider-5
+    ends 4 hail-watch home
+    told "no copy of the journal: $PWD/one: is away"
+    mv away one
+    ends 4 hail-watch home
+    is_copied home one
+    rm home/provider-5 && mv aside home/provider-5
+}
+
+# No copy is restored while a place has a newer one, which the next copying would replace.
+by_restoring() {
+    cp -a one old
+    printf '%s\n| cat >%s/taken\n' "$PWD/one" "$PWD" >home/copies
+    seq 1 7 | "$tools/hail-keep" home put seven >out
+    mv home/journal journal
+    ends 3 hail-restore home old/journal 20
+    told "$PWD/one/journal has a newer copy than old/journal"
+    mv one away
+    ends 3 hail-restore home old/journal 20
+    told "$PWD/one is away, and may have a newer copy"
+    told "| cat >$PWD/taken has a newer copy than old/journal"
+    [ ! -e home/journal ] || wrong 'an older copy is restored'
+    mv away one
+    ends 0 hail-restore home one/journal 20
+    is_copied home one
+    cmp -s one/journal taken || wrong 'behind a restore a command took no copy'
+    "$HAIL" home get seven | cmp -s - <(seq 1 7) || wrong 'a restored journal lacks a file'
+    echo "$PWD/one" >home/copies
 }
 
 # The list is stored where it has changed; several homes at once.
@@ -654,7 +758,7 @@ standing() {
     rm -r home/provider-3
     mkdir home/remote-4 && echo '4 sleep 99.3' >home/remotes
     mkdir two && echo "$PWD/two" >home/copies
-    ends 1 hail-status -t 2 home
+    ends 1 hail-status -t 15 home
     told 'to do: provider 3 does not answer: No such file or directory'
     told 'to do: provider 4 does not answer: no answer in time'
     told "to do: the copy of the journal is behind: $PWD/two"
@@ -679,10 +783,15 @@ page = dom.parseString(re.sub(r"<meta([^>]*)>", r"<meta\1/>", text))
 fields = [one for one in page.getElementsByTagName("svg") if one.getAttribute("role") == "img"]
 sys.exit(len(fields) != 6 or any(len(one.getElementsByTagName("rect")) != 2 for one in fields))' || wrong 'the page is not as it should be'
     grep -qiE "$key|notes" out && wrong 'the page shows a key or a name'
-    for look in lost away age0; do grep -q "<g class=\"$look\"><title>" out || wrong "no cell of the page is $look"; done
+    for look in lost away age0 empty; do grep -q "<g class=\"$look\"><title>" out || wrong "no cell of the page is $look"; done
 }
 
 standing_wrong() {
+    chmod g+w home/copies
+    ends 1 hail-status home
+    told 'copies      not looked at'
+    told "to do: hail-keep: others may write $PWD/home/copies, whose commands would be run"
+    chmod g-w home/copies
     exec 7<home && flock -x 7
     timeout 30 "$tools/hail-status" -t 2 home >out 2>err
     told 'busy: a command has it alone'
@@ -811,6 +920,6 @@ moving_refused() {
 }
 
 all='rebuilding by_name from_paper rebuilding_damaged rebuilding_two refusing leaving_out rebuilding_harmed stacked
-    planning keeping not_copied listing standing homes moving'
+    planning keeping not_copied by_itself listing standing homes moving'
 run_all ${*:-$all}
 exit $failed

@@ -33,16 +33,26 @@ without_launcher() {
     if [ "$HAIL" = "$root/hail" ] && "$HAIL" - row 4 1 1 7 7 7 9 >/dev/null </dev/null && [ -x "$root/out/hail" ]; then HAIL=$root/out/hail; fi
 }
 
+# A launcher of the program under test in a folder of its own, as a package has it: package/bin/hail.
+make_launcher() {
+    local tool lib
+    lib=$(dirname "$(readlink -f "$tools/hail-gc")")
+    mkdir -p package/bin package/lib/hail && cp "$root/hail" package/bin/hail
+    for tool in "$lib"/hail-* "$lib"/journal.awk "$lib"/stack-blocks "$lib"/lib; do [ ! -e "$tool" ] || ln -s "$tool" package/lib/hail/; done
+    ln -s "$HAIL" package/lib/hail/program
+}
+
 make_key() {
     head -c 32 /dev/urandom | od -An -v -tx1 | tr -d ' \n'
 }
 
 # A test in a folder of its own, with one for what the companions write for a while, which is empty behind it.
 run() {
-    mkdir -p "$scratch/$1/tmp" && cd "$scratch/$1" || exit 1
-    export TMPDIR=$PWD/tmp
+    local own=$scratch/$1/tmp
+    mkdir -p "$own" && cd "$scratch/$1" || exit 1
+    export TMPDIR=$own
     "$1"
-    [ -z "$(ls -A tmp)" ] || wrong "$1 leaves below TMPDIR $(ls -A tmp)"
+    [ -z "$(ls -A "$own")" ] || wrong "$1 leaves below TMPDIR $(ls -A "$own")"
     exit $failed
 }
 

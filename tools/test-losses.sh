@@ -136,6 +136,30 @@ hail-watch: the journal is that of another home, or an older copy: put nothing, 
     [ "$(find mine/provider-? -type f | wc -l)" -eq 54 ] || wrong 'under the journal of another home blocks are removed'
 }
 
+# The copy of another home, whose files are like those here, gets the place of a lost journal; but it is told that no file comes back by it.
+restoring_others() {
+    new_home 6 3 1 1 4 8 0
+    copy_journal && mv copy own && mv copy.sum own.sum
+    rm -rf mine && mv home mine
+    new_home 6 3 1 1 4 8 0
+    copy_journal
+    rm mine/journal
+    says 1 'restored: the next put has number 7
+no file comes back from these blocks: copy is that of another home, or more than 1 of the providers are wrong, as where mounts were exchanged' hail-restore mine copy 3
+    told 'put nothing before "hail-verify HOME" tells which'
+    says 3 '' hail-restore mine own 3
+    told 'own has another key or other numbers than the journal that is there'
+    rm mine/journal
+    says 0 'restored: the next put has number 7' hail-restore mine own 3
+    rm mine/journal
+    mv mine/provider-1 away && mv mine/provider-4 mine/provider-1 && mv away mine/provider-4
+    "$tools/hail-restore" mine own 3 >out 2>err </dev/null
+    [ $? -eq 1 ] && grep -q 'as where mounts were exchanged' out || wrong "over exchanged folders hail-restore says $(cat out err)"
+    rm -r mine/provider-1 mine/journal # one that is wrong and one that is away
+    "$tools/hail-restore" mine own 3 >out 2>err </dev/null
+    [ $? -eq 1 ] && grep -q 'no file comes back' out || wrong "over a wrong folder and a lost one hail-restore says $(cat out err)"
+}
+
 # While the store is verified, at the first reading of `other`, this is done over the home; then hail-verify ends with this status and text.
 verifies_beside() {
     echo "timeout 300 $1" >due
@@ -178,6 +202,29 @@ BESIDE
     verifies_beside "sh -c '$HAIL home drop third && $HAIL home put third'" 1 'other: comes back; wrong blocks at provider 1'
     "$HAIL" home scrub >out
     verifies_beside "sh -c 'for name in notes third; do $HAIL home drop \$name; done; $HAIL home put other'" 0 ''
+}
+
+# What can't be written below TMPDIR makes no file lost, and moves no byte; a block that can't be read is missing alone.
+failing_copies() {
+    new_home 6 3 1 1 4 8 0
+    mkdir bin
+    cat >bin/cp <<COPYING
+#!/bin/bash
+"$(command -v cp)" "\$@" || exit
+case " \$* " in *' --parents '*) rm -f "$PWD/tmp/"*/*/provider-1/3-1 && cat "$PWD/fault" >&2 && exit 1 ;; esac
+COPYING
+    chmod +x bin/cp
+    echo "cp: error writing '$PWD/3-1': Input/output error" >fault
+    for tool in 'verify home' 'salvage home 3 3'; do
+        PATH=$PWD/bin:$PATH says 4 '' hail-$tool
+        told "there is no room below TMPDIR, or it can't be written: cp: error writing"
+    done
+    echo "cp: error reading 'provider-1/3-1': Input/output error" >fault
+    PATH=$PWD/bin:$PATH says 1 'third: comes back; wrong blocks at provider 1' hail-verify home
+    PATH=$PWD/bin:$PATH "$tools/hail-salvage" home 3 3 >out 2>err
+    [ $? -eq 1 ] || wrong "hail-salvage over a block that can't be read says $(cat err)"
+    told 'bytes 512 to 639 are missing, and zero here'
+    { seq 1 300 | head -c 512; head -c 128 /dev/zero; seq 1 300 | tail -c +641; head -c 60 /dev/zero; } | cmp -s - out || wrong "over a block that can't be read other bytes are salvaged"
 }
 
 # A mount that comes and goes costs no repair; one that stays away is audited in the end.
@@ -271,11 +318,15 @@ odd_remotes() {
 
 # A link that was made inside the folder of a provider is told: it was meant in its place.
 stray_links() {
+    local meant='was it meant in place of the folder? Then move the blocks there, and put it in place of the folder; else remove it'
     new_home 6 3 1 1 4 8 0
     ln -s /nowhere home/provider-2/hail
-    says 1 'the folder of provider 2 has a link, hail: was it meant in place of the folder?' hail-watch home
+    says 1 "the folder of provider 2 has a link, hail: $meant" hail-watch home
     ln -s nowhere home/provider-9
     rm home/provider-2/hail
+    ln -s nowhere home/provider-2/$'\e[2J\r'
+    says 1 "the folder of provider 2 has a link, ?[2J?: $meant" hail-watch home
+    rm home/provider-2/*2J*
     says 0 '' hail-watch home
 }
 
@@ -369,11 +420,14 @@ killed_init() {
         [ -s home/journal ] || "$tools/hail-init" -s home 6 3 1 1 4 8 0 <key >out 2>err || wrong "hail-init called again says $(cat out err)"
         [ "$(ls home | tr '\n' ' ')" = 'journal remote-2 remotes stack-0 stack-1 stack-3 stack-4 stack-5 ' ] || wrong "hail-init killed behind call $at leaves $(ls home)"
     done
+    rm home/journal home/stack-0
+    says 2 '' hail-init -f home 6 3 1 1 4 8 0
+    told 'home/stack-1 makes the folder of provider 1 a stack: remove it, or leave -f out'
 }
 
 # At some of their calls that write or read, the program and its companions are killed, or the call fails. `tools/calls/try_calls.py -a` does so at each.
 struck() {
-    local struck=("put stacks" "repair folders" "gc folders" "restore folders" "rebuild stacks" init "keep put" stack)
+    local struck=("put stacks" "repair folders" "gc folders" "restore folders" "rebuild stacks" init "keep put" stack "verify folders" "salvage stacks")
     have /usr/bin/python3 || return
     /usr/bin/python3 -B "$root/tools/calls/try_calls.py" -j 2 "${struck[@]}" >out 2>err
     case $? in
@@ -381,6 +435,8 @@ struck() {
         3) cat err >&2 ;;
         *) wrong "$(cat err)" ;;
     esac
+    /usr/bin/python3 -B "$root/tools/calls/try_calls.py" init nothing >out 2>err
+    [ $? -eq 2 ] && grep -q 'there is no case nothing; there are put folders, ' err || wrong "of a case that is not there is told $(cat out err)"
 }
 
 # The blocks of a home's provider become a stacked folder: one file an object, with the block and its mark at each stripe's place.
@@ -432,7 +488,7 @@ provider-2/4' hail-gc home
     ln -s nowhere home/provider-1/link
     copy_journal
     "$tools/hail-watch" home >out 2>err
-    grep -q 'provider 2 holds blocks of number 9, and the next number is 6' out && grep -q 'the folder of provider 1 has a link, link' out &&
+    grep -q 'provider 2 holds blocks of number 9, and the next number is 6' out && grep -q 'mv HOME/provider-2/9\* ELSEWHERE;' err && grep -q 'the folder of provider 1 has a link, link' out &&
         ! grep -q ' 8,' out || wrong "stacked folders are watched with $(cat out err)"
     rm home/provider-2/9 home/journal
     "$tools/hail-restore" home copy 3 >out 2>err </dev/null
@@ -444,8 +500,15 @@ number 5: fifth, whose put was under way when the copy was made; hail-salvage ma
     told 'blocks are held by provider-0 provider-1 provider-2'
 }
 
-# What to do is told by the guide's section on each status.
+# What to do is told by the guide's section on each status, and by the companions where a journal is lost.
 helping() {
+    mkdir -p home/provider-0
+    for tool in gc verify; do
+        says 2 '' hail-$tool home
+        told 'no store in home: where its journal was lost, hail-restore a copy of it, or hail-rebuild it'
+    done
+    says 2 '' hail-gc nowhere
+    [ "$(cat err)" = 'hail-gc: no store in nowhere' ] || wrong "of no home is told $(cat err)"
     says 0 '13: that provider refuses writes: no file changed. Mount it, give it room or another folder
 7: no repair is due' hail-help 13 7
     says 1 '' hail-help 1

@@ -49,7 +49,11 @@ odd_paths() {
     says 1 'other: comes back; wrong blocks at provider 1' hail-verify "$home"
     "$HAIL" "$home" scrub >out
     says 0 '' hail-stack "$home" 2
+    says 3 '' hail-restore "$home" "$folder/copy" 5
     rm "$home/journal"
+    says 3 '' hail-restore "$home" "$folder/copy" 5
+    told 'has a newer copy than'
+    cp back/journal "$folder/copy" && sha256sum <"$folder/copy" >"$folder/copy.sum"
     says 0 'restored: the next put has number 9' hail-restore "$home" "$folder/copy" 5
     put_of_eight "$home" && rm "$home/journal" back/journal*
     "$tools/hail-rebuild" "$home" 6 3 1 1 4 8 0 <key >out 2>err || wrong "a home in an odd path is rebuilt with $(cat out err)"
@@ -94,6 +98,56 @@ provider-2/4-0' hail-gc home
     [ "$(ls -A home | tr '\n' ' ')" = 'copies journal provider-0 provider-1 provider-2 provider-3 provider-4 provider-5 ' ] || wrong "a home that was read-only has $(ls -A home)"
 }
 
+# A command that keeps the home, and an audit that does not end: hail-watch waits for neither longer than it is told to, and says so.
+held_home() {
+    local holder what
+    new_home 6 3 1 1 4 8 0
+    mkdir remote-2 && echo '2 false' >home/remotes && mv remote-2 home/
+    for what in home home/remotes; do
+        (flock 9 && : >locked && exec sleep 97.6) 9<"$what" &
+        holder=$!
+        until [ -e locked ]; do sleep 0.1; done
+        says 4 '' hail-watch -t 1 -w 5 home
+        told "another command has had home for 1 seconds: where it stands at a mount that hangs, end the process of the mount"
+        kill "$holder" && wait "$holder"
+        rm -r locked
+    done 2>/dev/null
+    rm -r home/remote*
+    printf '#!/bin/bash\n[ "$2" != audit ] || { echo $$ >auditing; exec sleep 97.5; }\nexec "%s" "$@"\n' "$HAIL" >slow && chmod +x slow
+    HAIL=$PWD/slow says 4 '' hail-watch -t 1 -w 5 home
+    told 'the audit goes on for 6 seconds, and has home till it ends: where a mount hangs, end the process of the mount'
+    kill "$(cat auditing)"
+    says 0 '' hail-watch -t 60 home
+}
+
+# A mount that hangs once it has answered holds the audit, and so the home, until its process ends. Nobody waits for it in silence.
+hanging_mount() {
+    in_own_mounts || return 0
+    have sshfs /usr/lib/openssh/sftp-server || return
+    new_home 6 3 1 1 4 8 0
+    mkdir far mnt && mv home/provider-2 far/two && ln -s "$PWD/mnt/two" home/provider-2
+    printf '#!/bin/sh\necho $$ >"%s/server"\nexec /usr/lib/openssh/sftp-server\n' "$PWD" >connect && chmod +x connect
+    sshfs -o dir_cache=no,entry_timeout=0,attr_timeout=0,ssh_command="$PWD/connect" "here:$PWD/far" mnt 2>err || { echo "tools: sshfs mounts nothing: hanging_mount is passed over: $(cat err)" >&2; return; }
+    says 0 '' hail-watch home
+    kill -STOP "$(cat server)"
+    says 4 'provider 2 does not answer' hail-watch -w 2 home
+    kill -CONT "$(cat server)"
+    says 0 '' hail-watch home
+    printf '#!/bin/bash\n[ "$2" != audit ] || kill -STOP "$(cat server)"\nexec "%s" "$@"\n' "$HAIL" >stopping && chmod +x stopping
+    HAIL=$PWD/stopping says 4 '' hail-watch -t 1 -w 5 home
+    told 'the audit goes on for 6 seconds'
+    says 4 '' hail-watch -t 1 -w 2 home
+    told 'another command has had home for 1 seconds'
+    kill -KILL "$(cat server)"
+    [ "$("$HAIL" home list | wc -l)" -eq 3 ] || wrong 'behind the end of a mount there is no list'
+    umount -l mnt 2>/dev/null
+    sshfs -o ssh_command="$PWD/connect" "here:$PWD/far" mnt || wrong 'there is no second mount'
+    "$HAIL" home repair >out 2>&1
+    says 0 '' hail-watch home
+    says 0 '' hail-verify home
+    umount mnt
+}
+
 # A disk without room: each companion says so, nothing is lost, and with room again each ends well.
 full_disk() {
     in_own_mounts || return 0
@@ -103,7 +157,8 @@ full_disk() {
     copy_journal && cp copy copy.sum disk/
     fill_disk
     seq 1 4000 | "$tools/hail-keep" home put fourth >out 2>err
-    [ "$? $(cat err)" = '13 hail: provider fault 0' ] || wrong "without room a put says $(cat out err)"
+    [ "$? $(head -n 1 err)" = '13 hail: provider fault 0' ] || wrong "without room a put says $(cat out err)"
+    told 'no copy of the journal'
     says 1 '' hail-keep home
     told 'no copy of the journal'
     says 3 '' hail-stack home 2
@@ -219,11 +274,8 @@ coming_and_going_mounts() {
 
 # The launcher of a package: it warns of blocks, refuses an older half of the journal, bears a limit of the size of files, and tells what to do.
 launched() {
-    local tool hail=$PWD/package/bin/hail lib
-    lib=$(dirname "$(readlink -f "$tools/hail-gc")")
-    mkdir -p package/bin package/lib/hail && cp "$root/hail" "$hail"
-    for tool in "$lib"/hail-* "$lib"/journal.awk "$lib"/stack-blocks "$lib"/lib; do [ ! -e "$tool" ] || ln -s "$tool" package/lib/hail/; done
-    ln -s "$HAIL" package/lib/hail/program
+    local tool hail=$PWD/package/bin/hail
+    make_launcher
     new_home 6 3 1 1 4 8 0
     rm home/journal
     "$hail" home init 6 3 1 1 4 8 0 <key >out 2>err
@@ -236,7 +288,7 @@ launched() {
     seq 1 20 | "$hail" home put more >out 2>err || wrong "a put by the launcher says $(cat out err)"
     set_switch 1
     for tool in home linked; do
-        for word in 'put more' 'drop notes' audit repair pack upgrade; do
+        for word in 'put more' 'drop notes' audit repair pack upgrade replay 'trial 7'; do
             seq 1 20 | "$hail" $tool $word >out 2>err
             [ $? -eq 8 ] || wrong "over an older half of the journal the launcher says $(cat out err)"
             told 'the half that it names is older than the other'

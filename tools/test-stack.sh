@@ -362,7 +362,7 @@ turn_was_cut() {
     "$HAIL" home audit >out 2>err || wrong "$1: $(cat err)"
     ! grep -q flagged out || wrong "$1: blocks are not in effect"
     "$tools/hail-stack" home 2 $back >out 2>err || wrong "$1: another call ends with $?: $(cat out err)"
-    [ -e home/stack-2 ] && [ -n "$back" ] || [ ! -e home/stack-2 ] && [ -z "$back" ] && wrong "$1: another call does not end the turn"
+    { [ -e home/stack-2 ] && [ -z "$back" ]; } || { [ ! -e home/stack-2 ] && [ -n "$back" ]; } || wrong "$1: another call does not end the turn"
     [ "$(ls home/provider-2 | grep -c -e hail-stack)" -eq 0 ] || wrong "$1: $(ls home/provider-2) is left"
     is_whole "$1"
 }

@@ -77,9 +77,16 @@ hail-watch: set up nothing here: the first put would destroy them (see hail-rest
     "$HAIL" home init 6 3 1 1 4 8 0 <key >out
     "$tools/hail-watch" home >out
     [ $? -eq 3 ] && grep -q 'a new one over old blocks; put nothing' out || wrong "a new journal over blocks is watched with $(cat out)"
+    head -c 60 journal >home/journal
+    says 2 '' hail-watch home
+    told 'hail-watch: the journal is none: put nothing; hail-restore a copy of it, or hail-rebuild it'
+    says 2 '' hail-verify home
+    told 'hail-verify: the journal is none: put nothing; hail-restore'
+    says 4 '' hail-gc home
+    told 'hail-gc: nothing is done: the journal is none: put nothing; hail-restore'
     mv journal home/journal
     chmod 644 home/journal
-    says 1 "others may read home/journal, which has the key: its rights are 644" hail-watch home
+    says 1 "others may read home/journal, which has the key: its rights are 644; chmod 600 home/journal, or, where it keeps no rights, mount it with umask=077" hail-watch home
     chmod 600 home/journal
     mkdir -p two/store
     ln -s store two/provider-0
@@ -91,7 +98,7 @@ hail-watch: set up nothing here: the first put would destroy them (see hail-rest
     told 'provider 2 lies in the folder of provider 0'
     mv home/provider-4 home/provider-3/ && ln -s provider-3/provider-4 home/provider-4
     says 5 'provider 4 lies in the folder of provider 3
-hail-watch: put nothing: what is stored there is lost' hail-watch home
+hail-watch: put nothing: what is stored there is lost; give each provider a folder of its own, then: hail-verify home' hail-watch home
 }
 
 # A provider that is lost is flagged, and mended. One liar stops no audit; more than B are an older journal.
@@ -105,8 +112,12 @@ watching() {
     says 0 '' hail-watch home
     : >home/provider-3/999-0
     says 1 'provider 3 holds blocks of number 999, and the next number is 4' hail-watch home
+    told 'the provider lies: mv HOME/provider-3/999* ELSEWHERE; but where the journal was put back from a copy, put nothing'
+    mkdir away && eval "$(sed -n 's/.*lies: mv HOME\(.*\) ELSEWHERE.*/mv home\1 away/p' err)" && says 0 '' hail-watch home
+    mv away/999-0 home/provider-3/
     says 0 '' hail-gc home
     told 'provider 3 has blocks of number 999, which was not given yet'
+    told "the provider lies: mv HOME/provider-3/999* ELSEWHERE; but where the journal was put back from a copy, put nothing"
     rm -r home/provider-5
     says 1 'provider 3 holds blocks of number 999, and the next number is 4
 provider 5 is flagged' hail-watch home
@@ -116,6 +127,8 @@ provider 5 is flagged' hail-watch home
 provider 3 holds blocks of number 999, and the next number is 4
 hail-watch: the journal is an older copy, or a new one over old blocks; put nothing (see hail-restore)' hail-watch home
     says 3 '' hail-gc home remove
+    says 3 '' hail-verify home
+    told 'the journal is an older copy: put nothing'
     [ -e home/provider-3/999-0 ] || wrong 'hail-gc removed a block of a number not given yet'
     rm home/provider-0/4-0 home/provider-3/999-0
     rm -r home/provider-5 home/provider-4
@@ -509,6 +522,15 @@ restored: the next put has number 15
 number 14: a file that was put since the copy, whose name is lost; hail-salvage may join its bytes
 number 4: a file that was put since the copy, whose name is lost; hail-salvage may join its bytes
 other: too few blocks: it was dropped or replaced since the copy, or providers are away' hail-restore home copy 11
+    told "the provider lies: mv HOME/provider-2/77777* ELSEWHERE; but where the journal was put back from a copy, put nothing"
+    rm home/journal home/provider-2/77777-0
+    # A replay of whose audits one does not begin, and one whose puts are not refused: the numbers are not drawn, or files of these puts come to be.
+    printf '#!/bin/bash\n[ "$2" != replay ] || exec < <(sed "/^step 2$/d")\nexec "%s" "$@"\n' "$HAIL" >passing
+    printf '#!/bin/bash\n[ "$2" != replay ] || rm -f "$1/provider-0"\nexec "%s" "$@"\n' "$HAIL" >taking
+    chmod +x passing taking
+    HAIL=$PWD/passing says 4 '' hail-restore home copy 15
+    HAIL=$PWD/taking says 4 '' hail-restore home copy 15
+    [ ! -e home/journal ] || wrong 'hail-restore puts a journal in place whose numbers were not drawn'
     [ -e home/journal.before ] && [ ! -e home/journal.new ] || wrong "hail-restore leaves $(ls home)"
 }
 
@@ -560,9 +582,9 @@ swelling() {
         LC_ALL=C awk 'BEGIN { for (k = 4; k < 45004; k++) printf "%c%c%c%c%c%c%c%c%c%c%c%s", 1, 2, k % 256, int(k / 256), 0, 0, 0, 0, 0, 0, 13, "hail-restored"; printf "%c", 0 }'
     } >long
     cp long home/journal
-    says 1 "the journal has $(stat -c %s long) bytes: upgrade, and then pack it" hail-watch home
+    says 1 "the journal has $(stat -c %s long) bytes; to pack it: hail-keep home upgrade, hail-gc home remove, hail-keep home pack" hail-watch home
     [ "$("$HAIL" home upgrade)" = upgraded ] || wrong 'a long journal is not upgraded'
-    says 1 "the journal has $(($(stat -c %s long) + 52)) bytes: pack it" hail-watch home
+    says 1 "the journal has $(($(stat -c %s long) + 52)) bytes; to pack it: hail-gc home remove, hail-keep home pack" hail-watch home
     "$HAIL" home pack >out || wrong 'a long journal is not packed'
     says 0 '' hail-watch home
 }
@@ -854,8 +876,9 @@ all='setting_up words watching verifying_one stuck_repair verifying_two verifyin
     own_profiles restoring packing swelling salvaging long_journal remote_words remotes hostile_remotes silent_remotes used_up_remotes
     false_remotes copy_during_put restoring_over_packed altered_switch other_home outages far_outage odd_remotes stray_links short_reading
     killed_restore killed_gc killed_init stacks helping telling changing_while_verified linked_journal odd_paths read_only_home full_disk two_at_once coming_and_going
-    coming_and_going_mounts launched struck'
+    coming_and_going_mounts held_home hanging_mount restoring_others failing_copies launched struck'
 run_all ${*:-$all}
+[ $# -gt 0 ] || "$root/tools/test-types" || failed=1
 [ $# -gt 0 ] || "$root/tools/test-keys.sh" || failed=1
 [ $# -gt 0 ] || "$root/tools/test-folders.sh" || failed=1
 [ $# -gt 0 ] || "$root/tools/test-stack.sh" || failed=1

@@ -126,7 +126,7 @@ class Tracer:
 
     def numbers(self) -> list[int]:
         """The calls at which the run stops."""
-        return sorted(READING) if self.strike.reads else sorted({**BY_DESCRIPTOR, **BY_PATH})
+        return sorted(READING) if self.strike.reads else sorted({*BY_DESCRIPTOR, *BY_PATH})
 
     def is_below(self, path: str) -> bool:
         """Whether a path lies below the folders."""

@@ -3,7 +3,8 @@
 at MOST of each kind for each case, spread evenly, or with -a at each; with -m 0 at two calls for each case, once each. -o: this kind alone, as `kill` or `EIO on`. Each run must end with a status that is named; what was acknowledged must
 come back once nothing fails any more; and the command, run again, must end well. HAIL names the program, TOOLS the folder of the companions.
 
-Ends with 0: all went so. 1: something went otherwise, which is told. 3: programs can't be traced here, and nothing was tried."""
+Ends with 0: all went so. 1: something went otherwise, which is told. 2: there is no such case. 3: programs can't be traced here, and nothing was
+tried."""
 
 from __future__ import annotations
 
@@ -167,6 +168,7 @@ def cases() -> list[Case]:
             Case(f"rebuild {form}", f"{form} gone", ["hail-rebuild", "home", *SHAPE], KEY, COMPANION, frozenset({0, 1}), NONE, UNNAMED, "rebuilt"),
             Case(f"watch {form}", form, ["hail-watch", "home"], statuses=COMPANION, again=frozenset({0, 1})),
             Case(f"verify {form}", form, ["hail-verify", "home"], statuses=COMPANION),
+            Case(f"salvage {form}", form, ["hail-salvage", "home", "3", "1"], statuses=COMPANION),
         ]
     return found + [
         Case("pack", "folders", ["pack"]),
@@ -262,8 +264,9 @@ def wrong_end(case: Case, folder: str) -> str:
                 return "the copy is behind"
     if case.done == "moved" and files_of(folder, "second") != FILES:
         return "not all are moved"
-    if case.done == "restored" and numbers(folder) < (7, 4):
-        return f"the next numbers are {numbers(folder)}"
+    next_ones = numbers(folder)
+    if case.done == "restored" and (next_ones is None or next_ones < (7, 4)):
+        return f"the next numbers are {next_ones}"
     if case.done in ("whole", "rebuilt", "collected", "restored"):
         verified = said([os.path.join(TOOLS, "hail-verify"), "home"], folder)
         if verified.status:
@@ -295,13 +298,24 @@ def move_copies(folder: str) -> None:
             file.write(f"{folder}/backup\n")
 
 
+def wrong_words(case: Case, struck: Outcome) -> str:
+    """What a companion told or wrote that is not so, where nothing was wrong but the strike."""
+    if case.words[0] == "hail-verify" and b": lost from" in struck.out:
+        return "a file that is whole is called lost"
+    if case.words[0] == "hail-salvage" and struck.status in (0, 1):
+        due = UNNAMED["n1"]
+        like = len(struck.out) == len(due) and all(came == wanted or struck.status == 1 and came == 0 for came, wanted in zip(struck.out, due))
+        return "" if like else "other bytes are salvaged"
+    return ""
+
+
 def judge(case: Case, folder: str, before: tuple[int, int] | None, struck: Outcome) -> str:
     """What went otherwise."""
     if struck.status not in case.statuses | {137}:
         return f"ends with {struck.status}: {struck.err.decode()[-300:]}"
     if b"Traceback" in struck.err:
         return f"tells {struck.err.decode()[-300:]}"
-    wrong = wrong_home(case, folder, before, struck)
+    wrong = wrong_words(case, struck) or wrong_home(case, folder, before, struck)
     if wrong:
         return f"behind {struck.status}: {wrong}: {struck.err.decode()[-200:]}"
     again = said(case.command(), folder, case.given)
@@ -371,12 +385,16 @@ def main() -> int:
     parser.add_argument("-j", type=int, default=4, metavar="JOBS", help="so many cases at once")
     parser.add_argument("case", nargs="*", help="these alone")
     words = parser.parse_args()
+    all_cases = cases()
+    if unknown := set(words.case) - {case.name for case in all_cases}:
+        parser.error(f"there is no case {', '.join(sorted(unknown))}; there are {', '.join(case.name for case in all_cases)}")
     if not is_possible():
         print("calls: programs can't be traced here: nothing is tried", file=sys.stderr)
         return 3
-    chosen = [case for case in cases() if not words.case or case.name in words.case]
+    chosen = [case for case in all_cases if not words.case or case.name in words.case]
     room = tempfile.mkdtemp(dir="/dev/shm" if os.access("/dev/shm", os.W_OK) else None)
-    total, failed, all_of, since = 0, 0, Counter(), time.time()
+    total, failed, since = 0, 0, time.time()
+    all_of: Counter[str] = Counter()
     try:
         with ProcessPoolExecutor(words.j, max_tasks_per_child=1) as pool:
             jobs = [pool.submit(try_case, case, room, 1 << 30 if words.a else words.m, words.o) for case in chosen]

@@ -96,6 +96,10 @@ class Home:
         except OSError:
             return False
 
+    def has_nameless(self) -> bool:
+        """Whether an older journal was put back, or one made anew, and something has no name since: hail-restore and hail-rebuild say so."""
+        return os.path.lexists(f'{self.path}/restored')
+
     def words(self, *words: str) -> list[str]:
         """The command with these words: where providers are on other machines, by hail-remote."""
         if os.path.exists(f'{self.path}/remotes'):
@@ -106,7 +110,7 @@ class Home:
         """Starts a command. The descriptors `keep` stay open in it: so a lock outlives a program that is killed."""
         try:
             return subprocess.Popen(self.words(*words), stdin=source or subprocess.DEVNULL, stdout=subprocess.PIPE, stderr=subprocess.PIPE,
-                                    pass_fds=keep, env={**os.environ, 'HAIL': program()})
+                                    pass_fds=keep, env={**os.environ, 'HAIL': program(), 'HAIL_KEEPS': '1'})    # `copies` copies the journal
         except OSError as fault:
             raise NoAnswer(f'hail cannot be run: {fault}') from fault
 

@@ -4,16 +4,22 @@ With one home left out, its files would be missing and the others' pieces look l
 """
 from __future__ import annotations
 
+import fcntl
 import json
 import re
 import secrets
 from dataclasses import dataclass
+from pathlib import Path
 from typing import Sequence
 
 from .copies import Copies
 from .home import Home, NoAnswer, Refused
+from .shared import Shared
 
 TAG = 'sftp1-set'
+MOVING = 'sftp1-set.moving'
+"""The same in a home to which hail-move moves the files of another."""
+
 PREFIX = 'sftp1-'
 
 
@@ -77,8 +83,20 @@ def make_set(paths: Sequence[str]) -> None:
 
 
 def add_to_set(paths: Sequence[str]) -> None:
-    """Adds the homes that are of no set to the set of the others, all of which are named. Where it was cut off, the same words end it."""
+    """Adds the homes that are of no set to the set of the others, all of which are named. Where it was cut off, the same words end it.
+
+    One at a time: a second one would else leave out what the first added."""
     found = look(paths)
+    first = _first_of(found)
+    shared = Shared(Path(next(t.home.path for t in found if t.tag == first)) / 'folders')
+    try:
+        with shared.locked(fcntl.LOCK_EX):
+            _add(look(paths))
+    finally:
+        shared.close()
+
+
+def _add(found: Sequence[Tagged]) -> None:
     first = _first_of(found)
     names = [t.tag.own for t in found if t.tag and t.tag.set_name == first.set_name]
     if not set(first.members) <= set(names):
@@ -109,7 +127,8 @@ def _look_at(home: Home) -> Tagged:
     used = any(name.startswith(PREFIX) and name != TAG for name in names)
     if TAG not in names:
         if used:
-            raise NotASet(f'{home.path} has files of a set, and no {TAG}: is its journal an older copy?')
+            why = 'end hail-move first' if MOVING in names else 'does hail-move move it, or is its journal an older copy?'
+            raise NotASet(f'{home.path} has files of a set, and no {TAG}: {why}')
         return Tagged(home, None, used)
     return Tagged(home, _tag_of(home), used)
 

@@ -6,6 +6,7 @@ order: clients send the next request without the answer to the last.
 # mypy: allow-subclassing-any
 from __future__ import annotations
 
+import importlib
 import os
 import posixpath
 import stat
@@ -13,13 +14,14 @@ import threading
 from concurrent.futures import Future, ThreadPoolExecutor
 from typing import Any, Callable
 
-import paramiko  # type: ignore[import]
-from paramiko import sftp
-
 from .home import MOST_NAMES, Missing, ReadOnly, Refused, Unsupported, say
 from .manifest import PIECE, is_path, normal
 from .store import Entry, Status, Store
 from .writer import Writer
+
+paramiko: Any = importlib.import_module('paramiko')
+sftp: Any = importlib.import_module('paramiko.sftp')
+"""Untyped, whether or not there are stubs of them: those leave out what is done otherwise here."""
 
 LONGEST_DATA = 261_120
 """Bytes that one read is answered with, at most."""

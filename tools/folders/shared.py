@@ -50,13 +50,23 @@ class Shared:
 
     @contextlib.contextmanager
     def locked(self, how: int) -> Iterator[int]:
-        """The lock of changes: LOCK_EX for one who changes, LOCK_SH for those who look. Its descriptor is for the commands of the change."""
+        """The lock of changes: LOCK_EX for one who changes, LOCK_SH for those who look. Its descriptor is for the commands of the change.
+
+        Refused where somebody removed this folder, or what is in it: then others take no notice of this program, and remove what it stores."""
+        if not self._is_user():
+            raise Refused(f'{self.folder} was removed meanwhile: nothing more is done here until a new start')
         lock = self._open('lock')
         try:
             fcntl.flock(lock, how)
             yield lock
         finally:
             os.close(lock)
+
+    def _is_user(self) -> bool:
+        try:
+            return os.path.samestat(os.fstat(self.users), os.stat(self.folder / 'users'))
+        except OSError:
+            return False
 
     def count(self) -> int:
         """How many changes were begun; 0 where that is lost, as behind a cut of the power."""

@@ -182,6 +182,9 @@ class Store:
 
     def _collect(self) -> None:
         """Removes leftovers: nobody else is at work, and every manifest is read. Files of other names are not touched."""
+        doubts = list(self._doubts())
+        if doubts:
+            raise Refused('; '.join(doubts))
         with self._change() as lock:
             live = {entry.key for entry in self._files.values()}
             named = {piece.key for entry in self._files.values() for piece in entry.manifest.pieces}
@@ -191,9 +194,15 @@ class Store:
                 self.places.drop(key, [lock])
             if gone:
                 say(f'leftover pieces removed: {len(gone)}')
-            for entry in self._files.values():
-                if any(piece.key not in self.places.held for piece in entry.manifest.pieces):
-                    say(f'{entry.manifest.path} has lost pieces: is a journal an older copy?')
+
+    def _doubts(self) -> Iterator[str]:
+        """Why what no manifest names may be no leftover: a journal may be an older copy, in which the manifest has no name."""
+        lost = [m.path for _, m in self._files.values() if any(piece.key not in self.places.held for piece in m.pieces)]
+        if lost:
+            yield f'{lost[0]} has lost pieces, one of {len(lost)} files: is a journal an older copy?'
+        for home in self.homes:
+            if home.has_nameless():
+                yield f'{home.path}/restored tells what has no name there since its journal was lost: salvage that, then remove this file'
 
     # What is asked. A path is a full one in its shortest form.
 
@@ -233,6 +242,8 @@ class Store:
 
     def may_be_written(self, path: str, create: bool, alone: bool, anew: bool) -> None:
         """Refused where a file can't be written here: there is none and none is to be made, or one and none may be; it is not anew."""
+        if self._unread:
+            self._seen = None   # it may be read by now
         self.look()
         entry = self._files.get(path)
         if self._unread:
@@ -260,6 +271,8 @@ class Store:
             before = self._files.get(path)
             if not before and self._is_folder(path):
                 raise Refused(f'{path} is a folder')
+            if posixpath.dirname(path) in self._files:
+                raise Refused(f'{posixpath.dirname(path)} is a file')
             self._commit(path, content, [before] if before else [], lock)
 
     def remove(self, path: str) -> None:

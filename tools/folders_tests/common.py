@@ -1,6 +1,7 @@
 """What the tests share: the programs under test, homes in a folder of their own, and a client of SFTP that is not ours (paramiko)."""
 from __future__ import annotations
 
+import importlib
 import os
 import secrets
 import select
@@ -20,6 +21,17 @@ from folders import home as home_module
 from folders.home import Home
 
 BRIDGE = str(TOOLS / 'hail-sftp')
+
+
+def _module_or_none(name: str) -> Any:
+    try:
+        return importlib.import_module(name)
+    except ImportError:
+        return None
+
+
+paramiko: Any = _module_or_none('paramiko')
+"""None where it is not installed. Untyped, as in `folders`."""
 
 
 def hail(*words: str, data: bytes = b'') -> subprocess.CompletedProcess[bytes]:
@@ -145,7 +157,6 @@ class Pipes:
 
 def client_of(homes: Sequence[str], **env: str) -> Any:
     """A client of paramiko's over a new hail-sftp, which is at `pipes`."""
-    import paramiko
     pipes = Pipes(homes, **env)
     client = paramiko.SFTPClient(pipes)
     client.pipes = pipes
@@ -154,7 +165,6 @@ def client_of(homes: Sequence[str], **env: str) -> Any:
 
 def close_file(client: Any, file: Any) -> None:
     """Closes a file, and looks at the answer, as paramiko does not."""
-    import paramiko
     file.flush()
     if file.pipelined:
         file.set_pipelined(False)

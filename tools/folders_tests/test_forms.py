@@ -3,17 +3,12 @@ from __future__ import annotations
 
 import unittest
 
-from .common import long, string, word
+from .common import long, paramiko, string, word
 from folders.annex import name_of
 from folders.home import Refused
 from folders.manifest import INLINE, PIECE, Key, Manifest, Piece, decode, digest_of, encode, is_path, normal
 from folders.sftp import read_words
 from folders.store import in_effect
-
-try:
-    import paramiko
-except ImportError:
-    paramiko = None
 
 DIGEST = digest_of(b'')
 
@@ -97,7 +92,8 @@ class Words(unittest.TestCase):
     def test_words(self) -> None:
         self.assertEqual(read_words(['--init', 'a', 'b']), ('--init', ['a', 'b']))
         self.assertEqual(read_words(['a', '--', 'x', '-s', 'sftp']), ('', ['a']))
-        for words in ([], ['--init'], ['--listen', 'a'], ['a', '--add'], ['--'], ['']):
+        no_words: tuple[list[str], ...] = ([], ['--init'], ['--listen', 'a'], ['a', '--add'], ['--'], [''])
+        for words in no_words:
             self.assertEqual(read_words(words)[1], [])
 
     def test_names_of_keys(self) -> None:

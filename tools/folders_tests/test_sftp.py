@@ -2,6 +2,7 @@
 from __future__ import annotations
 
 import errno
+import hashlib
 import os
 import random
 import shutil
@@ -12,14 +13,13 @@ import unittest
 from pathlib import Path
 from typing import Any, Callable
 
-from .common import BRIDGE, INIT, TOOLS, InFolder, Pipes, client_of, close_file, fill, get, hail, long, make_home, names_in, put, string, word
+from .common import BRIDGE, INIT, TOOLS, InFolder, Pipes, client_of, close_file, fill, get, hail, long, make_home, names_in, paramiko, put, string, word
 from folders.home import Home, program
-from folders.manifest import Key, Manifest, encode
+from folders.homes import open_set
+from folders.manifest import Key, Manifest, decode, encode
 
-try:
-    import paramiko
-except ImportError:
-    paramiko = None
+FULL = bool(os.environ.get('FULL'))
+"""Whether what takes long is tried at all its steps."""
 
 DATA = random.Random(1).randbytes(4_300_000)
 """Two pieces."""
@@ -216,6 +216,84 @@ class Wrong(ByClient):
         put(client, '/c', b'x')
         self.assertEqual(get(client, '/c'), b'x')
 
+    def test_it_writes_again_once_all_is_read(self) -> None:
+        homes = self.homes(1)
+        client = self.client(homes)
+        put(client, '/a', SOME)
+        self.end(client)
+        for place in (1, 2):
+            shutil.copytree(f'{homes[0]}/provider-{place}', self.place / f'before-{place}')
+            spoil(homes[0], place, but='2-')    # of the tag, the second put
+        shutil.rmtree(f'{homes[0]}/folders')
+        client = self.client(homes)
+        self.fails(3, lambda: put(client, '/c', b'x'))
+        for place in (1, 2):
+            shutil.copytree(self.place / f'before-{place}', f'{homes[0]}/provider-{place}', dirs_exist_ok=True)
+        put(client, '/c', b'x')
+        self.assertEqual((get(client, '/a'), get(client, '/c')), (SOME, b'x'))
+
+    def test_the_locks_are_removed_meanwhile(self) -> None:
+        """Who starts then takes no notice of a program at work, and removes what that stored: so that one makes no file of it."""
+        homes = self.homes(1)
+        one = self.client(homes)
+        put(one, '/a', SOME)
+        file = one.open('/b', 'w')
+        file.write(DATA)
+        file.flush()
+        shutil.rmtree(f'{homes[0]}/folders')
+        two = self.client(homes)
+        put(two, '/c', b'x')
+        self.fails(4, lambda: close_file(one, file))
+        self.fails(4, lambda: put(one, '/d', b'x'))
+        self.end(one)
+        self.assertEqual((sorted(two.listdir('/')), get(two, '/a')), (['a', 'c'], SOME))
+
+    def test_an_older_journal_is_put_back(self) -> None:
+        """What was stored since has no name, and what that named in the other home stays, until it was salvaged."""
+        homes = self.homes(2)
+        client = self.client(homes)
+        put(client, '/a', SOME)
+        self.end(client)
+        copy = self.place / 'journal'
+        shutil.copy(f'{homes[0]}/journal', copy)
+        (self.place / 'journal.sum').write_text(hashlib.sha256(copy.read_bytes()).hexdigest() + '  journal\n')
+        client = self.client(homes)
+        given = {'/a': SOME[::-1], **{f'/{k}': DATA[k:] for k in range(3)}, **{f'/s{k}': DATA[k:k + 9] for k in range(6)}}
+        for path, data in given.items():
+            put(client, path, data)
+        self.end(client)
+        there = names_in(homes[1:])
+        os.remove(f'{homes[0]}/journal')
+        restored = subprocess.run([TOOLS / 'hail-restore', homes[0], copy, '40'], stdout=subprocess.PIPE, stderr=subprocess.PIPE)
+        self.assertEqual(restored.returncode, 1, restored)
+        lines = restored.stdout.decode().splitlines()
+        for name in [line.split(':')[0] for line in lines if ': too few blocks: ' in line]:     # what was removed since
+            hail(homes[0], 'drop', name)
+        client = self.client(homes)
+        self.end(client)
+        self.assertIn('leftovers stay: ', client.pipes.told)
+        self.assertEqual(names_in(homes[1:]), there)
+        self.salvage(homes, [int(line.split()[1][:-1]) for line in lines if ': a file that was put since' in line])
+        os.remove(f'{homes[0]}/restored')
+        client = self.client(homes)
+        self.assertEqual({path: get(client, path) for path in given}, given)
+        self.end(client)
+        self.assertEqual(len(names_in(homes)), len(given) + 1 + 3 * 2)
+
+    def salvage(self, homes: list[str], numbers: list[int]) -> None:
+        """Puts what has these numbers in the first home under names again, as the manual page tells."""
+        joined = [subprocess.run([TOOLS / 'hail-salvage', homes[0], '1', str(number)], stdout=subprocess.PIPE, check=True).stdout for number in numbers]
+        manifests = [data for data in joined if data.startswith(b'hail-file-1 ')]
+        self.assertTrue(0 < len(manifests) < len(joined))
+        for k, data in enumerate(manifests):
+            head = data.index(b'\n') + 1
+            hail(homes[0], 'put', f'sftp1-file-{k:020x}', data=data[:head + int(data[:head].split()[2])])
+        named = [decode(Home(home).get(name))[0].pieces for home in homes for name in Home(home).names() if name.startswith('sftp1-file-')]
+        for piece in [piece for pieces in named for piece in pieces if homes[piece.key.place] == homes[0]]:
+            for data in joined:
+                if hashlib.sha256(data[:piece.size]).hexdigest() == piece.digest:
+                    hail(homes[0], 'put', piece.key.name, data=data[:piece.size])
+
     def test_a_provider_on_another_machine(self) -> None:
         homes = self.homes(1)
         far = self.place / 'far'
@@ -355,9 +433,13 @@ class Wrong(ByClient):
             Path(home, 'copies').write_text(f'{place}\n')
         self.assertEqual(self.bridge('--init', *homes)[0], 0)
         self.assertTrue(all(self.is_copied(home) for home in homes))
-        client = self.client(homes)
+        spy, calls = self.place / 'spy', self.place / 'calls'
+        spy.write_text(f'#!/bin/sh\necho "$2 $HAIL_KEEPS" >>{calls}\nexec {program()} "$@"\n')
+        spy.chmod(0o700)
+        client = self.client(homes, HAIL=str(spy))
         put(client, '/a', DATA)
         self.assertFalse(all(self.is_copied(home) for home in homes))
+        self.assertEqual({line for line in calls.read_text().splitlines() if line.startswith('put')}, {'put 1'})     # hail copies none
         self.assertEqual(self.end(client), 0)
         self.assertEqual((client.pipes.told, all(self.is_copied(home) for home in homes)), ('', True))
         places[1].rename(self.place / 'away')
@@ -420,11 +502,23 @@ class Sets(InFolder):
         self.assertEqual(self.bridge('--init', other)[0], 0)
         for words in ([one, other], ['--add', one, two, other], ['--init', one, two, other]):
             self.assertEqual(self.bridge(*words)[0], 3, words)
-        for words in ([], ['--init'], ['-x', one], ['--listen', '2022', one]):
+        no_words: tuple[list[str], ...] = ([], ['--init'], ['-x', one], ['--listen', '2022', one])
+        for words in no_words:
             self.assertEqual(self.bridge(*words)[0], 2, words)
         for words in ([one, str(self.place / 'nowhere')], [str(self.place)], ['--init', str(self.place)]):
             self.assertEqual(self.bridge(*words)[0], 4, words)
         self.assertEqual(names_in([one, two, other]), [])
+
+    def test_two_are_added_at_once(self) -> None:
+        """The second is told to name what the first added."""
+        homes = self.homes(1)
+        for turn in range(4):
+            more = [make_home(self.place / f'{turn}-{k}') for k in range(2)]
+            running = [subprocess.Popen([BRIDGE, '--add', *homes, home], stderr=subprocess.DEVNULL) for home in more]
+            statuses = [process.wait() for process in running]
+            self.assertEqual(sorted(statuses), [0, 3])
+            homes.append(more[statuses.index(0)])
+        self.assertEqual(len(open_set(homes)), 5)
 
     @unittest.skipUnless(paramiko, 'there is no python3-paramiko')
     def test_a_home_whose_journal_is_older(self) -> None:
@@ -436,6 +530,41 @@ class Sets(InFolder):
         for words in (homes, ['--init', *homes], ['--add', *homes]):
             self.assertEqual(self.bridge(*words)[0], 3)
         self.assertEqual(len(names_in(homes)), 1)
+
+    @unittest.skipUnless(paramiko, 'there is no python3-paramiko')
+    def test_a_home_that_is_moved(self) -> None:
+        """To another shape; cut off at any call of hail, what its files name in the other home is no leftover."""
+        other, old = self.homes(2)      # which get the pieces, and the manifests
+        new = make_home(self.place / 'new', '5 2 1 4 4 8 0')
+        given = {f'/{k}': DATA[k:k + 70_000] for k in range(3)}
+        client = client_of([old, other])
+        for path, data in given.items():
+            put(client, path, data)
+        client.pipes.close()
+        stays = names_in([other])
+        kept = self.place.with_suffix('.kept')
+        shutil.copytree(self.place, kept)
+        self.addCleanup(shutil.rmtree, kept)
+        spy, cut = self.place / 'spy', True
+        for call in (*(range(1, 24) if FULL else (3, 6, 13)), 10_000):
+            shutil.rmtree(self.place)
+            shutil.copytree(kept, self.place)
+            spy.write_text(f'#!/bin/sh\necho >>{spy}.calls\n[ "$(wc -l <{spy}.calls)" -ne {call} ] || kill -KILL $PPID\nexec {program()} "$@"\n')
+            spy.chmod(0o700)
+            moved = subprocess.run([TOOLS / 'hail-move', old, new], env={**os.environ, 'HAIL': str(spy)}, stdout=subprocess.PIPE, stderr=subprocess.PIPE)
+            cut = call < 10_000
+            with self.subTest(call=call):
+                self.assertEqual(moved.returncode == 0, not cut, moved)
+                for homes in ([old, other], [new, other]) if cut else ():
+                    self.assertIn(self.bridge(*homes, data=INIT)[0], (0, 3))
+                    self.assertEqual(names_in([other]), stays)
+                self.assertEqual(subprocess.run([TOOLS / 'hail-move', old, new], stdout=subprocess.PIPE).returncode, 0)
+                self.assertEqual(self.bridge(old, other)[0], 3)
+                client = client_of([new, other])
+                self.assertEqual({path: get(client, path) for path in given}, given)
+                client.pipes.close()
+                self.assertEqual(client.pipes.told, '')
+        self.assertEqual(subprocess.run([TOOLS / 'hail-move', other, new], stdout=subprocess.PIPE, stderr=subprocess.PIPE).returncode, 3)
 
     @unittest.skipUnless(paramiko, 'there is no python3-paramiko')
     def test_a_tag_of_others(self) -> None:

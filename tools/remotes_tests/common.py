@@ -16,6 +16,8 @@ from typing import Callable, Iterable, NamedTuple, Sequence, TypeVar
 
 TOOLS = Path(os.environ.get('TOOLS') or Path(__file__).resolve().parents[1])
 sys.path.insert(0, str((TOOLS / 'hail-remote').resolve().parent / 'lib'))
+from hail.blocks import HEADER_BYTES, MARK_BYTES, stripes_in
+
 HAIL = os.environ.get('HAIL') or str(TOOLS.parent / 'hail')
 HERE = Path(__file__).resolve().parent
 
@@ -60,6 +62,19 @@ def run(command: Sequence[str], data: bytes = b'', **env: str) -> Done:
         out, err = running.communicate()
         status = -1
     return Done(status, out, err.decode(errors='replace'), time.monotonic() - begun)
+
+
+def stacked_blocks(number: int, path: Path) -> dict[str, bytes]:
+    """The blocks in the file of an object in a stack."""
+    data = path.read_bytes()
+    size, stripes = stripes_in(data)
+    places = {stripe: HEADER_BYTES + stripe * (size + MARK_BYTES) for stripe in stripes}
+    return {f'{number}/{path.name}-{stripe}': data[at : at + size] for stripe, at in places.items()}
+
+
+def object_of(place: str) -> str:
+    """The number of the object at a place of `blocks`."""
+    return place.split('/')[1].split('-')[0]
 
 
 class Home:
@@ -147,16 +162,18 @@ class Home:
         for far in place.glob('far-*'):
             number = far.name.split('-')[1]
             shutil.rmtree(home.path / f'remote-{number}')
-            if (far / f'provider-{number}').exists():
-                os.rename(far / f'provider-{number}', home.path / f'provider-{number}')
+            for name in (f'provider-{number}', f'stack-{number}'):
+                if (far / name).exists():
+                    os.rename(far / name, home.path / name)
         return home
 
     def blocks(self, *numbers: int) -> dict[str, bytes]:
-        """What these providers hold here: the bytes of each file of their folders."""
+        """What these providers hold here: the bytes of each block by `PLACE/OBJECT-STRIPE`, and of what else lies in their folders."""
         found = {}
         for number in numbers:
+            stacked = (self.path / f'stack-{number}').exists()
             for path in (self.path / f'provider-{number}').glob('*'):
-                found[f'{number}/{path.name}'] = path.read_bytes()
+                found.update(stacked_blocks(number, path) if stacked else {f'{number}/{path.name}': path.read_bytes()})
         return found
 
 

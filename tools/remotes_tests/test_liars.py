@@ -6,7 +6,7 @@ import os
 import shutil
 from typing import NamedTuple
 
-from .common import FULL, Done, Home, InFolder
+from .common import FULL, Done, Home, InFolder, object_of
 
 KINDS = ('twos threes threes_again two_and_silence late other extra huge liar noise flip mute slow half half_and_silence asleep early ends dies'
          ' reads_not closes daemon keeps shouts garbage ones zeros all_ff').split()
@@ -114,7 +114,7 @@ class Liars(InFolder):
             if beside.hail('get', name).out != files[name]:
                 return f'loses {name}'
         now = home.blocks(0, 1, 3, 4, 5)
-        kept = {place: data for place, data in self.honest.items() if files.get('long') == OLD or not place.endswith('/1')}
+        kept = {place: data for place, data in self.honest.items() if files.get('long') == OLD or object_of(place) != '1'}
         changed = [place for place, data in kept.items() if now.get(place) != data]
         return f'changes {changed}' if changed else ''
 

@@ -1,11 +1,16 @@
 """What a far end may take and do before it is given up; far ends that can't be begun; what may stand in HOME/remotes and HOME/remote-2."""
 from __future__ import annotations
 
+import fcntl
 import os
 import shutil
+import signal
+import time
+from itertools import product
 from pathlib import Path
+from typing import Callable, NamedTuple
 
-from .common import HERE, TOOLS, Done, Home, InFolder, run, start
+from .common import HAIL, HANG, HERE, TOOLS, Done, Home, InFolder, run, start
 from hail.far_ends import NoRemotes, read_line
 
 DATA = os.urandom(9000)
@@ -20,6 +25,26 @@ def runs(name: str) -> bool:
         except OSError:
             pass
     return False
+
+
+def is_free(path: Path) -> bool:
+    """Whether nobody has this locked."""
+    file = os.open(path, os.O_RDONLY)
+    try:
+        fcntl.flock(file, fcntl.LOCK_EX | fcntl.LOCK_NB)
+        return True
+    except BlockingIOError:
+        return False
+    finally:
+        os.close(file)
+
+
+class Told(NamedTuple):
+    """The name of a case, the commands of far ends, which have it among their words, and how the command is told to end."""
+
+    name: str
+    commands: dict[str, str]
+    tell: Callable[[int, int], None]
 
 
 class Limits(InFolder):
@@ -112,6 +137,39 @@ class Limits(InFolder):
         self.assertIn('hail-remote: 1 seconds are over\n', put.err)
         got = run([*words, 'get', 'file'])
         self.assertEqual((got.status, got.out), (0, DATA), got)
+
+    def ends(self, case: Told) -> str:
+        """A command is told to end once a far end runs that has the name among its words: nothing of it is left, and the home is free at once."""
+        home = self.home.copy(self.place / case.name)
+        home.far_ends(**{far: command.format(case.name) for far, command in case.commands.items()})
+        running = start([str(TOOLS / 'hail-remote'), str(home.path), 'get', 'file'], HAIL=HAIL)
+        until = time.monotonic() + HANG
+        while not runs(case.name) and running.poll() is None and time.monotonic() < until:
+            time.sleep(0.05)
+        case.tell(running.pid, signal.SIGTERM)
+        told = running.communicate(timeout=HANG)
+        self.assertEqual((running.returncode, runs(case.name)), (128 + signal.SIGTERM, False), (case, told))
+        for path in (home.path, home.path / 'remotes', home.path / 'journal'):
+            self.assertTrue(is_free(path), (case, path))
+        home.far_ends(**{far: 'SERVE' for far in case.commands})
+        got = home.remote('get', 'file')
+        self.assertEqual((got.status, got.out, got.err), (0, DATA, ''), (case, got))
+        return ''
+
+    def test_told_to_end(self) -> None:
+        """SIGTERM, as of systemd to the program alone and of `timeout` to its group: the far ends end too, also one that does not heed it, or left."""
+        kinds = ('exec sleep {}', 'trap "" TERM; sleep {}', '(setsid sleep {} &) ; exec sleep 1000')
+        tellers: tuple[Callable[[int, int], None], ...] = (os.kill, os.killpg)
+        self.each(
+            (Told(f'1100.{os.getpid()}{turn}', {'p2': kind}, tell) for turn, (kind, tell) in enumerate(product(kinds, tellers))),
+            self.ends,
+        )
+
+    def test_told_as_it_begins(self) -> None:
+        """The same before all of six far ends are begun: the first one tells it."""
+        self.home.move_away(0, 1, 3, 4, 5)
+        commands = {'p0': 'kill $PPID; exec sleep {}', **{f'p{place}': 'exec sleep {}' for place in range(1, 6)}}
+        self.each((Told(f'1200.{os.getpid()}{turn}', commands, lambda pid, number: None) for turn in range(3)), self.ends)
 
     def test_standard_streams(self) -> None:
         """Links to the standard streams are refused, also where these are pipes: nothing is read or written there."""

@@ -87,6 +87,21 @@ class Sessions(InFolder):
                 found.append('get gives other bytes')
         return f'a far end that {kind}: {found}' if found else ''
 
+    def lost_at_a_real_change(self, home: Home) -> None:
+        """A repair behind which the far end does not begin again names it, stays due, and ends well once it is back."""
+        begun = home.place / 'begun'
+        shutil.rmtree(home.place / 'far-2' / 'provider-2')
+        self.assertIn('flagged', home.remote('audit').text)
+        self.begun(home)
+        home.far_ends(p2=AT_THE_CHANGE['does not begin again'].format(begun=begun))
+        done = home.remote('repair')
+        self.assertEqual((done.status, begun.exists()), (13, True), done)
+        self.assertIn('hail: provider fault 2\n', done.err)
+        self.assertGreater(len(home.gathered().blocks(2)), 8000)
+        self.assertEqual(home.remote('audit').status, 6)
+        home.far_ends(p2='SERVE')
+        self.well(home.remote('repair'))
+
     def test_whole_sessions(self) -> None:
         """64 MiB of files over real sessions, of which a repair takes three."""
         if not FULL:
@@ -103,6 +118,7 @@ class Sessions(InFolder):
             sessions = self.begun(home)
             self.assertGreaterEqual(sessions, 3)
             print(f'{word} of 64 MiB: {done.seconds:.1f} s, {sessions} sessions')
+        self.lost_at_a_real_change(home)
         self.assertEqual(home.remote('scrub').text.count(' blocks 0\n'), 6)
         for name, data in files.items():
             self.well(home.remote('get', name), data)

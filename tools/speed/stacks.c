@@ -3,8 +3,8 @@
  *
  *     cc -O3 -o stacks stacks.c
  *     stacks keep FOLDER FILES BLOCKS BYTES      writes each block, and syncs each file and its folder at the end
- *     stacks store FOLDER FILES BLOCKS BYTES     the same, with each block read back through another opening, and a journal that is written and
- *                                                synced before and behind all
+ *     stacks store FOLDER FILES BLOCKS BYTES     the same, with each block read back through another opening, and before and behind all a record of
+ *                                                a journal, which is written and synced, and then its gate
  *     stacks fetch FOLDER FILES BLOCKS BYTES     reads each block; they are there
  *
  * It tells 'WHAT in N ns' on standard error. */
@@ -88,13 +88,14 @@ static void sync_all(const char *folder, int files)
     }
 }
 
-/* Adds a record to the journal, and syncs it. */
+/* Adds a record to the journal, and syncs it; and then its gate. */
 static void record(const char *folder)
 {
     char path[PATH];
     snprintf(path, PATH, "%s/journal", folder);
     int file = opened(path, O_WRONLY | O_CREAT | O_APPEND);
-    expect(write(file, place, 32) == 32 && fsync(file) == 0 && close(file) == 0);
+    expect(write(file, place, 32) == 32 && fsync(file) == 0);
+    expect(write(file, place, 1) == 1 && fsync(file) == 0 && close(file) == 0);
 }
 
 int main(int count, char **words)

@@ -14,6 +14,9 @@ from typing import NoReturn
 from .paper import NoKey, read_key
 from .shapes import JOURNAL_BYTES, PLACES
 
+READERS = ("get", "list", "row", "serve")  # of the commands: they leave the journal as it is
+REFUSED = (2, 3, 6, 7, 8, 9, 10, 17, 18, 19, 20, 23, 24, 26)  # of the statuses: of commands that did not begin
+KEEPS = "HAIL_KEEPS"  # is set for a command behind which its caller copies the journal, which else the launcher and hail-remote do
 TOOLS = os.path.dirname(os.path.dirname(os.path.dirname(os.path.realpath(__file__))))
 
 
@@ -51,6 +54,11 @@ def hail_over(home: str, *words: str, seconds: int | None = None) -> list[str]:
 def run_hail(home: str, *words: str, given: bytes = b"") -> subprocess.CompletedProcess[bytes]:
     """What hail says to these words over a home, with its remote providers."""
     return subprocess.run(hail_over(home, *words), input=given, capture_output=True, env=environment(), check=False)
+
+
+def is_to_copy(words: list[str]) -> bool:
+    """Whether HOME WORD .. may change the journal of a home that names places for its copies, and the caller does not copy it."""
+    return KEEPS not in os.environ and len(words) > 1 and words[1] not in READERS and stands(os.path.join(words[0], "copies"))
 
 
 def said(answer: subprocess.CompletedProcess[bytes]) -> str:

@@ -7,7 +7,7 @@ import os
 import stat
 from dataclasses import dataclass
 
-from .homes import refuse
+from .homes import refuse, stands
 from .journal import Journal, NoJournal, read_journal
 from .shapes import JOURNAL_BYTES
 
@@ -31,13 +31,15 @@ def places_of(home: str) -> list[Place]:
     path = os.path.join(home, "copies")
     try:
         with open(path, encoding="utf-8") as file:
-            rights = os.fstat(file.fileno()).st_mode
+            status = os.fstat(file.fileno())
             lines = [line.strip() for line in file]
-    except FileNotFoundError:
+    except FileNotFoundError as fault:
+        if stands(path):
+            refuse(f"{path} can't be read: {fault}", 2)
         return []
     except (OSError, UnicodeError) as fault:
         refuse(f"{path} can't be read: {fault}", 2)
-    if rights & (stat.S_IWGRP | stat.S_IWOTH):
+    if status.st_mode & (stat.S_IWGRP | stat.S_IWOTH) or status.st_uid not in (0, os.geteuid()):
         refuse(f"others may write {path}, whose commands would be run", 2)
     places = [Place(line) for line in lines if line and not line.startswith("#")]
     for place in places:
