@@ -211,7 +211,7 @@ failing_copies() {
     cat >bin/cp <<COPYING
 #!/bin/bash
 "$(command -v cp)" "\$@" || exit
-case " \$* " in *' --parents '*) rm -f "$PWD/tmp/"*/*/provider-1/3-1 && cat "$PWD/fault" >&2 && exit 1 ;; esac
+case " \$* " in *' --parents '*) cd "$PWD/tmp" && rm -f */*/provider-1/3-1 && cat "$PWD/fault" >&2 && exit 1 ;; esac
 COPYING
     chmod +x bin/cp
     echo "cp: error writing '$PWD/3-1': Input/output error" >fault

@@ -16,24 +16,12 @@
 #include <time.h>
 #include <unistd.h>
 
+#include "calls.h"
+
 enum { LONGEST = 2048, PATH = 4096 };
 
 static uint8_t bytes[LONGEST], back[LONGEST + 1];
 static int size;
-
-static double now(void)
-{
-    struct timespec t;
-    clock_gettime(CLOCK_MONOTONIC, &t);
-    return (double)t.tv_sec * 1e9 + (double)t.tv_nsec;
-}
-
-static void expect(int holds)
-{
-    if (holds) return;
-    perror("files");
-    exit(1);
-}
 
 /* Makes a file, which is not there, and writes it. */
 static void write_new(const char *path, int syncs)

@@ -17,24 +17,12 @@
 #include <time.h>
 #include <unistd.h>
 
+#include "calls.h"
+
 enum { LONGEST = 2056, MOST_FILES = 16, PATH = 4096, HEADER = 16 };
 
 static uint8_t place[LONGEST], back[LONGEST];
 static int size, writers[MOST_FILES], readers[MOST_FILES];
-
-static double now(void)
-{
-    struct timespec t;
-    clock_gettime(CLOCK_MONOTONIC, &t);
-    return (double)t.tv_sec * 1e9 + (double)t.tv_nsec;
-}
-
-static void expect(int holds)
-{
-    if (holds) return;
-    perror("stacks");
-    exit(1);
-}
 
 static int opened(const char *path, int how)
 {
