@@ -18,7 +18,8 @@ use Rattle.effect_laws.proofs.Apart.{ends_apart}
 use Rattle.effect_laws.proofs.Over.{damages}
 use Rattle.epoch_laws.specs.Epochs.{IsSwept, AreExactBut}
 use Rattle.epoch_laws.specs.Told.{done_by, AreFew, ByScrubs, oldest, newest}
-use Rattle.epoch_laws.proofs.Epochs.{joined_only, few_first, calm_on, exact_on}
+use Rattle.machine_defs.proofs.Damaged.{both_only}
+use Rattle.epoch_laws.proofs.Epochs.{few_first, calm_on, exact_on}
 
 -- the moments of a scrub that ended well, with those of commands behind it and before it
 record Parts (base ms : List Moment) (front : List Instruction) (us : List Outcome) (behind : List Instruction)
@@ -101,8 +102,8 @@ module _ (limit : ℕ) (start : State) (base : List Moment) (clean : IsStart sta
       IsRun limit start (more ++ (ms ++ base)) → Few named (now start (more ++ (ms ++ base))) →
       IsScrubCalm start (more ++ (ms ++ base))
   chain _ _ _ ms more (ByScrubs.first ps cs os asks) E before only run few =
-      (let all = joined_only ps more (ms ++ base) only
-      (joined_only ps ms base (damages ps cs ms os E asks) before) in record {
+      (let all = both_only ps more (ms ++ base) only
+      (both_only ps ms base (damages ps cs ms os E asks) before) in record {
         jobs = few-damaged.few_calm limit (scrubbed start) start ps clean (more ++ (ms ++ base)) run all few.0;
         scrubs = few-damaged.few_scrubs limit (scrubbed start) start ps clean (more ++ (ms ++ base)) run all few.0;
       })
@@ -119,8 +120,8 @@ module _ (limit : ℕ) (start : State) (base : List Moment) (clean : IsStart sta
       (run_back limit start (more ++ P.new) (P.recent ++ older) run_all)
       (few-back limit start named clean (more ++ P.new) (P.recent ++ older) run_all few_all.1) in
       subst (IsScrubCalm start) (sym all) (calm_on limit start (more ++ P.new) P.recent older qs clean run_all
-      P.swept (joined_only qs (more ++ P.new) P.recent
-      (joined_only qs more P.new only (damages qs behind P.new rs P.news asks)) (P.none qs)) calm_old few_all.0))
+      P.swept (both_only qs (more ++ P.new) P.recent
+      (both_only qs more P.new only (damages qs behind P.new rs P.news asks)) (P.none qs)) calm_old few_all.0))
 
   pub chain-calm : (named : List (List ℕ)) (commands : List Instruction) (outcomes : List Outcome)
       (ms : List Moment) → IsRun limit start (ms ++ base) → ReadsAs commands ms outcomes →
@@ -153,7 +154,7 @@ module _ (limit : ℕ) (start : State) (base : List Moment) (clean : IsStart sta
       (let P = parts base ms behind front rs us s stripes symbols blocks E many in
       let older : List Moment = P.first ++ base in
       subst (λ l. AreExactBut qs (now start l)) (sym P.whole) (exact_on limit start P.new P.recent older qs clean
-      (subst (IsRun limit start) P.whole run) P.swept (joined_only qs P.new P.recent
+      (subst (IsRun limit start) P.whole run) P.swept (both_only qs P.new P.recent
       (damages qs behind P.new rs P.news (subst (λ l. AsksDamageOf l behind) (same is) asks)) (P.none qs)) tell
       (subst (IsScrubCalm start) P.whole calm)))
     where

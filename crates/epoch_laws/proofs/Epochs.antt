@@ -15,7 +15,7 @@ use Rattle.machine_defs.specs.Scrubs.{scrub_begun, mark_scrubbed, scrubbed, IsSc
 use Rattle.machine_defs.specs.Damaged.{DamagesOnly}
 use Rattle.machine_defs.specs.Halves.{AllTell}
 use Rattle.machine_defs.specs.Untouched.{Relies, NoneRuns}
-use Rattle.machine_defs.proofs.Damaged.{among_since}
+use Rattle.machine_defs.proofs.Damaged.{among_since, both_only}
 use Rattle.machine_defs.proofs.JobLists.{cond_true, cond_false, found_none}
 use Rattle.machine_defs.proofs.PinFacts.{setup_same}
 use Rattle.machine_defs.proofs.Untouched.{begun_later, run_back}
@@ -23,11 +23,7 @@ use Rattle.second_half_laws.proofs.Doubts.{setups_stay}
 use Rattle.second_half_laws.proofs.FewDamaged.{AreFew, few_now, few_before, few_calm, few_scrubs}
 use Rattle.second_half_laws.proofs.Finished.{exact_by_scrubs}
 use Rattle.epoch_laws.specs.Epochs.{IsSwept, AreExactBut}
-use Rattle.epoch_laws.proofs.Sweeps.{NoScrub, scrub_later, IsOver, is_over}
-
-pub no_fewer : (later base : List Moment) → length base ≤ length (later ++ base)
-no_fewer [] base = omega arith
-no_fewer (m ∷ later) base = (let l = no_fewer later base in omega arith)
+use Rattle.epoch_laws.proofs.Sweeps.{no_fewer, NoScrub, scrub_later, IsOver, is_over}
 
 module _ (limit : ℕ) (start : State) (clean : IsStart start) (from : ℕ) (base : List Moment)
     (mark : from ≤ scrubbed start base) (none : NoScrub (now start base)) (late : from ≤ length base) where
@@ -104,11 +100,6 @@ parts_only qs [] recent only = (tt, only)
 parts_only qs (m ∷ later) recent only =
     (let p = parts_only qs later recent only.1 in ((only.0, p.0), p.1))
 
-pub joined_only : (qs : List ℕ) (later recent : List Moment) → DamagesOnly qs later → DamagesOnly qs recent →
-    DamagesOnly qs (later ++ recent)
-joined_only qs [] recent a b = b
-joined_only qs (m ∷ later) recent a b = (a.0, joined_only qs later recent a.1 b)
-
 -- few are at each start of a run where they are at its end
 pub few_first : (limit : ℕ) (start : State) (ps : List ℕ) → IsStart start → (later ms : List Moment) →
     IsRun limit start (later ++ ms) → AreFew ps (now start (later ++ ms)) → AreFew ps (now start ms)
@@ -146,7 +137,7 @@ module _ (limit : ℕ) (start : State) (later recent older : List Moment) (qs : 
   named : (hs : List Moment) → DamagesOnly qs hs → (mark : ℕ) → length older ≤ mark → (j : ℕ) →
       is_replaced_since mark j (hs ++ (recent ++ older)) ≡ true → In j qs
   named hs new mark l j h = among_since qs (hs ++ recent) older mark j l
-      (joined_only qs hs recent new (parts_only qs later recent only).1)
+      (both_only qs hs recent new (parts_only qs later recent only).1)
       (subst (λ all. is_replaced_since mark j all ≡ true) (sym (append_assoc hs recent older)) h)
 
   pub calm_on : IsScrubCalm start (recent ++ older) → AreFew qs (now start (later ++ (recent ++ older))) →

@@ -22,7 +22,7 @@ use Rattle.machine_defs.specs.Untouched.{Relies, NoneRuns, NoneUnderWay}
 use Rattle.machine_defs.proofs.JobLists.{cond_true, cond_false, found_none}
 use Rattle.machine_defs.proofs.Lone.{ended_of_kind}
 use Rattle.machine_defs.proofs.Untouched.{begun_later, none_under_way, run_back}
-use Rattle.machine_defs.proofs.Damaged.{first_enough, first_fewer, calm_back, among_since}
+use Rattle.machine_defs.proofs.Damaged.{first_enough, first_fewer, calm_back, among_since, both_only}
 use Rattle.second_half_laws.specs.Epochs.{moved_mark}
 use Rattle.second_half_laws.specs.Marks.{IsMark}
 use Rattle.second_half_laws.specs.MarkedRuns.{AreMarks, IsMarkedRun, IsCalmRun}
@@ -34,8 +34,8 @@ use Rattle.second_half_laws.proofs.Onward.{all_tell}
 use Rattle.second_half_laws.proofs.Scrubbing.{Scrub_is}
 use Rattle.second_half_laws.proofs.SecondHalf.{scrub_was}
 use Rattle.epoch_laws.specs.Epochs.{AreRightBut}
-use Rattle.epoch_laws.proofs.Sweeps.{NoScrub, scrub_later, lone}
-use Rattle.epoch_laws.proofs.Epochs.{no_fewer, parts_only, joined_only}
+use Rattle.epoch_laws.proofs.Sweeps.{no_fewer, NoScrub, scrub_later, lone}
+use Rattle.epoch_laws.proofs.Epochs.{parts_only}
 
 module _ (k from : ℕ) (mark : Mark) where
   moved : (ms : List Moment) → k ≤ length ms → moved_mark k from mark ms ≡ from
@@ -239,7 +239,7 @@ module _ (limit : ℕ) (start : State) (later recent older : List Moment) (qs : 
   named : (hs : List Moment) → DamagesOnly qs hs → (j : ℕ) →
       is_replaced_since (length older) j (hs ++ (recent ++ older)) ≡ true → In j qs
   named hs fresh j r = among_since qs (hs ++ recent) older (length older) j (omega arith)
-      (joined_only qs hs recent fresh (parts_only qs later recent only).1)
+      (both_only qs hs recent fresh (parts_only qs later recent only).1)
       (subst (λ all. is_replaced_since (length older) j all ≡ true) (sym (append_assoc hs recent older)) r)
 
   pub mended_on : length qs ≤ (setup_in (now start (later ++ (recent ++ older)))).b →

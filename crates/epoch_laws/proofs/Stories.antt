@@ -37,7 +37,8 @@ use Rattle.effect_laws.proofs.Asked.{both_none, none_for, none_on, steps_none}
 use Rattle.effect_laws.proofs.Over.{damages, over}
 use Rattle.epoch_laws.specs.Epochs.{IsSwept, AreExactBut, AreRightBut}
 use Rattle.epoch_laws.specs.Told.{done_by, AreFew, GotBack, IsWhole}
-use Rattle.epoch_laws.proofs.Epochs.{joined_only, few_first, calm_on, exact_on}
+use Rattle.machine_defs.proofs.Damaged.{both_only}
+use Rattle.epoch_laws.proofs.Epochs.{few_first, calm_on, exact_on}
 use Rattle.epoch_laws.proofs.Moved.{mended_on, mended_right}
 use Rattle.epoch_laws.proofs.Told.{no-audit, both-ask-none, stored-behind, stored-more, parts, later, later-damages, all-is, got-back, gives}
 
@@ -75,7 +76,7 @@ kept limit start base ms front middle us ts name bytes own p g ps how clean tell
     let G = back base ms front middle us ts name bytes own p g how E many leaves free asks in (
       G,
       λ few. gives name bytes g how base ms limit (λ moments. 0) start G (few_marked limit start (ms ++ base) ps clean tell run
-          (joined_only ps ms base (damages ps (done_by (Begin (GetJob name)) g (middle ++ put)) ms
+          (both_only ps ms base (damages ps (done_by (Begin (GetJob name)) g (middle ++ put)) ms
           (Ended how ∷ Begun g ∷ (ts ++ Ended Put ∷ Begun p ∷ us)) E (tt, names)) before) few.0),
     ))
 
@@ -142,8 +143,8 @@ module _ (limit : ℕ) (start : State) (base ms : List Moment) (front middle beh
       } in
       let whole_run : IsRun limit start (new ++ (recent ++ older)) = subst (IsRun limit start) all run in
       let old_only : DamagesOnly ps (recent ++ older) = subst (DamagesOnly ps) tail
-      (joined_only ps P.apart.older base (damages ps cs P.apart.older sweep_outcomes Q (tt, names)) before) in
-      let new_only : DamagesOnly qs (new ++ recent) = joined_only qs new recent
+      (both_only ps P.apart.older base (damages ps cs P.apart.older sweep_outcomes Q (tt, names)) before) in
+      let new_only : DamagesOnly qs (new ++ recent) = both_only qs new recent
       (later-damages name g how behind cs rs sweep_outcomes base ms E many P qs names_later)
       (damages qs (done_by BeginScrub s []) recent
       (Ended (Scrubbed stripes symbols blocks) ∷ Begun s ∷ []) recent_reads (tt, tt)) in (
@@ -410,14 +411,14 @@ module _ (limit : ℕ) (start : State) (base ms : List Moment) (front middle bet
       (stored-behind front middle name bytes own p M.older base ts us M.rest more asks leaves free)) in
       let G = got-back name g how behind repair_first rs repair_outcomes base ms E many P bytes S asks_later in
       let old_only : DamagesOnly ps (recent ++ older) = subst (DamagesOnly ps) (tail ks M)
-      (joined_only ps ks base (damages ps repair_first ks repair_outcomes P.apart.rest (tt, names)) before) in
+      (both_only ps ks base (damages ps repair_first ks repair_outcomes P.apart.rest (tt, names)) before) in
       let recent_only : DamagesOnly qs recent = subst (DamagesOnly qs) (sym (parts_are ks M))
-      (joined_only qs (repair_part ks M) (audit_part ks M)
+      (both_only qs (repair_part ks M) (audit_part ks M)
       (damages qs (done_by (Begin RepairJob) r between) (repair_part ks M)
       (Ended (Repaired number) ∷ Begun r ∷ vs) (repair_reads ks M) (tt, names_between))
       (damages qs (done_by (Begin AuditJob) a []) (audit_part ks M)
       (Ended (Audited number undecided counts) ∷ Begun a ∷ []) (audit_reads ks M) (tt, tt))) in
-      let new_only : DamagesOnly qs (new ++ recent) = joined_only qs new recent
+      let new_only : DamagesOnly qs (new ++ recent) = both_only qs new recent
       (later-damages name g how behind repair_first rs repair_outcomes base ms E many P qs names_later)
       recent_only in
       let reads_over : NoneUnderWay Relies (recent ++ older) = subst (NoneUnderWay Relies) (tail ks M)

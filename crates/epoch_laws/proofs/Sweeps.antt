@@ -62,6 +62,11 @@ begin_told old moment r new next h none at = by_outcome (alone_refusal old []) r
 scrub_of : (x y : Scrub) → Some (Scrubbing x) ≡ Some (Scrubbing y) → x ≡ y
 scrub_of x y is = cc
 
+-- moments in front of others make no fewer
+pub no_fewer : (later base : List Moment) → length base ≤ length (later ++ base)
+no_fewer [] base = omega arith
+no_fewer (m ∷ later) base = (let l = no_fewer later base in omega arith)
+
 module _ (limit : ℕ) (start : State) (clean : IsStart start) where
   begun_told : (m : Moment) (ms : List Moment) (next : Scrub) → IsRun limit start (m ∷ ms) →
       m.event ≡ BeginScrub → next ≡ new_scrub (now start ms) (length ms) → (now start ms).alone ≡ None →
@@ -90,10 +95,6 @@ module _ (limit : ℕ) (start : State) (clean : IsStart start) where
             (let same = same_scrub (now start (gaps ++ b ∷ older)) m.state other scrub goes in
             same.0 ∙ begun_there gaps older b k run.2 event begun none.1 other was (sym same.1 ∙ number))
       ]
-
-  no_fewer : (later base : List Moment) → length base ≤ length (later ++ base)
-  no_fewer [] base = omega arith
-  no_fewer (m ∷ later) base = (let l = no_fewer later base in omega arith)
 
   -- a scrub that runs behind a moment at which none did began there or later
   pub scrub_later : (later base : List Moment) → IsRun limit start (later ++ base) →
@@ -201,7 +202,7 @@ module _ (limit : ℕ) (start : State) (clean : IsStart start) where
             ∙ begun_there limit start clean sweeping older b k run.2 begins begun none E.0 E.1 E.2);
         none = λ scrub at. some_none scrub (sym at ∙ ap (λ (w : State). w.alone) E.3);
         idle = ap (λ (w : State). w.jobs) E.3 ∙ lone limit start clean ms run.2 (Scrubbing E.0) E.1;
-        late = (let l = no_fewer limit start clean sweeping (b ∷ older) in omega arith);
+        late = (let l = no_fewer sweeping (b ∷ older) in omega arith);
       })
     where
       some_none : (scrub : Scrub) → Some (Scrubbing scrub) ≡ None → ⊥

@@ -1,5 +1,6 @@
 -- A scrub that is given outright, told by events and outcomes.
 use Rattle.std.proofs.Common.{◌≡◌, ℕ, ◌≤◌, List, [], ◌∷◌, ◌++◌, length, Some, refl, ap, sym, ◌∙◌, inl, append_assoc, option_map, arith}
+use Rattle.machine_defs.proofs.Damaged.{both_only}
 use Rattle.machine_defs.specs.Began.{NoneBegan}
 use Rattle.machine_defs.specs.Answers.{Scrubbed}
 use Rattle.machine_defs.specs.Damaged.{DamagesOnly}
@@ -78,10 +79,6 @@ both-none : (xs ys : List Moment) → NoneBegan 3 xs → NoneBegan 3 ys → None
 both-none [] ys a b = b
 both-none (x ∷ xs) ys a b = (a.0, both-none xs ys a.1 b)
 
-both-only : (ps : List ℕ) (xs ys : List Moment) → DamagesOnly ps xs → DamagesOnly ps ys → DamagesOnly ps (xs ++ ys)
-both-only ps [] ys a b = b
-both-only ps (x ∷ xs) ys a b = (a.0, both-only ps xs ys a.1 b)
-
 -- the scrub, and behind it a block of provider 1 that is lost
 abbrev pub recent : List Moment
 recent = last ∷ (parts.0 ++ first ∷ begun ∷ [])
@@ -142,4 +139,4 @@ unfolding setup_in actions_of
 few_lost = omega arith
 
 pub since : DamagesOnly robbed (later ++ recent)
-since = (inl refl, (tt, both-only robbed parts.0 (first ∷ begun ∷ []) parts.3 (tt, (tt, tt))))
+since = (inl refl, (tt, both_only robbed parts.0 (first ∷ begun ∷ []) parts.3 (tt, (tt, tt))))
