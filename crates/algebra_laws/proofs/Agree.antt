@@ -1,8 +1,5 @@
 -- Two polynomials that agree with a list of symbols at enough places are equal.
-use Rattle.std.proofs.Common.{◌≡◌, ◌≢◌, ◌≤◌, ◌+◌, ℕ, refl, arith, List, [], ◌∷◌, length, Bool, true, false, cond, Option, Some, None}
-use Rattle.algebra_laws.specs.Lists.{Each}
-use Rattle.algebra_laws.specs.Field.{FieldOf, IsField, Apart}
-use Rattle.algebra_laws.specs.Poly.{value, plus, agree, is_seen, present}
+use Rattle.algebra_laws.proofs.Words.{◌≡◌, ◌≢◌, ◌≤◌, ◌+◌, ℕ, refl, arith, List, [], ◌∷◌, length, Bool, true, false, cond, Option, Some, None, Each, FieldOf, IsField, Apart, value, plus, agree, is_seen, present}
 use Rattle.algebra_laws.proofs.Roots.{plus_zero}
 use Rattle.algebra_laws.proofs.Steps.{is_seen-none}
 

@@ -1,8 +1,5 @@
 -- Elements that are apart.
-use Rattle.std.proofs.Common.{◌≢◌, ◌++◌, [], ◌∷◌, ℕ, List, take, drop}
-use Rattle.std.proofs.lemmas.List.{take-append-drop}
-use Rattle.algebra_laws.specs.Lists.{Each}
-use Rattle.algebra_laws.specs.Field.{Apart}
+use Rattle.algebra_laws.proofs.Words.{◌≢◌, ◌++◌, [], ◌∷◌, ℕ, List, take, drop, take-append-drop, Each, Apart}
 
 -- points that are apart stay so without the last ones
 pub Apart-front : (xs ys : List ℕ) → Apart (xs ++ ys) → Apart xs

@@ -1,16 +1,12 @@
 -- Gao's decoder is exact.
-use Rattle.std.proofs.Common.{◌≡◌, ◌≢◌, ◌≤◌, ◌<◌, ◌+◌, ◌-◌, ℕ, ◌∙◌, refl, arith, List, [], ◌∷◌, length}
-use Rattle.algebra_laws.specs.Lists.{Each}
-use Rattle.algebra_laws.specs.Field.{FieldOf, IsField, Apart, IsEndless}
+use Rattle.algebra_laws.proofs.Words.{◌≡◌, ◌≢◌, ◌≤◌, ◌<◌, ◌+◌, ◌-◌, ℕ, ◌∙◌, refl, arith, List, [], ◌∷◌, length, Each, FieldOf, IsField, Apart, IsEndless, Decodes, Takes, value, times, trim, vanish, interpolate, FirstRow, Solves}
 use Rattle.algebra_laws.proofs.Ring.{zero_mul}
 use Rattle.algebra_laws.proofs.Solve.{v, o, i, ◌⊞◌, ◌⊡◌, solve}
-use Rattle.algebra_laws.specs.Poly.{Decodes, Takes, value, times, trim, vanish, interpolate, FirstRow}
 use Rattle.algebra_laws.proofs.Roots.{same_values}
 use Rattle.algebra_laws.proofs.Values.{value-times}
 use Rattle.algebra_laws.proofs.Trim.{value-trim, length-trim}
 use Rattle.algebra_laws.proofs.Interpolate.{length-vanish, length-interpolate, vanish_roots, interpolate_takes}
 use Rattle.algebra_laws.proofs.Gao.{row_is_product}
-use Rattle.algebra_laws.specs.Rows.{Solves}
 use Rattle.algebra_laws.proofs.Euclid.{AreRows, IsKeyRow, key_row, quotient_is}
 
 module _ {A : Type 0} (F : FieldOf A) (laws : IsField F) (endless : IsEndless A) where

@@ -1,9 +1,6 @@
 -- The last coefficient of a product.
-use Rattle.std.proofs.Common.{◌≡◌, ◌≢◌, ◌<◌, ◌+◌, ◌-◌, ℕ, zero, suc, sym, ◌∙◌, ap, refl, arith, List, [], ◌∷◌, length, Bool, true, false, cond, get_or}
-use Rattle.std.proofs.lemmas.List.{get_or_past}
-use Rattle.algebra_laws.specs.Field.{FieldOf, IsField}
+use Rattle.algebra_laws.proofs.Words.{◌≡◌, ◌≢◌, ◌<◌, ◌+◌, ◌-◌, ℕ, zero, suc, sym, ◌∙◌, ap, refl, arith, List, [], ◌∷◌, length, Bool, true, false, cond, get_or, get_or_past, FieldOf, IsField, scale, times, trim, front}
 use Rattle.algebra_laws.proofs.Ring.{zero_add}
-use Rattle.algebra_laws.specs.Poly.{scale, times, trim, front}
 use Rattle.algebra_laws.proofs.Inverse.{factor_zero}
 use Rattle.algebra_laws.proofs.Division.{get_or-plus, get_or-scale}
 

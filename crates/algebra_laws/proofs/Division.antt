@@ -1,10 +1,7 @@
 -- Division with remainder.
-use Rattle.std.proofs.Common.{◌≡◌, ◌≤◌, ℕ, zero, suc, sym, ◌∙◌, ap, refl, arith, List, [], ◌∷◌, length, take, get_or}
-use Rattle.std.proofs.lemmas.List.{length-take}
-use Rattle.algebra_laws.specs.Field.{FieldOf, IsField}
+use Rattle.algebra_laws.proofs.Words.{◌≡◌, ◌≤◌, ℕ, zero, suc, sym, ◌∙◌, ap, refl, arith, List, [], ◌∷◌, length, take, get_or, length-take, FieldOf, IsField, value, plus, scale, remainder, quotient}
 use Rattle.algebra_laws.proofs.Ring.{zero_add}
 use Rattle.algebra_laws.proofs.Solve.{v, ◌⊞◌, ◌⊡◌, solve}
-use Rattle.algebra_laws.specs.Poly.{value, plus, scale, remainder, quotient}
 use Rattle.algebra_laws.proofs.Values.{value-plus, value-scale}
 use Rattle.algebra_laws.proofs.Roots.{length-plus}
 use Rattle.algebra_laws.proofs.Interpolate.{length-scale}

@@ -1,9 +1,6 @@
 -- The rows of Euclid's algorithm on the product of all x + point and the interpolating polynomial.
-use Rattle.std.proofs.Common.{◌≡◌, ◌≢◌, ◌≤◌, ◌<◌, ◌+◌, ◌++◌, ℕ, suc, sym, ◌∙◌, ap, subst, refl, arith, List, [], ◌∷◌, length, Some, map}
-use Rattle.algebra_laws.specs.Lists.{Each}
-use Rattle.algebra_laws.specs.Field.{FieldOf, IsField, Apart, IsEndless}
+use Rattle.algebra_laws.proofs.Words.{◌≡◌, ◌≢◌, ◌≤◌, ◌<◌, ◌+◌, ◌++◌, ℕ, suc, sym, ◌∙◌, ap, subst, refl, arith, List, [], ◌∷◌, length, Some, map, Each, FieldOf, IsField, Apart, IsEndless, value, plus, times, trim, agree, vanish, root_times, FirstRow, here, next, Solves}
 use Rattle.algebra_laws.proofs.Solve.{v, ◌⊞◌, ◌⊡◌, solve}
-use Rattle.algebra_laws.specs.Poly.{value, plus, times, trim, agree, vanish, root_times, FirstRow, here, next}
 use Rattle.algebra_laws.proofs.Roots.{zero_from_roots, same_values, value-zero, length-plus}
 use Rattle.algebra_laws.proofs.Values.{value-times, value-plus}
 use Rattle.algebra_laws.proofs.Trim.{value-trim, length-trim}
@@ -11,7 +8,6 @@ use Rattle.algebra_laws.proofs.Interpolate.{length-times}
 use Rattle.algebra_laws.proofs.Loading.{vanish_step}
 use Rattle.algebra_laws.proofs.Everywhere.{cancel, Each-all}
 use Rattle.algebra_laws.proofs.Gao.{row_is_product}
-use Rattle.algebra_laws.specs.Rows.{Solves}
 
 -- what each two rows in turn keep
 pub record AreRows {A : Type 0} (F : FieldOf A) (points values whole r0 f0 r1 f1 : List A) : Type 0 where

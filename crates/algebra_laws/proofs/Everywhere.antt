@@ -1,8 +1,5 @@
 -- Polynomials that have one value everywhere.
-use Rattle.std.proofs.Common.{◌≡◌, ◌≢◌, ◌≤◌, ◌+◌, ℕ, suc, refl, inl, inr, ◌⊎◌, arith, List, [], ◌∷◌, length, Bool, true, false, cond}
-use Rattle.algebra_laws.specs.Lists.{Each}
-use Rattle.algebra_laws.specs.Field.{FieldOf, IsField, Apart, IsEndless}
-use Rattle.algebra_laws.specs.Poly.{value, trim}
+use Rattle.algebra_laws.proofs.Words.{◌≡◌, ◌≢◌, ◌≤◌, ◌+◌, ℕ, suc, refl, inl, inr, ◌⊎◌, arith, List, [], ◌∷◌, length, Bool, true, false, cond, Each, FieldOf, IsField, Apart, IsEndless, value, trim}
 use Rattle.algebra_laws.proofs.Roots.{plus_zero, zero_from_roots}
 use Rattle.algebra_laws.proofs.Inverse.{factor_zero}
 use Rattle.algebra_laws.proofs.Trim.{trim_same}

@@ -1,9 +1,5 @@
 -- Gao's decoder finds the polynomial that agrees at enough places.
-use Rattle.std.proofs.Common.{◌≡◌, ◌≢◌, ◌≤◌, ◌+◌, ℕ, suc, refl, arith, List, [], ◌∷◌, length, Bool, true, false, cond, Some, map}
-use Rattle.algebra_laws.specs.Lists.{Each}
-use Rattle.algebra_laws.specs.Field.{FieldOf, IsField, Apart}
-use Rattle.algebra_laws.specs.Poly.{value, plus, times, agree, is_seen}
-use Rattle.algebra_laws.specs.Rows.{Solves}
+use Rattle.algebra_laws.proofs.Words.{◌≡◌, ◌≢◌, ◌≤◌, ◌+◌, ℕ, suc, refl, arith, List, [], ◌∷◌, length, Bool, true, false, cond, Some, map, Each, FieldOf, IsField, Apart, value, plus, times, agree, is_seen, Solves}
 use Rattle.algebra_laws.proofs.Roots.{plus_zero}
 use Rattle.algebra_laws.proofs.Values.{value-times}
 use Rattle.algebra_laws.proofs.Interpolate.{length-times}

@@ -1,9 +1,5 @@
 -- The theorems of the laws, from the lemmas.
-use Rattle.std.proofs.Common.{◌≡◌, ◌≢◌, ◌≤◌, ◌+◌, ◌*◌, ℕ, ◌∙◌, arith, List, [], ◌∷◌, length, Option, Some, None, get_or}
-use Rattle.algebra_laws.specs.Lists.{Each}
-use Rattle.algebra_laws.specs.Field.{FieldOf, IsField, Apart, IsEndless}
-use Rattle.algebra_laws.specs.Poly.{value, vanish, interpolate, Takes, agree, present, trim, quotient, remainder, FirstRow}
-use Rattle.algebra_laws.specs.Rows.{IsKeyEquation}
+use Rattle.algebra_laws.proofs.Words.{◌≡◌, ◌≢◌, ◌≤◌, ◌+◌, ◌*◌, ℕ, ◌∙◌, arith, List, [], ◌∷◌, length, Option, Some, None, get_or, Each, FieldOf, IsField, Apart, IsEndless, value, vanish, interpolate, Takes, agree, present, trim, quotient, remainder, FirstRow, IsKeyEquation}
 use Rattle.algebra_laws.proofs.Roots.{plus_zero}
 use Rattle.algebra_laws.proofs.Trim.{trim_same}
 use Rattle.algebra_laws.proofs.Agree.{unique}

@@ -1,10 +1,7 @@
 -- The interpolating polynomial takes the values at the points.
-use Rattle.std.proofs.Common.{◌≡◌, ◌≢◌, ◌≤◌, ◌+◌, ℕ, suc, sym, ◌∙◌, refl, arith, List, [], ◌∷◌, length}
-use Rattle.algebra_laws.specs.Lists.{Each}
-use Rattle.algebra_laws.specs.Field.{FieldOf, IsField, Apart}
+use Rattle.algebra_laws.proofs.Words.{◌≡◌, ◌≢◌, ◌≤◌, ◌+◌, ℕ, suc, sym, ◌∙◌, refl, arith, List, [], ◌∷◌, length, Each, FieldOf, IsField, Apart, Takes, value, plus, scale, times, vanish, interpolate}
 use Rattle.algebra_laws.proofs.Ring.{add_same, sum_zero}
 use Rattle.algebra_laws.proofs.Solve.{v, o, i, ◌⊞◌, ◌⊡◌, solve}
-use Rattle.algebra_laws.specs.Poly.{Takes, value, plus, scale, times, vanish, interpolate}
 use Rattle.algebra_laws.proofs.Values.{value-plus, value-scale, value-times}
 use Rattle.algebra_laws.proofs.Roots.{length-plus}
 use Rattle.algebra_laws.proofs.Inverse.{factor_zero}

@@ -1,6 +1,5 @@
 -- What follows of products and inverses in a field.
-use Rattle.std.proofs.Common.{◌≡◌, ◌≢◌}
-use Rattle.algebra_laws.specs.Field.{FieldOf, IsField}
+use Rattle.algebra_laws.proofs.Words.{◌≡◌, ◌≢◌, FieldOf, IsField}
 
 module _ {A : Type 0} (F : FieldOf A) (laws : IsField F) where
   open F use {zero as 𝟘, one as 𝟙, mul as ◌⊗◌}

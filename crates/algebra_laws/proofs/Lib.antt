@@ -1,3 +1,4 @@
+mod Words
 pub mod ListPlaces
 pub mod Options
 pub mod Numbers

@@ -1,6 +1,5 @@
 -- A place in rows of equal length.
-use Rattle.std.proofs.Common.{◌≡◌, ℕ, zero, suc, ◌+◌, ◌-◌, ◌*◌, ◌<◌, ◌≤◌, Bool, true, false, refl, arith}
-use Rattle.std.specs.Prelude.{nat_lt}
+use Rattle.algebra_laws.proofs.Words.{◌≡◌, ℕ, zero, suc, ◌+◌, ◌-◌, ◌*◌, ◌<◌, ◌≤◌, Bool, true, false, refl, arith, nat_lt}
 
 -- each number below l * keep is a place of one of l blocks
 pub record IsPlace (l keep i : ℕ) : Type 0 where

@@ -1,8 +1,6 @@
 -- Steps of the loop that makes the product of all x + point and the interpolating polynomial.
-use Rattle.std.proofs.Common.{◌≡◌, suc, ap, refl, arith, List, [], ◌∷◌, ◌++◌, length}
-use Rattle.algebra_laws.specs.Field.{FieldOf, IsField}
+use Rattle.algebra_laws.proofs.Words.{◌≡◌, suc, ap, refl, arith, List, [], ◌∷◌, ◌++◌, length, FieldOf, IsField, value, plus, scale, times, root_times, vanish, interpolate}
 use Rattle.algebra_laws.proofs.Ring.{zero_add}
-use Rattle.algebra_laws.specs.Poly.{value, plus, scale, times, root_times, vanish, interpolate}
 use Rattle.algebra_laws.proofs.Interpolate.{length-vanish, length-scale, length-interpolate}
 
 module _ {A : Type 0} (F : FieldOf A) (laws : IsField F) where

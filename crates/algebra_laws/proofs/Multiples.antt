@@ -1,11 +1,7 @@
 -- What is zero at points is a multiple of the product of all x + point.
-use Rattle.std.proofs.Common.{◌≡◌, sym, ◌∙◌, ap, refl, List, [], ◌∷◌}
-use Rattle.algebra_laws.specs.Lists.{Each}
-use Rattle.algebra_laws.specs.Field.{FieldOf, IsField, Apart}
+use Rattle.algebra_laws.proofs.Words.{◌≡◌, sym, ◌∙◌, ap, refl, List, [], ◌∷◌, Each, FieldOf, IsField, Apart, value, plus, times, vanish, interpolate, Takes, Solves}
 use Rattle.algebra_laws.proofs.Ring.{zero_mul}
 use Rattle.algebra_laws.proofs.Solve.{v, o, i, ◌⊞◌, ◌⊡◌, solve}
-use Rattle.algebra_laws.specs.Poly.{value, plus, times, vanish, interpolate, Takes}
-use Rattle.algebra_laws.specs.Rows.{Solves}
 use Rattle.algebra_laws.proofs.Roots.{quotient_at, value-quotient_at, roots_below}
 use Rattle.algebra_laws.proofs.Values.{value-plus, value-times}
 use Rattle.algebra_laws.proofs.Interpolate.{value-vanish}

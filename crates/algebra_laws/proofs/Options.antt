@@ -1,6 +1,5 @@
 -- Plain facts on options and on tests.
-use Rattle.std.proofs.Common.{◌≡◌, Bool, true, false, cond, ◌⊎◌, Option, Some, None, refl, sym, ◌∙◌, inl, inr}
-use Rattle.std.specs.Prelude.{is_some}
+use Rattle.algebra_laws.proofs.Words.{◌≡◌, Bool, true, false, cond, ◌⊎◌, Option, Some, None, refl, sym, ◌∙◌, inl, inr, is_some}
 use Rattle.std.specs.Option.{option_map}
 
 -- what is some value is not none

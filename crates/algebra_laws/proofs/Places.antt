@@ -1,9 +1,7 @@
 -- A polynomial place by place.
-use Rattle.std.proofs.Common.{◌≡◌, ◌<◌, ℕ, zero, suc, sym, ◌∙◌, ap, refl, arith, List, [], ◌∷◌, length, take, get_or}
-use Rattle.algebra_laws.specs.Field.{FieldOf, IsField}
+use Rattle.algebra_laws.proofs.Words.{◌≡◌, ◌<◌, ℕ, zero, suc, sym, ◌∙◌, ap, refl, arith, List, [], ◌∷◌, length, take, get_or, FieldOf, IsField, value, trim, Takes}
 use Rattle.algebra_laws.proofs.Ring.{zero_add}
 use Rattle.algebra_laws.proofs.Solve.{v, o, ◌⊞◌, ◌⊡◌, solve}
-use Rattle.algebra_laws.specs.Poly.{value, trim, Takes}
 use Rattle.algebra_laws.proofs.Trim.{value-trim}
 use Rattle.algebra_laws.proofs.Shifts.{shifted}
 

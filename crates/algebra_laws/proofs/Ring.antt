@@ -1,6 +1,5 @@
 -- Sums and products in a ring of characteristic two: what follows at once from its laws.
-use Rattle.std.proofs.Common.{◌≡◌, ◌∙◌}
-use Rattle.algebra_laws.specs.Field.{IsRing}
+use Rattle.algebra_laws.proofs.Words.{◌≡◌, ◌∙◌, IsRing}
 
 module _ {A : Type 0} {◌⊕◌ ◌⊗◌ : A → A → A} {𝟘 𝟙 : A} (R : IsRing ◌⊕◌ ◌⊗◌ 𝟘 𝟙) where
   infixl 60 ◌⊕◌

@@ -1,11 +1,8 @@
 -- A polynomial with as many roots as coefficients is zero.
-use Rattle.std.proofs.Common.{◌≡◌, ◌≢◌, ◌≤◌, sym, ◌∙◌, ap, refl, arith, List, [], ◌∷◌, length, max}
-use Rattle.algebra_laws.specs.Lists.{Each}
-use Rattle.algebra_laws.specs.Field.{FieldOf, IsField, Apart}
+use Rattle.algebra_laws.proofs.Words.{◌≡◌, ◌≢◌, ◌≤◌, sym, ◌∙◌, ap, refl, arith, List, [], ◌∷◌, length, max, Each, FieldOf, IsField, Apart, value, plus}
 use Rattle.algebra_laws.proofs.Ring.{zero_add, sum_zero}
 use Rattle.algebra_laws.proofs.Inverse.{factor_zero}
 use Rattle.algebra_laws.proofs.Solve.{v, o, ◌⊞◌, ◌⊡◌, solve}
-use Rattle.algebra_laws.specs.Poly.{value, plus}
 use Rattle.algebra_laws.proofs.Values.{value-plus}
 
 -- the quotient of a + x * p by x + r, for any a

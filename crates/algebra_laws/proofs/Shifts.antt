@@ -1,8 +1,6 @@
 -- A multiple of a polynomial added at higher places.
-use Rattle.std.proofs.Common.{◌≡◌, ◌≤◌, ◌+◌, ℕ, zero, suc, sym, ◌∙◌, ap, refl, arith, List, [], ◌∷◌, ◌++◌, length, drop, take, get_or}
-use Rattle.algebra_laws.specs.Field.{FieldOf, IsField}
+use Rattle.algebra_laws.proofs.Words.{◌≡◌, ◌≤◌, ◌+◌, ℕ, zero, suc, sym, ◌∙◌, ap, refl, arith, List, [], ◌∷◌, ◌++◌, length, drop, take, get_or, FieldOf, IsField, value, plus, scale}
 use Rattle.algebra_laws.proofs.Solve.{v, o, ◌⊞◌, ◌⊡◌, solve}
-use Rattle.algebra_laws.specs.Poly.{value, plus, scale}
 use Rattle.algebra_laws.proofs.Values.{value-plus, value-scale}
 use Rattle.algebra_laws.proofs.Division.{get_or-plus}
 use Rattle.std.proofs.Math.Nat.{zero-add, suc-add}

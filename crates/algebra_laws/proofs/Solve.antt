@@ -1,8 +1,6 @@
 -- A solver for identities in a commutative ring of characteristic two: both sides are brought to sums of
 -- products in order.
-use Rattle.std.proofs.Common.{◌≡◌, ℕ, Bool, true, false, cond, eqb, ltb, sym, ap, refl, get_or, List, [], ◌∷◌}
-use Rattle.std.proofs.lemmas.Bool.{eqb-true}
-use Rattle.algebra_laws.specs.Field.{IsRing}
+use Rattle.algebra_laws.proofs.Words.{◌≡◌, ℕ, Bool, true, false, cond, eqb, ltb, sym, ap, refl, get_or, List, [], ◌∷◌, eqb-true, IsRing}
 use Rattle.algebra_laws.proofs.Ring.{zero_add, zero_mul, one_mul, add_left_comm, add_same, mul_left_comm, add_mul}
 
 -- an expression over numbered variables

@@ -1,8 +1,5 @@
 -- Steps of loops over coefficients.
-use Rattle.std.proofs.Common.{◌≡◌, ◌≤◌, ◌<◌, ◌+◌, ℕ, zero, suc, sym, ap, refl, arith, List, [], ◌∷◌, ◌++◌, length, drop, take, set, get_or, Option, Some, None, cond, false}
-use Rattle.algebra_laws.specs.Field.{FieldOf}
-use Rattle.std.proofs.lemmas.List.{drop_all}
-use Rattle.algebra_laws.specs.Poly.{value, plus, scale, root_times, agree, is_seen}
+use Rattle.algebra_laws.proofs.Words.{◌≡◌, ◌≤◌, ◌<◌, ◌+◌, ℕ, zero, suc, sym, ap, refl, arith, List, [], ◌∷◌, ◌++◌, length, drop, take, set, get_or, Option, Some, None, cond, false, FieldOf, drop_all, value, plus, scale, root_times, agree, is_seen}
 
 -- nothing can be dropped of nothing
 drop-none : {A : Type 0} (k : ℕ) → drop {A = A} k [] ≡ []

@@ -1,8 +1,6 @@
 -- The value of a polynomial as a sum of its terms.
-use Rattle.std.proofs.Common.{◌≡◌, refl, sym, ap, ap₂, ◌∙◌, ℕ, zero, suc, List, [], ◌∷◌, length, get_or}
-use Rattle.algebra_laws.specs.Field.{FieldOf, IsField}
+use Rattle.algebra_laws.proofs.Words.{◌≡◌, refl, sym, ap, ap₂, ◌∙◌, ℕ, zero, suc, List, [], ◌∷◌, length, get_or, FieldOf, IsField, value}
 use Rattle.algebra_laws.proofs.Ring.{mul_left_comm}
-use Rattle.algebra_laws.specs.Poly.{value}
 use Rattle.algebra_laws.specs.Sums.{sum_below, power}
 
 module _ {A : Type 0} (F : FieldOf A) (laws : IsField F) where

@@ -1,9 +1,6 @@
 -- Zeros at the end.
-use Rattle.std.proofs.Common.{◌≡◌, ◌≢◌, ◌≤◌, ◌++◌, suc, sym, ◌∙◌, ap, refl, arith, List, [], ◌∷◌, length, Bool, true, false, cond}
-use Rattle.algebra_laws.specs.Lists.{Each}
-use Rattle.algebra_laws.specs.Field.{FieldOf, IsField}
+use Rattle.algebra_laws.proofs.Words.{◌≡◌, ◌≢◌, ◌≤◌, ◌++◌, suc, sym, ◌∙◌, ap, refl, arith, List, [], ◌∷◌, length, Bool, true, false, cond, Each, FieldOf, IsField, value, plus, trim, front}
 use Rattle.algebra_laws.proofs.Ring.{sum_zero}
-use Rattle.algebra_laws.specs.Poly.{value, plus, trim, front}
 
 module _ {A : Type 0} (F : FieldOf A) (laws : IsField F) where
   open F use {zero as 𝟘, one as 𝟙, add as ◌⊕◌, mul as ◌⊗◌}

@@ -1,8 +1,6 @@
 -- The value of a sum and of a product.
-use Rattle.std.proofs.Common.{◌≡◌, sym, List, [], ◌∷◌}
-use Rattle.algebra_laws.specs.Field.{FieldOf, IsField}
+use Rattle.algebra_laws.proofs.Words.{◌≡◌, sym, List, [], ◌∷◌, FieldOf, IsField, value, plus, scale, times}
 use Rattle.algebra_laws.proofs.Ring.{zero_add, add_swap, mul_left_comm, add_mul}
-use Rattle.algebra_laws.specs.Poly.{value, plus, scale, times}
 
 module _ {A : Type 0} (F : FieldOf A) (laws : IsField F) where
   open F use {zero as 𝟘, add as ◌⊕◌, mul as ◌⊗◌}

@@ -1,3 +1,4 @@
+mod Words
 mod Places
 mod Picks
 mod RoundLaws

@@ -1,13 +1,9 @@
 -- Sums over picks of which one differs.
-use Rattle.std.specs.Prelude.{◌≡◌, ◌≢◌, ℕ, zero, suc, ◌<◌, ◌==◌, ◌&&◌, Bool, true, false, nat_eq, List, [], ◌∷◌, is_some, unwrap_or, Option, None, Some, if◌then◌else◌}
-use Rattle.std.proofs.Common.{arith, ap, sym, refl, ◌∙◌, eqb-true}
+use Rattle.audit_verdict.proofs.Words.{◌≢◌, zero, suc, ◌==◌, ◌&&◌, Bool, true, false, nat_eq, [], ◌∷◌, is_some, unwrap_or, Option, Some, arith, ap, sym, refl, ◌∙◌, eqb-true, nim, nim_add, nim_mul, nim_pow, nim_laws, nim_ring, stream_symbol, Challenge, alpha, picked_row, sum_over, combined, held_symbol, all_held, honest_answer}
+use Rattle.std.specs.Prelude.{◌≡◌, ℕ, ◌<◌, List, None, if◌then◌else◌}
 use Rattle.algebra_laws.proofs.Inverse.{factor_zero}
 use Rattle.algebra_laws.proofs.Ring.{sum_zero}
 use Rattle.algebra_laws.proofs.Solve.{v, ◌⊞◌, ◌⊡◌, solve}
-use Rattle.hail_field.specs.Nim.{nim, nim_add, nim_mul, nim_pow}
-use Rattle.hail_field.proofs.AllNumbers.{nim_laws, nim_ring}
-use Rattle.column_defs.specs.Keys.{stream_symbol}
-use Rattle.column_defs.specs.Challenges.{Challenge, alpha, picked_row, sum_over, combined, held_symbol, all_held, honest_answer}
 
 -- the weight of a challenge is not zero
 alpha-not_zero : (key : List ℕ) → alpha key ≢ 0

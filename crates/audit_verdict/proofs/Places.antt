@@ -1,12 +1,7 @@
 -- What counts and answers have at a place.
-use Rattle.std.specs.Prelude.{◌≡◌, ℕ, zero, suc, ◌+◌, ◌<◌, ◌≤◌, ◌++◌, take, drop, true, false, List, [], ◌∷◌, length, Option, None, if◌then◌else◌}
-use Rattle.std.proofs.Common.{arith, ap, sym, refl, ◌∙◌, get_or, set, subst}
-use Rattle.std.proofs.lemmas.List.{ext_get_or, take-append-drop}
+use Rattle.audit_verdict.proofs.Words.{zero, suc, ◌++◌, take, drop, true, false, [], ◌∷◌, Option, arith, ap, sym, refl, ◌∙◌, get_or, set, subst, ext_get_or, take-append-drop, value, is_seen, Object, Challenge, bare_answer, bare_answers, counts_after}
+use Rattle.std.specs.Prelude.{◌≡◌, ℕ, ◌+◌, ◌<◌, ◌≤◌, List, length, None, if◌then◌else◌}
 use Rattle.std.proofs.lemmas.List.Edits.{fill_by_more}
-use Rattle.code_defs.specs.Polynomials.{value, is_seen}
-use Rattle.column_defs.specs.Objects.{Object}
-use Rattle.column_defs.specs.Challenges.{Challenge, bare_answer, bare_answers}
-use Rattle.column_defs.specs.Verdicts.{counts_after}
 use Rattle.column_defs.proofs.CountLaws.{length-counts_after}
 
 -- one place more of a list that a function makes

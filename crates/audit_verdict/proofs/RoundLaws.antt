@@ -1,25 +1,13 @@
 -- A round in which few answers are not right.
-use Rattle.std.specs.Prelude.{◌≡◌, ◌≢◌, ℕ, zero, suc, ◌+◌, ◌<◌, ◌≤◌, Bool, true, false, not, List, [], ◌∷◌, length, slice_get, Option, None, Some, option_and_then, if◌then◌else◌}
-use Rattle.std.proofs.Common.{arith, ap, sym, refl, ◌∙◌, get_or, inl, inr}
+use Rattle.audit_verdict.proofs.Words.{◌≢◌, zero, suc, Bool, true, false, not, [], ◌∷◌, slice_get, Option, Some, option_and_then, arith, ap, sym, refl, ◌∙◌, get_or, inl, inr, length-map-range_with_len, get_or-map-range_with_len, nim_add, nim_laws, nim_ring, is_seen_over, value, agree, is_seen, Object, is_primary, point, points, columns, Challenge, honest_answer, right_answer, mask_sum, bare_answer, bare_answers, Sums, Decides, Judges, Apart-points, right_row, IsRightRow-right_row, answer_of, is_right, wrong_answers, DiffersOnce, count_of_provider}
+use Rattle.std.specs.Prelude.{◌≡◌, ℕ, ◌+◌, ◌<◌, ◌≤◌, List, length, None, if◌then◌else◌}
 use Rattle.std.specs.Option.{option_map}
-use Rattle.std.proofs.lemmas.List.FromFn.{length-map-range_with_len, get_or-map-range_with_len}
-use Rattle.hail_field.specs.Nim.{nim_add}
 use Rattle.hail_field.specs.Shape.{IsShape}
-use Rattle.hail_field.proofs.AllNumbers.{nim_laws, nim_ring}
-use Rattle.algebra_laws.specs.Poly.{is_seen as is_seen_over}
-use Rattle.code_defs.specs.Polynomials.{value, agree, is_seen}
 use Rattle.code_defs.specs.Points.{upto}
 use Rattle.code_defs.specs.DispersalCode.{Accepts}
-use Rattle.column_defs.specs.Objects.{Object, is_primary, point, points}
-use Rattle.column_defs.specs.Columns.{columns}
 use Rattle.column_defs.specs.Forgeries.{count_of}
-use Rattle.column_defs.specs.Challenges.{Challenge, honest_answer, right_answer, mask_sum, bare_answer, bare_answers}
-use Rattle.column_defs.specs.Verdicts.{Sums, Decides, Judges}
-use Rattle.column_defs.proofs.PointLaws.{Apart-points}
 use Rattle.column_laws.proofs.Counts.{count_of-cover, agree-count}
 use Rattle.dispersal_code.proofs.Unique.{same_value}
-use Rattle.aggregate.proofs.RightRow.{right_row, IsRightRow-right_row}
-use Rattle.audit_verdict.specs.Rounds.{answer_of, is_right, wrong_answers, DiffersOnce, count_of_provider}
 use Rattle.audit_verdict.proofs.Places.{get_or-counted, length-bare_answers, get_or-bare_answers}
 use Rattle.audit_verdict.proofs.Picks.{honest-differ}
 

@@ -1,20 +1,10 @@
 -- The premises of the laws at a round of one pick.
-use Rattle.std.specs.Prelude.{◌≡◌, ◌≢◌, ℕ, zero, suc, ◌/◌, ◌%◌, ◌<◌, ◌≤◌, ◌==◌, true, List, [], ◌∷◌, length, map, slice_get, Option, None, Some, if◌then◌else◌}
-use Rattle.std.proofs.Common.{arith, ap, sym, refl, ◌∙◌, inl}
-use Rattle.hail_field.specs.Nim.{nim_add}
-use Rattle.hail_field.proofs.AllNumbers.{nim_ring}
-use Rattle.algebra_laws.specs.Poly.{is_seen as is_seen_over}
-use Rattle.code_defs.specs.Polynomials.{value, is_seen}
+use Rattle.audit_verdict.proofs.Words.{◌≢◌, zero, suc, ◌/◌, ◌%◌, ◌==◌, true, [], ◌∷◌, map, slice_get, Option, Some, arith, ap, sym, refl, ◌∙◌, inl, nim_add, nim_ring, is_seen_over, value, is_seen, Object, symbols_in, point, points, columns, Challenge, right_answer, bare_answer, bare_answers, symbol_at, held_symbol, picked_row, Judges, counts_after, right_row, IsRightRow-right_row, is_right, wrong_answers, HasFewWrong, DiffersOnce, own_symbol}
+use Rattle.std.specs.Prelude.{◌≡◌, ℕ, ◌<◌, ◌≤◌, List, length, None, if◌then◌else◌}
 use Rattle.code_defs.proofs.Values.{is_seen-none}
-use Rattle.column_defs.specs.Objects.{Object, symbols_in, point, points}
-use Rattle.column_defs.specs.Columns.{columns}
-use Rattle.column_defs.specs.Challenges.{Challenge, right_answer, bare_answer, bare_answers, symbol_at, held_symbol, picked_row}
-use Rattle.column_defs.specs.Verdicts.{Judges, counts_after}
 use Rattle.column_defs.proofs.ColumnLaws.{length-column_of_symbols}
 use Rattle.column_laws.specs.Example.{example}
 use Rattle.column_laws.proofs.Worked.{example-shape}
-use Rattle.aggregate.proofs.RightRow.{right_row, IsRightRow-right_row}
-use Rattle.audit_verdict.specs.Rounds.{is_right, wrong_answers, HasFewWrong, DiffersOnce, own_symbol}
 use Rattle.audit_verdict.specs.Example.{one_pick, three_heard}
 use Rattle.audit_verdict.proofs.RoundLaws.{seen-same, bare-absent, right-decides}
 

@@ -10,10 +10,8 @@ use column_codec::{Bench, Block};
 use file_layout::FileShape;
 use hail_field::Shape;
 use key_schedule::Master;
+use record_defs::LARGEST_FILE;
 use std::alloc::Global;
-
-/// The most bytes that a file has.
-const MOST_BYTES: u32 = 4_194_304;
 
 /// The key that all works on stripes are done with.
 pub const MASTER: Master = Master([7; 32]);
@@ -51,7 +49,7 @@ pub(crate) fn file_over(
     profile: Profile,
     length: u32,
 ) -> Result<FileShape, Failure> {
-    if length > MOST_BYTES {
+    if length > LARGEST_FILE {
         return Err(Failure::Usage);
     }
     let shape = shape_named(n, l, b)?;

@@ -1,14 +1,6 @@
 -- Codewords, and the blocks that open to themselves.
-use Rattle.std.proofs.Common.{◌≡◌, ◌≤◌, ◌+◌, ℕ, suc, Bool, true, false, cond, nat_eq, sym, ◌∙◌, refl, arith, List, [], ◌∷◌, length, map, Some}
-use Rattle.std.proofs.lemmas.List.FromFn.{length-range_with_len, length-map-range_with_len}
-use Rattle.hail_field.specs.Nim.{nim}
-use Rattle.hail_field.proofs.AllNumbers.{nim_laws}
-use Rattle.algebra_laws.specs.Poly.{agree as agree_over, is_seen as is_seen_over}
-use Rattle.algebra_laws.proofs.Interpolate.{length-interpolate}
-use Rattle.code_defs.specs.Polynomials.{value, agree, interpolate}
-use Rattle.code_defs.specs.Points.{upto, values_at}
-use Rattle.code_defs.specs.Profiles.{Profile}
-use Rattle.code_defs.specs.ServerCode.{codeword, differences, IsNear, Opens}
+use Rattle.code_defs.proofs.Words.{nat_eq, sym, ◌∙◌, refl, arith, length-range_with_len, length-map-range_with_len, nim, nim_laws, agree_over, is_seen_over, length-interpolate, value, agree, interpolate, upto, values_at, Profile, codeword, differences, IsNear, Opens}
+use Rattle.std.proofs.Common.{◌≡◌, ◌≤◌, ◌+◌, ℕ, suc, Bool, true, false, cond, List, [], ◌∷◌, length, map, Some}
 
 -- a polynomial agrees with its own values everywhere
 pub agree-values : (p points : List ℕ) → agree p points (map Some (values_at points p)) ≡ length points

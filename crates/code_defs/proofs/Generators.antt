@@ -1,18 +1,7 @@
 -- The coefficients of the kept symbols in the symbols of a codeword.
-use Rattle.std.proofs.Common.{◌≡◌, ◌≢◌, ◌≤◌, ◌<◌, ◌+◌, ◌-◌, ◌++◌, inl, inr, ℕ, zero, suc, sym, ◌∙◌, ap, refl, arith, List, [], ◌∷◌, length, map, get_or, set, replicate, zero-add}
-use Rattle.std.specs.List.{range_with_len}
+use Rattle.code_defs.proofs.Words.{◌≢◌, ◌<◌, ◌-◌, ◌++◌, inl, inr, sym, ◌∙◌, ap, refl, arith, get_or, set, replicate, zero-add, range_with_len, length-range_with_len, length-map-range_with_len, get_or-map-range_with_len, get_or-range_with_len, Each, zero_add, zero_mul, one_mul, nim, nim_add, nim_mul, nim_inv, nim_laws, nim_ring, nim_mul_inv, interpolate_takes, vanish_else, value, vanish, interpolate, TakesSymbols, upto, others_product, multiplier, Profile, codeword, IsGeneratorRow, dot}
+use Rattle.std.proofs.Common.{◌≡◌, ◌≤◌, ◌+◌, ℕ, zero, suc, List, [], ◌∷◌, length, map}
 use Rattle.std.proofs.lemmas.List.{length-set, length-replicate}
-use Rattle.std.proofs.lemmas.List.FromFn.{length-range_with_len, length-map-range_with_len, get_or-map-range_with_len, get_or-range_with_len}
-use Rattle.algebra_laws.specs.Lists.{Each}
-use Rattle.algebra_laws.proofs.Ring.{zero_add, zero_mul, one_mul}
-use Rattle.hail_field.specs.Nim.{nim, nim_add, nim_mul, nim_inv}
-use Rattle.hail_field.proofs.AllNumbers.{nim_laws, nim_ring, nim_mul_inv}
-use Rattle.algebra_laws.proofs.Interpolate.{interpolate_takes, vanish_else}
-use Rattle.code_defs.specs.Polynomials.{value, vanish, interpolate, TakesSymbols}
-use Rattle.code_defs.specs.Points.{upto, others_product, multiplier}
-use Rattle.code_defs.specs.Profiles.{Profile}
-use Rattle.code_defs.specs.ServerCode.{codeword, IsGeneratorRow}
-use Rattle.code_defs.specs.Sums.{dot}
 use Rattle.code_defs.proofs.Points.{one_not_zero, Apart-range, Each-outside, range_with_len-append, others_product-append, others_product-outside}
 use Rattle.code_defs.proofs.Lagrange.{nim_inv-mul, others_product-not_zero, dot-scaled, part, value-interpolate}
 

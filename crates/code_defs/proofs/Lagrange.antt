@@ -1,18 +1,8 @@
 -- Lagrange's formula for the value of the interpolating polynomial at another point.
-use Rattle.std.proofs.Common.{◌≡◌, ◌≢◌, ℕ, Bool, true, false, cond, nat_eq, sym, ◌∙◌, ap, refl, arith, List, [], ◌∷◌, length, map}
-use Rattle.algebra_laws.specs.Lists.{Each}
-use Rattle.algebra_laws.specs.Field.{Apart}
+use Rattle.code_defs.proofs.Words.{◌≢◌, nat_eq, sym, ◌∙◌, ap, refl, arith, Each, Apart, one_mul, add_swap, sum_zero, mul_left_comm, add_mul, nim, nim_add, nim_mul, nim_inv, nim_laws, nim_ring, nim_mul_inv, nim_inv_is, value_over, interpolate_over, value-plus, value-scale, value-vanish, vanish_else, value, scale, vanish, interpolate, others_product, multiplier, dot}
+use Rattle.std.proofs.Common.{◌≡◌, ℕ, Bool, true, false, cond, List, [], ◌∷◌, length, map}
 use Rattle.algebra_laws.proofs.Solve.{v, ◌⊞◌, ◌⊡◌, solve}
-use Rattle.algebra_laws.proofs.Ring.{one_mul, add_swap, sum_zero, mul_left_comm, add_mul}
-use Rattle.hail_field.specs.Nim.{nim, nim_add, nim_mul, nim_inv}
-use Rattle.hail_field.proofs.AllNumbers.{nim_laws, nim_ring, nim_mul_inv, nim_inv_is}
-use Rattle.algebra_laws.specs.Poly.{value as value_over, interpolate as interpolate_over}
 use Rattle.algebra_laws.proofs.Inverse.{factor_zero}
-use Rattle.algebra_laws.proofs.Values.{value-plus, value-scale}
-use Rattle.algebra_laws.proofs.Interpolate.{value-vanish, vanish_else}
-use Rattle.code_defs.specs.Polynomials.{value, scale, vanish, interpolate}
-use Rattle.code_defs.specs.Points.{others_product, multiplier}
-use Rattle.code_defs.specs.Sums.{dot}
 use Rattle.code_defs.proofs.Points.{one_not_zero, others_product-other, others_product-outside}
 
 -- what has a product of 1 is the inverse of a product

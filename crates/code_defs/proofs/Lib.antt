@@ -1,3 +1,4 @@
+mod Words
 pub mod Values
 pub mod Points
 pub mod Lagrange

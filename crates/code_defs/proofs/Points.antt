@@ -1,15 +1,6 @@
 -- Points that are apart, and the products of their sums.
-use Rattle.std.proofs.Common.{◌≡◌, ◌≢◌, ◌≤◌, ◌<◌, ◌+◌, ◌-◌, ◌++◌, ◌⊎◌, inl, inr, ℕ, zero, suc, sym, ◌∙◌, ap, refl, arith, List, [], ◌∷◌, Bool, true, false, cond, nat_eq, eqb-true, zero-add, add-one}
-use Rattle.std.specs.List.{range_with_len}
-use Rattle.algebra_laws.specs.Lists.{Each}
-use Rattle.algebra_laws.specs.Field.{Apart}
-use Rattle.algebra_laws.proofs.Ring.{one_mul}
-use Rattle.hail_field.specs.Nim.{nim, nim_add, nim_mul}
-use Rattle.hail_field.proofs.AllNumbers.{nim_laws, nim_ring}
-use Rattle.algebra_laws.proofs.Interpolate.{value-vanish}
-use Rattle.algebra_laws.specs.Poly.{value as value_over, vanish as vanish_over}
-use Rattle.code_defs.specs.Polynomials.{value, vanish}
-use Rattle.code_defs.specs.Points.{others_product, upto}
+use Rattle.code_defs.proofs.Words.{◌≢◌, ◌<◌, ◌-◌, ◌++◌, ◌⊎◌, inl, inr, sym, ◌∙◌, ap, refl, arith, nat_eq, eqb-true, zero-add, add-one, range_with_len, Each, Apart, one_mul, nim, nim_add, nim_mul, nim_laws, nim_ring, value-vanish, value_over, vanish_over, value, vanish, others_product, upto}
+use Rattle.std.proofs.Common.{◌≡◌, ◌≤◌, ◌+◌, ℕ, zero, suc, List, [], ◌∷◌, Bool, true, false, cond}
 
 -- 1 is not 0
 pub one_not_zero : ◌≡◌ {A = ℕ} 1 0 → ⊥

@@ -1,22 +1,9 @@
 -- Polynomials that take symbols at enough points have symbols as coefficients.
-use Rattle.std.specs.Prelude.{◌≡◌, ℕ, zero, suc, ◌+◌, ◌≤◌, Bool, true, false, cond, All, List, [], ◌∷◌, length, map, Option, Some, None, IfSome}
-use Rattle.std.proofs.Common.{arith, ap, sym, refl, subst}
+use Rattle.code_defs.proofs.Words.{All, Option, None, IfSome, arith, ap, sym, refl, subst, Apart, sum_zero, nim, nim_add, nim_mul, nim_inv, is_symbol, nim_laws, nim_ring, nim_add-lt, nim_mul-lt, nim_inv-lt, value_over, plus_over, scale_over, times_over, vanish_over, interpolate_over, agree_over, is_seen_over, length-interpolate, interpolate_takes, value, plus, scale, times, vanish, interpolate, agree, upto, values_at, range_with_len, length-range_with_len, Each, profile_of, IsNear, Accepts}
+use Rattle.std.specs.Prelude.{◌≡◌, ℕ, zero, suc, ◌+◌, ◌≤◌, Bool, true, false, cond, List, [], ◌∷◌, length, map, Some}
 use Rattle.std.proofs.lemmas.List.Elements.{All-nil, All-cons, All-head, All-tail}
-use Rattle.algebra_laws.specs.Field.{Apart}
-use Rattle.algebra_laws.proofs.Ring.{sum_zero}
-use Rattle.hail_field.specs.Nim.{nim, nim_add, nim_mul, nim_inv, is_symbol}
-use Rattle.hail_field.proofs.AllNumbers.{nim_laws, nim_ring, nim_add-lt, nim_mul-lt, nim_inv-lt}
-use Rattle.algebra_laws.specs.Poly.{value as value_over, plus as plus_over, scale as scale_over, times as times_over, vanish as vanish_over, interpolate as interpolate_over, agree as agree_over, is_seen as is_seen_over}
 use Rattle.algebra_laws.proofs.Roots.{plus_zero}
-use Rattle.algebra_laws.proofs.Interpolate.{length-interpolate, interpolate_takes}
-use Rattle.code_defs.specs.Polynomials.{value, plus, scale, times, vanish, interpolate, agree, is_seen}
-use Rattle.code_defs.specs.Points.{upto, values_at}
-use Rattle.std.specs.List.{range_with_len}
-use Rattle.std.proofs.lemmas.List.FromFn.{length-range_with_len}
-use Rattle.algebra_laws.specs.Lists.{Each}
-use Rattle.code_defs.specs.Profiles.{profile_of}
-use Rattle.code_defs.specs.ServerCode.{IsNear}
-use Rattle.code_defs.specs.DispersalCode.{Accepts}
+use Rattle.code_defs.specs.Polynomials.{is_seen}
 use Rattle.code_defs.proofs.Points.{one_not_zero, Apart-range}
 use Rattle.code_defs.proofs.Profiles.{size_is, size-bound}
 use Rattle.code_defs.proofs.Values.{takes_same}

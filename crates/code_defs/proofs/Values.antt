@@ -1,13 +1,9 @@
 -- Values of polynomials at points, and tests of them.
-use Rattle.std.proofs.Common.{◌≡◌, refl, sym, ap, ◌∙◌, ℕ, List, [], ◌∷◌, nat_eq, eqb-true}
-use Rattle.std.specs.Prelude.{Bool, true, false, None}
-use Rattle.algebra_laws.specs.Lists.{Each}
-use Rattle.algebra_laws.specs.Poly.{value as value_over, is_seen as is_seen_over}
-use Rattle.code_defs.specs.Points.{values_at}
-use Rattle.code_defs.specs.Polynomials.{value, is_seen, TakesSymbols}
+use Rattle.code_defs.proofs.Words.{refl, sym, ap, ◌∙◌, nat_eq, eqb-true, None, Each, value_over, is_seen_over, values_at, value, TakesSymbols, nim_add, nim_laws, nim_ring}
+use Rattle.std.proofs.Common.{◌≡◌, ℕ, List, [], ◌∷◌}
+use Rattle.std.specs.Prelude.{Bool, true, false}
+use Rattle.code_defs.specs.Polynomials.{is_seen}
 use Rattle.code_defs.proofs.Points.{nat_eq-differ}
-use Rattle.hail_field.specs.Nim.{nim_add}
-use Rattle.hail_field.proofs.AllNumbers.{nim_laws, nim_ring}
 
 -- a polynomial of one coefficient is that number everywhere
 pub value-constant : (a x : ℕ) → value (a ∷ []) x ≡ a

@@ -1,19 +1,9 @@
 -- Polynomials over the nim field worked out.
-use Rattle.std.proofs.Common.{subst, ◌≡◌, refl, sym, ap, ◌∙◌, arith, ℕ, List, [], ◌∷◌, Some}
-use Rattle.algebra_laws.specs.Field.{Apart}
-use Rattle.hail_field.specs.Nim.{product, nim, nim_mul, nim_add, nim_inv, inverse_below}
-use Rattle.hail_field.proofs.AllNumbers.{nim_laws}
-use Rattle.algebra_laws.specs.Poly.{value as value_over, plus as plus_over, scale as scale_over, times as times_over, vanish as vanish_over, interpolate as interpolate_over, front, trim as trim_over, is_seen, agree as agree_over, Decodes, FirstRow, here, next}
-use Rattle.algebra_laws.proofs.Values.{value-plus, value-times}
-use Rattle.std.specs.Prelude.{All, IfSome}
-use Rattle.hail_field.specs.Nim.{is_symbol}
-use Rattle.code_defs.specs.Points.{upto, values_at}
-use Rattle.code_defs.specs.Profiles.{profile_of}
-use Rattle.code_defs.specs.ServerCode.{IsNear}
-use Rattle.code_defs.specs.DispersalCode.{Accepts}
+use Rattle.code_defs.proofs.Words.{subst, refl, sym, ap, ◌∙◌, arith, Apart, product, nim, nim_mul, nim_add, nim_inv, inverse_below, nim_laws, value_over, plus_over, scale_over, times_over, vanish_over, interpolate_over, front, trim_over, agree_over, Decodes, FirstRow, here, next, value-plus, value-times, All, IfSome, is_symbol, upto, values_at, profile_of, IsNear, Accepts, value, vanish, interpolate, trim, agree, plus, times, TakesSymbols}
+use Rattle.std.proofs.Common.{◌≡◌, ℕ, List, [], ◌∷◌, Some}
+use Rattle.algebra_laws.specs.Poly.{is_seen}
 use Rattle.code_defs.proofs.Codewords.{near_itself}
 use Rattle.code_defs.proofs.Symbols.{all_from_each, all_from_seen}
-use Rattle.code_defs.specs.Polynomials.{value, vanish, interpolate, trim, agree, plus, times, TakesSymbols}
 use Rattle.code_defs.proofs.Values.{value-constant}
 
 -- the points

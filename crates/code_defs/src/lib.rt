@@ -2,4 +2,7 @@
 //! providers.
 #![tactic(auto)]
 
+mod counted;
 pub mod laws;
+
+pub use counted::{PROFILES, profiles_are_counted};

@@ -1,16 +1,5 @@
 -- The coefficients of codewords are bytes, since the points are.
-use Rattle.std.proofs.Common.{◌≡◌, ◌≤◌, ◌<◌, ℕ, zero, suc, arith, List, [], ◌∷◌, map, get_or, set, replicate, zero-add}
-use Rattle.std.proofs.lemmas.List.FromFn.{get_or-map-range_with_len}
-use Rattle.algebra_laws.specs.Lists.{Each}
-use Rattle.hail_field.specs.Nim.{nim, nim_add, nim_mul, nim_inv}
-use Rattle.hail_field.proofs.AllNumbers.{nim_laws, nim_ring, nim_add-lt, nim_mul-lt, nim_inv-lt}
-use Rattle.algebra_laws.specs.Poly.{value as value_over, vanish as vanish_over}
-use Rattle.algebra_laws.proofs.Interpolate.{value-vanish}
-use Rattle.code_defs.specs.Polynomials.{value, vanish}
-use Rattle.code_defs.specs.Points.{upto, others_product}
-use Rattle.code_defs.specs.Profiles.{profile_of}
-use Rattle.code_defs.proofs.Profiles.{size_is, size-bound}
-use Rattle.code_defs.proofs.Generators.{coefficient}
+use Rattle.code_points.proofs.Words.{◌≡◌, ◌≤◌, ◌<◌, ℕ, zero, suc, arith, List, [], ◌∷◌, map, get_or, set, replicate, zero-add, get_or-map-range_with_len, Each, nim, nim_add, nim_mul, nim_inv, nim_laws, nim_ring, nim_add-lt, nim_mul-lt, nim_inv-lt, value_over, vanish_over, value-vanish, value, vanish, upto, others_product, profile_of, size_is, size-bound, coefficient}
 use Rattle.code_points.proofs.Multipliers.{Each-range, bytes_product-lt, others_product-bytes}
 
 -- the product of all x + point

@@ -1,3 +1,5 @@
+mod Words
 pub mod Multipliers
 pub mod Steps
 pub mod Coefficients
+pub mod Rows

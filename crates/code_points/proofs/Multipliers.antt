@@ -1,15 +1,8 @@
 -- The multipliers by their definition, as a test that the checker computes over the whole table.
-use Rattle.std.proofs.Common.{◌≡◌, ◌≢◌, ◌≤◌, ◌<◌, ◌+◌, ◌^◌, ◌⊎◌, inl, inr, ℕ, zero, suc, Bool, true, false, cond, nat_eq, ◌==◌, List, [], ◌∷◌, refl, sym, ap, ◌∙◌, get_or, arith, bit_xor, eqb-true, nat_lt, ltb-true, ◌-◌}
-use Rattle.std.specs.List.{range_with_len}
+use Rattle.code_points.proofs.Words.{◌≡◌, ◌≢◌, ◌≤◌, ◌<◌, ◌+◌, ◌^◌, ◌⊎◌, inl, inr, ℕ, zero, suc, Bool, true, false, cond, nat_eq, ◌==◌, List, [], ◌∷◌, refl, sym, ap, ◌∙◌, get_or, arith, bit_xor, eqb-true, nat_lt, ltb-true, ◌-◌, range_with_len, Each, product, width, nim_add, nim_mul, nim_ring, nim_mul_at, nim_inv_is, holds_below, at_each, upto, others_product, multiplier, profile_of}
 use Rattle.std.proofs.lemmas.Nat.{xor_lt}
 use Rattle.std.proofs.lemmas.Bool.{cases_lt}
-use Rattle.algebra_laws.specs.Lists.{Each}
-use Rattle.hail_field.specs.Nim.{product, width, nim_add, nim_mul}
 use Rattle.hail_field.proofs.Products.{product-lt}
-use Rattle.hail_field.proofs.AllNumbers.{nim_ring, nim_mul_at, nim_inv_is}
-use Rattle.hail_field.proofs.Table.{holds_below, at_each}
-use Rattle.code_defs.specs.Points.{upto, others_product, multiplier}
-use Rattle.code_defs.specs.Profiles.{profile_of}
 use Rattle.code_points.specs.declared.table.TheConstants.{FIRST}
 
 -- the product over the other points, of bytes

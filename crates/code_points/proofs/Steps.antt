@@ -1,14 +1,6 @@
 -- The steps of the loops of the generator.
-use Rattle.std.proofs.Common.{◌≡◌, ◌≤◌, ◌<◌, ◌+◌, ◌-◌, ℕ, sym, ap, ◌∙◌, arith}
-use Rattle.std.specs.List.{range_with_len}
-use Rattle.hail_field.specs.Nim.{nim, nim_add, nim_mul}
-use Rattle.hail_field.proofs.AllNumbers.{nim_laws, nim_ring}
-use Rattle.algebra_laws.specs.Poly.{value as value_over, vanish as vanish_over}
-use Rattle.algebra_laws.proofs.Interpolate.{value-vanish}
-use Rattle.code_defs.specs.Polynomials.{value, vanish}
-use Rattle.code_defs.specs.Profiles.{profile_of}
+use Rattle.code_points.proofs.Words.{◌≡◌, ◌≤◌, ◌<◌, ◌+◌, ◌-◌, ℕ, sym, ap, ◌∙◌, arith, range_with_len, nim, nim_add, nim_mul, nim_laws, nim_ring, value_over, vanish_over, value-vanish, value, vanish, profile_of, size_is}
 use Rattle.code_defs.proofs.Points.{range_with_len-step}
-use Rattle.code_defs.proofs.Profiles.{size_is}
 
 -- the product over no points
 pub product_start : (x place n : ℕ) → n ≡ 0 → 1 ≡ value (vanish (range_with_len place n)) x

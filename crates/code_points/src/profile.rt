@@ -1,5 +1,5 @@
-ghost use Rattle.std.specs.Prelude.{◌≡◌, ◌≤◌, ◌↔◌, IsSome, IfSome};
-ghost use Rattle.code_defs.specs.Profiles.{profile_of};
+ghost use Rattle.std.specs.Prelude.{◌≡◌, ◌<◌, ◌↔◌, IsSome, IfSome};
+ghost use Rattle.code_defs.specs.Profiles.{profile_of, all_profiles};
 
 /// A row of the table of server codes: blocks of `size` symbols, of which the first `keep` are the kept ones,
 /// and in which up to `fix` wrong symbols are corrected.
@@ -9,15 +9,15 @@ pub struct Profile {
     pub size: u32,
     pub keep: u32,
     pub fix: u32,
-    ghost known: { number ≤ 4 },
+    ghost known: { number < all_profiles },
     ghost size_is: { size ≡ (profile_of number).size },
     ghost keep_is: { keep ≡ (profile_of number).keep },
     ghost fix_is: { fix ≡ (profile_of number).fix },
 }
 
-/// The profile of a number; none above 4.
+/// The profile of a number; none where no profile has it.
 pub fn find_profile(number: u8) -> Option<Profile>
-    ensures known { IsSome result ↔ (number ≤ 4) }
+    ensures known { IsSome result ↔ (number < all_profiles) }
     ensures numbered { IfSome result (λ profile. profile.number ≡ number) }
 {
     match number {

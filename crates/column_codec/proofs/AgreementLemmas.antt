@@ -1,25 +1,6 @@
 -- How many providers agree with the row of given primary symbols.
-use Rattle.std.specs.Prelude.{◌≡◌, ℕ, zero, suc, ◌+◌, ◌*◌, ◌<◌, ◌≤◌, ◌==◌, Bool, true, List, [], ◌∷◌, ◌++◌, length, map, take, drop, replicate, IfNone, Option, None, Some, if◌then◌else◌}
-use Rattle.std.proofs.Common.{arith, ap, sym, refl, ◌∙◌, get_or, subst}
-use Rattle.std.proofs.lemmas.Option.{slice_get-get_or}
-use Rattle.std.proofs.lemmas.List.{get_or-take, get_or-drop}
-use Rattle.std.proofs.lemmas.List.FromFn.{length-map-range_with_len, length-range_with_len, map-range_with_len_more, fill_by_all, get_or-map-range_with_len}
-use Rattle.hail_field.specs.Nim.{nim}
-use Rattle.hail_field.proofs.AllNumbers.{nim_laws}
-use Rattle.algebra_laws.specs.Poly.{agree as agree_over}
-use Rattle.algebra_laws.proofs.Steps.{is_seen-some, is_seen-none}
-use Rattle.algebra_laws.proofs.Interpolate.{length-interpolate}
-use Rattle.code_defs.specs.Polynomials.{value, agree, is_seen, interpolate}
-use Rattle.code_defs.specs.Points.{upto}
-use Rattle.code_defs.specs.ServerCode.{codeword}
-use Rattle.column_defs.specs.Objects.{Object, stripe_symbols, is_primary, kept_by, point, points}
-use Rattle.column_defs.specs.Keys.{secret_point}
-use Rattle.column_defs.specs.Columns.{row_polynomial, primary_row}
-use Rattle.column_defs.specs.Opened.{SeenBlock, symbol_in, AcceptsRow}
-use Rattle.column_defs.proofs.ColumnLaws.{value-interpolate_upto}
-use Rattle.column_codec.specs.Agreement.{agreeing_at, agreed}
-use Rattle.column_codec.specs.OpenedBlocks.{opened_at, opened_of, HasRow}
-use Rattle.column_codec.specs.Rows.{row_value}
+use Rattle.column_codec.proofs.Words.{zero, IfNone, arith, ap, sym, refl, ◌∙◌, get_or, subst, slice_get-get_or, get_or-take, get_or-drop, length-map-range_with_len, length-range_with_len, map-range_with_len_more, fill_by_all, get_or-map-range_with_len, nim, nim_laws, agree_over, is_seen-some, is_seen-none, length-interpolate, value, agree, is_seen, interpolate, upto, codeword, Object, stripe_symbols, is_primary, kept_by, point, points, secret_point, row_polynomial, primary_row, SeenBlock, symbol_in, AcceptsRow, value-interpolate_upto, agreeing_at, agreed, opened_at, opened_of, HasRow, row_value}
+use Rattle.std.specs.Prelude.{◌≡◌, ℕ, suc, ◌+◌, ◌*◌, ◌<◌, ◌≤◌, ◌==◌, Bool, true, List, [], ◌∷◌, ◌++◌, length, map, take, drop, replicate, Option, None, Some, if◌then◌else◌}
 use Rattle.column_codec.proofs.RowLemmas.{symbols_at-row}
 use Rattle.column_codec.proofs.OpenLemmas.{seen-map}
 

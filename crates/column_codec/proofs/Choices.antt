@@ -1,21 +1,11 @@
 -- Choices of symbols, by which it is decided whether some polynomial is accepted: some symbols are chosen,
 -- and the places
 -- from one on are yet to be looked at.
-use Rattle.std.proofs.Common.{◌≡◌, ◌≢◌, ◌≤◌, ◌<◌, ◌+◌, ◌++◌, [], ◌∷◌, ℕ, suc, List, length, drop, get_or, Option, Some, None, cond, Bool, true, false, eqb, arith, append_assoc, refl, sym, ◌∙◌, subst, ap, add-one}
-use Rattle.std.proofs.lemmas.List.{get_or_read, length-append, drop_more, get_or_default}
+use Rattle.column_codec.proofs.Words.{get_or, eqb, arith, append_assoc, refl, sym, ◌∙◌, subst, ap, add-one, get_or_read, length-append, drop_more, get_or_default, Each, Apart, nim, nim_laws, agree_over, is_seen-none, is_seen-some, agree_drop, plus_zero, same_values, length-interpolate, interpolate_takes, value, agree, is_seen, trim, interpolate, TakesSymbols, Accepts}
+use Rattle.std.proofs.Common.{◌≡◌, ◌≢◌, ◌≤◌, ◌<◌, ◌+◌, ◌++◌, [], ◌∷◌, ℕ, suc, List, length, drop, Option, Some, None, cond, Bool, true, false}
 use Rattle.std.proofs.lemmas.Bool.{eqb-true}
-use Rattle.algebra_laws.specs.Lists.{Each}
-use Rattle.algebra_laws.specs.Field.{Apart}
-use Rattle.hail_field.specs.Nim.{nim}
-use Rattle.hail_field.proofs.AllNumbers.{nim_laws}
-use Rattle.algebra_laws.specs.Poly.{agree as agree_over}
-use Rattle.algebra_laws.proofs.Steps.{is_seen-none, is_seen-some, agree_drop}
 use Rattle.algebra_laws.proofs.Trim.{length-trim, value-trim}
 use Rattle.algebra_laws.proofs.Agree.{agree_same}
-use Rattle.algebra_laws.proofs.Roots.{plus_zero, same_values}
-use Rattle.algebra_laws.proofs.Interpolate.{length-interpolate, interpolate_takes}
-use Rattle.code_defs.specs.Polynomials.{value, agree, is_seen, trim, interpolate, TakesSymbols}
-use Rattle.code_defs.specs.DispersalCode.{Accepts}
 
 -- chosen symbols, each with its point
 pub record Chosen : Type 0 where

@@ -1,17 +1,7 @@
 -- The values of kept rows, block by block, and the tables of weights.
 use Rattle.std.specs.Prelude.{◌≡◌, ℕ, ◌+◌, ◌-◌, ◌*◌, ◌<◌, ◌≤◌, List, [], Option, None, Some, IfSome, length, take, drop}
-use Rattle.std.proofs.Common.{arith, ap, refl, ◌∙◌, get_or}
+use Rattle.column_codec.proofs.Words.{arith, ap, refl, ◌∙◌, get_or, div-mul-add, mod-mul-add, get_or-take, get_or-drop, get_or-map-range_with_len, length-map-range_with_len, nim_add, nim_mul, value, dot, Object, stripe_symbols, point, row_polynomial, AreWeights, AreTabled, weight_at, row_value}
 use Rattle.std.specs.Option.{ForSome}
-use Rattle.std.proofs.lemmas.Nat.{div-mul-add, mod-mul-add}
-use Rattle.std.proofs.lemmas.List.{get_or-take, get_or-drop}
-use Rattle.std.proofs.lemmas.List.FromFn.{get_or-map-range_with_len, length-map-range_with_len}
-use Rattle.hail_field.specs.Nim.{nim_add, nim_mul}
-use Rattle.code_defs.specs.Polynomials.{value}
-use Rattle.code_defs.specs.Sums.{dot}
-use Rattle.column_defs.specs.Objects.{Object, stripe_symbols, point}
-use Rattle.column_defs.specs.Columns.{row_polynomial}
-use Rattle.column_codec.specs.ObjectKeys.{AreWeights, AreTabled, weight_at}
-use Rattle.column_codec.specs.Rows.{row_value}
 use Rattle.column_codec.proofs.Places.{index_within}
 use Rattle.column_codec.proofs.RowLemmas.{weighted-row}
 use Rattle.column_codec.proofs.WeightLemmas.{differences_at, sum_more, sum_whole, weights-whole}

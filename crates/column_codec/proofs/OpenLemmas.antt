@@ -1,24 +1,8 @@
 -- Seen blocks, one by one and all together.
-use Rattle.std.specs.Prelude.{All, OnOk, Result, Ok, Err, ◌≡◌, ◌≢◌, ℕ, suc, ◌+◌, ◌*◌, ◌/◌, ◌%◌, ◌<◌, ◌≤◌, Bool, true, false, List, [], ◌∷◌, length, map, take, nat_eq, slice_index, Option, None, Some, if◌then◌else◌}
-use Rattle.std.proofs.Common.{arith, ap, sym, refl, ◌∙◌, get_or, set, subst, eqb-true}
-use Rattle.std.specs.Bool.{OnTrue, OnFalse}
-use Rattle.std.specs.List.{range_with_len}
-use Rattle.std.proofs.lemmas.List.{get_or-set_same, get_or-set_other, get_or-take, length-set, length-take-le, ext_get_or, get_or_default}
-use Rattle.std.proofs.lemmas.Grind.{get_or-set_at}
-use Rattle.std.proofs.lemmas.Bool.{OnTrue_at}
-use Rattle.std.proofs.lemmas.Nat.{div-mul-add, mod-mul-add}
-use Rattle.std.proofs.lemmas.List.FromFn.{length-map-range_with_len, get_or-map-range_with_len}
-use Rattle.code_defs.specs.Polynomials.{value}
-use Rattle.code_defs.specs.Points.{upto}
-use Rattle.code_defs.specs.DispersalCode.{Accepts, AcceptsNone}
-use Rattle.column_defs.specs.Objects.{Object, stripe_symbols, row_number, is_primary, point, points}
-use Rattle.column_defs.specs.Opened.{SeenBlock, masked, bare, OpensTo, AllOpen, AcceptsRow, AcceptsNoRow, GivesSymbols, LosesRow, symbol_in}
-use Rattle.algebra_laws.specs.Field.{Apart}
-use Rattle.column_defs.proofs.PointLaws.{Apart-points}
-use Rattle.std.proofs.lemmas.Option.{slice_get-get_or}
+use Rattle.column_codec.proofs.Words.{OnOk, nat_eq, slice_index, arith, ap, sym, refl, ◌∙◌, get_or, set, subst, OnTrue, OnFalse, range_with_len, get_or-set_same, get_or-set_other, get_or-take, length-set, length-take-le, ext_get_or, get_or_default, get_or-set_at, OnTrue_at, div-mul-add, mod-mul-add, length-map-range_with_len, get_or-map-range_with_len, value, upto, Accepts, AcceptsNone, Object, stripe_symbols, row_number, is_primary, point, points, SeenBlock, masked, bare, OpensTo, AllOpen, AcceptsRow, AcceptsNoRow, GivesSymbols, LosesRow, symbol_in, Apart, Apart-points, slice_get-get_or, ArePoints, opened_at, opened_of, AreOpened, HasRow, LosesPlace}
+use Rattle.std.specs.Prelude.{All, Result, Ok, Err, ◌≡◌, ◌≢◌, ℕ, suc, ◌+◌, ◌*◌, ◌/◌, ◌%◌, ◌<◌, ◌≤◌, Bool, true, false, List, [], ◌∷◌, length, map, take, Option, None, Some, if◌then◌else◌}
+use Rattle.std.proofs.Common.{eqb-true}
 use Rattle.column_codec.proofs.Places.{index_within}
-use Rattle.column_codec.specs.ObjectKeys.{ArePoints}
-use Rattle.column_codec.specs.OpenedBlocks.{opened_at, opened_of, AreOpened, HasRow, LosesPlace}
 
 -- a primary block has no masks
 pub bare-primary : (o : Object) (j stripe : ℕ) (block : List ℕ) → j < o.shape.l →

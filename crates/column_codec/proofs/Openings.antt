@@ -1,23 +1,10 @@
 -- Each seen block opens to something, so rows that some blocks carry are accepted whatever the others open
 -- to.
-use Rattle.std.specs.Prelude.{◌≡◌, ℕ, zero, suc, ◌+◌, ◌<◌, ◌≤◌, nat_eq, nat_le, Bool, true, false, cond, List, [], ◌∷◌, ◌++◌, length, map, drop, Option, None, Some, ◌⊎◌, if◌then◌else◌}
-use Rattle.std.proofs.Common.{arith, ap, refl, get_or, subst, eqb-true, inl, inr}
-use Rattle.std.specs.List.{range_with_len}
-use Rattle.std.proofs.lemmas.List.{length-append, length-drop, get_or_default}
-use Rattle.std.proofs.lemmas.List.FromFn.{length-range_with_len}
-use Rattle.algebra_laws.specs.Field.{Apart}
+use Rattle.column_codec.proofs.Words.{zero, nat_eq, nat_le, ◌⊎◌, arith, ap, refl, get_or, subst, inl, inr, range_with_len, length-append, length-drop, get_or_default, length-range_with_len, Apart, agree_over, is_seen_over, value, agree, is_seen, trim, interpolate, upto, Profile, Opens, OpensToNone, Accepts, Apart-range, Object, stripe_symbols, points, SeenBlock, bare, OpensTo, AllOpen, AcceptsRow, GivesSymbols, symbol_in, opened_at, opened_of, AreOpened, HasRow}
+use Rattle.std.specs.Prelude.{◌≡◌, ℕ, suc, ◌+◌, ◌<◌, ◌≤◌, Bool, true, false, cond, List, [], ◌∷◌, ◌++◌, length, map, drop, Option, None, Some, if◌then◌else◌}
+use Rattle.std.proofs.Common.{eqb-true}
 use Rattle.algebra_laws.proofs.Apart.{Apart-front}
-use Rattle.algebra_laws.specs.Poly.{agree as agree_over, is_seen as is_seen_over}
-use Rattle.code_defs.specs.Polynomials.{value, agree, is_seen, trim, interpolate}
-use Rattle.code_defs.specs.Points.{upto}
-use Rattle.code_defs.specs.Profiles.{Profile}
-use Rattle.code_defs.specs.ServerCode.{Opens, OpensToNone}
-use Rattle.code_defs.specs.DispersalCode.{Accepts}
-use Rattle.code_defs.proofs.Points.{Apart-range}
 use Rattle.column_codec.proofs.Choices.{AcceptsNoneFrom, Apart-next, Apart-with, full_accepts, full_accepts_none, few_left, absent_accepts_none, present_accepts_none}
-use Rattle.column_defs.specs.Objects.{Object, stripe_symbols, points}
-use Rattle.column_defs.specs.Opened.{SeenBlock, bare, OpensTo, AllOpen, AcceptsRow, GivesSymbols, symbol_in}
-use Rattle.column_codec.specs.OpenedBlocks.{opened_at, opened_of, AreOpened, HasRow}
 use Rattle.column_codec.proofs.OpenLemmas.{seen-map, all-open, gives}
 
 -- some polynomial that goes on from chosen symbols is accepted, or none is

@@ -1,12 +1,7 @@
 -- Lists that are filled place by place.
-use Rattle.std.specs.Prelude.{◌≡◌, ℕ, zero, suc, ◌+◌, ◌*◌, ◌<◌, ◌≤◌, ◌++◌, ◌∷◌, [], Bool, true, false, List, length, map, take, drop, nat_eq}
-use Rattle.std.proofs.Common.{arith, ap, sym, refl, ◌∙◌, get_or, set, eqb-true, subst}
-use Rattle.std.proofs.Math.Nat.{mul-le-mul, mul-le-mul_right}
-use Rattle.std.proofs.lemmas.List.{take_at, take_more_set}
-use Rattle.std.proofs.lemmas.List.FromFn.{map-range_with_len_more}
-use Rattle.code_defs.specs.Points.{upto}
-use Rattle.std.proofs.lemmas.List.{get_or-set_other, length-set}
-use Rattle.std.proofs.lemmas.Grind.{get_or-set_at}
+use Rattle.column_codec.proofs.Words.{zero, nat_eq, arith, ap, sym, refl, ◌∙◌, get_or, set, subst, mul-le-mul, mul-le-mul_right, take_at, take_more_set, map-range_with_len_more, upto, get_or-set_other, length-set, get_or-set_at}
+use Rattle.std.specs.Prelude.{◌≡◌, ℕ, suc, ◌+◌, ◌*◌, ◌<◌, ◌≤◌, ◌++◌, ◌∷◌, [], Bool, true, false, List, length, map, take, drop}
+use Rattle.std.proofs.Common.{eqb-true}
 
 -- one place more at which a fact holds
 pub held_more : {X : Type 0} (P : ℕ → X → Type 0) (xs : List X) (i at : ℕ) (x d : X) →

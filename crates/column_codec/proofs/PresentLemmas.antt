@@ -1,11 +1,6 @@
 -- Blocks that lie one after the other in one list of symbols.
-use Rattle.std.specs.Prelude.{◌≡◌, ℕ, zero, suc, ◌+◌, ◌-◌, ◌*◌, ◌<◌, Bool, true, false, List, [], ◌∷◌, length, take, drop, Some, None, if◌then◌else◌}
-use Rattle.std.proofs.Common.{arith, ap, sym, refl, ◌∙◌, get_or, subst}
-use Rattle.std.proofs.lemmas.List.{drop-drop}
-use Rattle.std.specs.Bool.{OnTrue, OnFalse}
-use Rattle.column_defs.specs.Objects.{Object}
-use Rattle.column_defs.specs.Opened.{SeenBlock, OpensTo}
-use Rattle.column_codec.specs.PresentBlocks.{present_blocks}
+use Rattle.column_codec.proofs.Words.{zero, arith, ap, sym, refl, ◌∙◌, get_or, subst, drop-drop, OnTrue, OnFalse, Object, SeenBlock, OpensTo, present_blocks}
+use Rattle.std.specs.Prelude.{◌≡◌, ℕ, suc, ◌+◌, ◌-◌, ◌*◌, ◌<◌, Bool, true, false, List, [], ◌∷◌, length, take, drop, Some, None, if◌then◌else◌}
 
 -- there are as many blocks as flags, present or not
 pub length-present_blocks : (size : ℕ) (flags : List Bool) (symbols : List ℕ) →

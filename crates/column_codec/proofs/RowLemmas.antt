@@ -1,26 +1,10 @@
 -- The primary symbols of a row, and the points that they stand at.
-use Rattle.std.specs.Prelude.{◌≡◌, ℕ, zero, suc, ◌+◌, ◌*◌, ◌<◌, ◌≤◌, ◌≢◌, ◌%◌, true, false, All, List, [], ◌∷◌, ◌++◌, length, map, take, drop, slice_index, if◌then◌else◌}
-use Rattle.std.proofs.Common.{arith, ap, sym, refl, ◌∙◌, get_or}
-use Rattle.std.proofs.lemmas.List.{ext_get_or, get_or-take, get_or-drop, length-take-le}
-use Rattle.std.proofs.lemmas.List.FromFn.{length-map-range_with_len, get_or-map-range_with_len}
+use Rattle.column_codec.proofs.Words.{zero, slice_index, arith, ap, sym, refl, ◌∙◌, get_or, ext_get_or, get_or-take, get_or-drop, length-take-le, length-map-range_with_len, get_or-map-range_with_len, nim_add, value, interpolate, upto, values_at, Profile, profile_of, codeword, mask, mask_of, masks_from, file_key, Object, stripe_symbols, kept_by, is_primary, point, primary_row, row_polynomial, secondary_symbol, column_of_symbols, masked, dot, point-low, value-interpolate_upto, length-column_of_symbols, ArePoints, AreWeights, symbols_at, row_value}
+use Rattle.std.specs.Prelude.{◌≡◌, ℕ, suc, ◌+◌, ◌*◌, ◌<◌, ◌≤◌, ◌≢◌, ◌%◌, true, false, All, List, [], ◌∷◌, ◌++◌, length, map, take, drop, if◌then◌else◌}
 use Rattle.algebra_laws.proofs.Lists.{take-front, map-range_same}
-use Rattle.hail_field.specs.Nim.{nim_add}
-use Rattle.code_defs.specs.Polynomials.{value, interpolate}
-use Rattle.code_defs.specs.Points.{upto, values_at}
-use Rattle.code_defs.specs.Profiles.{Profile, profile_of}
 use Rattle.code_defs.proofs.Profiles.{size_is}
-use Rattle.code_defs.specs.ServerCode.{codeword}
-use Rattle.column_defs.specs.Keys.{mask, mask_of, masks_from, file_key}
-use Rattle.column_defs.specs.Objects.{Object, stripe_symbols, kept_by, is_primary, point}
-use Rattle.column_defs.specs.Columns.{primary_row, row_polynomial, secondary_symbol, column_of_symbols}
-use Rattle.column_defs.specs.Opened.{masked}
-use Rattle.code_defs.specs.Sums.{dot}
-use Rattle.column_defs.proofs.PointLaws.{point-low}
-use Rattle.column_defs.proofs.ColumnLaws.{value-interpolate_upto, length-column_of_symbols}
 use Rattle.column_defs.proofs.SecondaryLaws.{column_polynomial, value-column_polynomial, length-column_polynomial, length-kept_by, codeword-values, point-outside, secondary-column, masked-on}
 use Rattle.column_defs.proofs.MaskLengths.{length-masked}
-use Rattle.column_codec.specs.ObjectKeys.{ArePoints, AreWeights}
-use Rattle.column_codec.specs.Rows.{symbols_at, row_value}
 
 -- no point of a secondary provider is that of a primary one
 pub secondary-outside : (o : Object) (ps : List ℕ) → ArePoints o.shape.n o.shape.l o.master o.id ps →

@@ -1,14 +1,8 @@
 -- Products by half bytes.
 use Rattle.std.specs.Prelude.{◌≡◌, ℕ, ◌+◌, ◌-◌, ◌*◌, ◌/◌, ◌%◌, ◌^◌, ◌<◌, ◌≤◌}
-use Rattle.std.proofs.Common.{arith, ap, sym, refl, ◌∙◌, subst, pow-add, mul_comm}
+use Rattle.column_codec.proofs.Words.{arith, ap, sym, refl, ◌∙◌, subst, pow-add, mul_comm, pow_pos, div-div-eq-div-mul, mul-lt-mul_of_pos_right, mod_below, div-mul-add, mod-mul-add, nim_add, nim_mul, nim_ring, product_at}
 use Rattle.std.specs.Int.Bits.{xor_shifted}
-use Rattle.std.proofs.Common.{pow_pos}
 use Rattle.std.proofs.Math.Arith.{mod-mul}
-use Rattle.std.proofs.Math.Nat.{div-div-eq-div-mul, mul-lt-mul_of_pos_right}
-use Rattle.std.proofs.lemmas.Nat.{mod_below, div-mul-add, mod-mul-add}
-use Rattle.hail_field.specs.Nim.{nim_add, nim_mul}
-use Rattle.hail_field.proofs.AllNumbers.{nim_ring}
-use Rattle.column_codec.specs.Tables.{product_at}
 
 -- a number above the bits of another adds to it
 pub add_above : (high k low : ℕ) → low < 2 ^ k → nim_add low (high * 2 ^ k) ≡ high * 2 ^ k + low

@@ -1,27 +1,10 @@
 -- The weights by which a value of a polynomial is a sum over its values at the points 0 to l - 1.
-use Rattle.std.specs.Prelude.{◌≡◌, ◌≢◌, ◌≤◌, ◌<◌, ◌+◌, ◌-◌, ◌*◌, ◌==◌, if◌then◌else◌, ℕ, zero, suc, List, [], ◌∷◌, length, map, take, replicate, ◌++◌, slice_index}
-use Rattle.std.proofs.Common.{arith, ap, sym, refl, ◌∙◌, get_or}
-use Rattle.std.specs.List.{range_with_len}
-use Rattle.std.proofs.lemmas.List.{get_or-take, length-take-le, length-replicate}
-use Rattle.std.proofs.lemmas.List.FromFn.{length-range_with_len, length-map-range_with_len, map-range_with_len_more, fill_by_all}
-use Rattle.algebra_laws.specs.Lists.{Each}
+use Rattle.column_codec.proofs.Words.{zero, slice_index, arith, ap, sym, refl, ◌∙◌, get_or, range_with_len, get_or-take, length-take-le, length-replicate, length-range_with_len, length-map-range_with_len, map-range_with_len_more, fill_by_all, Each, nim, nim_add, nim_mul, nim_inv, nim_laws, nim_ring, value_over, plus_zero, same_values, length-interpolate, value-interpolate_upto, value, interpolate, upto, others_product, dot, Apart-range, range_with_len-step, others_product-outside, part, dot-scaled, value-interpolate, nim_inv-mul, gap_not_zero, others_product-not_zero, AreWeights, symbols_at}
+use Rattle.std.specs.Prelude.{◌≡◌, ◌≢◌, ◌≤◌, ◌<◌, ◌+◌, ◌-◌, ◌*◌, ◌==◌, if◌then◌else◌, ℕ, suc, List, [], ◌∷◌, length, map, take, replicate, ◌++◌}
 use Rattle.algebra_laws.proofs.Each.{each_range}
-use Rattle.hail_field.specs.Nim.{nim, nim_add, nim_mul, nim_inv}
-use Rattle.hail_field.proofs.AllNumbers.{nim_laws, nim_ring}
 use Rattle.algebra_laws.proofs.Inverse.{factor_zero}
 use Rattle.algebra_laws.proofs.Ring.{zero_mul, one_mul}
 use Rattle.algebra_laws.proofs.Solve.{v, i as one_term, ◌⊞◌, ◌⊡◌, solve}
-use Rattle.algebra_laws.specs.Poly.{value as value_over}
-use Rattle.algebra_laws.proofs.Roots.{plus_zero, same_values}
-use Rattle.algebra_laws.proofs.Interpolate.{length-interpolate}
-use Rattle.column_defs.proofs.ColumnLaws.{value-interpolate_upto}
-use Rattle.code_defs.specs.Polynomials.{value, interpolate}
-use Rattle.code_defs.specs.Points.{upto, others_product}
-use Rattle.code_defs.specs.Sums.{dot}
-use Rattle.code_defs.proofs.Points.{Apart-range, range_with_len-step, others_product-outside}
-use Rattle.code_defs.proofs.Lagrange.{part, dot-scaled, value-interpolate, nim_inv-mul, gap_not_zero, others_product-not_zero}
-use Rattle.column_codec.specs.ObjectKeys.{AreWeights}
-use Rattle.column_codec.specs.Rows.{symbols_at}
 
 -- the product over no points
 pub gaps_start : (x p n : ℕ) → n ≡ 0 → 1 ≡ others_product x (range_with_len p n)

@@ -1,9 +1,6 @@
 -- Sixteen masks at hand, and the masks that are read from them.
 use Rattle.std.specs.Prelude.{◌≡◌, ℕ, ◌+◌, ◌*◌, ◌/◌, ◌%◌, ◌<◌, List, [], ◌∷◌, ◌++◌, length, take}
-use Rattle.std.proofs.Common.{arith, ap, sym, refl, ◌∙◌, get_or, set}
-use Rattle.std.proofs.lemmas.List.{take_more_set}
-use Rattle.std.proofs.lemmas.List.FromFn.{map-range_with_len_more, get_or-map-range_with_len}
-use Rattle.column_defs.specs.Keys.{mask_of, masks_from}
+use Rattle.column_codec.proofs.Words.{arith, ap, sym, refl, ◌∙◌, get_or, set, take_more_set, map-range_with_len_more, get_or-map-range_with_len, mask_of, masks_from}
 
 -- the mask of a row stands among the sixteen of its number
 pub mask_in : (masks key same : List ℕ) (number row x : ℕ) → masks ≡ masks_from key (number * 16) 16 →

@@ -1,17 +1,8 @@
 -- The symbols of columns: what stands at a place, and the row's polynomial at the providers' points.
-use Rattle.std.specs.Prelude.{◌≡◌, ℕ, ◌<◌, ◌≤◌, true, false, List, length, map, slice_index, slice_get, Some, if◌then◌else◌}
-use Rattle.std.proofs.Common.{arith, ap, sym, ◌∙◌}
-use Rattle.std.proofs.lemmas.List.FromFn.{length-range_with_len, length-map-range_with_len, get_or-map-range_with_len}
+use Rattle.column_defs.proofs.Words.{◌≤◌, true, false, map, slice_index, slice_get, Some, if◌then◌else◌, arith, ap, sym, ◌∙◌, length-range_with_len, length-map-range_with_len, get_or-map-range_with_len, nim, nim_laws, length-interpolate, value, interpolate, upto, codeword, Object, kept_by, is_primary, row_polynomial, secondary_symbol, column_of_symbols}
+use Rattle.std.specs.Prelude.{◌≡◌, ℕ, ◌<◌, List, length}
 use Rattle.std.proofs.lemmas.Option.{slice_get-get_or}
-use Rattle.hail_field.specs.Nim.{nim}
-use Rattle.hail_field.proofs.AllNumbers.{nim_laws}
-use Rattle.algebra_laws.proofs.Interpolate.{length-interpolate}
-use Rattle.code_defs.specs.Polynomials.{value, interpolate}
-use Rattle.code_defs.specs.Points.{upto}
-use Rattle.code_defs.specs.ServerCode.{codeword}
 use Rattle.code_defs.proofs.Generators.{value-kept}
-use Rattle.column_defs.specs.Objects.{Object, kept_by, is_primary}
-use Rattle.column_defs.specs.Columns.{row_polynomial, secondary_symbol, column_of_symbols}
 
 -- the polynomial through values at the points 0 to n - 1 takes them
 pub value-interpolate_upto : (f : ℕ → ℕ) (n j : ℕ) → j < n →

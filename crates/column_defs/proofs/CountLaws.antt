@@ -1,9 +1,7 @@
 -- How many counts an audit leaves, and how far they rise in a round.
-use Rattle.std.specs.Prelude.{◌≡◌, ℕ, suc, ◌+◌, ◌≤◌, true, false, List, [], ◌∷◌, length, Option}
-use Rattle.std.proofs.Common.{arith, ap, refl, Bool, cond}
-use Rattle.algebra_laws.specs.Lists.{Each}
-use Rattle.algebra_laws.proofs.Each.{each_at_most}
-use Rattle.code_defs.specs.Polynomials.{value, is_seen}
+use Rattle.column_defs.proofs.Words.{suc, ◌≤◌, true, false, Option, arith, ap, refl, cond, Each, each_at_most, value, is_seen}
+use Rattle.std.specs.Prelude.{◌≡◌, ℕ, ◌+◌, List, [], ◌∷◌, length}
+use Rattle.std.proofs.Common.{Bool}
 use Rattle.column_defs.specs.Verdicts.{counts_after}
 
 -- a round leaves as many counts

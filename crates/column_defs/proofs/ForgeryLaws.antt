@@ -1,11 +1,6 @@
 -- A forgery of a stripe is a forgery.
-use Rattle.std.specs.Prelude.{◌≡◌, ℕ, zero, suc, ◌+◌, ◌≤◌, ◌<◌, ◌&&◌, Bool, true, false, List, [], ◌∷◌, length, Option}
-use Rattle.std.proofs.Common.{arith}
-use Rattle.std.specs.List.{list_any, range_with_len}
-use Rattle.code_defs.specs.Points.{upto}
-use Rattle.column_defs.specs.Objects.{Object, stripes}
-use Rattle.column_defs.specs.Columns.{is_wrong, is_wrong_block}
-use Rattle.column_defs.specs.Opened.{block_at}
+use Rattle.column_defs.proofs.Words.{zero, suc, ◌≤◌, ◌&&◌, true, false, Option, arith, list_any, range_with_len, upto, Object, stripes, is_wrong, is_wrong_block, block_at}
+use Rattle.std.specs.Prelude.{◌≡◌, ℕ, ◌+◌, ◌<◌, Bool, List, [], ◌∷◌, length}
 use Rattle.column_defs.specs.Forgeries.{IsForgery, IsStripeForgery, is_agreeing, count_of}
 
 -- where each number that passes one test passes another, at least as many pass that one

@@ -1,3 +1,4 @@
+mod Words
 pub mod MaskLengths
 pub mod CountLaws
 pub mod SymbolBytes

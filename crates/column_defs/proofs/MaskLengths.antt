@@ -1,8 +1,6 @@
 -- Masks change no length.
-use Rattle.std.specs.Prelude.{◌≡◌, ℕ, suc, ◌+◌, true, false, List, [], ◌∷◌, length, if◌then◌else◌}
-use Rattle.std.proofs.Common.{ap, refl}
-use Rattle.column_defs.specs.Objects.{Object, row_number, is_primary}
-use Rattle.column_defs.specs.Opened.{masked, bare}
+use Rattle.column_defs.proofs.Words.{suc, true, false, if◌then◌else◌, ap, refl, Object, row_number, is_primary, masked, bare}
+use Rattle.std.specs.Prelude.{◌≡◌, ℕ, ◌+◌, List, [], ◌∷◌, length}
 
 -- with masks a block is as long
 pub length-masked : (o : Object) (j row : ℕ) (xs : List ℕ) → length (masked o j row xs) ≡ length xs

@@ -1,13 +1,8 @@
 -- The points of an object's providers are apart, since each ends in the provider's number.
-use Rattle.std.specs.Prelude.{◌≡◌, ◌≢◌, ℕ, zero, suc, ◌+◌, ◌%◌, ◌<◌, ◌≤◌, true, false, List, [], ◌∷◌, take, length, map, slice_index, slice_set, if◌then◌else◌}
-use Rattle.std.proofs.Common.{arith, sym, ◌∙◌, ap, refl}
-use Rattle.std.specs.List.{range_with_len}
-use Rattle.std.specs.Int.{w128, from_le_bytes}
+use Rattle.column_defs.proofs.Words.{◌≢◌, zero, suc, ◌%◌, ◌≤◌, true, false, map, slice_index, slice_set, if◌then◌else◌, arith, sym, ◌∙◌, ap, refl, range_with_len, w128, from_le_bytes, Each, file_key, secret_point, Object, is_primary, point, points}
+use Rattle.std.specs.Prelude.{◌≡◌, ℕ, ◌+◌, ◌<◌, List, [], ◌∷◌, take, length}
 use Rattle.sha2.proofs.Facts256.{length-sha256}
-use Rattle.algebra_laws.specs.Lists.{Each}
 use Rattle.algebra_laws.specs.Field.{Apart}
-use Rattle.column_defs.specs.Keys.{file_key, secret_point}
-use Rattle.column_defs.specs.Objects.{Object, is_primary, point, points}
 
 -- the lowest byte of a number is the first one
 low-byte : (bytes : List ℕ) → from_le_bytes w128 bytes % 256 ≡ slice_index bytes 0 % 256

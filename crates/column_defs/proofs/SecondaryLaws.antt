@@ -1,33 +1,18 @@
 -- A secondary column without its masks is the server codeword of a combination of the primary providers'
 -- polynomials.
-use Rattle.std.specs.Prelude.{◌≡◌, ◌≢◌, ℕ, zero, suc, ◌+◌, ◌*◌, ◌%◌, ◌<◌, ◌≤◌, Bool, true, false, List, [], ◌∷◌, length, map, drop, slice_index, if◌then◌else◌}
-use Rattle.std.proofs.Common.{arith, ap, sym, refl, ◌∙◌}
-use Rattle.std.specs.List.{range_with_len}
-use Rattle.std.proofs.lemmas.List.FromFn.{length-range_with_len, length-map-range_with_len, get_or-map-range_with_len}
+use Rattle.column_defs.proofs.Words.{◌≢◌, zero, suc, ◌%◌, ◌≤◌, true, false, map, drop, slice_index, if◌then◌else◌, arith, ap, sym, refl, ◌∙◌, range_with_len, length-range_with_len, length-map-range_with_len, get_or-map-range_with_len, length-take-le, Each, each_range, nim, nim_add, nim_mul, nim_laws, nim_ring, length-scale, value, plus, scale, vanish, interpolate, upto, values_at, codeword, IsCodeword, mask, Object, stripe_symbols, row_number, kept_by, is_primary, point, primary_row, row_polynomial, secondary_symbol, column_of_symbols, masked, bare}
+use Rattle.std.specs.Prelude.{◌≡◌, ℕ, ◌+◌, ◌*◌, ◌<◌, Bool, List, [], ◌∷◌, length}
 use Rattle.std.proofs.Math.ListN.{length-drop}
 use Rattle.std.proofs.Math.Nat.{mul-le-mul_right}
-use Rattle.std.proofs.lemmas.List.{length-take-le}
-use Rattle.algebra_laws.specs.Lists.{Each}
 use Rattle.algebra_laws.proofs.Lists.{map-range_same}
-use Rattle.algebra_laws.proofs.Each.{each_range}
-use Rattle.hail_field.specs.Nim.{nim, nim_add, nim_mul}
-use Rattle.hail_field.proofs.AllNumbers.{nim_laws, nim_ring}
 use Rattle.algebra_laws.specs.Poly.{value as value_over}
 use Rattle.algebra_laws.proofs.Values.{value-plus, value-scale}
 use Rattle.algebra_laws.proofs.Roots.{length-plus, plus_zero, same_values}
-use Rattle.algebra_laws.proofs.Interpolate.{length-scale}
-use Rattle.code_defs.specs.Polynomials.{value, plus, scale, vanish, interpolate}
-use Rattle.code_defs.specs.Points.{upto, values_at}
 use Rattle.code_defs.specs.Profiles.{Profile}
-use Rattle.code_defs.specs.ServerCode.{codeword, IsCodeword}
 use Rattle.code_defs.specs.Sums.{dot}
 use Rattle.code_defs.proofs.Points.{Apart-range}
 use Rattle.code_defs.proofs.Lagrange.{part, dot-scaled, value-interpolate}
 use Rattle.code_defs.proofs.Codewords.{codeword-short}
-use Rattle.column_defs.specs.Keys.{mask}
-use Rattle.column_defs.specs.Objects.{Object, stripe_symbols, row_number, kept_by, is_primary, point}
-use Rattle.column_defs.specs.Columns.{primary_row, row_polynomial, secondary_symbol, column_of_symbols}
-use Rattle.column_defs.specs.Opened.{masked, bare}
 use Rattle.column_defs.proofs.PointLaws.{point-low}
 use Rattle.column_defs.proofs.ColumnLaws.{value-interpolate_upto}
 

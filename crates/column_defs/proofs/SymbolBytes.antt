@@ -1,9 +1,7 @@
 -- The bytes of symbols, 16 of each.
-use Rattle.std.proofs.Common.{◌≡◌, ℕ, ◌+◌, ◌*◌, ◌<◌, List, [], ◌∷◌, ◌++◌, length, take, get_or, refl, sym, ap, ◌∙◌, arith, length-append}
-use Rattle.std.specs.Int.{w128, to_le_bytes}
+use Rattle.column_defs.proofs.Words.{◌++◌, get_or, refl, sym, ap, ◌∙◌, arith, length-append, w128, to_le_bytes, append-nil, take_more, bytes_of_symbols}
+use Rattle.std.proofs.Common.{◌≡◌, ℕ, ◌+◌, ◌*◌, ◌<◌, List, [], ◌∷◌, length, take}
 use Rattle.std.proofs.lemmas.Grind.{flat_map-append}
-use Rattle.std.proofs.lemmas.List.{append-nil, take_more}
-use Rattle.column_defs.specs.Objects.{bytes_of_symbols}
 
 -- a symbol has 16 bytes
 pub length-symbol : (x : ℕ) → length (to_le_bytes w128 x) ≡ 16

@@ -1,13 +1,5 @@
 -- How many numbers of a range pass tests, and how many symbols agree.
-use Rattle.std.specs.Prelude.{◌≡◌, ℕ, zero, suc, ◌+◌, ◌-◌, ◌<◌, ◌≤◌, ◌&&◌, Bool, true, false, not, cond, List, [], ◌∷◌, map, nat_lt, slice_get, Option, None, option_and_then}
-use Rattle.std.proofs.Common.{arith, ap, sym, refl, ◌∙◌, subst}
-use Rattle.std.specs.List.{range_with_len}
-use Rattle.algebra_laws.specs.Poly.{agree as agree_over, is_seen as is_seen_over}
-use Rattle.code_defs.specs.Polynomials.{value, agree, is_seen}
-use Rattle.code_defs.specs.Points.{upto}
-use Rattle.column_defs.specs.Objects.{Object, points, point}
-use Rattle.column_defs.specs.Opened.{SeenBlock, OpensTo, AllOpen, symbol_in, block_at}
-use Rattle.column_defs.specs.Forgeries.{count_of, is_agreeing}
+use Rattle.column_laws.proofs.Words.{◌≡◌, ℕ, zero, suc, ◌+◌, ◌-◌, ◌<◌, ◌≤◌, ◌&&◌, Bool, true, false, not, cond, List, [], ◌∷◌, map, nat_lt, slice_get, Option, None, option_and_then, arith, ap, sym, refl, ◌∙◌, subst, range_with_len, agree_over, is_seen_over, value, agree, is_seen, upto, Object, points, point, SeenBlock, OpensTo, AllOpen, symbol_in, block_at, count_of, is_agreeing}
 
 -- where each number of a range passes one of two tests, at least as many pass them as there are numbers
 pub count_of-cover : (p q : ℕ → Bool) (a n : ℕ) → ((j : ℕ) → j < a + n → p j ≡ false → q j ≡ true) →

@@ -1,13 +1,5 @@
 -- A stripe gives its symbols or loses a row, and not both.
-use Rattle.std.specs.Prelude.{◌≡◌, ℕ, ◌+◌, ◌<◌, ◌≤◌, List, [], ◌∷◌}
-use Rattle.std.proofs.Common.{refl, subst, arith}
-use Rattle.hail_field.specs.Shape.{IsShape}
-use Rattle.code_defs.specs.Points.{upto}
-use Rattle.code_defs.specs.Profiles.{profile_of}
-use Rattle.column_defs.specs.Objects.{Object, symbols_in}
-use Rattle.column_defs.specs.Columns.{row_polynomial, is_wrong_block}
-use Rattle.column_defs.specs.Opened.{SeenBlock, block_at, AllOpen, AcceptsRow, GivesSymbols, LosesRow}
-use Rattle.column_defs.specs.Forgeries.{count_of}
+use Rattle.column_laws.proofs.Words.{◌≡◌, ℕ, ◌+◌, ◌<◌, ◌≤◌, List, [], ◌∷◌, refl, subst, arith, IsShape, upto, profile_of, Object, symbols_in, row_polynomial, is_wrong_block, SeenBlock, block_at, AllOpen, AcceptsRow, GivesSymbols, LosesRow, count_of}
 use Rattle.column_laws.proofs.UniqueLaws.{opens-unique, profile-room}
 use Rattle.column_laws.proofs.RightRows.{row-right}
 

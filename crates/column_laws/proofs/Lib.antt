@@ -1,3 +1,4 @@
+mod Words
 pub mod UniqueLaws
 pub mod RightBlocks
 pub mod Counts

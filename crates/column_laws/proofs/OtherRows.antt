@@ -1,22 +1,6 @@
 -- A row that is accepted with another polynomial than the file's own is a forgery.
-use Rattle.std.specs.Prelude.{◌≡◌, ◌≢◌, ℕ, zero, suc, ◌+◌, ◌<◌, ◌≤◌, ◌&&◌, Bool, true, false, cond, not, nat_lt, List, ◌∷◌, length, map, slice_index, Some}
-use Rattle.std.proofs.Common.{arith, ap, sym, refl, ◌∙◌}
-use Rattle.std.specs.List.{range_with_len}
-use Rattle.std.proofs.lemmas.List.FromFn.{length-map-range_with_len}
+use Rattle.column_laws.proofs.Words.{◌≡◌, ◌≢◌, ℕ, zero, suc, ◌+◌, ◌<◌, ◌≤◌, ◌&&◌, Bool, true, false, cond, not, nat_lt, List, ◌∷◌, length, map, slice_index, Some, arith, ap, sym, refl, ◌∙◌, range_with_len, length-map-range_with_len, IsShape, agree_over, value, agree, is_seen, upto, values_at, profile_of, codeword, agree-values, Object, symbols_in, kept_by, is_primary, point, points, primary_row, row_polynomial, is_wrong_block, SeenBlock, AllOpen, AcceptsRow, block_at, count_of, is_agreeing, IsRow, IsStripeForgery, length-row_polynomial, value-row_polynomial, Apart-points}
 use Rattle.std.proofs.lemmas.Bool.{not-true}
-use Rattle.hail_field.specs.Shape.{IsShape}
-use Rattle.algebra_laws.specs.Poly.{agree as agree_over}
-use Rattle.code_defs.specs.Polynomials.{value, agree, is_seen}
-use Rattle.code_defs.specs.Points.{upto, values_at}
-use Rattle.code_defs.specs.Profiles.{profile_of}
-use Rattle.code_defs.specs.ServerCode.{codeword}
-use Rattle.code_defs.proofs.Codewords.{agree-values}
-use Rattle.column_defs.specs.Objects.{Object, symbols_in, kept_by, is_primary, point, points}
-use Rattle.column_defs.specs.Columns.{primary_row, row_polynomial, is_wrong_block}
-use Rattle.column_defs.specs.Opened.{SeenBlock, AllOpen, AcceptsRow, block_at}
-use Rattle.column_defs.specs.Forgeries.{count_of, is_agreeing, IsRow, IsStripeForgery}
-use Rattle.column_defs.proofs.ColumnLaws.{length-row_polynomial, value-row_polynomial}
-use Rattle.column_defs.proofs.PointLaws.{Apart-points}
 use Rattle.column_laws.proofs.UniqueLaws.{often_same, values_same, profile-room}
 use Rattle.column_laws.proofs.Counts.{count_of-within, count_of-parts, count_of-below, agree-row}
 use Rattle.column_laws.proofs.RightRows.{symbol-at}

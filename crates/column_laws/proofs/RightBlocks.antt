@@ -1,19 +1,7 @@
 -- A block that is not wrong opens to its provider's column without masks.
-use Rattle.std.specs.Prelude.{◌≡◌, ℕ, suc, ◌+◌, ◌*◌, ◌<◌, ◌≤◌, ◌||◌, ◌==◌, Bool, true, false, not, List, [], ◌∷◌, length, nat_lt, slice_get, None, Some, if◌then◌else◌}
-use Rattle.std.proofs.Common.{arith, ap, sym, refl, ◌∙◌}
-use Rattle.std.proofs.lemmas.List.FromFn.{length-range_with_len, length-map-range_with_len}
-use Rattle.code_defs.specs.Polynomials.{value}
-use Rattle.code_defs.specs.Points.{upto}
-use Rattle.code_defs.specs.Profiles.{profile_of}
-use Rattle.code_defs.specs.ServerCode.{differences, IsCodeword}
-use Rattle.code_defs.proofs.Codewords.{agree-differences}
+use Rattle.column_laws.proofs.Words.{◌≡◌, ℕ, suc, ◌+◌, ◌*◌, ◌<◌, ◌≤◌, ◌||◌, ◌==◌, Bool, true, false, not, List, [], ◌∷◌, length, nat_lt, slice_get, None, Some, if◌then◌else◌, arith, ap, sym, refl, ◌∙◌, length-range_with_len, length-map-range_with_len, value, upto, profile_of, differences, IsCodeword, agree-differences, Object, stripe_symbols, symbol_of, symbols_in, row_number, is_primary, point, row_polynomial, column_of_symbols, columns, is_wrong_block, SeenBlock, masked, bare, OpensTo, symbol_in, slice_get-upto, primary-symbol, column_polynomial, value-column_polynomial, point-outside, bare-secondary, IsCodeword-bare_column}
 use Rattle.code_defs.proofs.Values.{equal-added}
 use Rattle.column_defs.specs.Keys.{mask, secret_point}
-use Rattle.column_defs.specs.Objects.{Object, stripe_symbols, symbol_of, symbols_in, row_number, is_primary, point}
-use Rattle.column_defs.specs.Columns.{row_polynomial, column_of_symbols, columns, is_wrong_block}
-use Rattle.column_defs.specs.Opened.{SeenBlock, masked, bare, OpensTo, symbol_in}
-use Rattle.column_defs.proofs.ColumnLaws.{slice_get-upto, primary-symbol}
-use Rattle.column_defs.proofs.SecondaryLaws.{column_polynomial, value-column_polynomial, point-outside, bare-secondary, IsCodeword-bare_column}
 use Rattle.column_defs.proofs.MaskLengths.{length-bare}
 use Rattle.column_laws.proofs.UniqueLaws.{opens-unique}
 

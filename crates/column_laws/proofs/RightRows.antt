@@ -1,23 +1,8 @@
 -- Where few blocks of a stripe are wrong, rows are accepted with the file's own polynomials.
-use Rattle.std.specs.Prelude.{◌≡◌, ℕ, suc, ◌+◌, ◌-◌, ◌*◌, ◌<◌, ◌≤◌, true, false, List, map, drop, get_or, slice_get, slice_index, Option, Some}
-use Rattle.std.proofs.Common.{arith, ap, sym, ◌∙◌, get_or-take, get_or-drop, subst}
+use Rattle.column_laws.proofs.Words.{◌≡◌, ℕ, suc, ◌+◌, ◌-◌, ◌*◌, ◌<◌, ◌≤◌, true, false, List, map, drop, get_or, slice_get, slice_index, Option, Some, arith, ap, sym, ◌∙◌, get_or-take, get_or-drop, subst, length-map-range_with_len, get_or-map-range_with_len, fill_by_all, IsShape, nim_laws, is_seen_over, value, interpolate, is_seen, upto, profile_of, codeword, Object, stripe_symbols, symbol_of, symbols_in, kept_by, point, row_polynomial, is_wrong_block, SeenBlock, AllOpen, OpensTo, symbol_in, block_at, AcceptsRow, GivesSymbols, count_of, is_agreeing, length-row_polynomial, value-row_polynomial, value-interpolate_upto, slice_get-upto, length-kept_by}
 use Rattle.std.proofs.Math.Nat.{mul-le-mul_right}
-use Rattle.std.proofs.lemmas.List.FromFn.{length-map-range_with_len, get_or-map-range_with_len, fill_by_all}
 use Rattle.std.proofs.lemmas.Option.{get_or_from_slice_get}
 use Rattle.algebra_laws.proofs.ListPlaces.{IsPlace, place-of}
-use Rattle.hail_field.specs.Shape.{IsShape}
-use Rattle.hail_field.proofs.AllNumbers.{nim_laws}
-use Rattle.algebra_laws.specs.Poly.{is_seen as is_seen_over}
-use Rattle.code_defs.specs.Polynomials.{value, interpolate, is_seen}
-use Rattle.code_defs.specs.Points.{upto}
-use Rattle.code_defs.specs.Profiles.{profile_of}
-use Rattle.code_defs.specs.ServerCode.{codeword}
-use Rattle.column_defs.specs.Objects.{Object, stripe_symbols, symbol_of, symbols_in, kept_by, point}
-use Rattle.column_defs.specs.Columns.{row_polynomial, is_wrong_block}
-use Rattle.column_defs.specs.Opened.{SeenBlock, AllOpen, OpensTo, symbol_in, block_at, AcceptsRow, GivesSymbols}
-use Rattle.column_defs.specs.Forgeries.{count_of, is_agreeing}
-use Rattle.column_defs.proofs.ColumnLaws.{length-row_polynomial, value-row_polynomial, value-interpolate_upto, slice_get-upto}
-use Rattle.column_defs.proofs.SecondaryLaws.{length-kept_by}
 use Rattle.column_laws.proofs.UniqueLaws.{accepted-unique, profile-room}
 use Rattle.column_laws.proofs.RightBlocks.{length-symbols_in, symbol-right}
 use Rattle.column_laws.proofs.Counts.{count_of-cover, agree-row, opens-at}

@@ -1,22 +1,9 @@
 -- A block opens to one thing, and a row is accepted with one polynomial.
-use Rattle.std.specs.Prelude.{◌≡◌, ℕ, zero, suc, ◌+◌, ◌*◌, ◌≤◌, List, [], ◌∷◌, length, map, take, Option, None, Some}
-use Rattle.std.proofs.Common.{arith, ap, sym, refl, ◌∙◌}
-use Rattle.std.proofs.lemmas.List.FromFn.{length-range_with_len, length-map-range_with_len}
+use Rattle.column_laws.proofs.Words.{◌≡◌, ℕ, zero, suc, ◌+◌, ◌*◌, ◌≤◌, List, [], ◌∷◌, length, map, take, Option, None, Some, arith, ap, sym, refl, ◌∙◌, length-range_with_len, length-map-range_with_len, IsShape, nim_laws, agree_over, present, value, agree, upto, values_at, profile_of, Apart-range, size_is, Object, point, points, SeenBlock, bare, OpensTo, AcceptsRow, symbol_in, Apart-points}
 use Rattle.algebra_laws.specs.Field.{Apart}
 use Rattle.hail_field.specs.Nim.{nim}
-use Rattle.hail_field.specs.Shape.{IsShape}
-use Rattle.hail_field.proofs.AllNumbers.{nim_laws}
-use Rattle.algebra_laws.specs.Poly.{agree as agree_over, present}
 use Rattle.algebra_laws.proofs.Agree.{unique}
 use Rattle.algebra_laws.proofs.Roots.{same_values}
-use Rattle.code_defs.specs.Polynomials.{value, agree}
-use Rattle.code_defs.specs.Points.{upto, values_at}
-use Rattle.code_defs.specs.Profiles.{profile_of}
-use Rattle.code_defs.proofs.Points.{Apart-range}
-use Rattle.code_defs.proofs.Profiles.{size_is}
-use Rattle.column_defs.specs.Objects.{Object, point, points}
-use Rattle.column_defs.specs.Opened.{SeenBlock, bare, OpensTo, AcceptsRow, symbol_in}
-use Rattle.column_defs.proofs.PointLaws.{Apart-points}
 
 -- symbols past the last point do not count
 agree-front : (p xs : List ℕ) (ss : List (Option ℕ)) → agree p xs (take (length xs) ss) ≡ agree p xs ss

@@ -1,18 +1,5 @@
 -- The premises of the laws at the small object.
-use Rattle.std.specs.Prelude.{◌≡◌, ◌≢◌, ◌<◌, ℕ, ◌||◌, ◌==◌, not, false, nat_lt, List, [], ◌∷◌, None, Some}
-use Rattle.std.proofs.Common.{arith, ap, sym, refl, ◌∙◌}
-use Rattle.hail_field.specs.Shape.{IsShape}
-use Rattle.algebra_laws.specs.Poly.{agree as agree_over, is_seen as is_seen_over}
-use Rattle.code_defs.specs.Polynomials.{value, agree}
-use Rattle.code_defs.specs.Points.{upto, values_at}
-use Rattle.code_defs.specs.ServerCode.{differences}
-use Rattle.code_defs.proofs.Codewords.{differences-same}
-use Rattle.column_defs.specs.Objects.{Object, symbol_of, symbols_in, point}
-use Rattle.column_defs.specs.Columns.{primary_row, row_polynomial, columns, is_wrong_block}
-use Rattle.column_defs.specs.Opened.{bare, block_at, OpensTo, AllOpen, AcceptsRow, GivesSymbols, LosesRow}
-use Rattle.column_defs.specs.Forgeries.{count_of, IsRow}
-use Rattle.column_defs.proofs.ColumnLaws.{length-column_of_symbols}
-use Rattle.column_laws.specs.Example.{example, three_seen, three_opened}
+use Rattle.column_laws.proofs.Words.{◌≡◌, ◌≢◌, ◌<◌, ℕ, ◌||◌, ◌==◌, not, false, nat_lt, List, [], ◌∷◌, None, Some, arith, ap, sym, refl, ◌∙◌, IsShape, agree_over, is_seen_over, value, agree, upto, values_at, differences, differences-same, Object, symbol_of, symbols_in, point, primary_row, row_polynomial, columns, is_wrong_block, bare, block_at, OpensTo, AllOpen, AcceptsRow, GivesSymbols, LosesRow, count_of, IsRow, length-column_of_symbols, example, three_seen, three_opened}
 use Rattle.column_laws.proofs.RightBlocks.{opens-right}
 use Rattle.column_laws.proofs.RightRows.{row-right, row-symbol, given-right}
 use Rattle.column_laws.proofs.OtherRows.{values-row}

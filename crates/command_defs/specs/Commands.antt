@@ -23,7 +23,8 @@ use Rattle.command_defs.specs.Forms.{Command, RowOf, InitWith, PutUnder, PutAt, 
 use Rattle.command_defs.specs.Seen.{Seen, Ending, IsSynced, SameSource, ReadsAtMost, ReadsFront, IsRefused, sinking}
 use Rattle.command_defs.specs.Sinking.{Refuses, WritesLine}
 use Rattle.command_defs.specs.Opens.{IsOpened, Unstarted}
-use Rattle.command_defs.specs.Refusals.{is_unknown, refusal_over}
+use Rattle.code_defs.specs.Profiles.{is_unknown}
+use Rattle.command_defs.specs.Refusals.{refusal_over}
 use Rattle.command_defs.specs.Lines.{list_lines}
 use Rattle.command_defs.specs.Row.{AnswersRow}
 use Rattle.command_defs.specs.Puts.{MayHaveEnd}

@@ -3,7 +3,6 @@
 --   sight_over area records  == what the refusals of a begin see of these records, where nothing runs
 --   refusal_over area records kind own
 --                            == the first one that applies; None where the job begins
---   is_unknown own           == a put names a profile that there is none of
 --   reaches_over area records == a text in the first area reaches into the second, which a pack would write
 --   pack_refusal_over area records
 --                            == why a pack is refused; None where it begins
@@ -11,8 +10,8 @@
 --
 -- area is that of the journal. own is the profile that a put names; None where it names none, and of every
 -- other job.
-use Rattle.std.specs.Prelude.{ℕ, ◌==◌, Bool, false, List, [], ◌∷◌, Option, None, Some, nat_le, nat_lt}
-use Rattle.record_defs.specs.Records.{Record, all_profiles}
+use Rattle.std.specs.Prelude.{ℕ, ◌==◌, Bool, false, List, [], ◌∷◌, Option, None, Some, nat_lt}
+use Rattle.record_defs.specs.Records.{Record}
 use Rattle.record_defs.specs.Areas.{Area, A, B, base_of, end_in}
 use Rattle.record_defs.specs.Table.{version_of, next_id, next_audit, files_of, due_of}
 use Rattle.machine_defs.specs.Jobs.{Kind, aim_of}
@@ -39,11 +38,6 @@ sight_over area records = record {
 -- why a begin is refused of a job that would be the only one
 abbrev pub refusal_over : Area → List Record → Kind → Option ℕ → Option Refusal
 refusal_over area records kind own = first_refusal (causes 1 (sight_over area records) (aim_of kind) own)
-
--- a put names a profile that there is none of
-abbrev pub is_unknown : Option ℕ → Bool
-is_unknown None = false
-is_unknown (Some own) = nat_le all_profiles own
 
 -- a text in the first area reaches into the second
 abbrev pub reaches_over : Area → List Record → Bool

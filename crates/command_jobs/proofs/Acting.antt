@@ -1,25 +1,11 @@
 -- What a step of the only job of a state does: it makes an action, and what is in the journal or in flight grows.
-use Rattle.std.proofs.Common.{◌≡◌, ℕ, ◌+◌, ◌≤◌, ◌==◌, ◌⊎◌, List, [], ◌∷◌, Option, Some, None, refl, ap, subst, ◌∙◌, inl, inr, arith}
-use Rattle.std.proofs.lemmas.Bool.{cases_Bool}
-use Rattle.algebra_laws.proofs.Options.{some-not-none}
-use Rattle.record_defs.specs.Records.{Record}
-use Rattle.record_defs.specs.Areas.{Area, end_in}
-use Rattle.machine_defs.specs.Jobs.{Kind, Job, job_of}
-use Rattle.machine_defs.specs.Actions.{Action, WriteBody, SyncBody, WriteGate, SyncGate, Store, Fetch, Ask, Work, Remove, End}
+use Rattle.command_jobs.proofs.Words.{◌≡◌, ℕ, ◌+◌, ◌≤◌, ◌⊎◌, List, [], ◌∷◌, Option, Some, None, refl, ap, subst, ◌∙◌, inl, inr, arith, cases_Bool, some-not-none, Record, Area, end_in, Kind, job_of, Action, WriteBody, SyncBody, WriteGate, SyncGate, Store, Fetch, Ask, Work, Remove, End, Step, More, Outcome, State, Append, Alone, Moves, next_action, holder_of, ActsOrWaits, StepsOn, StepsJob, StepsOne, StepsOpen, Steps, Happens, cond_true, cond_false, same_value, moves_before, holder, IsOpenAtRest, WalkedAt, found, none-alone, records_in_flight}
+use Rattle.std.proofs.Common.{◌==◌}
+use Rattle.machine_defs.specs.Jobs.{Job}
 use Rattle.machine_defs.specs.Answers as answer
 use Rattle.machine_defs.specs.Answers.{Answer}
-use Rattle.machine_defs.specs.Events.{Step, More, Ended, Outcome}
-use Rattle.machine_defs.specs.States.{State, Append, Alone}
-use Rattle.machine_defs.specs.Appends.{Moves}
-use Rattle.machine_defs.specs.Steps.{next_action, holder_of, Acts, ActsOrWaits, StepsOn, StepsJob, StepsOne, StepsOpen, Steps}
-use Rattle.machine_defs.specs.Machine.{Happens}
-use Rattle.machine_defs.proofs.JobLists.{cond_true, cond_false, same_value}
-use Rattle.state_laws.specs.Orders.{moves_before}
-use Rattle.state_laws.proofs.Given.{holder}
-use Rattle.opening_defs.specs.Opened.{IsOpenAtRest}
-use Rattle.lone_laws.specs.Walked.{WalkedAt}
-use Rattle.lone_laws.proofs.Walk.{found, none-alone}
-use Rattle.vault.specs.Devices.{records_in_flight}
+use Rattle.machine_defs.specs.Events.{Ended}
+use Rattle.machine_defs.specs.Steps.{Acts}
 
 -- the only job of a list is the one that is found
 pub one-found : (job other : Job) (number : ℕ) → job_of (job ∷ []) number ≡ Some other → other ≡ job

@@ -1,19 +1,7 @@
 -- The only job of a vault that goes on, and where it is an open stream, up to where it waits.
-use Rattle.std.proofs.Common.{◌≡◌, ℕ, ◌+◌, ◌*◌, ◌≤◌, length, Option, Some, None, sym, subst, ◌∙◌, inl, inr, arith}
-use Rattle.std.proofs.lemmas.Bool.{cases_lt}
-use Rattle.std.specs.Prelude.{IfSome}
-use Rattle.device_defs.specs.Told.{Goes}
-use Rattle.machine_defs.specs.Jobs.{Kind}
-use Rattle.machine_defs.specs.Runs.{now}
-use Rattle.machine_defs.specs.States.{State, setup_in}
-use Rattle.record_defs.specs.Areas.{base_of}
+use Rattle.command_jobs.proofs.Words.{◌≡◌, ℕ, ◌+◌, ◌*◌, ◌≤◌, length, Option, Some, None, sym, subst, ◌∙◌, inl, inr, arith, cases_lt, IfSome, Goes, Kind, now, State, setup_in, base_of, Vault, MakesStep, wants_of, told_of, KeepsTold, Devices, SameUpTo, OnWay, IsBehind, IsEarly, EndsEarly}
 use Rattle.vault.specs.declared.turn.Ended.{Ended}
 use Rattle.vault.specs.declared.turn.Turn.TheVariants as turn
-use Rattle.vault.specs.declared.vault.Vault.{Vault}
-use Rattle.vault.specs.Stands.{MakesStep}
-use Rattle.vault.specs.Streams.{wants_of, told_of, KeepsTold}
-use Rattle.vault_open.specs.Devices.{Devices}
-use Rattle.command_jobs.specs.Going.{SameUpTo, OnWay, IsBehind, IsEarly, EndsEarly}
 use Rattle.command_jobs.proofs.Goings.{one-more, one-further, at-end, end-steps}
 use Rattle.command_jobs.proofs.Told.{told-kept, goes-on}
 

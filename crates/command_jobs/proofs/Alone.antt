@@ -1,50 +1,15 @@
 -- From the begin and the steps of a job to what its command tells of it.
-use Rattle.std.proofs.Common.{◌≡◌, ℕ, ◌+◌, ◌*◌, ◌<◌, ◌≤◌, List, [], length, replicate, take, drop, Option, Some, None, Ok, Err, refl, ap, sym, subst, ◌∙◌, inl, inr, arith}
-use Rattle.std.specs.Prelude.{IfSome}
-use Rattle.std.specs.Option.{option_map}
-use Rattle.std.proofs.Math.Nat.{mul-le-mul_right}
-use Rattle.std.proofs.lemmas.List.{length-replicate}
-use Rattle.device_defs.specs.Cells.{Cells, reads}
-use Rattle.device_defs.specs.Providers.{Provider}
-use Rattle.record_defs.specs.Records.{Setup, Record}
-use Rattle.record_defs.specs.Areas.{Area, base_of, end_in}
-use Rattle.machine_defs.specs.Jobs.{Kind, PutJob, Job, job_of}
-use Rattle.machine_defs.specs.Setups.{profiled, stripes_of}
+use Rattle.command_jobs.proofs.Words.{◌≡◌, ℕ, ◌+◌, ◌*◌, ◌<◌, ◌≤◌, List, [], length, replicate, take, drop, Option, Some, None, Ok, Err, refl, ap, sym, subst, ◌∙◌, inl, inr, arith, IfSome, option_map, mul-le-mul_right, length-replicate, Cells, reads, Provider, Record, Area, base_of, end_in, Kind, PutJob, job_of, profiled, stripes_of, Step, IsSpelledKind, chosen, beginning, Entry, heard_by, Happens, Moment, now, State, setup_in, StandsForState, Seen, nobody, setup_in_effect, AreHanded, IsOpenAtRest, IsJustOpened, AreSteps, outside, with_next, SameAround, SameOutside, LeavesBy, RanAlone, RunsAlone, LeftAlone, MayHaveEnd, ran_alone, MayName, WalkedAt, walk-begin, found, BeginFault, refusal_of, Vault, Devices, devices, machine_answer, Stands, MakesBegin, IsFreshOver, IsOnly, IsUnderWay, IsEarly, EndsEarly, IsSeenBefore, IsSeenAfter, IsRefusedOver, EndsOver, refusal-of, WalkedOn, walk-on}
+use Rattle.record_defs.specs.Records.{Setup}
+use Rattle.machine_defs.specs.Jobs.{Job}
 use Rattle.machine_defs.specs.Answers as answer
 use Rattle.machine_defs.specs.Answers.{Answer}
-use Rattle.machine_defs.specs.Events.{Step, IsSpelledKind}
-use Rattle.machine_defs.specs.Begins.{chosen, beginning}
 use Rattle.machine_defs.specs.Events as events
-use Rattle.machine_defs.specs.Heard.{Entry, heard_by}
-use Rattle.machine_defs.specs.Machine.{Happens}
-use Rattle.machine_defs.specs.Runs.{Moment, now}
 use Rattle.machine_defs.specs.Refusals as refusal
-use Rattle.machine_defs.specs.States.{State, setup_in}
-use Rattle.machine_defs.specs.Stands.{StandsForState}
-use Rattle.command_defs.specs.Seen.{Seen, nobody}
 use Rattle.command_defs.specs.Opens as opens
-use Rattle.command_defs.specs.Opens.{setup_in_effect}
 use Rattle.command_defs.specs.Refusals as commands
-use Rattle.opening_defs.specs.Opened.{AreHanded, IsOpenAtRest, IsJustOpened}
-use Rattle.command_defs.specs.JobRuns.{AreSteps}
-use Rattle.command_defs.specs.Jobs.{outside, with_next, SameAround, SameOutside, LeavesBy, RanAlone, RunsAlone, LeftAlone}
-use Rattle.command_defs.specs.Puts.{MayHaveEnd}
-use Rattle.command_defs.specs.Ran.{ran_alone}
-use Rattle.lone_laws.specs.Walked.{MayName, WalkedAt}
-use Rattle.lone_laws.proofs.Walk.{walk-begin, found}
-use Rattle.vault_core.specs.declared.wish.BeginFault.{BeginFault}
 use Rattle.vault_core.specs.declared.wish.BeginFault.TheVariants as begin_fault
-use Rattle.vault_core.specs.Carried.{refusal_of}
 use Rattle.vault.specs.declared.turn.Ended.{Ended}
-use Rattle.vault.specs.declared.vault.Vault.{Vault}
-use Rattle.vault_open.specs.Devices.{Devices, devices}
-use Rattle.vault.specs.Outcomes.{machine_answer}
-use Rattle.vault.specs.Stands.{Stands, MakesBegin}
-use Rattle.command_jobs.specs.Opened.{IsFreshOver}
-use Rattle.command_jobs.specs.Going.{IsOnly, IsUnderWay, IsEarly, EndsEarly}
-use Rattle.command_jobs.specs.Ends.{IsSeenBefore, IsSeenAfter, IsRefusedOver, EndsOver}
-use Rattle.job_laws.proofs.BeginRefusals.{refusal-of}
-use Rattle.job_laws.proofs.Runs.{WalkedOn, walk-on}
 use Rattle.job_laws.proofs.Telling.{LeftAfter, left-after, jobs-leave}
 use Rattle.command_jobs.proofs.Early.{no-put, fault-first, not-whole}
 use Rattle.command_jobs.proofs.Begins.{spelled-begun}

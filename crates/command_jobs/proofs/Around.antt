@@ -1,21 +1,12 @@
 -- What a pack leaves of a disk outside its new text and the switch byte: its moves put bytes in the place of
 -- others, or make them firm.
-use Rattle.std.proofs.Common.{◌≡◌, ℕ, Bool, true, false, zero, suc, ◌+◌, ◌-◌, ◌<◌, ◌≤◌, min, List, [], ◌∷◌, ◌++◌, length, take, drop, replicate, refl, sym, ap, subst, ◌∙◌, inl, inr, arith, append_assoc}
-use Rattle.std.specs.List.{All}
-use Rattle.std.proofs.lemmas.List.{append-nil, drop-append-le, drop-map, drop-take, length-append, length-map, length-replicate, length-take, length-take-le, map-append, take-append-drop, take-append-le, take-map, take_all}
-use Rattle.std.proofs.lemmas.Bool.{cases_lt}
+use Rattle.command_jobs.proofs.Words.{◌≡◌, ℕ, Bool, true, false, zero, suc, ◌+◌, ◌-◌, ◌<◌, ◌≤◌, min, List, [], ◌∷◌, ◌++◌, length, take, drop, replicate, refl, sym, ap, subst, ◌∙◌, inl, inr, arith, All, drop-append-le, drop-map, drop-take, length-append, length-map, length-replicate, length-take, length-take-le, map-append, take-append-drop, take-append-le, take-map, take_all, cases_lt, take-append-add, take-append_seam, take-length, Cells, reads, firm, loose, spliced, written, Torn, synced, reads-firm, image-firm, Record, Area, base_of, end_in, moved_on, MayBeTorn, StaysAround}
+use Rattle.std.proofs.Common.{append_assoc}
+use Rattle.std.proofs.lemmas.List.{append-nil}
 use Rattle.std.proofs.lemmas.List.Elements.{All-replicate}
-use Rattle.std.proofs.Math.Seq.{take-append-add, take-append_seam, take-length}
-use Rattle.device_defs.specs.Cells.{Cells, reads, firm, loose}
-use Rattle.device_defs.specs.Disks.{spliced, written, Torn, synced}
 use Rattle.device_defs.specs.Images.{IsImage}
-use Rattle.device_defs.proofs.Lasting.{reads-firm, image-firm}
-use Rattle.record_defs.specs.Records.{Record}
-use Rattle.record_defs.specs.Areas.{Area, base_of, end_in}
-use Rattle.journal_core.specs.FourMoves.{moved_on, MayBeTorn}
 use Rattle.journal_core.proofs.CellLemmas.{settled, settled-append, settled-firm, IsImage-firm}
 use Rattle.journal_core.proofs.Splices.{IsSplice, splice-torn, kept-above, drop-settled, IsImage-drop}
-use Rattle.command_jobs.specs.Packs.{StaysAround}
 
 -- cells that are others but for a byte at offset 7, more cells in front of a place, and those from there to an
 -- end

@@ -1,32 +1,9 @@
 -- A stream that begins over a vault just opened.
-use Rattle.std.proofs.Common.{◌≡◌, ℕ, zero, suc, ◌*◌, ◌≤◌, List, [], length, replicate, Option, refl, ap, sym, subst, ◌∙◌, arith}
-use Rattle.std.proofs.lemmas.List.{length-replicate}
-use Rattle.std.proofs.Math.Nat.{mul-le-mul_right}
+use Rattle.command_jobs.proofs.Words.{◌≡◌, ℕ, zero, suc, ◌*◌, ◌≤◌, List, [], length, replicate, Option, refl, ap, sym, subst, ◌∙◌, arith, length-replicate, mul-le-mul_right, Cells, Provider, Record, largest_file, Area, chosen, AreBytes, PutJob, setup_in, setup_in_effect, nobody, put_stripe, valid-shape, setup-valid, opened-sound, MayName, with_master, stripe_size, Vault, vault_setup, master_of, devices, IsFreshOver, IsStripe, IsBegun}
 use Rattle.code_defs.specs.Profiles.{profile_of}
 use Rattle.code_defs.proofs.Profiles.{some_kept}
-use Rattle.device_defs.specs.Cells.{Cells}
-use Rattle.device_defs.specs.Providers.{Provider}
-use Rattle.record_defs.specs.Records.{Setup, Record, largest_file}
-use Rattle.record_defs.specs.Areas.{Area}
-use Rattle.machine_defs.specs.Begins.{chosen}
-use Rattle.machine_defs.specs.Events.{AreBytes}
-use Rattle.machine_defs.specs.Jobs.{PutJob}
-use Rattle.machine_defs.specs.States.{setup_in}
-use Rattle.command_defs.specs.Opens.{setup_in_effect}
-use Rattle.command_defs.specs.Seen.{nobody}
-use Rattle.command_defs.specs.GivenUp.{put_stripe}
+use Rattle.record_defs.specs.Records.{Setup}
 use Rattle.hail_field.specs.Shape.{IsShape}
-use Rattle.state_laws.proofs.Given.{valid-shape}
-use Rattle.state_laws.proofs.Written.{setup-valid}
-use Rattle.lone_laws.proofs.Walk.{opened-sound}
-use Rattle.lone_laws.specs.Walked.{MayName}
-use Rattle.record_codec.specs.Entries.{with_master}
-use Rattle.vault_core.specs.Streams.{stripe_size}
-use Rattle.vault.specs.declared.vault.Vault.{Vault}
-use Rattle.vault.specs.Seen.{vault_setup, master_of}
-use Rattle.vault_open.specs.Devices.{devices}
-use Rattle.command_jobs.specs.Opened.{IsFreshOver}
-use Rattle.command_jobs.specs.Streams.{IsStripe, IsBegun}
 use Rattle.command_jobs.proofs.Alone.{BeginsAs, has-begun, opened-one}
 use Rattle.command_jobs.proofs.Fresh.{ThereIsOne, there-opened, setup-over, fresh-setup}
 

@@ -1,14 +1,7 @@
 -- The begin of a job that is the only one: its words, and the profile that it names.
-use Rattle.std.proofs.Common.{◌≡◌, ℕ, ◌==◌, [], ◌∷◌, ◌++◌, Option, Some, None, refl, ap, ◌∙◌}
-use Rattle.std.proofs.lemmas.Bool.{eq-eqb}
-use Rattle.machine_defs.specs.Jobs.{Kind, job_of}
-use Rattle.machine_defs.specs.Events.{Begun, IsSpelledKind}
-use Rattle.machine_defs.specs.States.{State}
-use Rattle.machine_defs.specs.Begins.{BeginsAt, beginning}
-use Rattle.machine_defs.proofs.JobLists.{cond_true}
+use Rattle.command_jobs.proofs.Words.{◌≡◌, ℕ, [], ◌∷◌, ◌++◌, Option, Some, None, refl, ap, ◌∙◌, eq-eqb, Kind, job_of, Begun, IsSpelledKind, State, BeginsAt, beginning, cond_true, MayName, kind_of}
+use Rattle.std.proofs.Common.{◌==◌}
 use Rattle.state_laws.specs.Sound.{IsSound}
-use Rattle.lone_laws.specs.Walked.{MayName}
-use Rattle.command_jobs.specs.Kinds.{kind_of}
 use Rattle.command_jobs.specs.declared.job.Job.{Job}
 
 -- ---- the profile

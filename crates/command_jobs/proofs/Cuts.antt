@@ -1,33 +1,13 @@
 -- A job that was cut short: what of its records is in effect, and which one comes next.
-use Rattle.std.proofs.Common.{◌≡◌, ℕ, ◌<◌, ◌⊎◌, true, [], ◌∷◌, length, replicate, Option, Some, None, refl, ap, sym, subst, ◌∙◌, inl, inr, arith}
-use Rattle.std.proofs.lemmas.List.{length-replicate}
+use Rattle.command_jobs.proofs.Words.{◌≡◌, ℕ, ◌<◌, ◌⊎◌, true, [], ◌∷◌, length, replicate, Option, Some, None, refl, ap, sym, subst, ◌∙◌, inl, inr, arith, length-replicate, Record, PutStart, AuditStart, AuditDone, version_of, next_id, next_audit, Kind, PutJob, GetJob, DropJob, AuditJob, RepairJob, UpgradeJob, job_of, Action, WriteBody, SyncBody, WriteGate, SyncGate, Store, Fetch, Ask, Work, Remove, End, actions_left, appends_left, Step, State, Append, setup_in, chosen, done_record, Writes, Moves, next_action, Happens, same_value, setup_in_effect, IsNext, put_done, moves_made, moves_before, holder, appends-order, body-left, small-sums, IsOpenAtRest, first_record, IsSecondRecord, WalkedAt, found, runs, Wrote, wrote, IsWriting, is_move}
 use Rattle.column_defs.specs.Verdicts.{Sums}
-use Rattle.record_defs.specs.Records.{Setup, Record, PutStart, AuditStart, AuditDone}
-use Rattle.record_defs.specs.Table.{version_of, next_id, next_audit}
-use Rattle.machine_defs.specs.Jobs.{Kind, PutJob, GetJob, DropJob, AuditJob, RepairJob, UpgradeJob, Job, job_of}
-use Rattle.machine_defs.specs.Actions.{Action, WriteBody, SyncBody, WriteGate, SyncGate, Store, Fetch, Ask, Work, Remove, End, actions_left, appends_left}
+use Rattle.record_defs.specs.Records.{Setup}
+use Rattle.machine_defs.specs.Jobs.{Job}
 use Rattle.machine_defs.specs.Answers as answer
 use Rattle.machine_defs.specs.Audits.{HasSums}
-use Rattle.machine_defs.specs.Events.{Step, Ended}
-use Rattle.machine_defs.specs.States.{State, Append, setup_in}
-use Rattle.machine_defs.specs.Begins.{chosen}
-use Rattle.machine_defs.specs.Appends.{done_record, Writes, Moves}
-use Rattle.machine_defs.specs.Steps.{next_action, Acts}
-use Rattle.machine_defs.specs.Machine.{Happens}
-use Rattle.machine_defs.proofs.JobLists.{same_value}
-use Rattle.command_defs.specs.Opens.{setup_in_effect}
-use Rattle.command_defs.specs.Jobs.{IsNext}
-use Rattle.command_defs.specs.Puts.{put_done}
-use Rattle.state_laws.specs.Orders.{moves_made, moves_before}
+use Rattle.machine_defs.specs.Events.{Ended}
+use Rattle.machine_defs.specs.Steps.{Acts}
 use Rattle.state_laws.proofs.Events.{moves-next}
-use Rattle.state_laws.proofs.Given.{holder}
-use Rattle.state_laws.proofs.Orders.{appends-order}
-use Rattle.state_laws.proofs.Written.{body-left, small-sums}
-use Rattle.opening_defs.specs.Opened.{IsOpenAtRest}
-use Rattle.lone_laws.specs.Walked.{first_record, IsSecondRecord, WalkedAt}
-use Rattle.lone_laws.proofs.Walk.{found, runs, Wrote, wrote}
-use Rattle.vault_core.specs.Carried.{IsWriting}
-use Rattle.vault_core.specs.Coming.{is_move}
 use Rattle.command_jobs.proofs.Acting.{one-found, none-flies, step-makes}
 
 -- ---- what an end in a fault of the disk, or for want of memory, leaves in effect
@@ -52,9 +32,9 @@ Clears w action new =
 
 moves-memory : (w : State) (job : Job) (action : Action) (flight : Option Append) (new : State) →
     Moves w job action flight (Ended answer.Memory) new → Clears w action new
-moves-memory w job WriteBody flight new (faults, low, is) =
+moves-memory w job WriteBody flight new is =
     (ap (λ (v : State). v.records) is, inl (refl, ap (λ (v : State). v.append) is))
-moves-memory w job WriteGate (Some a) new (at, (faults, low, is)) =
+moves-memory w job WriteGate (Some a) new (at, is) =
     (ap (λ (v : State). v.records) is, inr (ap (λ (v : State). v.append) is))
 moves-memory w job SyncBody (Some a) new h = absurd h
 moves-memory w job SyncGate (Some a) new h = absurd h

@@ -1,31 +1,14 @@
 -- A put that ends before its stores are done has not begun its last append.
-use Rattle.std.proofs.Common.{◌≡◌, ℕ, zero, suc, ◌+◌, ◌*◌, ◌<◌, ◌≤◌, ◌⊎◌, List, [], ◌∷◌, ◌++◌, length, reverse, Option, Some, None, refl, ap, sym, subst, ◌∙◌, inl, inr, arith}
-use Rattle.std.specs.Prelude.{◌==◌, slice_get}
-use Rattle.std.proofs.lemmas.Bool.{cases_Bool, cases_lt}
-use Rattle.std.proofs.lemmas.List.{length-append, length-reverse}
+use Rattle.command_jobs.proofs.Words.{◌≡◌, ℕ, zero, suc, ◌+◌, ◌*◌, ◌<◌, ◌≤◌, ◌⊎◌, List, [], ◌∷◌, ◌++◌, length, reverse, Option, Some, None, refl, ap, sym, subst, ◌∙◌, inl, inr, arith, slice_get, cases_Bool, cases_lt, length-append, length-reverse, some-not-none, Record, PutStart, PutDone, PutDoneIn, next_id, Action, WriteBody, SyncBody, WriteGate, SyncGate, Store, End, append_actions, remove_actions, store_actions, actions_of, done_record, Step, PutJob, Happens, profiled, stripes_of, State, setup_in, chosen, next_action, is_idle_drop, cond_true, cond_false, put-list, put-first, IsOpenAtRest, WalkedAt, RecordsAre, length-stores, put_done, put_records, MayHaveEnd, PutLeaves, PutIsCut, Ran, IsCut}
+use Rattle.std.specs.Prelude.{◌==◌}
 use Rattle.algebra_laws.specs.Lists.{Each}
-use Rattle.algebra_laws.proofs.Options.{some-not-none}
-use Rattle.record_defs.specs.Records.{Setup, Record, PutStart, PutDone, PutDoneIn}
-use Rattle.record_defs.specs.Table.{next_id}
-use Rattle.machine_defs.specs.Actions.{Action, WriteBody, SyncBody, WriteGate, SyncGate, Store, End, append_actions, remove_actions, store_actions, actions_of}
+use Rattle.record_defs.specs.Records.{Setup}
 use Rattle.machine_defs.specs.Answers as answer
 use Rattle.machine_defs.specs.Answers.{Answer}
-use Rattle.machine_defs.specs.Appends.{done_record}
-use Rattle.machine_defs.specs.Events.{Step, Ended}
-use Rattle.machine_defs.specs.Jobs.{PutJob, Job}
-use Rattle.machine_defs.specs.Machine.{Happens}
-use Rattle.machine_defs.specs.Setups.{profiled, stripes_of}
-use Rattle.machine_defs.specs.States.{State, setup_in}
-use Rattle.machine_defs.specs.Begins.{chosen}
-use Rattle.machine_defs.specs.Steps.{next_action, is_idle_drop, Acts}
+use Rattle.machine_defs.specs.Events.{Ended}
+use Rattle.machine_defs.specs.Jobs.{Job}
+use Rattle.machine_defs.specs.Steps.{Acts}
 use Rattle.machine_defs.proofs.Fair.{IsStore, all_stores}
-use Rattle.machine_defs.proofs.JobLists.{cond_true, cond_false}
-use Rattle.state_laws.proofs.Orders.{put-list, put-first}
-use Rattle.opening_defs.specs.Opened.{IsOpenAtRest}
-use Rattle.lone_laws.specs.Walked.{WalkedAt, RecordsAre}
-use Rattle.job_laws.proofs.Parts.{length-stores}
-use Rattle.command_defs.specs.Puts.{put_done, put_records, MayHaveEnd, PutLeaves, PutIsCut}
-use Rattle.command_defs.specs.Ran.{Ran, IsCut}
 use Rattle.command_jobs.proofs.Acting.{moves-end, step-makes}
 use Rattle.command_jobs.proofs.Cuts.{fault-records}
 

@@ -1,17 +1,8 @@
 -- A stream that is given what was read of its source: it is on its way for each put whose file has that.
-use Rattle.std.proofs.Common.{◌≡◌, ℕ, ◌+◌, ◌*◌, Bool, true, false, List, [], ◌++◌, length, Option, Some, None, refl, ap, sym, subst, ◌∙◌, arith, append_assoc, append-nil}
-use Rattle.std.specs.Prelude.{is_some}
-use Rattle.machine_defs.specs.Jobs.{Kind, PutJob, Job, job_of}
-use Rattle.machine_defs.specs.Runs.{now}
-use Rattle.machine_defs.specs.States.{State, setup_in}
-use Rattle.lone_laws.proofs.Walk.{found}
+use Rattle.command_jobs.proofs.Words.{◌≡◌, ℕ, ◌+◌, ◌*◌, Bool, true, false, List, [], ◌++◌, length, Option, Some, None, refl, ap, sym, subst, ◌∙◌, arith, is_some, Kind, PutJob, job_of, now, State, setup_in, found, Vault, Stands, wants_of, told_of, stripe_of, FitsKind, FitsPiece, Devices, IsOnly, IsUnderWay, OnWay, IsBehind, EndsEarly, AdvancesTo, IsBegun}
+use Rattle.std.proofs.Common.{append_assoc, append-nil}
+use Rattle.machine_defs.specs.Jobs.{Job}
 use Rattle.vault.specs.declared.turn.Ended.{Ended}
-use Rattle.vault.specs.declared.vault.Vault.{Vault}
-use Rattle.vault.specs.Stands.{Stands}
-use Rattle.vault.specs.Streams.{wants_of, told_of, stripe_of, FitsKind, FitsPiece}
-use Rattle.vault_open.specs.Devices.{Devices}
-use Rattle.command_jobs.specs.Going.{IsOnly, IsUnderWay, OnWay, IsBehind, EndsEarly, AdvancesTo}
-use Rattle.command_jobs.specs.Streams.{IsBegun}
 use Rattle.command_jobs.proofs.Goings.{no-steps}
 use Rattle.command_jobs.proofs.Told.{waits-at, stripe-is}
 

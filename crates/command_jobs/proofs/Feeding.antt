@@ -1,23 +1,8 @@
 -- A stream on its way from piece to piece.
-use Rattle.std.proofs.Common.{◌≡◌, ℕ, ◌+◌, ◌*◌, ◌<◌, ◌≤◌, Bool, true, false, List, [], ◌++◌, length, take, Option, Some, None, refl, ap, sym, subst, ◌∙◌, inl, inr, arith, append_assoc, append-nil}
-use Rattle.std.specs.Prelude.{IfSome, is_some, nat_lt}
-use Rattle.std.proofs.lemmas.Bool.{ltb-true, lt-ltb, cases_lt}
-use Rattle.std.proofs.lemmas.List.{length-append, length-take-le}
-use Rattle.std.proofs.Math.Seq.{take-append_seam}
-use Rattle.record_defs.specs.Records.{largest_file}
-use Rattle.machine_defs.specs.Events.{AreBytes}
-use Rattle.machine_defs.specs.Jobs.{PutJob, job_of}
-use Rattle.machine_defs.specs.Runs.{now}
-use Rattle.machine_defs.specs.States.{State}
-use Rattle.command_defs.specs.Seen.{ReadsFront}
+use Rattle.command_jobs.proofs.Words.{◌≡◌, ℕ, ◌+◌, ◌*◌, ◌<◌, ◌≤◌, Bool, true, false, List, [], ◌++◌, length, take, Option, Some, None, refl, ap, sym, subst, ◌∙◌, inl, inr, arith, IfSome, is_some, nat_lt, ltb-true, lt-ltb, cases_lt, length-append, length-take-le, take-append_seam, largest_file, AreBytes, PutJob, job_of, now, State, ReadsFront, Vault, Stands, wants_of, told_of, stripe_of, IsPiece, FitsPiece, Devices, IsUnderWay, IsStripe, IsBegun, StreamEnds, StreamStops}
+use Rattle.std.proofs.Common.{append_assoc, append-nil}
 use Rattle.vault.specs.declared.turn.Ended.{Ended}
-use Rattle.vault.specs.declared.vault.Vault.{Vault}
-use Rattle.vault.specs.Stands.{Stands}
-use Rattle.vault.specs.Streams.{wants_of, told_of, stripe_of, IsPiece, FitsPiece}
-use Rattle.vault_open.specs.Devices.{Devices}
-use Rattle.command_jobs.specs.Going.{IsUnderWay}
 use Rattle.command_jobs.specs.Pieces.{ReadsPiece, ReadsShort}
-use Rattle.command_jobs.specs.Streams.{IsStripe, IsBegun, StreamEnds, StreamStops}
 use Rattle.command_jobs.proofs.Fed.{Follows, follows-itself, IsFed, fed-first, fed-under-way, fed-size, fed-given, fed-on, fed-end, fed-waits-on, fed-place, Went}
 use Rattle.command_jobs.proofs.ReadBytes.{bytes-append, bytes-front, reads-none, reads-on}
 
@@ -94,8 +79,8 @@ ends-first old next d f first size count was ended S length_is few opened went =
       (first ++ []) own moment (first ++ [], refl) only place stands;
 }
 
-module _ (first : List ℕ) (size : ℕ) (old : Vault) (d : Devices) (v : Vault) (e : Devices)
-    (stripe : List ℕ) (count read : ℕ) (was left : Option (List ℕ)) (S : IsStripe size)
+module _ {first : List ℕ} {size : ℕ} {old : Vault} {d : Devices} {v : Vault} {e : Devices}
+    {stripe : List ℕ} {count read : ℕ} {was left : Option (List ℕ)} (S : IsStripe size)
     (begun : AllBegun old d size) (W : Waits first size old d v e stripe count read was left) where
   abbrev piece : List ℕ
   piece = take count stripe
@@ -153,7 +138,14 @@ module _ (first : List ℕ) (size : ℕ) (old : Vault) (d : Devices) (v : Vault)
 
   -- ---- it is given its piece
 
-  module _ (low : read ≤ largest_file) (last : Bool) (last_is : last ≡ nat_lt count size) where
+  module _ (low : read ≤ largest_file) where
+    -- whether it is the last
+    abbrev last : Bool
+    last = nat_lt count (length stripe)
+
+    last_is : last ≡ nat_lt count size
+    last_is = ap (nat_lt count) W.room
+
     short-if : last ≡ true → count < size
     short-if e = ltb-true count size (sym last_is ∙ e)
 

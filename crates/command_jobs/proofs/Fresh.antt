@@ -1,25 +1,8 @@
 -- The states for which a vault that was just opened stands.
-use Rattle.std.proofs.Common.{◌≡◌, ℕ, ◌≤◌, List, length, replicate, Option, None, ap, sym, subst, ◌∙◌, arith}
-use Rattle.std.proofs.lemmas.List.{length-replicate}
-use Rattle.device_defs.specs.Cells.{Cells}
-use Rattle.device_defs.specs.Providers.{Provider}
-use Rattle.record_defs.specs.Records.{Setup, Record}
-use Rattle.record_defs.specs.Areas.{Area}
-use Rattle.machine_defs.specs.Setups.{setup_or_none}
-use Rattle.machine_defs.specs.States.{State, setup_in}
-use Rattle.command_defs.specs.Seen.{Seen, nobody}
+use Rattle.command_jobs.proofs.Words.{◌≡◌, ℕ, ◌≤◌, List, length, replicate, Option, None, ap, sym, subst, ◌∙◌, arith, length-replicate, Cells, Provider, Record, Area, setup_or_none, State, setup_in, Seen, nobody, setup_in_effect, IsRead, IsJustOpened, with_master, Vault, Devices, devices, vault_setup, master_of, table_of, next_job_of, provider_count, Stands, IsStreamless, AreRecords, IsFreshOver}
+use Rattle.record_defs.specs.Records.{Setup}
 use Rattle.command_defs.specs.Opens as opens
-use Rattle.command_defs.specs.Opens.{setup_in_effect}
-use Rattle.opening_defs.specs.Journals.{IsRead}
-use Rattle.opening_defs.specs.Opened.{IsJustOpened}
-use Rattle.record_codec.specs.Entries.{with_master}
 use Rattle.vault_table.specs.Values.{IsFoldOf}
-use Rattle.vault.specs.declared.vault.Vault.{Vault}
-use Rattle.vault_open.specs.Devices.{Devices, devices}
-use Rattle.vault.specs.Seen.{vault_setup, master_of, table_of, next_job_of, provider_count}
-use Rattle.vault.specs.Stands.{Stands}
-use Rattle.vault.specs.Streams.{IsStreamless}
-use Rattle.command_jobs.specs.Opened.{AreRecords, IsFreshOver}
 use Rattle.command_jobs.proofs.Readings.{read-records}
 
 -- what the laws on commands say of opened states

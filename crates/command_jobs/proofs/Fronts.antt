@@ -1,39 +1,16 @@
 -- What a disk reads in front of the active area stays, whatever a job's append does.
-use Rattle.std.proofs.Common.{◌≡◌, ℕ, Bool, ◌+◌, ◌-◌, ◌≤◌, min, zero, suc, true, false, List, [], ◌∷◌, ◌++◌, length, take, drop, replicate, Option, Some, None, refl, ap, sym, subst, ◌∙◌, inl, inr, arith}
-use Rattle.std.specs.Prelude.{IfSome}
-use Rattle.std.specs.Option.{option_map}
-use Rattle.std.proofs.lemmas.Bool.{cases_Bool, false≢true}
-use Rattle.std.proofs.lemmas.List.{length-append, length-drop, length-take-le, take-append-drop, take-append-le, take-map}
-use Rattle.device_defs.specs.Cells.{Cells, reads, firm, loose}
-use Rattle.device_defs.specs.Disks.{spliced, written, synced, Torn}
-use Rattle.device_defs.specs.Told.{Goes}
-use Rattle.device_defs.proofs.Lasting.{reads-firm}
-use Rattle.record_defs.specs.Records.{Record}
+use Rattle.command_jobs.proofs.Words.{◌≡◌, ℕ, Bool, ◌+◌, ◌-◌, ◌≤◌, min, zero, suc, true, false, List, [], ◌∷◌, ◌++◌, length, take, drop, replicate, Option, Some, None, refl, ap, sym, subst, ◌∙◌, inl, inr, arith, IfSome, option_map, cases_Bool, false≢true, length-append, length-drop, length-take-le, take-append-drop, take-append-le, take-map, Cells, reads, firm, loose, spliced, written, synced, Torn, Goes, reads-firm, Record, Area, base_of, entries, IsAfterMoves, cells_after, MayTear, Action, WriteBody, SyncBody, WriteGate, SyncGate, State, CoreIs, ComesNext, Coming, is_move, calls_disk, next_in, entry_in, CoreView, wants_in, moves_before_next, EndsCells, MovesCells, closed_gate_of, coming_of, vault_entry, Stands, wants_of, Turn, Vault, Devices, SameUpTo}
 use Rattle.record_defs.specs.Spellings.{spelling}
-use Rattle.record_defs.specs.Areas.{Area, base_of, entries}
-use Rattle.journal_core.specs.Moves.{IsAfterMoves, cells_after, MayTear}
-use Rattle.machine_defs.specs.Actions.{Action, WriteBody, SyncBody, WriteGate, SyncGate}
-use Rattle.machine_defs.specs.States.{State}
 use Rattle.machine_defs.specs.States as states
-use Rattle.vault_core.specs.Carried.{CoreIs, ComesNext}
-use Rattle.vault_core.specs.Coming.{Coming, Acts, is_move, calls_disk, next_in, entry_in}
-use Rattle.vault_core.specs.View.{CoreView, wants_in}
+use Rattle.vault_core.specs.Coming.{Acts}
 use Rattle.vault_core.specs.declared.action.Action.TheVariants as act
 use Rattle.vault_core.specs.declared.action.Next.TheVariants as next
 use Rattle.vault_core.proofs.Standing.{entry_machine, next_machine}
-use Rattle.vault.specs.Calls.{moves_before_next, EndsCells, MovesCells}
 use Rattle.vault.specs.Desks.{IsFlight}
-use Rattle.vault.specs.Seen.{closed_gate_of, coming_of, vault_entry}
-use Rattle.vault.specs.Stands.{Stands}
-use Rattle.vault.specs.Streams.{wants_of}
 use Rattle.vault.specs.declared.flight.Flight.{Flight}
 use Rattle.vault.specs.declared.turn.Answer.{Answer}
 use Rattle.vault.specs.declared.turn.Answer.TheVariants as answer
-use Rattle.vault.specs.declared.turn.Turn.{Turn}
 use Rattle.vault.specs.declared.turn.Turn.TheVariants as turn
-use Rattle.vault.specs.declared.vault.Vault.{Vault}
-use Rattle.vault_open.specs.Devices.{Devices}
-use Rattle.command_jobs.specs.Going.{SameUpTo}
 
 -- ---- what one call of a disk leaves in front of a place
 

@@ -1,37 +1,11 @@
 -- The only job of a vault, step by step.
-use Rattle.std.proofs.Common.{◌≡◌, ℕ, ◌+◌, ◌-◌, ◌≤◌, ◌⊎◌, List, [], ◌∷◌, length, drop, Option, Some, None, refl, ap, sym, subst, ◌∙◌, inl, inr, arith}
-use Rattle.std.specs.Option.{option_map}
-use Rattle.std.specs.Prelude.{IfSome}
-use Rattle.std.proofs.lemmas.List.{drop-drop}
-use Rattle.device_defs.specs.Cells.{Cells, reads}
-use Rattle.device_defs.specs.Told.{Goes}
-use Rattle.record_defs.specs.Records.{Record}
-use Rattle.record_defs.specs.Areas.{Area, base_of, end_in}
-use Rattle.machine_defs.specs.Jobs.{Kind, Job, job_of}
+use Rattle.command_jobs.proofs.Words.{◌≡◌, ℕ, ◌+◌, ◌-◌, ◌≤◌, ◌⊎◌, List, [], ◌∷◌, length, drop, Option, Some, None, refl, ap, sym, subst, ◌∙◌, inl, inr, arith, option_map, IfSome, drop-drop, Cells, reads, Goes, Record, Area, base_of, end_in, Kind, job_of, Step, More, State, Append, setup_in, chosen, same_value, Happens, Moment, now, heard_by, outside, with_next, IsNext, SameAround, SameOutside, SameFrom, found, Keeps, WalkedOn, walk-on, IsWriting, Turn, Vault, Devices, records_in_flight, machine_answer, outcome_of, Stands, MakesStep, IsOnly, SameUpTo, OnWay, GoesToEnd}
+use Rattle.machine_defs.specs.Jobs.{Job}
 use Rattle.machine_defs.specs.Answers as answer
 use Rattle.machine_defs.specs.Answers.{Answer}
-use Rattle.machine_defs.specs.Events.{Step, More, Ended}
-use Rattle.machine_defs.specs.States.{State, Append, setup_in}
-use Rattle.machine_defs.specs.Begins.{chosen}
-use Rattle.machine_defs.proofs.JobLists.{same_value}
-use Rattle.machine_defs.specs.Machine.{Happens}
-use Rattle.machine_defs.specs.Runs.{Moment, now}
-use Rattle.machine_defs.specs.Heard.{heard_by}
-use Rattle.command_defs.specs.Jobs.{outside, with_next, IsNext, SameAround, SameOutside}
-use Rattle.journal_core.specs.Moves.{SameFrom}
-use Rattle.lone_laws.proofs.Walk.{found}
-use Rattle.job_laws.proofs.Keeping.{Keeps}
-use Rattle.job_laws.proofs.Runs.{WalkedOn, walk-on}
-use Rattle.vault_core.specs.Carried.{IsWriting}
+use Rattle.machine_defs.specs.Events.{Ended}
 use Rattle.vault.specs.declared.turn.Ended.{Ended as EndedJob}
-use Rattle.vault.specs.declared.turn.Turn.{Turn}
 use Rattle.vault.specs.declared.turn.Turn.TheVariants as turn
-use Rattle.vault.specs.declared.vault.Vault.{Vault}
-use Rattle.vault_open.specs.Devices.{Devices}
-use Rattle.vault.specs.Devices.{records_in_flight}
-use Rattle.vault.specs.Outcomes.{machine_answer, outcome_of}
-use Rattle.vault.specs.Stands.{Stands, MakesStep}
-use Rattle.command_jobs.specs.Going.{IsOnly, SameUpTo, OnWay, GoesToEnd}
 use Rattle.command_jobs.proofs.Acting.{flight_end, step-turn, step-grows, step-ends}
 use Rattle.command_jobs.proofs.Fronts.{front-still}
 use Rattle.command_jobs.proofs.Cuts.{fault-records, memory-clears, next-written, next-flight}

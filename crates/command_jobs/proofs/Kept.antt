@@ -1,21 +1,8 @@
 -- The same records come on top of the journal and of the history, in the same area; what comes next over the
 -- history comes next over the journal.
-use Rattle.std.proofs.Common.{◌≡◌, ℕ, List, [], ◌∷◌, ◌++◌, reverse, length, Option, refl, ap, sym, ◌∙◌}
-use Rattle.std.proofs.lemmas.List.{append_assoc, append_cancel_right}
-use Rattle.record_defs.specs.Records.{Record, PutStart, AuditStart, AuditDone, RepairDone}
-use Rattle.record_defs.specs.Packed.{AreAlike}
-use Rattle.machine_defs.specs.Appends.{done_record}
-use Rattle.machine_defs.specs.Begins.{chosen, due_number}
-use Rattle.machine_defs.specs.Events.{Outcome, Step}
-use Rattle.machine_defs.specs.Jobs.{Kind, PutJob, GetJob, DropJob, AuditJob, RepairJob, UpgradeJob, Job}
-use Rattle.machine_defs.specs.Machine.{Happens}
-use Rattle.machine_defs.specs.Setups.{setup_or_none}
-use Rattle.machine_defs.specs.States.{State, setup_in}
-use Rattle.command_defs.specs.Jobs.{IsNext, IsNextRecord}
-use Rattle.opening_defs.specs.Opened.{IsOpenAtRest}
-use Rattle.lone_laws.specs.Walked.{WalkedAt}
-use Rattle.job_laws.proofs.Keeping.{Keeps, acts-keep}
-use Rattle.command_jobs.specs.Going.{IsOnly}
+use Rattle.command_jobs.proofs.Words.{◌≡◌, ℕ, List, [], ◌∷◌, ◌++◌, reverse, length, Option, refl, ap, sym, ◌∙◌, append_cancel_right, Record, PutStart, AuditStart, AuditDone, RepairDone, AreAlike, done_record, chosen, due_number, Outcome, Step, Kind, PutJob, GetJob, DropJob, AuditJob, RepairJob, UpgradeJob, Happens, setup_or_none, State, setup_in, IsNext, IsNextRecord, IsOpenAtRest, WalkedAt, Keeps, acts-keep, IsOnly}
+use Rattle.std.proofs.lemmas.List.{append_assoc}
+use Rattle.machine_defs.specs.Jobs.{Job}
 use Rattle.command_jobs.proofs.Acting.{step-makes}
 
 -- a step of the only job keeps the area, and adds the same records

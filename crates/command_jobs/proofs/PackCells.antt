@@ -1,40 +1,14 @@
 -- What a pack leaves of a disk that was synced before, told by its steps.
-use Rattle.std.proofs.Common.{◌≡◌, ◌⊎◌, ℕ, zero, suc, ◌+◌, ◌<◌, ◌≤◌, List, [], ◌∷◌, ◌++◌, length, Option, Some, None, refl, sym, ap, subst, ◌∙◌, inl, inr, arith, add-one}
-use Rattle.std.specs.Prelude.{IfSome, IsTrue}
-use Rattle.std.specs.List.{All, list_all}
-use Rattle.std.specs.Option.{option_map}
-use Rattle.std.proofs.lemmas.List.{length-append}
-use Rattle.device_defs.specs.Cells.{Cells, reads, firm}
-use Rattle.device_defs.specs.Disks.{synced}
-use Rattle.device_defs.specs.Providers.{Provider}
-use Rattle.device_defs.specs.Told.{Goes}
-use Rattle.device_defs.proofs.Lasting.{reads-firm}
-use Rattle.record_defs.specs.Records.{Record, is_in_grammar}
-use Rattle.record_defs.specs.Areas.{Area, A, B, other_area, base_of, end_in, entries, magic_front}
-use Rattle.record_defs.specs.Packed.{packed}
+use Rattle.command_jobs.proofs.Words.{◌≡◌, ◌⊎◌, ℕ, zero, suc, ◌+◌, ◌<◌, ◌≤◌, List, [], ◌∷◌, ◌++◌, length, Option, Some, None, refl, sym, ap, subst, ◌∙◌, inl, inr, arith, add-one, IfSome, IsTrue, All, list_all, option_map, length-append, Cells, reads, firm, synced, Provider, Goes, reads-firm, Record, is_in_grammar, Area, A, B, other_area, base_of, end_in, entries, magic_front, packed, moved_on, MayBeTorn, IsWrite, to_of, text_of, moves_of, WritesText, setup_in_effect, nobody, devices, packed_on, EndsPackCells, PackAnswer, PackJob, Vault, IsFreshOver, FillsGap, KeepsAround, length-replicate, replicate}
 use Rattle.record_defs.proofs.Sizes.{length-entries}
-use Rattle.journal_core.specs.FourMoves.{moved_on, MayBeTorn}
-use Rattle.journal_core.specs.Moves.{IsWrite}
 use Rattle.journal_core.specs.Texts.{StandsFirm}
 use Rattle.journal_pack.specs.declared.pack.Pack.{Pack}
 use Rattle.journal_pack.specs.Moves.{switch_to, IsAfterPack}
-use Rattle.journal_pack.specs.Packs.{to_of, text_of, moves_of, WritesText}
-use Rattle.command_defs.specs.Opens.{setup_in_effect}
-use Rattle.command_defs.specs.Seen.{nobody}
-use Rattle.vault_open.specs.Devices.{devices}
-use Rattle.vault.specs.Calls.{packed_on, EndsPackCells}
-use Rattle.vault.specs.declared.packing.PackAnswer.{PackAnswer}
 use Rattle.vault.specs.declared.packing.PackAnswer.TheVariants as answer
-use Rattle.vault.specs.declared.packing.PackJob.{PackJob}
-use Rattle.vault.specs.declared.vault.Vault.{Vault}
-use Rattle.command_jobs.specs.Opened.{IsFreshOver}
-use Rattle.command_jobs.specs.Packs.{FillsGap, KeepsAround}
 use Rattle.command_jobs.proofs.Alone.{opened-one}
 use Rattle.command_jobs.proofs.Around.{IsAround, HasZeros, OnCells, none-written, steps-cells, torn-cells, stays-torn, stays-firm}
 use Rattle.command_jobs.proofs.Fresh.{ThereIsOne}
 use Rattle.command_jobs.proofs.Packing.{PacksAs}
-use Rattle.std.proofs.lemmas.List.{length-replicate}
-use Rattle.std.proofs.Common.{replicate}
 
 -- the cells of a disk behind so many moves, beside what it read before it was synced
 abbrev pub OnDisk : ℕ → ℕ → ℕ → Cells → Cells → Type 0

@@ -1,40 +1,12 @@
 -- From the begin and the steps of a pack to what its command tells of it.
-use Rattle.std.proofs.Common.{◌≡◌, ℕ, ◌+◌, ◌≤◌, List, [], ◌∷◌, length, replicate, Option, Some, None, Ok, Err, refl, ap, sym, subst, ◌∙◌, inl, inr, arith}
-use Rattle.std.specs.Prelude.{is_some}
-use Rattle.std.specs.Option.{option_map}
-use Rattle.std.proofs.lemmas.List.{length-replicate}
-use Rattle.device_defs.specs.Cells.{Cells, reads}
-use Rattle.device_defs.specs.Providers.{Provider}
-use Rattle.record_defs.specs.Records.{Record}
-use Rattle.record_defs.specs.Areas.{Area}
+use Rattle.command_jobs.proofs.Words.{◌≡◌, ℕ, ◌+◌, ◌≤◌, List, [], ◌∷◌, length, replicate, Option, Some, None, Ok, Err, refl, ap, sym, subst, ◌∙◌, inl, inr, arith, is_some, option_map, length-replicate, Cells, reads, Provider, Record, Area, Step, More, heard_by, job_of, Happens, Moment, now, StandsForState, State, pack_refusal, AreHanded, IsJustOpened, Seen, nobody, provider_at, setup_in_effect, AreSteps, GoesOnTo, pack-refusal-of, BeginFault, Devices, devices, PackAnswer, PackJob, Vault, pack_answer, pack_begun, StandsPacking, PacksOver, MakesPackStep, Stands, IsFreshOver, IsSeenBefore, IsSeenAfter, PackEndsOver, IsPackRefused}
 use Rattle.machine_defs.specs.Answers.{Answer}
-use Rattle.machine_defs.specs.Events.{Step, More, Ended}
-use Rattle.machine_defs.specs.Heard.{heard_by}
-use Rattle.machine_defs.specs.Jobs.{Job, job_of}
-use Rattle.machine_defs.specs.Machine.{Happens}
-use Rattle.machine_defs.specs.Runs.{Moment, now}
-use Rattle.machine_defs.specs.Stands.{StandsForState}
-use Rattle.machine_defs.specs.States.{State}
-use Rattle.machine_defs.specs.Alone.{pack_refusal}
-use Rattle.opening_defs.specs.Opened.{AreHanded, IsJustOpened}
-use Rattle.command_defs.specs.Seen.{Seen, nobody, provider_at}
+use Rattle.machine_defs.specs.Events.{Ended}
+use Rattle.machine_defs.specs.Jobs.{Job}
 use Rattle.command_defs.specs.Opens as opens
-use Rattle.command_defs.specs.Opens.{setup_in_effect}
-use Rattle.command_defs.specs.JobRuns.{AreSteps, GoesOnTo}
 use Rattle.command_defs.specs.Packs.{RanPack, PacksAlone, PackedAlone}
 use Rattle.command_defs.specs.Refusals.{pack_refusal_over}
-use Rattle.job_laws.proofs.BeginRefusals.{pack-refusal-of}
-use Rattle.vault_core.specs.declared.wish.BeginFault.{BeginFault}
-use Rattle.vault_open.specs.Devices.{Devices, devices}
-use Rattle.vault.specs.declared.packing.PackAnswer.{PackAnswer}
-use Rattle.vault.specs.declared.packing.PackJob.{PackJob}
 use Rattle.vault.specs.declared.packing.PackTurn.TheVariants as turn
-use Rattle.vault.specs.declared.vault.Vault.{Vault}
-use Rattle.vault.specs.Packing.{pack_answer, pack_begun, StandsPacking, PacksOver, MakesPackStep}
-use Rattle.vault.specs.Stands.{Stands}
-use Rattle.command_jobs.specs.Opened.{IsFreshOver}
-use Rattle.command_jobs.specs.Ends.{IsSeenBefore, IsSeenAfter}
-use Rattle.command_jobs.specs.Packs.{PackEndsOver, IsPackRefused}
 use Rattle.command_jobs.proofs.Fresh.{ThereIsOne}
 use Rattle.command_jobs.proofs.Alone.{opened-one}
 

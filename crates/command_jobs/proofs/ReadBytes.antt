@@ -1,16 +1,9 @@
 -- Bytes that were read of a source, one piece after another.
-use Rattle.std.proofs.Common.{◌≡◌, ℕ, ◌+◌, ◌≤◌, length, arith, ◌&&◌, List, [], ◌++◌, take, drop, Option, None, Some, refl, ap, sym, ◌∙◌, append_assoc}
-use Rattle.std.specs.List.{list_all}
+use Rattle.command_jobs.proofs.Words.{◌≡◌, ℕ, ◌+◌, ◌≤◌, length, arith, ◌&&◌, List, [], ◌++◌, take, drop, Option, None, Some, refl, ap, sym, ◌∙◌, list_all, and_parts, take-append-drop, length-take-le, take-take, take-append-add, is_byte, then_told, AreBytes, ReadsAtMost, ReadsFront}
+use Rattle.std.proofs.Common.{append_assoc}
 use borrow.Rule.Slice.PartMut.{put_mid}
-use Rattle.std.proofs.lemmas.Bool.{and_parts}
-use Rattle.std.proofs.lemmas.List.{take-append-drop, length-take-le, take-take}
 use Rattle.std.proofs.lemmas.Slice.{take-put_mid}
-use Rattle.std.proofs.Math.Seq.{take-append-add}
 use Rattle.std.proofs.lemmas.List.Folds.{list_all-append}
-use Rattle.record_defs.specs.Records.{is_byte}
-use Rattle.device_defs.specs.Told.{then_told}
-use Rattle.machine_defs.specs.Events.{AreBytes}
-use Rattle.command_defs.specs.Seen.{ReadsAtMost, ReadsFront}
 
 pub bytes-append : (xs ys : List ℕ) → AreBytes xs → AreBytes ys → AreBytes (xs ++ ys)
 bytes-append xs ys a b =

@@ -1,18 +1,9 @@
 -- What a start says of a disk, in the words of the commands.
-use Rattle.std.proofs.Common.{◌≡◌, ℕ, List, Option, Some, None, Result, Ok, Err, refl, ap, sym, subst, ◌∙◌, inl, inr}
-use Rattle.std.specs.Prelude.{IfSome, IfErr}
+use Rattle.command_jobs.proofs.Words.{◌≡◌, ℕ, List, Option, Some, None, Result, Ok, Err, refl, ap, sym, subst, ◌∙◌, inl, inr, IfSome, IfErr, option_map, Cells, reads, Goes, reads-firm, Record, Area, journal_read, IsRead, IsResynced, AreRecords, unopened_of, IsUnopened, LiesInStore}
 use Rattle.std.specs.Result.{IsErrAnd}
-use Rattle.std.specs.Option.{option_map}
-use Rattle.device_defs.specs.Cells.{Cells, reads}
-use Rattle.device_defs.specs.Told.{Goes}
-use Rattle.device_defs.proofs.Lasting.{reads-firm}
-use Rattle.record_defs.specs.Records.{Record}
-use Rattle.record_defs.specs.Areas.{Area}
-use Rattle.opening_defs.specs.Journals.{journal_read, IsRead, IsResynced}
 use Rattle.vault_open.specs.declared.fault.StartFault.{StartFault}
 use Rattle.vault_open.specs.declared.fault.StartFault.TheVariants as start_fault
 use Rattle.vault_open.specs.Causes.{IsStartFault, LiesInJournal}
-use Rattle.command_jobs.specs.Opened.{AreRecords, unopened_of, IsUnopened, LiesInStore}
 
 -- records that a disk reads are records of a journal
 pub read-records : (told : Option Cells) (area : Area) (rs : List Record) → IsRead told area rs →

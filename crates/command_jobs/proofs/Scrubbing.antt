@@ -1,33 +1,10 @@
 -- From the hold and the steps of a scrub to what its command tells of it.
-use Rattle.std.proofs.Common.{◌≡◌, ℕ, ◌+◌, ◌≤◌, true, false, List, [], length, Option, Some, None, Ok, Err, refl, ap, sym, subst, ◌∙◌, arith}
-use Rattle.device_defs.specs.Cells.{Cells}
-use Rattle.device_defs.specs.Providers.{Provider}
-use Rattle.record_defs.specs.Records.{Setup, Record}
-use Rattle.record_defs.specs.Areas.{Area}
-use Rattle.machine_defs.specs.Alone.{alone_refusal, new_scrub}
+use Rattle.command_jobs.proofs.Words.{◌≡◌, ℕ, ◌+◌, ◌≤◌, true, false, List, [], length, Option, Some, None, Ok, Err, refl, ap, sym, subst, ◌∙◌, arith, Cells, Provider, Record, Area, alone_refusal, new_scrub, BeginScrub, Begun, Happens, StandsForState, State, Scrub, Alone, setup_in, Seen, setup_in_effect, GoesOnTo, AreHanded, IsOpenAtRest, IsJustOpened, ScrubAnswer, ScrubIs, ScrubStands, scrub_answer, ScrubView, BeginFault, refusal_of, Devices, devices, Vault, Stands, StandsBeside, HoldsOver, IsFreshOver, IsSeenBefore, IsSeenAfter, SweepsToEnd, ScrubEndsOver}
+use Rattle.record_defs.specs.Records.{Setup}
 use Rattle.machine_defs.specs.Answers.{Answer}
-use Rattle.machine_defs.specs.Events.{BeginScrub, Begun}
-use Rattle.machine_defs.specs.Machine.{Happens}
-use Rattle.machine_defs.specs.Stands.{StandsForState}
-use Rattle.machine_defs.specs.States.{State, Scrub, Alone, setup_in}
-use Rattle.command_defs.specs.Seen.{Seen}
 use Rattle.command_defs.specs.Opens as opens
-use Rattle.command_defs.specs.Opens.{setup_in_effect}
-use Rattle.command_defs.specs.JobRuns.{GoesOnTo}
 use Rattle.command_defs.specs.Scrubs.{RanScrub, ScrubsAlone, ScrubbedAlone}
-use Rattle.opening_defs.specs.Opened.{AreHanded, IsOpenAtRest, IsJustOpened}
-use Rattle.hail_scrub.specs.declared.turn.ScrubAnswer.{ScrubAnswer}
 use Rattle.hail_scrub.specs.Begins.{held}
-use Rattle.hail_scrub.specs.Stands.{ScrubIs, ScrubStands, scrub_answer}
-use Rattle.hail_scrub.specs.Views.{ScrubView}
-use Rattle.vault_core.specs.declared.wish.BeginFault.{BeginFault}
-use Rattle.vault_core.specs.Carried.{refusal_of}
-use Rattle.vault_open.specs.Devices.{Devices, devices}
-use Rattle.vault.specs.declared.vault.Vault.{Vault}
-use Rattle.vault.specs.Stands.{Stands, StandsBeside, HoldsOver}
-use Rattle.command_jobs.specs.Opened.{IsFreshOver}
-use Rattle.command_jobs.specs.Ends.{IsSeenBefore, IsSeenAfter}
-use Rattle.command_jobs.specs.Scrubs.{SweepsToEnd, ScrubEndsOver}
 use Rattle.command_jobs.proofs.Fresh.{ThereIsOne, setup-over}
 use Rattle.command_jobs.proofs.Alone.{opened-one}
 

@@ -1,43 +1,10 @@
 -- From the begin of a stream and its pieces to what its command tells of it.
-use Rattle.std.proofs.Common.{◌≡◌, ℕ, ◌+◌, ◌-◌, ◌*◌, ◌<◌, ◌≤◌, List, ◌++◌, length, take, Option, Some, None, refl, ap, sym, subst, ◌∙◌, arith}
-use Rattle.std.specs.Prelude.{IfSome}
-use Rattle.std.specs.Option.{option_map}
-use Rattle.std.proofs.lemmas.List.{length-take-le}
+use Rattle.command_jobs.proofs.Words.{◌≡◌, ℕ, ◌+◌, ◌-◌, ◌*◌, ◌<◌, ◌≤◌, List, ◌++◌, length, take, Option, Some, None, refl, ap, sym, subst, ◌∙◌, arith, IfSome, option_map, length-take-le, le-div_iff_mul-le, Cells, bytes_read, Provider, Rose, Goes, Record, largest_file, Area, base_of, end_in, chosen, AreBytes, IsSpelledKind, PutJob, now, profiled, object_of, stripes_of, StandsForState, State, Append, setup_in, AreHanded, IsJustOpened, SameFrom, Seen, ReadsFront, setup_in_effect, AreSteps, outside, put_stripe, PartRan, PartRuns, PartLeft, MayName, found, unwritten, Vault, Stands, devices, IsFreshOver, IsSeenBefore, IsSeenAfter, IsOnly, SameUpTo, EndsEarly, StreamEnds, StreamStops, StreamsTo, PutEnds, PutStops, StreamsOver}
 use Rattle.std.proofs.lemmas.Nat.{div-mul-add}
-use Rattle.std.proofs.Math.Nat.{le-div_iff_mul-le}
-use Rattle.device_defs.specs.Cells.{Cells, reads as bytes_read}
-use Rattle.device_defs.specs.Providers.{Provider}
-use Rattle.device_defs.specs.Faults.{Rose}
-use Rattle.device_defs.specs.Told.{Goes}
 use Rattle.column_defs.specs.Objects.{stripe_symbols}
-use Rattle.record_defs.specs.Records.{Setup, Record, largest_file}
-use Rattle.record_defs.specs.Areas.{Area, base_of, end_in}
-use Rattle.machine_defs.specs.Begins.{chosen}
-use Rattle.machine_defs.specs.Events.{AreBytes, IsSpelledKind}
-use Rattle.machine_defs.specs.Jobs.{PutJob}
-use Rattle.machine_defs.specs.Runs.{now}
-use Rattle.machine_defs.specs.Setups.{profiled, object_of, stripes_of}
-use Rattle.machine_defs.specs.Stands.{StandsForState}
-use Rattle.machine_defs.specs.States.{State, Append, setup_in}
-use Rattle.opening_defs.specs.Opened.{AreHanded, IsJustOpened}
-use Rattle.journal_core.specs.Moves.{SameFrom}
-use Rattle.command_defs.specs.Seen.{Seen, ReadsFront}
+use Rattle.record_defs.specs.Records.{Setup}
 use Rattle.command_defs.specs.Opens as opens
-use Rattle.command_defs.specs.Opens.{setup_in_effect}
-use Rattle.command_defs.specs.JobRuns.{AreSteps}
-use Rattle.command_defs.specs.Jobs.{outside}
-use Rattle.command_defs.specs.GivenUp.{put_stripe, PartRan, PartRuns, PartLeft}
-use Rattle.lone_laws.specs.Walked.{MayName}
-use Rattle.lone_laws.proofs.Walk.{found}
-use Rattle.job_laws.proofs.Parts.{unwritten}
 use Rattle.vault.specs.declared.turn.Ended.{Ended}
-use Rattle.vault.specs.declared.vault.Vault.{Vault}
-use Rattle.vault.specs.Stands.{Stands}
-use Rattle.vault_open.specs.Devices.{devices}
-use Rattle.command_jobs.specs.Opened.{IsFreshOver}
-use Rattle.command_jobs.specs.Ends.{IsSeenBefore, IsSeenAfter}
-use Rattle.command_jobs.specs.Going.{IsOnly, SameUpTo, EndsEarly}
-use Rattle.command_jobs.specs.Streams.{StreamEnds, StreamStops, StreamsTo, PutEnds, PutStops, StreamsOver}
 use Rattle.command_jobs.specs.declared.stream.Streamed.{Streamed}
 use Rattle.command_jobs.specs.declared.stream.Streamed.TheVariants as streamed
 use Rattle.command_jobs.proofs.Alone.{LeavesAll, BeginsAs, HasBegun, has-begun, outside-of, opened-one, over-journal, ends-with, ends-over, left-open, not-ended}

@@ -1,18 +1,7 @@
 -- A scrub that runs alone, step by step.
-use Rattle.std.proofs.Common.{◌≡◌, ℕ, ◌+◌, true, false, List, [], ◌∷◌, length, refl, ap, sym, subst, ◌∙◌}
-use Rattle.device_defs.specs.Providers.{Provider}
-use Rattle.machine_defs.specs.Events.{Outcome, Step, More}
-use Rattle.machine_defs.specs.Heard.{heard_by}
-use Rattle.machine_defs.specs.Jobs.{Job, job_of}
-use Rattle.machine_defs.specs.Machine.{Happens}
-use Rattle.machine_defs.specs.Runs.{Moment, now}
-use Rattle.machine_defs.specs.States.{State, Scrub, setup_in}
-use Rattle.command_defs.specs.JobRuns.{AreSteps}
-use Rattle.hail_scrub.specs.declared.turn.ScrubAnswer.{ScrubAnswer}
+use Rattle.command_jobs.proofs.Words.{◌≡◌, ℕ, ◌+◌, true, false, List, [], ◌∷◌, length, refl, ap, sym, subst, ◌∙◌, Provider, Outcome, Step, More, heard_by, job_of, Happens, Moment, now, State, Scrub, setup_in, AreSteps, ScrubAnswer, ScrubStands, MakesScrubStep, scrub_outcome, ScrubView, SweepsToEnd}
+use Rattle.machine_defs.specs.Jobs.{Job}
 use Rattle.hail_scrub.specs.declared.turn.ScrubTurn.TheVariants as turn
-use Rattle.hail_scrub.specs.Stands.{ScrubStands, MakesScrubStep, scrub_outcome}
-use Rattle.hail_scrub.specs.Views.{ScrubView}
-use Rattle.command_jobs.specs.Scrubs.{SweepsToEnd}
 
 -- the scrub has made these steps, and stands for that of the state after them; but for what runs alone and
 -- the providers this state is the first

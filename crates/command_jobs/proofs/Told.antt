@@ -1,24 +1,9 @@
 -- What a vault tells of its only job where that is an open stream.
-use Rattle.std.proofs.Common.{◌≡◌, ℕ, ◌+◌, ◌*◌, ◌==◌, true, List, [], ◌∷◌, Option, Some, None, refl, ap, sym, subst, ◌∙◌, inl, inr}
-use Rattle.std.specs.Prelude.{is_some}
-use Rattle.std.specs.List.{AllZip}
-use Rattle.std.proofs.lemmas.Bool.{eq-eqb, cases_Bool, eqb-true}
-use Rattle.algebra_laws.proofs.Options.{some-not-none}
+use Rattle.command_jobs.proofs.Words.{◌≡◌, ℕ, ◌+◌, ◌*◌, true, List, [], ◌∷◌, Option, Some, None, refl, ap, sym, subst, ◌∙◌, inl, inr, is_some, AllZip, eq-eqb, cases_Bool, eqb-true, some-not-none, Plan, chosen, Kind, State, setup_in, cond_true, cond_false, IsJobOf, shown, seen_plan, stripe_size, CoreJob, job_in, told_by, wanted_at, wanted_by, Vault, Stands, wants_of, told_of, stripe_by, stripe_of, KeepsTold, Devices, IsOnly}
+use Rattle.std.proofs.Common.{◌==◌}
 use Rattle.record_defs.specs.Records.{Setup}
-use Rattle.machine_defs.specs.Actions.{Plan}
-use Rattle.machine_defs.specs.Begins.{chosen}
-use Rattle.machine_defs.specs.Jobs.{Kind, Job}
-use Rattle.machine_defs.specs.States.{State, setup_in}
-use Rattle.machine_defs.proofs.JobLists.{cond_true, cond_false}
+use Rattle.machine_defs.specs.Jobs.{Job}
 use Rattle.vault_core.specs.declared.pinned.Pinned.{Pinned}
-use Rattle.vault_core.specs.Carried.{IsJobOf, shown, seen_plan}
-use Rattle.vault_core.specs.Streams.{stripe_size}
-use Rattle.vault_core.specs.View.{CoreJob, job_in, told_by, wanted_at, wanted_by}
-use Rattle.vault.specs.declared.vault.Vault.{Vault}
-use Rattle.vault.specs.Stands.{Stands}
-use Rattle.vault.specs.Streams.{wants_of, told_of, stripe_by, stripe_of, KeepsTold}
-use Rattle.vault_open.specs.Devices.{Devices}
-use Rattle.command_jobs.specs.Going.{IsOnly}
 
 -- ---- the one job of a core
 

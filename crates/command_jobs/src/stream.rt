@@ -9,7 +9,7 @@ ghost use Rattle.machine_defs.specs.States.{State};
 ghost use Rattle.command_defs.specs.Seen.{Seen, ReadsAtMost};
 ghost use Rattle.command_defs.specs.Opens as opens;
 ghost use Rattle.vault_open.specs.Devices.{Devices};
-ghost use Rattle.vault.specs.Benches.{names_unknown};
+ghost use Rattle.code_defs.specs.Profiles.{is_unknown};
 ghost use Rattle.vault.specs.Devices.{devices_seen};
 ghost use Rattle.vault.specs.Seen.{left_of};
 ghost use Rattle.vault.specs.Streams.{wants_of, told_of};
@@ -28,8 +28,8 @@ use std::alloc::{AllocError, Global};
 use stream_model::{Failed, Source};
 use vault::{BeginFault, Ended, Turn, Vault};
 
-/// How many bytes a file has at most.
-const LARGEST_FILE: usize = 1 << 22;
+/// How many bytes a file has at most, as a length.
+const LARGEST_FILE: usize = record_defs::LARGEST_FILE as usize;
 
 /// How a put ended that read its source stripe by stripe.
 #[derive(Drop)]
@@ -91,7 +91,7 @@ pub fn run_stream<D: Disk, P: Provider, S: Source>(
     source: &mut S,
 ) -> Result<Streamed, Unbegun>
     requires ready { IsFreshFor vault (D.holds disk.old) (D.faults disk.old) (length providers.old) }
-    requires known { names_unknown profile ≡ false }
+    requires known { is_unknown profile ≡ false }
     ensures ended { IfOk result (λ streamed. (records : List Record) (old new : Seen)
         → (opened : opens.IsOpened old records)
         → IsFreshOver vault opened.area records (D.holds disk.old) (D.faults disk.old)

@@ -1,13 +1,6 @@
 -- A store is known again after a command, and the next one finds it so.
-use Rattle.std.proofs.Common.{◌≡◌, ℕ, ◌<◌, ◌≤◌, true, false, List, length, take, Option, None, Some, refl, ap, sym, subst, ◌∙◌, inl, inr, arith}
-use Rattle.std.specs.Prelude.{is_some, IfSome}
-use Rattle.std.proofs.lemmas.Bool.{false≢true}
-use Rattle.command_laws.specs.Words.{IsShape, Cells, reads, firm, synced, Stopped, IsImage, EachImage, Record, Setup, largest_journal, Area, StandsActive, Kind, PutJob, GetJob, DropJob, AuditJob, RepairJob, UpgradeJob, Command, Numbers, RowOf, InitWith, PutUnder, PutAt, GetOf, DropOf, ListAll, AuditAll, RepairAll, UpgradeJournal, ScrubAll, PackJournal, WritesLine, TellsLine, IsResynced, IsRead, Seen, Ending, IsRefused, sinking, Unstarted, setup_in_effect, setup_with, AnswersInit, InitsDisk, AnswersJob, AnswersScrub, AnswersPack, AnswersPut, AnswersAlone, AnswersList, Answers, IsKnown, IsSure, Follows, is_refusal}
+use Rattle.command_laws.proofs.Words.{◌≡◌, ℕ, ◌<◌, ◌≤◌, true, false, List, length, take, Option, None, Some, refl, ap, sym, subst, ◌∙◌, inl, inr, arith, is_some, IfSome, false≢true, IsShape, Cells, reads, firm, synced, Stopped, IsImage, EachImage, Record, Setup, largest_journal, Area, StandsActive, Kind, PutJob, GetJob, DropJob, AuditJob, RepairJob, UpgradeJob, Command, Numbers, RowOf, InitWith, PutUnder, PutAt, GetOf, DropOf, ListAll, AuditAll, RepairAll, UpgradeJournal, ScrubAll, PackJournal, WritesLine, TellsLine, IsResynced, IsRead, Seen, Ending, IsRefused, sinking, Unstarted, setup_in_effect, setup_with, AnswersInit, InitsDisk, AnswersJob, AnswersScrub, AnswersPack, AnswersPut, AnswersAlone, AnswersList, Answers, IsKnown, IsSure, Follows, is_refusal, reads-firm, image-firm, each_image-mono, IsImage-reads, is_some-at, resynced-equal}
 use Rattle.device_defs.specs.Told.{Goes}
-use Rattle.device_defs.proofs.Lasting.{reads-firm, image-firm, each_image-mono}
-use Rattle.device_defs.proofs.PickLaws.{IsImage-reads}
-use Rattle.state_laws.proofs.Records.{is_some-at}
-use Rattle.opening_defs.proofs.Resyncs.{resynced-equal}
 use Rattle.command_laws.proofs.Known.{EndStatus, status-ended}
 use Rattle.command_laws.proofs.JobEnds.{unstarted-refused, given-status}
 use Rattle.command_laws.proofs.Images.{init-kept, refused-keeps}
@@ -114,8 +107,7 @@ unstarted-told : (old new : Seen) (end : Ending) → Unstarted old new end →
 unstarted-told old new end u = (let r = unstarted-refused old new end u in as-told r.0 r.1 old new end r.3)
 
 job-told : {area : Area} (kind : Kind) (records : List Record) (old new : Seen) (end : Ending)
-    {own : Option ℕ} →
-    AnswersJob kind own area records old new end → is_refusal end.status ≡ true →
+    {own : Option ℕ} → AnswersJob kind own area records old new end → is_refusal end.status ≡ true →
     IsRefused end.status end.at old new end
 job-told kind records old new end (AnswersJob.refused why is synced r) refuses = as-told _ 0 old new end r
 job-told kind records old new end (AnswersJob.no_memory synced r) refuses = as-told 70 0 old new end r
@@ -123,8 +115,7 @@ job-told kind records old new end (AnswersJob.ended how none runs left by) refus
     absurd (no-end end.status (status-ended _ how old new end by) refuses)
 
 put-told : (name : List ℕ) (old new : Seen) (end : Ending) {own : Option ℕ} →
-    AnswersPut name own old new end →
-    is_refusal end.status ≡ true → IsRefused end.status end.at old new end
+    AnswersPut name own old new end → is_refusal end.status ≡ true → IsRefused end.status end.at old new end
 put-told name old new end (AnswersPut.unstarted u same) refuses = unstarted-told old new end u
 put-told name old new end (AnswersPut.source_fault records opened known rose synced taken r) refuses =
     as-told 14 0 old new end r
@@ -162,8 +153,7 @@ scrub-told old new end (AnswersScrub.ended records how opened synced heard runs 
 pack-told : (old new : Seen) (end : Ending) → AnswersPack old new end → is_refusal end.status ≡ true →
     IsRefused end.status end.at old new end
 pack-told old new end (AnswersPack.unstarted u) refuses = unstarted-told old new end u
-pack-told old new end (AnswersPack.refused records why opened is synced r) refuses =
-    as-told _ 0 old new end r
+pack-told old new end (AnswersPack.refused records why opened is synced r) refuses = as-told _ 0 old new end r
 pack-told old new end (AnswersPack.no_memory records opened synced r) refuses = as-told 70 0 old new end r
 pack-told old new end (AnswersPack.ended records how opened none heard runs left by) refuses =
     absurd (no-end end.status (status-ended _ how old new end by) refuses)

@@ -1,16 +1,9 @@
 -- A repair and a scrub with few providers that are wrong or fail write the files' own blocks.
-use Rattle.std.proofs.Common.{◌≡◌, ℕ, zero, suc, ◌+◌, ◌<◌, ◌≤◌, ◌&&◌, ◌⊎◌, Bool, true, false, cond, List, [], ◌∷◌, length, map, get_or, Option, None, Some, refl, ap, sym, subst, ◌∙◌, inl, inr, arith, All}
-use Rattle.std.specs.Prelude.{IfSome, nat_lt, is_some, is_none}
-use Rattle.std.specs.List.{range_with_len}
-use Rattle.std.proofs.lemmas.Bool.{cases_Bool, cases_eq, false≢true, or_parts}
-use Rattle.command_laws.specs.Words.{In, IsShape, upto, Object, stripes, symbols_in, is_wrong_block, is_wrong, columns, column_of_symbols, block_at, GivesSymbols, is_flagged, Held, sized, Record, File, Due, file_of, files_of, find_file, due_of, is_same_name, stripes_of, profiled, RepairJob, Seen, Ending, setup_in_effect, with_number, files_by_number, Ran, setup_at_begin, object_at_begin, stripes_at_begin, object_numbered, Place, Gave, IsTruth, places_of, blocks_at, held_at, flags, IfFlagged, GivesPlace, RewrittenOn, RewritesAll, missing, IsTruthful, AnswersAlone, has_risen, is_bad_with, is_bad, bad_count, bad_seen, IsDone, IsKnown, HoldsFile, IsRepaired, ran_to, after_repair, AreAccepted}
-use Rattle.algebra_laws.proofs.Each.{in_flat}
-use Rattle.column_laws.proofs.Counts.{count_of-within}
+use Rattle.command_laws.proofs.Words.{◌≡◌, ℕ, zero, suc, ◌+◌, ◌<◌, ◌≤◌, ◌⊎◌, Bool, true, false, cond, List, [], ◌∷◌, length, map, get_or, Option, None, Some, refl, ap, sym, subst, ◌∙◌, inl, inr, arith, All, IfSome, nat_lt, is_some, is_none, range_with_len, cases_Bool, cases_eq, false≢true, or_parts, In, IsShape, upto, Object, stripes, symbols_in, is_wrong_block, is_wrong, columns, column_of_symbols, block_at, GivesSymbols, is_flagged, Held, sized, Record, File, Due, file_of, files_of, find_file, due_of, is_same_name, stripes_of, profiled, RepairJob, Seen, Ending, setup_in_effect, with_number, files_by_number, Ran, setup_at_begin, object_at_begin, stripes_at_begin, object_numbered, Place, Gave, IsTruth, places_of, blocks_at, held_at, flags, IfFlagged, GivesPlace, RewrittenOn, RewritesAll, AnswersAlone, has_risen, is_bad_with, is_bad, bad_count, bad_seen, IsDone, IsKnown, HoldsFile, IsRepaired, ran_to, after_repair, AreAccepted, in_flat, count_of-within, find-files_of, cond_true, cond_false, same_value, block_at-map, wrong-sized, not-wrong-each, not-risen}
+use Rattle.std.proofs.Common.{◌&&◌}
+use Rattle.command_defs.specs.Truthful.{missing, IsTruthful}
 use Rattle.column_laws.proofs.RightRows.{symbols-right}
 use Rattle.device_defs.specs.Told.{Goes}
-use Rattle.record_defs.proofs.FilesLaws.{find-files_of}
-use Rattle.machine_defs.proofs.JobLists.{cond_true, cond_false, same_value}
-use Rattle.job_laws.proofs.Complete.{block_at-map, wrong-sized, not-wrong-each, not-risen}
 use Rattle.command_laws.proofs.Known.{known-once}
 use Rattle.command_laws.proofs.GetEnds.{shape-at}
 use Rattle.command_laws.proofs.JobEnds.{repair-done}
@@ -233,7 +226,6 @@ repair-right name bytes records file due j old new end A K done is_due in_effect
         holds-right (ran_to (after_repair R.records R.due) R.records old new end.heard)
         (shape-at old R.records R.opened)
         (flags (ran_to (after_repair R.records R.due) R.records old new end.heard) R.due)
-        R.rewritten name file bytes in_effect size few
-        R.opened.read.accepted stripe within j below
+        R.rewritten name file bytes in_effect size few R.opened.read.accepted stripe within j below
         (subst (λ (d : Due). is_flagged (setup_in_effect R.records).tolerance d.counts j ≡ true)
         (sym due_is) flagged))

@@ -1,6 +1,5 @@
 -- How a get, a list and a repair end over any devices, also those that tell nothing.
-use Rattle.std.proofs.Common.{◌≡◌, ℕ, ◌⊎◌, List, refl, inl, inr, None}
-use Rattle.command_laws.specs.Words.{Rose, Record, Area, GetJob, RepairJob, Answer, GetOf, ListAll, RepairAll, Seen, Ending, provider_at, setup_in_effect, text_of, GetLeaves, RepairGives, AnswersJob, LeftAlone, EndsByAnswer, AnswersAlone, AnswersList, EndsInOrder, LosesFile, LosesRepair}
+use Rattle.command_laws.proofs.Words.{◌≡◌, ℕ, ◌⊎◌, List, refl, inl, inr, None, Rose, Record, Area, GetJob, RepairJob, Answer, GetOf, ListAll, RepairAll, Seen, Ending, provider_at, setup_in_effect, text_of, GetLeaves, RepairGives, AnswersJob, LeftAlone, EndsByAnswer, AnswersAlone, AnswersList, EndsInOrder, LosesFile, LosesRepair}
 use Rattle.machine_defs.specs.Answers as answer
 use Rattle.command_laws.proofs.Known.{written-well}
 use Rattle.command_laws.proofs.GetEnds.{ran_left}
@@ -12,8 +11,7 @@ abbrev Comes : Ending → Type 0
 Comes end = ((end.status ≡ 0) ⊎ (end.status ≡ 70)) ⊎ (end.status ≡ 4)
 
 get-comes : {area : Area} (name : List ℕ) (records : List Record) (old new : Seen) (end : Ending)
-    (how : Answer)
-    (left : LeftAlone area records (GetJob name) None how old new end.heard) →
+    (how : Answer) (left : LeftAlone area records (GetJob name) None how old new end.heard) →
     GetLeaves (ran_left records (GetJob name) how old new end.heard left) name how →
     (Rose old.sink_faults new.sink_faults → ⊥) →
     EndsByAnswer (text_of (setup_in_effect records).tolerance (GetJob name) how) how old new end → Comes end

@@ -1,13 +1,7 @@
 -- However an audit ended: where the next command finds its end in effect, its counts are the verdicts on what
 -- it heard.
-use Rattle.std.proofs.Common.{◌≡◌, ℕ, ◌+◌, ◌<◌, ◌≤◌, ◌⊎◌, List, [], ◌∷◌, length, reverse, Option, None, Some, refl, ap, sym, subst, ◌∙◌, inl, inr, arith, length-append}
-use Rattle.std.specs.Prelude.{IfSome, IsSomeAnd}
-use Rattle.std.proofs.lemmas.List.{length-reverse}
-use Rattle.command_laws.specs.Words.{Cells, reads, EachImage, Record, AuditDone, largest_journal, Area, StandsActive, StandsFor, next_audit, AuditJob, Answer, Seen, Ending, IsRefused, journal_read, Ran, HearsRounds, CountsHeard, AuditIsCut, AuditGives, AnswersJob, LeftAlone, AnswersAlone, IsKnown, after_audit, ran_to, IsSure, Follows}
-use Rattle.record_defs.proofs.Standing.{active-front}
-use Rattle.journal_core.proofs.Meanings.{one_list}
+use Rattle.command_laws.proofs.Words.{◌≡◌, ℕ, ◌+◌, ◌<◌, ◌≤◌, ◌⊎◌, List, [], ◌∷◌, length, reverse, Option, None, Some, refl, ap, sym, subst, ◌∙◌, inl, inr, arith, length-append, IfSome, IsSomeAnd, length-reverse, Cells, reads, EachImage, Record, AuditDone, largest_journal, Area, StandsActive, StandsFor, next_audit, AuditJob, Answer, Seen, Ending, IsRefused, journal_read, Ran, HearsRounds, CountsHeard, AuditIsCut, AuditGives, AnswersJob, LeftAlone, AnswersAlone, IsKnown, after_audit, ran_to, IsSure, Follows, active-front, one_list, same_value}
 use Rattle.machine_defs.specs.Answers as answer
-use Rattle.machine_defs.proofs.JobLists.{same_value}
 use Rattle.command_laws.proofs.Known.{known-both}
 use Rattle.command_laws.proofs.GetEnds.{ran_left}
 use Rattle.command_laws.proofs.JobEnds.{unstarted-refused}
@@ -108,8 +102,7 @@ module _ (records : List Record) (undecided : ℕ) (counts : List ℕ) (old new 
         (x.after ≡ after_audit records undecided counts → Counted) →
         ((entry : Record) → x.doubt ≡ Some entry → entry ∷ x.after ≡ after_audit records undecided counts →
         Counted) → Counted
-    by-images one two =
-        judged (images-judged area new.disk x.after x.doubt (known one) two left.images)
+    by-images one two = judged (images-judged area new.disk x.after x.doubt (known one) two left.images)
       where
         known : (length x.after ≤ length records + 1) ⊎
             (x.after ≡ after_audit records undecided counts → Counted) →

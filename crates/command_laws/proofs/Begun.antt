@@ -1,9 +1,7 @@
 -- When an upgrade, a put with a profile of its own, and a pack are not refused.
-use Rattle.std.proofs.Common.{◌≡◌, ℕ, ◌+◌, ◌-◌, ◌^◌, ◌<◌, ◌≤◌, ◌==◌, ◌||◌, true, false, cond, not, List, length, sum, None, Some, ap, ◌∙◌, arith}
-use Rattle.std.specs.Prelude.{nat_lt, nat_le}
-use Rattle.std.proofs.lemmas.Bool.{le-ltb}
-use Rattle.std.proofs.lemmas.Bool.Decides.{nat_tests}
-use Rattle.command_laws.specs.Words.{Record, is_name, largest_file, largest_journal, all_profiles, Area, end_in, version_of, next_id, PutJob, UpgradeJob, ToPut, ToUpgrade, is_too_full, are_numbers_used_up, is_crowded_for, append_sizes, setup_in_effect, sight_over, refusal_over, reaches_over, pack_refusal_over}
+use Rattle.command_laws.proofs.Words.{◌≡◌, ℕ, ◌+◌, ◌-◌, ◌^◌, ◌<◌, ◌≤◌, ◌==◌, true, false, cond, not, List, length, sum, None, Some, ap, ◌∙◌, arith, nat_lt, nat_le, le-ltb, nat_tests, Record, is_name, largest_file, largest_journal, all_profiles, Area, end_in, version_of, next_id, PutJob, UpgradeJob, ToPut, ToUpgrade, is_too_full, are_numbers_used_up, is_crowded_for, setup_in_effect, sight_over, refusal_over, reaches_over, pack_refusal_over}
+use Rattle.std.proofs.Common.{◌||◌}
+use Rattle.machine_defs.specs.Space.{append_sizes}
 use Rattle.machine_defs.specs.Refusals as refusal
 
 -- an upgrade of a journal of the first version with room for its record is not refused
@@ -17,8 +15,7 @@ upgrade-begins area records one fits =
 
 -- a put with a profile of its own in a journal of the second version with room is not refused
 pub own-begins : (name bytes : List ℕ) (own : ℕ) (area : Area) (records : List Record) →
-    version_of records ≡ 2 →
-    own < all_profiles → is_name name ≡ true → length bytes ≤ largest_file →
+    version_of records ≡ 2 → own < all_profiles → is_name name ≡ true → length bytes ≤ largest_file →
     is_crowded_for (sight_over area records) name ≡ false →
     end_in area records + 26 + length name ≤ largest_journal → next_id records ≤ 2 ^ 64 - 32 →
     refusal_over area records (PutJob name bytes) (Some own) ≡ None

@@ -1,15 +1,8 @@
 -- Stops and replacements between commands go on with a run, and so do commands one after the other.
-use Rattle.std.proofs.Common.{◌≡◌, ℕ, ◌<◌, ◌==◌, Bool, true, false, List, [], ◌∷◌, ◌++◌, length, Some, refl, ap, sym, subst, ◌∙◌, inl, inr, arith, append_assoc}
-use Rattle.std.specs.Prelude.{is_some, nat_lt, slice_get, slice_set, IsSome}
-use Rattle.std.proofs.lemmas.Bool.{cases_Bool, false≢true, eq-eqb, eqb-true, lt-ltb}
-use Rattle.std.proofs.lemmas.List.{length-set}
+use Rattle.command_laws.proofs.Words.{◌≡◌, ℕ, ◌<◌, ◌==◌, Bool, true, false, List, [], ◌∷◌, ◌++◌, length, Some, refl, ap, sym, subst, ◌∙◌, inl, inr, arith, append_assoc, is_some, nat_lt, slice_get, slice_set, IsSome, cases_Bool, false≢true, eq-eqb, eqb-true, lt-ltb, length-set, firm, Held, Provider, with_symbol, without_block, HasPlace, Record, Area, Event, Alter, Lose, Stop, Outcome, Replaced, NothingHeld, Happens, Moment, now, IsRun, StandsPlain, StandsForState, State, with_provider, IsSound, Seen, AreHanded, IsSure, IsStore, IsCall, moment, ReplacesHeld, AreReplaced, IsLater, AreBetween, Call, last_seen, IsChain, AreCalls, image-firm, each_image-mono, HasStopped, cond_true, cond_false, rest-sound, opened_state, state-over}
 use Rattle.algebra_laws.proofs.Lists.{get-set_other, get-set_same}
-use Rattle.command_laws.specs.Words.{firm, Held, Provider, with_symbol, without_block, HasPlace, Replaces, Record, Area, Event, Alter, Lose, Stop, Outcome, Replaced, NothingHeld, Happens, ReplacesIf, Moment, now, IsRun, StandsPlain, StandsForState, State, with_provider, IsSound, Seen, AreHanded, IsSure, IsStore, IsCall, moment, ReplacesHeld, AreReplaced, IsLater, AreBetween, Call, last_seen, IsChain, AreCalls}
-use Rattle.device_defs.proofs.Lasting.{image-firm, each_image-mono}
-use Rattle.machine_defs.specs.Events.{Stopped as HasStopped}
-use Rattle.machine_defs.proofs.JobLists.{cond_true, cond_false}
-use Rattle.state_laws.proofs.Resting.{rest-sound}
-use Rattle.job_laws.proofs.Telling.{opened_state, state-over}
+use Rattle.device_defs.specs.ProviderCalls.{Replaces}
+use Rattle.machine_defs.specs.Replacements.{ReplacesIf}
 use Rattle.command_laws.proofs.Knowing.{StandsInState}
 use Rattle.command_laws.proofs.Afterwards.{stopped-at}
 use Rattle.command_laws.proofs.GoingOn.{now-more, run-sound, settled, SettlesOn, MaySettle, settled-by, command-on}
@@ -103,8 +96,7 @@ both-between (m ∷ own) more (here, a) b = (here, both-between own more a b)
 -- the store with other providers
 store-replaced : (w : State) (s next : Seen) (j : ℕ) (q : Provider) → IsStore w s →
     IsSound 8 (replaced_in w j q) → next.disk ≡ s.disk → next.disk_faults ≡ s.disk_faults →
-    AreHanded next.providers (replaced_in w j q) →
-    IsStore (replaced_in w j q) next
+    AreHanded next.providers (replaced_in w j q) → IsStore (replaced_in w j q) next
 store-replaced w s next j q S sound disk faults handed = record {
   sound = sound;
   tells = ap is_some disk ∙ S.tells;

@@ -1,9 +1,6 @@
 -- A status of a fault comes only where the count of that device rose.
-use Rattle.std.proofs.Common.{◌≡◌, ℕ, ◌==◌, Bool, true, false, List, Option, refl, ap, sym, ◌∙◌, subst, inl, inr, arith}
+use Rattle.command_laws.proofs.Words.{◌≡◌, ℕ, ◌==◌, Bool, true, false, List, Option, refl, ap, sym, ◌∙◌, subst, inl, inr, arith, false≢true, Rose, Record, Area, Kind, PutJob, GetJob, DropJob, AuditJob, RepairJob, UpgradeJob, Answer, Refusal, Command, Numbers, RowOf, InitWith, PutUnder, PutAt, GetOf, DropOf, ListAll, AuditAll, RepairAll, UpgradeJournal, ScrubAll, PackJournal, WritesLine, Seen, Ending, provider_at, sinking, Unstarted, status_of, Ran, AnswersJob, EndsByAnswer, LeavesBy, LeftAlone, AnswersInit, InitsDisk, ScrubbedAlone, AnswersScrub, PackLeaves, AnswersPack, AnswersPut, AnswersAlone, AnswersList, Answers, FaultsHaveCauses, opens_store, rose-before}
 use Rattle.std.specs.Prelude.{if◌then◌else◌}
-use Rattle.std.proofs.lemmas.Bool.{false≢true}
-use Rattle.command_laws.specs.Words.{Rose, Record, Area, Kind, PutJob, GetJob, DropJob, AuditJob, RepairJob, UpgradeJob, Answer, Refusal, Command, Numbers, RowOf, InitWith, PutUnder, PutAt, GetOf, DropOf, ListAll, AuditAll, RepairAll, UpgradeJournal, ScrubAll, PackJournal, WritesLine, Seen, Ending, provider_at, sinking, Unstarted, status_of, Ran, AnswersJob, EndsByAnswer, LeavesBy, LeftAlone, AnswersInit, InitsDisk, ScrubbedAlone, AnswersScrub, PackLeaves, AnswersPack, AnswersPut, AnswersAlone, AnswersList, Answers, FaultsHaveCauses, opens_store}
-use Rattle.device_defs.proofs.Lasting.{rose-before}
 use Rattle.machine_defs.specs.Answers as answer
 use Rattle.machine_defs.specs.Refusals as refusal
 use Rattle.command_laws.proofs.GetEnds.{ran_left}
@@ -77,26 +74,7 @@ module _ (old new : Seen) (end : Ending) where
 
   refused-none : (why : Refusal) → is_fault (status_of why) ≡ false
   refused-none refusal.NoSuchName = refl
-  refused-none refusal.RepairDue = refl
-  refused-none refusal.NothingDue = refl
-  refused-none refusal.JournalFull = refl
-  refused-none refusal.TooLong = refl
-  refused-none refusal.BadName = refl
-  refused-none refusal.TooManyFiles = refl
-  refused-none refusal.MustReopen = refl
-  refused-none refusal.Busy = refl
-  refused-none refusal.Memory = refl
-  refused-none refusal.BadSetup = refl
-  refused-none refusal.DiskFault = refl
-  refused-none (refusal.BadJournal at) = refl
-  refused-none refusal.Already = refl
-  refused-none refusal.NotSetUp = refl
-  refused-none refusal.TooFewProviders = refl
-  refused-none refusal.NoSuchJob = refl
-  refused-none refusal.BadProfile = refl
-  refused-none refusal.OldVersion = refl
-  refused-none refusal.NewVersion = refl
-  refused-none refusal.PackTooLong = refl
+  refused-none why = refl
 
   -- what a job left that ended in a fault
   disk-by : (x : Ran) (kind : Kind) (own : Option ℕ) → LeavesBy x kind own answer.DiskFault →
@@ -109,8 +87,7 @@ module _ (old new : Seen) (end : Ending) where
   disk-by x UpgradeJob own L = L.0.0
 
   provider-by : (x : Ran) (kind : Kind) (own : Option ℕ) (j : ℕ) →
-      LeavesBy x kind own (answer.ProviderFault j) →
-      Rose (x.old j).store_faults (x.new j).store_faults
+      LeavesBy x kind own (answer.ProviderFault j) → Rose (x.old j).store_faults (x.new j).store_faults
   provider-by x (PutJob name bytes) own j L = L.0.1
   provider-by x (GetJob name) own j L = absurd L.gives
   provider-by x (DropJob name) own j L = absurd L.0
@@ -119,9 +96,8 @@ module _ (old new : Seen) (end : Ending) where
   provider-by x UpgradeJob own j L = absurd L.0
 
   ended-causes : {area : Area} (kind : Kind) (own : Option ℕ) (records : List Record) (text : List ℕ)
-      (how : Answer) →
-      LeftAlone area records kind own how old new end.heard → EndsByAnswer text how old new end →
-      FaultsHaveCauses old new end
+      (how : Answer) → LeftAlone area records kind own how old new end.heard →
+      EndsByAnswer text how old new end → FaultsHaveCauses old new end
   ended-causes kind own records text (answer.Lost stripe row) left by = none-rose 4 refl by.status_is
   ended-causes kind own records text (answer.ProviderFault j) left by =
       provider-rose by.status_is
@@ -134,20 +110,10 @@ module _ (old new : Seen) (end : Ending) where
       (rose-before old.disk_faults left.faults new.disk_faults left.before left.leaves.counts.disk
       (disk-by (ran_left records kind answer.DiskFault old new end.heard left) kind own left.leaves.by_kind))
   ended-causes kind own records text answer.Memory left by = none-rose 70 refl by.status_is
-  ended-causes kind own records text answer.Put left by = written-causes text by.written
-  ended-causes kind own records text (answer.Got bytes) left by = written-causes text by.written
-  ended-causes kind own records text answer.Dropped left by = written-causes text by.written
-  ended-causes kind own records text (answer.Audited number undecided counts) left by =
-      written-causes text by.written
-  ended-causes kind own records text (answer.Repaired number) left by = written-causes text by.written
-  ended-causes kind own records text answer.Upgraded left by = written-causes text by.written
-  ended-causes kind own records text (answer.Scrubbed stripes symbols blocks) left by =
-      written-causes text by.written
-  ended-causes kind own records text (answer.Packed before after) left by = written-causes text by.written
+  ended-causes kind own records text how left by = written-causes text by.written
 
   job-causes : {area : Area} (kind : Kind) (records : List Record) {own : Option ℕ} →
-      AnswersJob kind own area records old new end →
-      FaultsHaveCauses old new end
+      AnswersJob kind own area records old new end → FaultsHaveCauses old new end
   job-causes kind records (AnswersJob.refused why is synced r) =
       none-rose (status_of why) (refused-none why) r.status_is
   job-causes kind records (AnswersJob.no_memory synced r) = none-rose 70 refl r.status_is
@@ -229,8 +195,6 @@ module _ (old new : Seen) (end : Ending) where
   -- a command that looks at a store ends with a status of a fault only where that count rose
   pub store-causes : (command : Command) → Answers command old new end → opens_store command ≡ true →
       FaultsHaveCauses old new end
-  store-causes (RowOf n l b seen) A opens = absurd (false≢true opens)
-  store-causes (InitWith numbers) A opens = absurd (false≢true opens)
   store-causes (PutUnder name) A opens = put-causes name A
   store-causes (PutAt name profile) A opens = put-causes name A
   store-causes (GetOf name) A opens = alone-causes (GetJob name) A.0
@@ -241,3 +205,4 @@ module _ (old new : Seen) (end : Ending) where
   store-causes UpgradeJournal A opens = alone-causes UpgradeJob A.0
   store-causes ScrubAll A opens = scrub-causes A.0
   store-causes PackJournal A opens = pack-causes A.0
+  store-causes command A opens = absurd (false≢true opens)

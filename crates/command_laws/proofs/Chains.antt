@@ -1,16 +1,9 @@
 -- Commands one after the other.
-use Rattle.std.proofs.Common.{◌≡◌, ◌≢◌, ℕ, ◌+◌, ◌<◌, ◌≤◌, ◌⊎◌, Bool, true, false, cond, not, List, [], ◌∷◌, length, None, Some, refl, ap, sym, subst, ◌∙◌, inl, inr, arith, Option}
-use Rattle.std.specs.Prelude.{is_some, nat_lt, ◌&&◌, ◌||◌}
-use Rattle.std.proofs.lemmas.Bool.{cases_Bool, le-ltb}
-use Rattle.std.proofs.lemmas.Bool.Decides.{nat_tests}
-use Rattle.algebra_laws.proofs.Options.{is_some-none}
-use Rattle.command_laws.specs.Words.{is_flagged, Cells, Rose, told_then, Record, Setup, SetUp, AuditStart, is_name, largest_file, largest_journal, Area, Due, next_audit, setup_of, file_of, due_of, exceeds, refused, PutJob, GetJob, DropJob, AuditJob, RepairJob, ToPut, is_too_full, Numbers, AuditAll, IsKeyForm, Seen, Ending, provider_at, IsFree, setup_in_effect, ready_line, stored_line, audit_lines, audit_records, IsTold, AnswersInit, setup_with, sight_over, refusal_over, AnswersScrub, AnswersPut, AnswersAlone, Answers, IsDone, IsKnown, GivesText, GivesUnlessMemory, after_put, after_drop, after_audit, after_repair, Follows, IsThen, HasRightFile, IsUntouched, IsSteady, spoilt_below, IsFaultless, IsKeyed}
+use Rattle.command_laws.proofs.Words.{◌≡◌, ◌≢◌, ℕ, ◌+◌, ◌<◌, ◌≤◌, ◌⊎◌, Bool, true, false, cond, not, List, [], ◌∷◌, length, None, Some, refl, ap, sym, subst, ◌∙◌, inl, inr, arith, Option, is_some, nat_lt, cases_Bool, le-ltb, nat_tests, is_some-none, is_flagged, Cells, Rose, told_then, Record, Setup, SetUp, AuditStart, is_name, largest_file, largest_journal, Area, Due, next_audit, setup_of, file_of, due_of, exceeds, refused, PutJob, GetJob, DropJob, AuditJob, RepairJob, ToPut, is_too_full, Numbers, AuditAll, IsKeyForm, Seen, Ending, provider_at, IsFree, setup_in_effect, ready_line, stored_line, audit_lines, audit_records, IsTold, AnswersInit, setup_with, sight_over, refusal_over, AnswersScrub, AnswersPut, AnswersAlone, Answers, IsDone, IsKnown, GivesText, GivesUnlessMemory, after_put, after_drop, after_audit, after_repair, Follows, IsThen, HasRightFile, IsUntouched, IsSteady, spoilt_below, IsFaultless, IsKeyed, find-files_of, same-refl, cond_true, cond_false, file-spelled}
+use Rattle.std.specs.Prelude.{◌&&◌, ◌||◌}
 use Rattle.record_defs.specs.Areas as areas
-use Rattle.record_defs.proofs.FilesLaws.{find-files_of, same-refl}
 use Rattle.record_defs.proofs.Sizes.{is_name-short}
 use Rattle.machine_defs.specs.Refusals as refusal
-use Rattle.machine_defs.proofs.JobLists.{cond_true, cond_false}
-use Rattle.state_laws.proofs.Records.{file-spelled}
 use Rattle.command_laws.proofs.Known.{known-once, known-always}
 use Rattle.command_laws.proofs.GetEnds.{seen-complete, seen-right}
 use Rattle.command_laws.proofs.JobEnds.{put-well, put-setup, put-audits, drop-done, repair-done}
@@ -26,8 +19,7 @@ use Rattle.command_laws.proofs.ScrubFiles.{scrub-has}
 -- a get with no fault gives the file's bytes where at most b providers are spoilt, or finds no memory
 pub get-complete : (name bytes : List ℕ) (records : List Record) (spoilt : ℕ → Bool) (old new : Seen)
     (end : Ending) → AnswersAlone (GetJob name) old new end → IsKnown old records →
-    HasRightFile old records name bytes spoilt →
-    IsSteady (setup_in_effect records).n spoilt old new →
+    HasRightFile old records name bytes spoilt → IsSteady (setup_in_effect records).n spoilt old new →
     spoilt_below (setup_in_effect records).n spoilt ≤ (setup_in_effect records).b →
     (Rose old.disk_faults new.disk_faults → ⊥) → (Rose old.sink_faults new.sink_faults → ⊥) →
     GivesUnlessMemory bytes old new end
@@ -38,8 +30,7 @@ get-complete name bytes records spoilt old new end A K H steady few disk sink =
 -- a get at status 0 gave the file's bytes where at most b + 1 providers are spoilt
 pub get-right : (name bytes : List ℕ) (records : List Record) (spoilt : ℕ → Bool) (old new : Seen)
     (end : Ending) → AnswersAlone (GetJob name) old new end → IsKnown old records →
-    HasRightFile old records name bytes spoilt →
-    IsSteady (setup_in_effect records).n spoilt old new →
+    HasRightFile old records name bytes spoilt → IsSteady (setup_in_effect records).n spoilt old new →
     spoilt_below (setup_in_effect records).n spoilt ≤ (setup_in_effect records).b + 1 → end.status ≡ 0 →
     new.sink ≡ told_then old.sink bytes
 get-right name bytes records spoilt old new end A K H steady few zero =
@@ -47,8 +38,7 @@ get-right name bytes records spoilt old new end A K H steady few zero =
     (let b = bad-few name bytes records spoilt old new H steady in omega (arith, b, few))).1 zero
 
 get-refused : (area : Area) (name : List ℕ) (records : List Record) → is_name name ≡ true →
-    file_of records name ≡ None →
-    refusal_over area records (GetJob name) None ≡ Some refusal.NoSuchName
+    file_of records name ≡ None → refusal_over area records (GetJob name) None ≡ Some refusal.NoSuchName
 get-refused area name records named none =
     (let missing = find-files_of records name ∙ none in
     (λ i. cond (not (named i)) (Some refusal.BadName)
@@ -96,17 +86,14 @@ put-get name bytes own records spoilt c d e f second last P G N K source done te
 
 -- a get after a done init and a done put gives the bytes that were put, or finds no memory
 pub init-put-get : (numbers : Numbers) (key name bytes : List ℕ) (own : Option ℕ) (spoilt : ℕ → Bool)
-    (a b c d e f : Seen)
-    (first second last : Ending) → AnswersInit numbers a b first → AnswersPut name own c d second →
-    AnswersAlone (GetJob name) e f last →
-    Follows b c → Follows d e → is_some a.disk ≡ true →
-    ((text : List ℕ) × (a.source ≡ Some text) × IsKeyForm text key) → c.source ≡ Some bytes → IsDone first →
-    IsDone second →
+    (a b c d e f : Seen) (first second last : Ending) → AnswersInit numbers a b first →
+    AnswersPut name own c d second → AnswersAlone (GetJob name) e f last → Follows b c → Follows d e →
+    is_some a.disk ≡ true → ((text : List ℕ) × (a.source ≡ Some text) × IsKeyForm text key) →
+    c.source ≡ Some bytes → IsDone first → IsDone second →
     ((j : ℕ) → j < numbers.n → spoilt j ≡ false → is_some (provider_at c.providers j).held ≡ true) →
     IsUntouched numbers.n spoilt d e → IsSteady numbers.n spoilt e f →
-    spoilt_below numbers.n spoilt ≤ numbers.b →
-    (Rose e.disk_faults f.disk_faults → ⊥) → (Rose e.sink_faults f.sink_faults → ⊥) →
-    GivesUnlessMemory bytes e f last
+    spoilt_below numbers.n spoilt ≤ numbers.b → (Rose e.disk_faults f.disk_faults → ⊥) →
+    (Rose e.sink_faults f.sink_faults → ⊥) → GivesUnlessMemory bytes e f last
 init-put-get numbers key name bytes own spoilt a b c d e f first second last I P G N M told text source done also tells untouched steady few disk sink =
     (let records : List Record = SetUp (setup_with numbers key) ∷ [] in
     let sure = sure-next records b c (init-sure numbers key a b first I done told text) N in
@@ -299,8 +286,7 @@ audit-then records undecided counts c d =
 abbrev Mends : Setup → ℕ → List ℕ → (ℕ → Bool) → Seen → Seen → Seen → Seen → Seen → Seen → Ending → Ending →
     Type 0
 Mends s number bytes spoilt c d e f g h second last =
-    (undecided : ℕ) × (counts : List ℕ)
-    × IsTold (audit_lines s.tolerance number undecided counts) c d second
+    (undecided : ℕ) × (counts : List ℕ) × IsTold (audit_lines s.tolerance number undecided counts) c d second
     × (((j : ℕ) → j < s.n → is_flagged s.tolerance counts j ≡ true →
     is_some (provider_at e.providers j).held ≡ true) → (later : ℕ → Bool) →
     ((j : ℕ) → later j ≡ false → (spoilt j && not (is_flagged s.tolerance counts j)) ≡ false) →
@@ -308,12 +294,11 @@ Mends s number bytes spoilt c d e f g h second last =
     (Rose g.disk_faults h.disk_faults → ⊥) → (Rose g.sink_faults h.sink_faults → ⊥) →
     GivesUnlessMemory bytes g h last)
 
-audit-repair-get : (name bytes : List ℕ) (stored : List Record) (spoilt : ℕ → Bool)
-    (c d e f g h : Seen) (second third last : Ending) → Answers AuditAll c d second →
-    AnswersAlone RepairJob e f third → AnswersAlone (GetJob name) g h last → Follows d e →
-    Follows f g → IsKnown c stored → IsDone second → IsDone third →
-    HasRightFile c stored name bytes spoilt → IsUntouched (setup_in_effect stored).n spoilt d e →
-    IsSteady (setup_in_effect stored).n spoilt e f →
+audit-repair-get : (name bytes : List ℕ) (stored : List Record) (spoilt : ℕ → Bool) (c d e f g h : Seen)
+    (second third last : Ending) → Answers AuditAll c d second → AnswersAlone RepairJob e f third →
+    AnswersAlone (GetJob name) g h last → Follows d e → Follows f g → IsKnown c stored → IsDone second →
+    IsDone third → HasRightFile c stored name bytes spoilt →
+    IsUntouched (setup_in_effect stored).n spoilt d e → IsSteady (setup_in_effect stored).n spoilt e f →
     spoilt_below (setup_in_effect stored).n spoilt ≤ (setup_in_effect stored).b →
     Mends (setup_in_effect stored) (next_audit stored) bytes spoilt c d e f g h second last
 audit-repair-get name bytes stored spoilt c d e f g h second third last A R G M L known audited repaired file-c two steady few =

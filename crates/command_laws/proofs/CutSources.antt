@@ -1,8 +1,8 @@
 -- Commands whose source failed, or has more bytes than a file may have: which end so, and what they leave.
-use Rattle.std.proofs.Common.{◌≡◌, ◌⊎◌, ℕ, List, Option, Some, None, refl, sym, ◌∙◌, inl, inr, arith}
-use Rattle.command_laws.specs.Words.{Record, Area, Kind, PutJob, GetJob, DropJob, AuditJob, RepairJob, UpgradeJob, Command, Numbers, RowOf, InitWith, PutUnder, PutAt, GetOf, DropOf, ListAll, AuditAll, RepairAll, UpgradeJournal, ScrubAll, PackJournal, Seen, Ending, IsRefused, sinking, WritesLine, refusal_over, pack_refusal_over, AnswersInit, InitsDisk, AnswersScrub, AnswersPack, AnswersPut, AnswersAlone, AnswersList, Answers, put_of, GivesUpPut}
+use Rattle.command_laws.proofs.Words.{◌≡◌, ◌⊎◌, ℕ, List, Option, Some, None, refl, sym, ◌∙◌, inl, inr, arith, Record, Area, Kind, PutJob, GetJob, DropJob, AuditJob, RepairJob, UpgradeJob, Command, Numbers, RowOf, InitWith, PutUnder, PutAt, GetOf, DropOf, ListAll, AuditAll, RepairAll, UpgradeJournal, ScrubAll, PackJournal, Seen, Ending, IsRefused, sinking, WritesLine, refusal_over, pack_refusal_over, AnswersInit, InitsDisk, AnswersScrub, AnswersPack, AnswersPut, AnswersAlone, AnswersList, Answers, put_of, GivesUpPut}
 use Rattle.machine_defs.specs.Refusals as refusal
 use Rattle.command_laws.proofs.Known.{refused-not, told-refusal, status-written, status-ended}
+use Rattle.command_laws.proofs.InitEnds.{init-not}
 use Rattle.command_laws.proofs.RowCauses.{none-at}
 use Rattle.command_laws.proofs.JobEnds.{never, short-never, cut-not, unstarted-cut, ended-cut, job-cut, given-gives}
 use Rattle.command_laws.proofs.Images.{ReadsNone}
@@ -53,8 +53,7 @@ scrub-cut old new end (AnswersScrub.ended records how opened synced heard runs l
     ended-cut end.status (status-ended _ how old new end by) cut
 
 -- nor is a pack
-pack-short : (area : Area) (records : List Record) →
-    pack_refusal_over area records ≡ Some refusal.TooLong → ⊥
+pack-short : (area : Area) (records : List Record) → pack_refusal_over area records ≡ Some refusal.TooLong → ⊥
 pack-short area records =
     never _ refusal.OldVersion _ (λ e. cc) (never _ refusal.PackTooLong None (λ e. cc) (λ e. cc))
 
@@ -85,30 +84,16 @@ row-cut n l b seen old new end A (inr is) =
 -- an init whose source failed has changed nothing
 init-cut : (numbers : Numbers) (old new : Seen) (end : Ending) → AnswersInit numbers old new end →
     IsCut end.status → (end.status ≡ 14) × IsRefused 14 0 old new end
-init-cut numbers old new end (AnswersInit.bad_setup bad same r) cut =
-    absurd (cut-not end.status 20 r.status_is (λ e. omega (arith, e)) (λ e. omega (arith, e)) cut)
-init-cut numbers old new end (AnswersInit.too_few_providers good few same r) cut =
-    absurd (cut-not end.status 22 r.status_is (λ e. omega (arith, e)) (λ e. omega (arith, e)) cut)
 init-cut numbers old new end (AnswersInit.source_fault good enough rose taken r) cut = (r.status_is, r)
-init-cut numbers old new end (AnswersInit.bad_key bytes good enough read bad r) cut =
-    absurd (cut-not end.status 18 r.status_is (λ e. omega (arith, e)) (λ e. omega (arith, e)) cut)
-init-cut numbers old new end (AnswersInit.no_memory taken r) cut =
-    absurd (cut-not end.status 70 r.status_is (λ e. omega (arith, e)) (λ e. omega (arith, e)) cut)
-init-cut numbers old new end (AnswersInit.keyed bytes key good enough read form (InitsDisk.disk_fault rose F)) cut =
-    absurd (cut-not end.status 12 F.status_is (λ e. omega (arith, e)) (λ e. omega (arith, e)) cut)
-init-cut numbers old new end (AnswersInit.keyed bytes key good enough read form (InitsDisk.bad_journal at is r)) cut =
-    absurd (cut-not end.status 8 r.status_is (λ e. omega (arith, e)) (λ e. omega (arith, e)) cut)
-init-cut numbers old new end (AnswersInit.keyed bytes key good enough read form (InitsDisk.already is r)) cut =
-    absurd (cut-not end.status 10 r.status_is (λ e. omega (arith, e)) (λ e. omega (arith, e)) cut)
-init-cut numbers old new end (AnswersInit.keyed bytes key good enough read form (InitsDisk.no_memory F)) cut =
-    absurd (cut-not end.status 70 F.status_is (λ e. omega (arith, e)) (λ e. omega (arith, e)) cut)
-init-cut numbers old new end (AnswersInit.keyed bytes key good enough read form (InitsDisk.ready R)) cut =
-    absurd (written-cut _ old new end R.written cut)
+init-cut numbers old new end (AnswersInit.keyed seen key good enough read form (InitsDisk.ready R)) cut = absurd (written-cut _ old new end R.written cut)
+init-cut numbers old new end A cut = absurd (elim cut [
+  | inl e ↦ init-not numbers old new end A 14 e refl
+  | inr e ↦ init-not numbers old new end A 16 e refl
+])
 
 -- a put whose source failed before its begin has changed nothing; else it was given up
 put-cut : (name : List ℕ) (own : Option ℕ) (old new : Seen) (end : Ending) → AnswersPut name own old new end →
-    IsCut end.status →
-    ((end.status ≡ 14) × IsRefused 14 0 old new end) ⊎ GivesUpPut name own old new end
+    IsCut end.status → ((end.status ≡ 14) × IsRefused 14 0 old new end) ⊎ GivesUpPut name own old new end
 put-cut name own old new end (AnswersPut.unstarted u same) cut = absurd (unstarted-cut old new end u cut)
 put-cut name own old new end (AnswersPut.bad_profile records opened unknown synced same r) cut =
     absurd (cut-not end.status 20 r.status_is (λ e. omega (arith, e)) (λ e. omega (arith, e)) cut)
@@ -131,8 +116,7 @@ IsGivenUp command old new end =
     (name : List ℕ) × (own : Option ℕ) × (command ≡ put_of name own) × GivesUpPut name own old new end
 
 command-cut : (command : Command) (old new : Seen) (end : Ending) → Answers command old new end →
-    IsCut end.status →
-    ((end.status ≡ 14) × IsRefused 14 0 old new end) ⊎ IsGivenUp command old new end
+    IsCut end.status → ((end.status ≡ 14) × IsRefused 14 0 old new end) ⊎ IsGivenUp command old new end
 command-cut (RowOf n l b seen) old new end A cut = absurd (row-cut n l b seen old new end A cut)
 command-cut (InitWith numbers) old new end A cut = inl (init-cut numbers old new end A cut)
 command-cut (PutUnder name) old new end A cut = elim (put-cut name None old new end A cut) [

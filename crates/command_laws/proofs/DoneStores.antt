@@ -1,24 +1,11 @@
 -- The records of a store after a command that is done, and after any command.
-use Rattle.std.proofs.Common.{◌≡◌, ◌≢◌, ℕ, ◌+◌, ◌<◌, ◌≤◌, ◌⊎◌, Bool, true, false, List, [], ◌∷◌, length, Option, None, Some, refl, ap, sym, subst, ◌∙◌, inl, inr, arith}
-use Rattle.std.specs.Prelude.{is_some, IfSome, IsTrue}
-use Rattle.std.specs.Option.{option_map}
-use Rattle.std.proofs.lemmas.Bool.{and_from, false≢true}
-use Rattle.std.proofs.lemmas.Bool.Decides.{nat_tests}
+use Rattle.command_laws.proofs.Words.{◌≡◌, ◌≢◌, ℕ, ◌+◌, ◌<◌, ◌≤◌, ◌⊎◌, Bool, true, false, List, [], ◌∷◌, length, Option, None, Some, refl, ap, sym, subst, ◌∙◌, inl, inr, arith, is_some, IfSome, option_map, and_from, false≢true, nat_tests, is_some-option_map, Cells, reads, firm, synced, Stopped, EachImage, Record, Setup, SetUp, is_master, is_setup, is_in_grammar, largest_file, largest_journal, Area, other_area, StandsActive, StandsFor, AreAlike, packed, Due, next_audit, due_of, Kind, PutJob, GetJob, DropJob, AuditJob, RepairJob, UpgradeJob, Answer, Refusal, Command, Numbers, RowOf, InitWith, PutUnder, PutAt, GetOf, DropOf, ListAll, AuditAll, RepairAll, UpgradeJournal, ScrubAll, PackJournal, IsKeyForm, Seen, Ending, IsRefused, IsSynced, ReadsUpTo, journal_read, IsSetUpOn, IsOpened, Unstarted, setup_in_effect, status_of, refusal_over, pack_refusal_over, audit_lines, setup_with, AnswersInit, GetLeaves, AnswersJob, SameOutside, outside, with_next, IsTold, put_stripe, after_begin, StopsReading, PartRuns, PartLeft, ScrubsAlone, AnswersScrub, PackedAlone, AnswersPack, AnswersPut, AnswersAlone, AnswersList, Answers, MayName, IsDone, IsKnown, profile_named, RunsKind, DiskHas, opens_store, after_put, after_drop, after_audit, after_repair, after_upgrade, IsAfter, IsSure, Follows, IsThen, reads-firm, image-firm, each_image-mono, IsImage-reads, active-front, one_list, same_value, is_some-at, IsKeyForm-once, set_up-firm, set_up-stands}
+use Rattle.std.specs.Prelude.{IsTrue}
 use Rattle.hex.proofs.HexLemmas.{decode_of-ok}
-use Rattle.algebra_laws.proofs.Options.{is_some-option_map}
-use Rattle.command_laws.specs.Words.{Cells, reads, firm, synced, Stopped, EachImage, Record, Setup, SetUp, is_master, is_setup, is_in_grammar, largest_file, largest_journal, Area, other_area, StandsActive, StandsFor, AreAlike, packed, Due, next_audit, due_of, Kind, PutJob, GetJob, DropJob, AuditJob, RepairJob, UpgradeJob, Answer, Refusal, Command, Numbers, RowOf, InitWith, PutUnder, PutAt, GetOf, DropOf, ListAll, AuditAll, RepairAll, UpgradeJournal, ScrubAll, PackJournal, IsKeyForm, Seen, Ending, IsRefused, IsSynced, ReadsUpTo, journal_read, IsSetUpOn, IsOpened, Unstarted, setup_in_effect, status_of, refusal_over, pack_refusal_over, audit_lines, setup_with, AnswersInit, GetLeaves, AnswersJob, SameOutside, outside, with_next, IsTold, put_stripe, after_begin, StopsReading, PartRuns, PartLeft, ScrubsAlone, AnswersScrub, PackedAlone, AnswersPack, AnswersPut, AnswersAlone, AnswersList, Answers, MayName, IsDone, IsKnown, profile_named, RunsKind, DiskHas, opens_store, after_put, after_drop, after_audit, after_repair, after_upgrade, IsAfter, IsSure, Follows, IsThen}
 use Rattle.device_defs.specs.Told.{Goes}
-use Rattle.device_defs.proofs.Lasting.{reads-firm, image-firm, each_image-mono}
-use Rattle.device_defs.proofs.PickLaws.{IsImage-reads}
 use Rattle.record_defs.specs.Areas as areas
-use Rattle.record_defs.proofs.Standing.{active-front}
 use Rattle.record_codec.proofs.Takes.{IsBytes-all}
-use Rattle.journal_core.proofs.Meanings.{one_list}
 use Rattle.machine_defs.specs.Answers as answer
-use Rattle.machine_defs.proofs.JobLists.{same_value}
-use Rattle.state_laws.proofs.Records.{is_some-at}
-use Rattle.command_defs.proofs.Keys.{IsKeyForm-once}
-use Rattle.opening_defs.proofs.SetUps.{set_up-firm, set_up-stands}
 use Rattle.command_laws.proofs.Known.{known-once, known-both, alone-known, unstarted-known, refused-not}
 use Rattle.command_laws.proofs.JobEnds.{unstarted-refused, put-done, drop-done, audit-done, repair-done, upgrade-done, read-all, given-status, given-kind, images-have, cut-not, unstarted-cut, job-cut, short-never}
 use Rattle.command_laws.proofs.GetEnds.{ran_left}
@@ -61,34 +48,15 @@ over-refused why status is (inr (inr e)) = refused-not why 13 refl (λ k. omega 
 
 -- a disk tells after a job where it told before, by what it reads outside the text
 pub tells-outside : (area : Area) (kind : Kind) (own : Option ℕ) (how : Answer) (before rs : List Record)
-    (a b : Option Cells) →
-    SameOutside area kind own how before rs a b → is_some b ≡ is_some a
-tells-outside area kind own answer.Put before rs a b h =
-    sym (is_some-option_map (outside area rs) b) ∙ (ap is_some h ∙ is_some-option_map (outside area rs) a)
-tells-outside area kind own (answer.Got bytes) before rs a b h =
-    sym (is_some-option_map (outside area rs) b) ∙ (ap is_some h ∙ is_some-option_map (outside area rs) a)
-tells-outside area kind own answer.Dropped before rs a b h =
-    sym (is_some-option_map (outside area rs) b) ∙ (ap is_some h ∙ is_some-option_map (outside area rs) a)
-tells-outside area kind own (answer.Audited number undecided counts) before rs a b h =
-    sym (is_some-option_map (outside area rs) b) ∙ (ap is_some h ∙ is_some-option_map (outside area rs) a)
-tells-outside area kind own (answer.Repaired number) before rs a b h =
-    sym (is_some-option_map (outside area rs) b) ∙ (ap is_some h ∙ is_some-option_map (outside area rs) a)
-tells-outside area kind own answer.Upgraded before rs a b h =
-    sym (is_some-option_map (outside area rs) b) ∙ (ap is_some h ∙ is_some-option_map (outside area rs) a)
-tells-outside area kind own (answer.Scrubbed stripes symbols blocks) before rs a b h =
-    sym (is_some-option_map (outside area rs) b) ∙ (ap is_some h ∙ is_some-option_map (outside area rs) a)
-tells-outside area kind own (answer.Packed shorter longer) before rs a b h =
-    sym (is_some-option_map (outside area rs) b) ∙ (ap is_some h ∙ is_some-option_map (outside area rs) a)
-tells-outside area kind own (answer.Lost stripe row) before rs a b h =
-    sym (is_some-option_map (outside area rs) b) ∙ (ap is_some h ∙ is_some-option_map (outside area rs) a)
-tells-outside area kind own (answer.ProviderFault j) before rs a b h =
-    sym (is_some-option_map (outside area rs) b) ∙ (ap is_some h ∙ is_some-option_map (outside area rs) a)
+    (a b : Option Cells) → SameOutside area kind own how before rs a b → is_some b ≡ is_some a
 tells-outside area kind own answer.DiskFault before rs a b h =
     (let all = with_next h.next rs in sym (is_some-option_map (outside area all) b)
     ∙ (ap is_some h.same ∙ is_some-option_map (outside area all) a))
 tells-outside area kind own answer.Memory before rs a b h =
     (let all = with_next h.next rs in sym (is_some-option_map (outside area all) b)
     ∙ (ap is_some h.same ∙ is_some-option_map (outside area all) a))
+tells-outside area kind own how before rs a b h =
+    sym (is_some-option_map (outside area rs) b) ∙ (ap is_some h ∙ is_some-option_map (outside area rs) a)
 
 -- ---- what a job leaves that came to its end
 
@@ -97,10 +65,8 @@ abbrev Left : List Record → Seen → Seen → Type 0
 Left records old new = LeavesGood records old new × (is_some new.disk ≡ is_some old.disk)
 
 left-over : (kind : Kind) (records : List Record) (old new : Seen) (end : Ending) →
-    (opened : IsOpened old records) →
-    HasBytes kind →
-    {own : Option ℕ} → MayName kind own → AnswersJob kind own opened.area records old new end →
-    IsOver end.status → Left records old new
+    (opened : IsOpened old records) → HasBytes kind → {own : Option ℕ} → MayName kind own →
+    AnswersJob kind own opened.area records old new end → IsOver end.status → Left records old new
 left-over kind records old new end R are named (AnswersJob.refused why is synced r) over =
     absurd (over-refused why end.status r.status_is over)
 left-over kind records old new end R are named (AnswersJob.no_memory synced r) over =
@@ -119,8 +85,7 @@ alone-over kind records old new end K are A over = elim (alone-known kind old ne
 ]
 
 put-over : (name : List ℕ) {own : Option ℕ} (records : List Record) (old new : Seen) (end : Ending) →
-    IsKnown old records →
-    AnswersPut name own old new end → IsOver end.status → Left records old new
+    IsKnown old records → AnswersPut name own old new end → IsOver end.status → Left records old new
 put-over name records old new end K (AnswersPut.unstarted u same) over =
     elim (unstarted-known old new end records K u) [
       | inl (rose, r) ↦ absurd (over-twelve end.status r.status_is over)
@@ -164,9 +129,8 @@ whole-read most old new bytes seen is R whole =
 
 -- after a done put the store is sure, with the put's two records
 pub put-sure : (name bytes : List ℕ) (own : Option ℕ) (records : List Record) (old new : Seen)
-    (end : Ending) →
-    AnswersPut name own old new end → IsDone end → IsKnown old records → old.source ≡ Some bytes →
-    IsSure new (after_put records name (length bytes) own)
+    (end : Ending) → AnswersPut name own old new end → IsDone end → IsKnown old records →
+    old.source ≡ Some bytes → IsSure new (after_put records name (length bytes) own)
 put-sure name bytes own records old new end A done K source =
     (let P = put-done name own old new end A done in
     let read = whole-read (largest_file + 1) old.source new.source bytes P.bytes source P.read P.whole in
@@ -232,9 +196,8 @@ upgrade-sure records old new end A done K =
 
 -- a get appends nothing
 get-has : (name : List ℕ) (records : List Record) (old new : Seen) (end : Ending) →
-    (opened : IsOpened old records) →
-    AnswersJob (GetJob name) None opened.area records old new end → IsOver end.status →
-    DiskHas opened.area records new
+    (opened : IsOpened old records) → AnswersJob (GetJob name) None opened.area records old new end →
+    IsOver end.status → DiskHas opened.area records new
 get-has name records old new end R (AnswersJob.refused why is synced r) over =
     absurd (over-refused why end.status r.status_is over)
 get-has name records old new end R (AnswersJob.no_memory synced r) over =
@@ -259,8 +222,7 @@ get-sure name records old new end A over K = elim (alone-known (GetJob name) old
 
 -- after a put of which a store failed the store is sure, with the put's first record alone
 pub failed-put-sure : (name : List ℕ) {own : Option ℕ} (records : List Record) (old new : Seen)
-    (end : Ending) →
-    AnswersPut name own old new end → end.status ≡ 13 → IsKnown old records →
+    (end : Ending) → AnswersPut name own old new end → end.status ≡ 13 → IsKnown old records →
     IsSure new (after_begin records name)
 failed-put-sure name records old new end A failed K =
     (let P = put-fails name old new end A failed in
@@ -454,10 +416,8 @@ abbrev Comes : List Record → Seen → Seen → Ending → Type 0
 Comes records old new end = ((status : ℕ) × (at : ℕ) × IsRefused status at old new end) ⊎ Left records old new
 
 job-comes : (kind : Kind) (records : List Record) (old new : Seen) (end : Ending) →
-    (opened : IsOpened old records) →
-    HasBytes kind →
-    {own : Option ℕ} → MayName kind own → AnswersJob kind own opened.area records old new end →
-    Comes records old new end
+    (opened : IsOpened old records) → HasBytes kind → {own : Option ℕ} → MayName kind own →
+    AnswersJob kind own opened.area records old new end → Comes records old new end
 job-comes kind records old new end R are named (AnswersJob.refused why is synced r) =
     inl (status_of why, 0, r)
 job-comes kind records old new end R are named (AnswersJob.no_memory synced r) = inl (70, 0, r)
@@ -481,8 +441,7 @@ alone-comes kind records old new end K are A = elim (alone-known kind old new en
 ]
 
 put-comes : (name : List ℕ) {own : Option ℕ} (records : List Record) (old new : Seen) (end : Ending) →
-    IsKnown old records →
-    AnswersPut name own old new end → Comes records old new end
+    IsKnown old records → AnswersPut name own old new end → Comes records old new end
 put-comes name records old new end K (AnswersPut.unstarted u same) = unstarted-comes records old new end K u
 put-comes name records old new end K (AnswersPut.source_fault other opened known rose synced taken r) =
     inl (14, 0, r)
@@ -560,8 +519,6 @@ pack-alike-of records old new end K (AnswersPack.ended other how opened none hea
 command-comes : (command : Command) (records : List Record) (old new : Seen) (end : Ending) →
     IsKnown old records → Answers command old new end → opens_store command ≡ true →
     IsSure new records ⊎ Comes records old new end
-command-comes (RowOf n l b seen) records old new end K A opens = absurd (false≢true opens)
-command-comes (InitWith numbers) records old new end K A opens = absurd (false≢true opens)
 command-comes (PutUnder name) records old new end K A opens = inr (put-comes name records old new end K A)
 command-comes (PutAt name profile) records old new end K A opens =
     inr (put-comes name records old new end K A)
@@ -577,6 +534,7 @@ command-comes UpgradeJournal records old new end K A opens =
     inr (alone-comes UpgradeJob records old new end K tt A.0)
 command-comes ScrubAll records old new end K A opens = scrub-comes records old new end K A.0
 command-comes PackJournal records old new end K A opens = inr (pack-comes records old new end K A.0)
+command-comes command records old new end K A opens = absurd (false≢true opens)
 
 -- a command is a pack
 abbrev is_pack : Command → Bool
@@ -592,21 +550,11 @@ command-alike : (command : Command) (records : List Record) (old new : Seen) (en
     IsKnown old records → Answers command old new end →
     ((status : ℕ) × (at : ℕ) × IsRefused status at old new end)
     ⊎ (command ≡ PackJournal → AreAlike (packed records) records)
-command-alike (RowOf n l b seen) records old new end K A = inr (no-pack (RowOf n l b seen) refl)
-command-alike (InitWith numbers) records old new end K A = inr (no-pack (InitWith numbers) refl)
-command-alike (PutUnder name) records old new end K A = inr (no-pack (PutUnder name) refl)
-command-alike (PutAt name profile) records old new end K A = inr (no-pack (PutAt name profile) refl)
-command-alike (GetOf name) records old new end K A = inr (no-pack (GetOf name) refl)
-command-alike (DropOf name) records old new end K A = inr (no-pack (DropOf name) refl)
-command-alike ListAll records old new end K A = inr (no-pack ListAll refl)
-command-alike AuditAll records old new end K A = inr (no-pack AuditAll refl)
-command-alike RepairAll records old new end K A = inr (no-pack RepairAll refl)
-command-alike UpgradeJournal records old new end K A = inr (no-pack UpgradeJournal refl)
-command-alike ScrubAll records old new end K A = inr (no-pack ScrubAll refl)
 command-alike PackJournal records old new end K A = elim (pack-alike-of records old new end K A.0) [
   | inl refused ↦ inl refused
   | inr alike ↦ inr (λ is. alike)
 ]
+command-alike command records old new end K A = inr (no-pack command refl)
 
 -- what is told of each image: it is good, and stands for the records or for these with some of the job's
 abbrev Told : Command → List Record → Seen → Seen → List ℕ → Type 0

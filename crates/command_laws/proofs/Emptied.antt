@@ -1,9 +1,7 @@
 -- An empty text makes no call of the sink, so its fault ends neither a list without a file nor a get of an
 -- empty file.
-use Rattle.std.proofs.Common.{◌≡◌, ◌≢◌, ℕ, List, [], ◌∷◌, take, Some, refl, ap, sym, ◌∙◌, inl, inr, arith, None}
-use Rattle.command_laws.specs.Words.{Record, Area, File, file_of, files_of, GetJob, Answer, WritesLine, Seen, Ending, sinking, setup_in_effect, list_lines, text_of, GetLeaves, AnswersJob, EndsByAnswer, LeftAlone, AnswersAlone, AnswersList, IsKnown}
+use Rattle.command_laws.proofs.Words.{◌≡◌, ◌≢◌, ℕ, List, [], ◌∷◌, take, Some, refl, ap, sym, ◌∙◌, inl, inr, arith, None, Record, Area, File, file_of, files_of, GetJob, Answer, WritesLine, Seen, Ending, sinking, setup_in_effect, list_lines, text_of, GetLeaves, AnswersJob, EndsByAnswer, LeftAlone, AnswersAlone, AnswersList, IsKnown, same_value}
 use Rattle.machine_defs.specs.Answers as answer
-use Rattle.machine_defs.proofs.JobLists.{same_value}
 use Rattle.command_laws.proofs.Known.{known-once, alone-known, unstarted-known, refused-not}
 use Rattle.command_laws.proofs.GetEnds.{ran_left}
 

@@ -1,7 +1,6 @@
 -- The statuses with which commands end, and those of a row with their causes.
-use Rattle.std.proofs.Common.{◌≡◌, ◌≢◌, ℕ, ◌+◌, ◌*◌, ◌⊎◌, true, false, List, Option, refl, ap, sym, ◌∙◌, inl, inr, arith}
-use Rattle.std.proofs.lemmas.Bool.{cases_Bool, cases_lt, false≢true}
-use Rattle.command_laws.specs.Words.{IsShape, upto, AcceptsNone, Record, Area, Kind, PutJob, GetJob, DropJob, AuditJob, RepairJob, UpgradeJob, Refusal, Command, Numbers, RowOf, InitWith, PutUnder, PutAt, GetOf, DropOf, ListAll, AuditAll, RepairAll, UpgradeJournal, ScrubAll, PackJournal, WritesLine, TellsLine, Seen, Ending, sinking, Unstarted, status_of, AnswersRow, AnswersInit, InitsDisk, AnswersJob, AnswersScrub, AnswersPack, AnswersPut, AnswersAlone, AnswersList, Answers, is_ending}
+use Rattle.command_laws.proofs.Words.{◌≡◌, ◌≢◌, ℕ, ◌+◌, ◌*◌, ◌⊎◌, true, false, List, Option, refl, ap, sym, ◌∙◌, inl, inr, arith, cases_Bool, cases_lt, false≢true, IsShape, upto, Record, Area, Kind, PutJob, GetJob, DropJob, AuditJob, RepairJob, UpgradeJob, Refusal, Command, Numbers, RowOf, InitWith, PutUnder, PutAt, GetOf, DropOf, ListAll, AuditAll, RepairAll, UpgradeJournal, ScrubAll, PackJournal, WritesLine, TellsLine, Seen, Ending, sinking, Unstarted, status_of, AnswersRow, AnswersInit, InitsDisk, AnswersJob, AnswersScrub, AnswersPack, AnswersPut, AnswersAlone, AnswersList, Answers, is_ending}
+use Rattle.code_defs.specs.DispersalCode.{AcceptsNone}
 use Rattle.machine_defs.specs.Refusals as refusal
 use Rattle.command_laws.proofs.Known.{EndStatus, status-ended}
 use Rattle.command_laws.proofs.RowCauses.{none-at}
@@ -19,26 +18,7 @@ unstarted-ending old new end (Unstarted.no_memory r) = ap is_ending r.status_is
 
 refused-ending : (why : Refusal) → is_ending (status_of why) ≡ true
 refused-ending refusal.NoSuchName = refl
-refused-ending refusal.RepairDue = refl
-refused-ending refusal.NothingDue = refl
-refused-ending refusal.JournalFull = refl
-refused-ending refusal.TooLong = refl
-refused-ending refusal.BadName = refl
-refused-ending refusal.TooManyFiles = refl
-refused-ending refusal.MustReopen = refl
-refused-ending refusal.Busy = refl
-refused-ending refusal.Memory = refl
-refused-ending refusal.BadSetup = refl
-refused-ending refusal.DiskFault = refl
-refused-ending (refusal.BadJournal at) = refl
-refused-ending refusal.Already = refl
-refused-ending refusal.NotSetUp = refl
-refused-ending refusal.TooFewProviders = refl
-refused-ending refusal.NoSuchJob = refl
-refused-ending refusal.BadProfile = refl
-refused-ending refusal.OldVersion = refl
-refused-ending refusal.NewVersion = refl
-refused-ending refusal.PackTooLong = refl
+refused-ending why = refl
 
 ended-ending : (n : ℕ) → EndStatus n → is_ending n ≡ true
 ended-ending n (EndStatus.by_done e) = ap is_ending e
@@ -55,8 +35,7 @@ written-ending line old new end (inr (inl w)) = ap is_ending w.1
 written-ending line old new end (inr (inr w)) = ap is_ending w.0
 
 job-ending : {area : Area} (kind : Kind) (records : List Record) (old new : Seen) (end : Ending)
-    {own : Option ℕ} →
-    AnswersJob kind own area records old new end → is_ending end.status ≡ true
+    {own : Option ℕ} → AnswersJob kind own area records old new end → is_ending end.status ≡ true
 job-ending kind records old new end (AnswersJob.refused why is synced r) =
     ap is_ending r.status_is ∙ refused-ending why
 job-ending kind records old new end (AnswersJob.no_memory synced r) = ap is_ending r.status_is
@@ -64,8 +43,7 @@ job-ending kind records old new end (AnswersJob.ended how none runs left by) =
     ended-ending end.status (status-ended _ how old new end by)
 
 put-ending : (name : List ℕ) (old new : Seen) (end : Ending) {own : Option ℕ} →
-    AnswersPut name own old new end →
-    is_ending end.status ≡ true
+    AnswersPut name own old new end → is_ending end.status ≡ true
 put-ending name old new end (AnswersPut.unstarted u same) = unstarted-ending old new end u
 put-ending name old new end (AnswersPut.source_fault records opened known rose synced taken r) =
     ap is_ending r.status_is

@@ -1,8 +1,5 @@
 -- What a store that failed and a lost row leave, and that nothing is fetched by the other commands.
-use Rattle.std.proofs.Common.{◌≡◌, ℕ, ◌<◌, ◌≤◌, ◌⊎◌, true, List, length, Option, None, Some, refl, ap, sym, subst, ◌∙◌, inl, inr, arith}
-use Rattle.std.proofs.lemmas.Bool.{cases_lt}
-use Rattle.algebra_laws.proofs.Numbers.{not_two}
-use Rattle.command_laws.specs.Words.{is_flagged, Rose, Provider, Record, largest_file, Area, Due, due_of, Kind, PutJob, GetJob, DropJob, AuditJob, RepairJob, UpgradeJob, Answer, Refusal, Command, Numbers, RowOf, InitWith, PutUnder, PutAt, GetOf, DropOf, ListAll, AuditAll, RepairAll, UpgradeJournal, ScrubAll, PackJournal, WritesLine, Seen, Ending, ReadsFront, provider_at, sinking, IsOpened, Unstarted, setup_in_effect, status_of, Ran, text_of, pack_text, PutLeaves, GetLeaves, LosesStripe, flags, RepairGives, LosesAtPlace, AnswersJob, EndsByAnswer, LeavesBy, LeftAlone, AnswersInit, InitsDisk, PackLeaves, AnswersPack, AnswersPut, AnswersAlone, AnswersList, Answers, ran_to, SameFetches, stores_blocks, opens_rows, FailsToPut, FailsToRepair, LosesFile, LosesRepair}
+use Rattle.command_laws.proofs.Words.{◌≡◌, ℕ, ◌<◌, ◌≤◌, ◌⊎◌, true, List, length, Option, None, Some, refl, ap, sym, subst, ◌∙◌, inl, inr, arith, cases_lt, not_two, is_flagged, Rose, Provider, Record, largest_file, Area, Due, due_of, Kind, PutJob, GetJob, DropJob, AuditJob, RepairJob, UpgradeJob, Answer, Refusal, Command, Numbers, RowOf, InitWith, PutUnder, PutAt, GetOf, DropOf, ListAll, AuditAll, RepairAll, UpgradeJournal, ScrubAll, PackJournal, WritesLine, Seen, Ending, ReadsFront, provider_at, sinking, IsOpened, Unstarted, setup_in_effect, status_of, Ran, text_of, pack_text, PutLeaves, GetLeaves, LosesStripe, flags, RepairGives, LosesAtPlace, AnswersJob, EndsByAnswer, LeavesBy, LeftAlone, AnswersInit, InitsDisk, PackLeaves, AnswersPack, AnswersPut, AnswersAlone, AnswersList, Answers, ran_to, SameFetches, stores_blocks, opens_rows, FailsToPut, FailsToRepair, LosesFile, LosesRepair}
 use Rattle.machine_defs.specs.Answers as answer
 use Rattle.command_laws.proofs.Known.{refused-not}
 use Rattle.command_laws.proofs.GetEnds.{ran_left}
@@ -17,8 +14,7 @@ fetches_of p = p.fetches
 
 -- a put fetches nothing
 pub put-fetches : (name : List ℕ) (old new : Seen) (end : Ending) {own : Option ℕ} →
-    AnswersPut name own old new end →
-    SameFetches old new
+    AnswersPut name own old new end → SameFetches old new
 put-fetches name old new end (AnswersPut.unstarted u same) = unstarted-same fetches_of old new end u
 put-fetches name old new end (AnswersPut.source_fault records opened known rose after taken r) =
     refused-same fetches_of 14 0 old new end r
@@ -178,8 +174,7 @@ put-by name bytes records old new end opened read few how left L by is = absurd 
 
 -- a put of which a store failed used its number, and changed neither the files nor what is due
 pub put-fails : (name : List ℕ) (old new : Seen) (end : Ending) {own : Option ℕ} →
-    AnswersPut name own old new end →
-    end.status ≡ 13 → FailsToPut name own old new end
+    AnswersPut name own old new end → end.status ≡ 13 → FailsToPut name own old new end
 put-fails name old new end (AnswersPut.unstarted u same) is =
     absurd (unstarted-own 13 old new end u is (inl refl))
 put-fails name old new end (AnswersPut.source_fault records opened known rose after taken r) is =
@@ -242,8 +237,7 @@ get-loses name old new end (AnswersAlone.begun records opened (AnswersJob.ended 
 
 repair-by : (records : List Record) (old new : Seen) (end : Ending) → (opened : IsOpened old records) →
     (how : Answer) (left : LeftAlone opened.area records RepairJob None how old new end.heard) (due : Due) →
-    due_of records ≡ Some due →
-    RepairGives (ran_left records RepairJob how old new end.heard left) due how →
+    due_of records ≡ Some due → RepairGives (ran_left records RepairJob how old new end.heard left) due how →
     EndsWith records RepairJob how old new end → end.status ≡ 13 → FailsToRepair old new end
 repair-by records old new end opened (answer.ProviderFault j) left due is_due L by is =
     (let S = L.4 in
@@ -280,8 +274,7 @@ repair-by records old new end opened how left due is_due L by is = absurd L
 
 lost-by : (records : List Record) (old new : Seen) (end : Ending) → (opened : IsOpened old records) →
     (how : Answer) (left : LeftAlone opened.area records RepairJob None how old new end.heard) (due : Due) →
-    due_of records ≡ Some due →
-    RepairGives (ran_left records RepairJob how old new end.heard left) due how →
+    due_of records ≡ Some due → RepairGives (ran_left records RepairJob how old new end.heard left) due how →
     EndsWith records RepairJob how old new end → end.status ≡ 4 → LosesRepair old new end
 lost-by records old new end opened (answer.Lost stripe row) left due is_due L by is =
     (let S = L.1 in
@@ -358,21 +351,7 @@ own-end m text answer.DiskFault old new end by is (inl k) =
 own-end m text answer.DiskFault old new end by is (inr k) =
     absurd (not_two end.status 12 m by.status_is is (λ e. omega (arith, k, e)))
 own-end m text answer.Memory old new end by is own = absurd (memory-own m end.status by.status_is is own)
-own-end m text answer.Put old new end by is own = absurd (written-own m text old new end by.written is own)
-own-end m text (answer.Got bytes) old new end by is own =
-    absurd (written-own m text old new end by.written is own)
-own-end m text answer.Dropped old new end by is own =
-    absurd (written-own m text old new end by.written is own)
-own-end m text (answer.Audited number undecided counts) old new end by is own =
-    absurd (written-own m text old new end by.written is own)
-own-end m text (answer.Repaired number) old new end by is own =
-    absurd (written-own m text old new end by.written is own)
-own-end m text answer.Upgraded old new end by is own =
-    absurd (written-own m text old new end by.written is own)
-own-end m text (answer.Scrubbed stripes symbols blocks) old new end by is own =
-    absurd (written-own m text old new end by.written is own)
-own-end m text (answer.Packed before after) old new end by is own =
-    absurd (written-own m text old new end by.written is own)
+own-end m text how old new end by is own = absurd (written-own m text old new end by.written is own)
 
 -- which kinds of job end so
 abbrev Ends13 : Kind → Type 0
@@ -434,8 +413,7 @@ alone-13 kind old new end (AnswersAlone.begun records opened (AnswersJob.no_memo
     absurd (memory-own 13 end.status r.status_is is (inl refl))
 alone-13 kind old new end (AnswersAlone.begun records opened (AnswersJob.ended how none runs left by)) is =
     ended-13 kind _ _ how (ran_left records kind how old new end.heard left) old new end
-    left.leaves.by_kind by
-    is
+    left.leaves.by_kind by is
 
 job-4 : {area : Area} (kind : Kind) (records : List Record) (old new : Seen) (end : Ending) {own : Option ℕ} →
     AnswersJob kind own area records old new end → end.status ≡ 4 → Ends4 kind
@@ -531,16 +509,13 @@ stores-only (RowOf n l b seen) old new end A is =
     absurd (none-at n l b seen old new end A.0 13 is (λ e. omega (arith, e)) (λ e. omega (arith, e))
     (λ e. omega (arith, e)) (λ e. omega (arith, e)) (λ e. omega (arith, e)))
 stores-only (InitWith numbers) old new end A is = absurd (init-own 13 numbers old new end A is (inl refl))
-stores-only (PutUnder name) old new end A is = refl
-stores-only (PutAt name profile) old new end A is = refl
 stores-only (GetOf name) old new end A is = absurd (alone-13 (GetJob name) old new end A.0 is)
 stores-only (DropOf name) old new end A is = absurd (alone-13 (DropJob name) old new end A.0 is)
 stores-only ListAll old new end A is = absurd (list-own 13 old new end A.0 is (inl refl))
 stores-only AuditAll old new end A is = absurd (alone-13 AuditJob old new end A.0 is)
-stores-only RepairAll old new end A is = refl
 stores-only UpgradeJournal old new end A is = absurd (alone-13 UpgradeJob old new end A.0 is)
-stores-only ScrubAll old new end A is = refl
 stores-only PackJournal old new end A is = absurd (pack-own 13 old new end A.0 is (inl refl))
+stores-only command old new end A is = refl
 
 -- only a row, a get, a repair and a scrub end at a lost row
 pub rows-only : (command : Command) (old new : Seen) (end : Ending) → Answers command old new end →

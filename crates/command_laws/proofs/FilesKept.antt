@@ -1,16 +1,9 @@
 -- A file that is in effect stays right over the commands that do not touch it, and over a repair.
-use Rattle.std.proofs.Common.{◌≡◌, ◌≢◌, ℕ, zero, suc, ◌<◌, ◌≤◌, ◌==◌, ◌&&◌, Bool, true, false, not, List, [], ◌∷◌, ◌++◌, length, reverse, take, Option, None, Some, refl, ap, sym, subst, ◌∙◌, inl, inr, arith, cond}
-use Rattle.std.specs.Prelude.{is_some, IfSome}
-use Rattle.std.proofs.lemmas.Bool.{cases_Bool, false≢true, eq-eqb}
-use Rattle.command_laws.specs.Words.{Object, columns, is_wrong_block, is_flagged, Held, Record, Setup, PutStart, Drop, AuditStart, AuditDone, Version, Area, File, Due, next_id, next_audit, file_of, due_of, started_as, is_start_of, setup_or_none, profiled, object_of, stripes_of, PutJob, DropJob, RepairJob, Answer, Command, RowOf, InitWith, PutUnder, PutAt, GetOf, DropOf, ListAll, AuditAll, RepairAll, UpgradeJournal, ScrubAll, PackJournal, chosen, Seen, Ending, IsRefused, provider_at, setup_in_effect, object_in_effect, StoredOn, PartlyStored, DroppedFrom, put_done, put_records, PutIsCut, PutLeaves, DropLeaves, IfFlagged, AnswersJob, LeftAlone, PartLeft, AnswersPut, AnswersAlone, Answers, IsDone, IsKnown, SameHolds, put_of, after_put, after_repair, IsRepaired, AreAppended, is_wrong_or_untold, HasRightFile, IsThen, HasGrown, IsSteady, spoilt_below, keeps_blocks, IsOfAnother}
+use Rattle.command_laws.proofs.Words.{◌≡◌, ◌≢◌, ℕ, zero, suc, ◌<◌, ◌≤◌, ◌==◌, Bool, true, false, not, List, [], ◌∷◌, ◌++◌, length, reverse, take, Option, None, Some, refl, ap, sym, subst, ◌∙◌, inl, inr, arith, cond, is_some, IfSome, cases_Bool, false≢true, eq-eqb, Object, columns, is_wrong_block, is_flagged, Held, Record, Setup, PutStart, Drop, AuditStart, AuditDone, Version, Area, File, Due, next_id, next_audit, file_of, due_of, started_as, is_start_of, setup_or_none, profiled, object_of, stripes_of, PutJob, DropJob, RepairJob, Answer, Command, RowOf, InitWith, PutUnder, PutAt, GetOf, DropOf, ListAll, AuditAll, RepairAll, UpgradeJournal, ScrubAll, PackJournal, chosen, Seen, Ending, IsRefused, provider_at, setup_in_effect, object_in_effect, StoredOn, PartlyStored, DroppedFrom, put_done, put_records, PutIsCut, PutLeaves, DropLeaves, IfFlagged, AnswersJob, LeftAlone, PartLeft, AnswersPut, AnswersAlone, Answers, IsDone, IsKnown, SameHolds, put_of, after_put, after_repair, IsRepaired, AreAppended, is_wrong_or_untold, HasRightFile, IsThen, HasGrown, IsSteady, spoilt_below, keeps_blocks, IsOfAnother, column-right, cond_true, cond_false, same_value, sound-accepted, file-alike, each-not-wrong, not-wrong-each}
+use Rattle.std.proofs.Common.{◌&&◌}
 use Rattle.device_defs.specs.Told.{Goes}
-use Rattle.column_laws.proofs.Worked.{column-right}
 use Rattle.machine_defs.specs.Answers as answer
-use Rattle.machine_defs.proofs.JobLists.{cond_true, cond_false, same_value}
 use Rattle.machine_defs.proofs.RecordFacts.{AreSound, other_name}
-use Rattle.state_laws.proofs.Records.{sound-accepted}
-use Rattle.state_laws.proofs.Packs.{file-alike}
-use Rattle.job_laws.proofs.Complete.{each-not-wrong, not-wrong-each}
 use Rattle.command_laws.proofs.Known.{known-once, known-both}
 use Rattle.command_laws.proofs.GetEnds.{ran_left}
 use Rattle.command_laws.proofs.JobEnds.{unstarted-refused, get-holds, list-holds, audit-holds, repair-done, upgrade-holds, done-case}
@@ -40,11 +33,10 @@ same-told id a b same = subst (SameAt id a) (sym same) (none a)
 pub wrong-same : (o : Object) (bytes : List ℕ) (j : ℕ) (a b : Option Held) → SameAt o.id a b →
     is_wrong_or_untold o bytes j a ≡ false → is_wrong_or_untold o bytes j b ≡ false
 wrong-same o bytes j None None same right = right
-wrong-same o bytes j None (Some b) same right = absurd same
-wrong-same o bytes j (Some a) None same right = absurd same
 wrong-same o bytes j (Some a) (Some b) same right =
     each-not-wrong o bytes j (b o.id) (λ t l. ap (is_wrong_block o bytes j t) (same t)
     ∙ not-wrong-each o bytes j (a o.id) right t l)
+wrong-same o bytes j a b same right = absurd same
 
 has-same : (name bytes : List ℕ) (records after : List Record) (spoilt : ℕ → Bool) (old new : Seen)
     (H : HasRightFile old records name bytes spoilt) → file_of after name ≡ file_of records name →
@@ -194,17 +186,7 @@ reads-have UpgradeJournal name bytes records after spoilt old new end A keeps H 
 reads-have PackJournal name bytes records after spoilt old new end A keeps H T =
     reads-by PackJournal name bytes records after spoilt old new (pack-holds old new end A.0) H
     (then-by PackJournal name records after old new (λ G. absurd G.of_command) T)
-reads-have (RowOf n l b seen) name bytes records after spoilt old new end A keeps H T =
-    absurd (false≢true keeps)
-reads-have (InitWith numbers) name bytes records after spoilt old new end A keeps H T =
-    absurd (false≢true keeps)
-reads-have (PutUnder other) name bytes records after spoilt old new end A keeps H T =
-    absurd (false≢true keeps)
-reads-have (PutAt other profile) name bytes records after spoilt old new end A keeps H T =
-    absurd (false≢true keeps)
-reads-have (DropOf other) name bytes records after spoilt old new end A keeps H T = absurd (false≢true keeps)
-reads-have RepairAll name bytes records after spoilt old new end A keeps H T = absurd (false≢true keeps)
-reads-have ScrubAll name bytes records after spoilt old new end A keeps H T = absurd (false≢true keeps)
+reads-have command name bytes records after spoilt old new end A keeps H T = absurd (false≢true keeps)
 
 -- a file that is right stays so over a refusal
 pub refused-has : (status at : ℕ) (name bytes : List ℕ) (records : List Record) (spoilt : ℕ → Bool)
@@ -231,9 +213,8 @@ refused-keeps status at records id old new end r =
 same-goes : (id : ℕ) (change : Held → Held → Type 0) → ((a b : Held) → change a b → SameOf id a b) →
     (a b : Option Held) → Goes change a b → SameAt id a b
 same-goes id change keeps None None g = tt
-same-goes id change keeps None (Some b) g = absurd g
-same-goes id change keeps (Some a) None g = absurd g
 same-goes id change keeps (Some a) (Some b) g = keeps a b g
+same-goes id change keeps b a g = absurd g
 
 module _ (name other : List ℕ) (records : List Record) (file : File) (sound : AreSound records)
     (in_effect : file_of records name ≡ Some file) (differ : other ≢ name) where
@@ -271,8 +252,7 @@ module _ (name other : List ℕ) (records : List Record) (file : File) (sound : 
   put-keeps bytes own how old new end left = by_answer how
     where
       stored : (rose : Type 0) (j : ℕ) (a b : Held) →
-          StoredOn (its own) bytes
-          (file_of records other) rose j a b → SameOf file.id a b
+          StoredOn (its own) bytes (file_of records other) rose j a b → SameOf file.id a b
       stored rose j a b S stripe =
           S.others file.id stripe (record { stored = λ e. absurd (not-next e); removed = not-older })
 
@@ -283,9 +263,7 @@ module _ (name other : List ℕ) (records : List Record) (file : File) (sound : 
       cut (PutIsCut.at_done after doubt stored) = λ j below. same-goes file.id _ (all-keeps bytes own j)
           (provider_at old.providers j).held (provider_at new.providers j).held (stored j below)
 
-      partly : (j : ℕ) (a b : Held) →
-          PartlyStored (its own) bytes j a b →
-          SameOf file.id a b
+      partly : (j : ℕ) (a b : Held) → PartlyStored (its own) bytes j a b → SameOf file.id a b
       partly j a b S stripe = S.others file.id stripe (λ e. not-next e)
 
       by_answer : (h : Answer) →
@@ -331,8 +309,7 @@ module _ (name other : List ℕ) (records : List Record) (file : File) (sound : 
       put-keeps bytes _ how old new end left left.leaves.by_kind.0
 
   drop-job : {area : Area} (old new : Seen) (end : Ending) →
-      AnswersJob (DropJob other) None area records old new end →
-      KeepsObject records file.id old new
+      AnswersJob (DropJob other) None area records old new end → KeepsObject records file.id old new
   drop-job old new end (AnswersJob.refused why is synced r) = refused-keeps _ 0 records file.id old new end r
   drop-job old new end (AnswersJob.no_memory synced r) = refused-keeps 70 0 records file.id old new end r
   drop-job old new end (AnswersJob.ended how none runs left by) =
@@ -365,14 +342,12 @@ drop-command name other bytes records spoilt old new end differ K H (AnswersAlon
     (let r = unstarted-refused old new end u in refused-keeps r.0 r.1 records H.file.id old new end r.3)
 drop-command name other bytes records spoilt old new end differ K H (AnswersAlone.begun rs opened A) =
     drop-job name other records H.file (sound-accepted records K.opened.read.accepted) H.in_effect differ old
-    new end
-    (known-both old records rs K opened (λ a l. AnswersJob (DropJob other) None a l old new end) A)
+    new end (known-both old records rs K opened (λ a l. AnswersJob (DropJob other) None a l old new end) A)
 
 -- a file that is right stays so over a put or a drop of another name
 pub others-have : (command : Command) (name bytes : List ℕ) (records after : List Record) (spoilt : ℕ → Bool)
     (old new : Seen) (end : Ending) → Answers command old new end → IsOfAnother name command →
-    IsKnown old records →
-    HasRightFile old records name bytes spoilt → IsThen command records old new after →
+    IsKnown old records → HasRightFile old records name bytes spoilt → IsThen command records old new after →
     HasRightFile new after name bytes spoilt
 others-have (PutUnder other) name bytes records after spoilt old new end A differ K H T =
     (let S = then-by (PutUnder other) name records after old new
@@ -389,15 +364,7 @@ others-have (DropOf other) name bytes records after spoilt old new end A differ 
     (drop-grown name other records after old new differ) T in
     has-same name bytes records after spoilt old new H S.0 S.1
     (drop-command name other bytes records spoilt old new end differ K H A.0))
-others-have (RowOf n l b seen) name bytes records after spoilt old new end A differ K H T = absurd differ
-others-have (InitWith numbers) name bytes records after spoilt old new end A differ K H T = absurd differ
-others-have (GetOf got) name bytes records after spoilt old new end A differ K H T = absurd differ
-others-have ListAll name bytes records after spoilt old new end A differ K H T = absurd differ
-others-have AuditAll name bytes records after spoilt old new end A differ K H T = absurd differ
-others-have RepairAll name bytes records after spoilt old new end A differ K H T = absurd differ
-others-have UpgradeJournal name bytes records after spoilt old new end A differ K H T = absurd differ
-others-have ScrubAll name bytes records after spoilt old new end A differ K H T = absurd differ
-others-have PackJournal name bytes records after spoilt old new end A differ K H T = absurd differ
+others-have command name bytes records after spoilt old new end A differ K H T = absurd differ
 
 -- ---- a repair that is done
 
@@ -406,9 +373,8 @@ pub flag-off : (id : ℕ) (flag : Bool) (change : Held → Held → Type 0) (a b
     Goes (IfFlagged flag change) a b → SameAt id a b
 flag-off id false change None None off g = tt
 flag-off id false change (Some a) (Some b) off g = λ stripe. g id stripe
-flag-off id false change None (Some b) off g = absurd g
-flag-off id false change (Some a) None off g = absurd g
 flag-off id true change a b off g = absurd (false≢true (sym off))
+flag-off id false change a b off g = absurd g
 
 -- a provider that told what it holds before a change tells it after
 pub goes-tells : (change : Held → Held → Type 0) (a b : Option Held) → is_some a ≡ true → Goes change a b →

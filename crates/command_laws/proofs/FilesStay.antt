@@ -1,13 +1,7 @@
 -- A file that is in effect and right on most providers, between two commands.
-use Rattle.std.proofs.Common.{◌≡◌, ℕ, ◌+◌, ◌<◌, ◌≤◌, ◌||◌, Bool, true, false, List, length, Option, None, Some, refl, ap, sym, subst, ◌∙◌, inl, inr, arith}
-use Rattle.std.specs.Prelude.{is_some, nat_lt, nat_le}
-use Rattle.std.proofs.lemmas.Bool.{cases_Bool, cases_lt, false≢true}
-use Rattle.std.proofs.lemmas.Bool.Decides.{nat_tests}
-use Rattle.command_laws.specs.Words.{Object, is_wrong_block, Rose, last_count, Held, Provider, Record, largest_file, Setup, File, file_as, next_id, file_of, profiled, object_of, chosen, AreBytes, Seen, Ending, provider_at, setup_in_effect, object_in_effect, StoredOn, AnswersPut, has_risen, is_bad_with, is_bad_for, bad_seen, IsDone, IsKnown, after_put, IsWholePut, is_wrong_or_untold, HasRightFile, IsUntouched, IsSteady, spoilt_below}
-use Rattle.column_laws.proofs.Counts.{count_of-within}
+use Rattle.command_laws.proofs.Words.{◌≡◌, ℕ, ◌+◌, ◌<◌, ◌≤◌, Bool, true, false, List, length, Option, None, Some, refl, ap, sym, subst, ◌∙◌, inl, inr, arith, is_some, nat_lt, nat_le, cases_Bool, cases_lt, false≢true, nat_tests, Object, is_wrong_block, Rose, last_count, Held, Provider, Record, largest_file, Setup, File, file_as, next_id, file_of, profiled, object_of, chosen, AreBytes, Seen, Ending, provider_at, setup_in_effect, object_in_effect, StoredOn, AnswersPut, has_risen, is_bad_with, is_bad_for, bad_seen, IsDone, IsKnown, after_put, IsWholePut, is_wrong_or_untold, HasRightFile, IsUntouched, IsSteady, spoilt_below, count_of-within, column-right, each-not-wrong}
+use Rattle.std.proofs.Common.{◌||◌}
 use Rattle.device_defs.specs.Told.{Goes}
-use Rattle.column_laws.proofs.Worked.{column-right}
-use Rattle.job_laws.proofs.Complete.{each-not-wrong}
 use Rattle.command_laws.proofs.Known.{known-once}
 use Rattle.command_laws.proofs.JobEnds.{put-done, put-setup}
 use Rattle.command_laws.proofs.DoneStores.{whole-read}

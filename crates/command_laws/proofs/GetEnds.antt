@@ -1,13 +1,7 @@
 -- How a get ends over a disk that tells its records.
-use Rattle.std.proofs.Common.{◌≡◌, ℕ, ◌+◌, ◌≤◌, ◌⊎◌, true, cond, not, List, [], length, None, Some, refl, sym, subst, ◌∙◌, inl, inr, arith, Option}
-use Rattle.std.specs.Prelude.{is_some}
-use Rattle.command_laws.specs.Words.{IsShape, Rose, told_then, TakesFront, Record, is_name, Area, File, file_of, Kind, GetJob, Answer, AreBytes, Entry, HoldsForgery, Refusal, WritesLine, Seen, Ending, IsRefused, sinking, IsOpened, setup_in_effect, object_in_effect, refusal_over, Ran, ran_alone, job_number, text_of, GetLeaves, AnswersJob, EndsByAnswer, LeftAlone, AnswersAlone, bad_seen, IsKnown, GivesUnlessMemory}
-use Rattle.record_defs.proofs.FilesLaws.{find-files_of}
+use Rattle.command_laws.proofs.Words.{◌≡◌, ℕ, ◌+◌, ◌≤◌, ◌⊎◌, true, cond, not, List, [], length, None, Some, refl, sym, subst, ◌∙◌, inl, inr, arith, Option, is_some, IsShape, Rose, told_then, TakesFront, Record, is_name, Area, File, file_of, Kind, GetJob, Answer, AreBytes, Entry, HoldsForgery, Refusal, WritesLine, Seen, Ending, IsRefused, sinking, IsOpened, setup_in_effect, object_in_effect, refusal_over, Ran, ran_alone, job_number, text_of, GetLeaves, AnswersJob, EndsByAnswer, LeftAlone, AnswersAlone, bad_seen, IsKnown, GivesUnlessMemory, find-files_of, file-spelled, shape-of, get-complete, get-right, get-forged, opened_state, state-over}
 use Rattle.machine_defs.specs.Answers as answer
 use Rattle.machine_defs.specs.Refusals as refusal
-use Rattle.state_laws.proofs.Records.{file-spelled}
-use Rattle.job_laws.proofs.Complete.{shape-of, get-complete, get-right, get-forged}
-use Rattle.job_laws.proofs.Telling.{opened_state, state-over}
 use Rattle.command_laws.proofs.Known.{none-written, written-well, written-zero, written-front, alone-known}
 
 -- the setup of records that are read is of a shape

@@ -1,24 +1,12 @@
 -- Commands over devices that a run left go on with that run.
-use Rattle.std.proofs.Common.{◌≡◌, ℕ, ◌+◌, ◌<◌, ◌≤◌, ◌⊎◌, true, false, List, [], ◌∷◌, ◌++◌, length, Option, None, Some, refl, ap, sym, subst, ◌∙◌, inl, inr, arith, append_assoc, length-take, lit≤}
-use Rattle.std.specs.Prelude.{is_some, IfSome, IsTrue}
-use Rattle.std.specs.Option.{option_map}
-use Rattle.std.proofs.lemmas.Bool.{cases_Bool, false≢true}
-use Rattle.std.proofs.lemmas.List.{append-nil}
-use Rattle.algebra_laws.proofs.Options.{is_some-option_map}
-use Rattle.command_laws.specs.Words.{Cells, reads, synced, Rose, EachImage, Provider, Record, Setup, largest_file, largest_journal, HasNoSetup, setup_of, files_of, Area, other_area, end_in, StandsActive, packed, Answer, Event, BeginScrub, BeginPack, Step, Reopen, Names, Continue, Outcome, Refused, Opened, More, Begun, Ended, Listed, Continued, AreBytes, IsSpelled, IsSpelledKind, Kind, PutJob, GetJob, DropJob, AuditJob, RepairJob, UpgradeJob, Happens, BeginsAt, refusal_of_begin, Refusal, Moment, now, IsRun, setup_or_none, StandsPlain, StandsForState, State, Doubt, given_up, continued, setup_in, Rereads, GoOn, IsSound, Command, RowOf, InitWith, PutUnder, PutAt, GetOf, DropOf, ListAll, AuditAll, RepairAll, UpgradeJournal, ScrubAll, PackJournal, WritesLine, Seen, Ending, NoCountFalls, IsRefused, IsSynced, ReadsFront, sinking, journal_read, IsRead, IsBadStart, IsResynced, IsOpened, Unstarted, setup_in_effect, AreHanded, IsJustOpened, MayName, AreSteps, GoesOnTo, PutLeaves, put_stripe, after_begin, StopsReading, PartRan, PartRuns, PartLeft, AnswersJob, EndsByAnswer, RunsAlone, RanAlone, outside, text_of, list_lines, scrub_text, pack_text, is_unknown, refusal_over, pack_refusal_over, status_of, RanScrub, ScrubsAlone, AnswersScrub, RanPack, PacksAlone, AnswersPack, MayBeWhole, AnswersPut, AnswersAlone, ListsFiles, AnswersList, Answers, profile_named, RunsKind, ReadsWhole, opens_store, IsStore, IsSpelledCommand, IsCall, begin_of, moment, unopened_status}
-use Rattle.device_defs.proofs.Lasting.{image-firm, each_image-mono}
-use Rattle.device_defs.proofs.PickLaws.{IsImage-reads}
+use Rattle.command_laws.proofs.Words.{◌≡◌, ℕ, ◌+◌, ◌<◌, ◌≤◌, ◌⊎◌, true, false, List, [], ◌∷◌, ◌++◌, length, Option, None, Some, refl, ap, sym, subst, ◌∙◌, inl, inr, arith, append_assoc, length-take, lit≤, is_some, IfSome, option_map, cases_Bool, false≢true, append-nil, is_some-option_map, Cells, reads, synced, Rose, EachImage, Provider, Entry, Record, Setup, largest_file, largest_journal, HasNoSetup, setup_of, files_of, Area, other_area, end_in, StandsActive, packed, Answer, Event, BeginScrub, BeginPack, Step, Reopen, Names, Continue, Outcome, Refused, Opened, More, Begun, Ended, Listed, Continued, AreBytes, IsSpelled, IsSpelledKind, Kind, PutJob, GetJob, DropJob, AuditJob, RepairJob, UpgradeJob, Happens, BeginsAt, refusal_of_begin, Refusal, Moment, now, IsRun, setup_or_none, StandsPlain, StandsForState, State, Doubt, given_up, continued, setup_in, IsSound, Command, PutUnder, PutAt, GetOf, DropOf, ListAll, AuditAll, RepairAll, UpgradeJournal, ScrubAll, PackJournal, WritesLine, Seen, Ending, NoCountFalls, IsRefused, IsSynced, ReadsFront, sinking, journal_read, IsRead, IsBadStart, IsResynced, IsOpened, Unstarted, setup_in_effect, AreHanded, IsJustOpened, MayName, AreSteps, GoesOnTo, PutLeaves, put_stripe, after_begin, StopsReading, PartRan, PartRuns, PartLeft, AnswersJob, EndsByAnswer, RunsAlone, RanAlone, outside, text_of, list_lines, scrub_text, pack_text, is_unknown, refusal_over, pack_refusal_over, status_of, RanScrub, ScrubsAlone, AnswersScrub, RanPack, PacksAlone, AnswersPack, MayBeWhole, AnswersPut, AnswersAlone, ListsFiles, AnswersList, Answers, profile_named, RunsKind, ReadsWhole, opens_store, IsStore, IsSpelledCommand, IsCall, begin_of, moment, unopened_status, image-firm, each_image-mono, IsImage-reads, active-take, same_value, events-sound, is_some-at, none-set_up, second-set_up, setup-more, switched-room, packed_are, read-once, read-set_up, read-never-bad, fresh-good}
+use Rattle.std.specs.Prelude.{IsTrue}
+use Rattle.machine_defs.specs.Openings.{Rereads}
+use Rattle.machine_defs.specs.Transcripts.{GoOn}
 use Rattle.device_defs.specs.Told.{Goes}
 use Rattle.record_defs.specs.Areas as areas
-use Rattle.record_defs.proofs.Standing.{active-take}
 use Rattle.machine_defs.specs.Answers as answer
 use Rattle.machine_defs.specs.Refusals as refusal
-use Rattle.machine_defs.proofs.JobLists.{same_value}
-use Rattle.state_laws.proofs.Events.{events-sound}
-use Rattle.state_laws.proofs.Records.{is_some-at, none-set_up, second-set_up, setup-more}
-use Rattle.state_laws.proofs.Packs.{switched-room}
-use Rattle.record_defs.proofs.PackLaws.{packed_are}
-use Rattle.opening_defs.proofs.Readings.{read-once, read-set_up, read-good as read-never-bad, fresh-good}
 use Rattle.command_laws.proofs.GetEnds.{ran_left}
 use Rattle.command_laws.proofs.JobEnds.{given-status, given-front}
 use Rattle.command_laws.proofs.Images.{refused-keeps}
@@ -83,27 +71,14 @@ begin-happens : (kind : Kind) (own : Option ℕ) → MayName kind own → (n : �
     (c : State) → BeginsAt 8 n v kind own outcome c → Happens 8 n v (begin_of kind own) outcome c
 begin-happens (PutJob name bytes) None may n v outcome c h = h
 begin-happens (PutJob name bytes) (Some p) may n v outcome c h = h
-begin-happens (GetJob name) own may n v outcome c h =
-    subst (λ o. BeginsAt 8 n v (GetJob name) o outcome c) (unnamed (GetJob name) own may (λ m b e. cc)) h
-begin-happens (DropJob name) own may n v outcome c h =
-    subst (λ o. BeginsAt 8 n v (DropJob name) o outcome c) (unnamed (DropJob name) own may (λ m b e. cc)) h
-begin-happens AuditJob own may n v outcome c h =
-    subst (λ o. BeginsAt 8 n v AuditJob o outcome c) (unnamed AuditJob own may (λ m b e. cc)) h
-begin-happens RepairJob own may n v outcome c h =
-    subst (λ o. BeginsAt 8 n v RepairJob o outcome c) (unnamed RepairJob own may (λ m b e. cc)) h
-begin-happens UpgradeJob own may n v outcome c h =
-    subst (λ o. BeginsAt 8 n v UpgradeJob o outcome c) (unnamed UpgradeJob own may (λ m b e. cc)) h
+begin-happens kind own may n v outcome c h =
+    subst (λ o. BeginsAt 8 n v kind o outcome c) (unnamed kind own may (λ m b e. cc)) h
 
 -- its words are bytes where those of the job are
 begin-spelled : (kind : Kind) (own : Option ℕ) → IsSpelledKind kind →
     ((p : ℕ) → own ≡ Some p → p < 256) → IsSpelled (begin_of kind own)
-begin-spelled (PutJob name bytes) None spelled byte = spelled
 begin-spelled (PutJob name bytes) (Some p) spelled byte = (byte p refl, spelled)
-begin-spelled (GetJob name) own spelled byte = spelled
-begin-spelled (DropJob name) own spelled byte = spelled
-begin-spelled AuditJob own spelled byte = spelled
-begin-spelled RepairJob own spelled byte = spelled
-begin-spelled UpgradeJob own spelled byte = spelled
+begin-spelled kind own spelled byte = spelled
 
 -- ---- disks
 
@@ -122,29 +97,26 @@ image-of-synced c b P is p =
 -- a put that is stored is one of its whole source
 abbrev PutsWhole : (kind : Kind) (own : Option ℕ) (area : Area) (rs : List Record) (old new : Seen)
     (end : Ending) → AnswersJob kind own area rs old new end → Type 0
-PutsWhole kind own area rs old new end (AnswersJob.refused why is sync r) = Unit {0}
-PutsWhole kind own area rs old new end (AnswersJob.no_memory sync r) = Unit {0}
 PutsWhole kind own area rs old new end (AnswersJob.ended how begins runs left by) =
     how ≡ answer.Put → ReadsWhole kind old new
+PutsWhole kind own area rs old new end h = Unit {0}
 
 puts-all : (kind : Kind) (own : Option ℕ) (area : Area) (rs : List Record) (old new : Seen)
     (end : Ending) → ReadsWhole kind old new → (A : AnswersJob kind own area rs old new end) →
     PutsWhole kind own area rs old new end A
-puts-all kind own area rs old new end whole (AnswersJob.refused why is sync r) = tt
-puts-all kind own area rs old new end whole (AnswersJob.no_memory sync r) = tt
 puts-all kind own area rs old new end whole (AnswersJob.ended how begins runs left by) = λ e. whole
+puts-all kind own area rs old new end whole A = tt
 
 puts-whole : (name bytes : List ℕ) (own : Option ℕ) (area : Area) (rs : List Record) (old new : Seen)
     (end : Ending) →
     ReadsFront old.source new.source bytes → (A : AnswersJob (PutJob name bytes) own area rs old new end) →
     (MayBeWhole name bytes own area rs A → IfSome new.source (λ left. left ≡ [])) →
     PutsWhole (PutJob name bytes) own area rs old new end A
-puts-whole name bytes own area rs old new end read (AnswersJob.refused why is sync r) whole = tt
-puts-whole name bytes own area rs old new end read (AnswersJob.no_memory sync r) whole = tt
 puts-whole name bytes own area rs old new end read (AnswersJob.ended how begins runs left by) whole =
     λ put. (let L : PutLeaves (ran_left rs (PutJob name bytes) how old new end.heard left) own name bytes
     answer.Put = subst (PutLeaves (ran_left rs (PutJob name bytes) how old new end.heard left) own name bytes)
     put left.leaves.by_kind.0 in (read, whole (inl L.0.after)))
+puts-whole name bytes own area rs old new end read A whole = tt
 
 -- ---- a store that a run left
 
@@ -507,8 +479,7 @@ module _ (start : State) (ms : List Moment) (R : IsRun 8 start ms) (old : Seen)
       unset-put name (AnswersPut.source_fault other O known rose sync taken r) =
           absurd (none-read other O.read)
       unset-put name (AnswersPut.no_memory taken r) = memory-on 0 r
-      unset-put name (AnswersPut.begun other bytes O known read few A whole) =
-          absurd (none-read other O.read)
+      unset-put name (AnswersPut.begun other bytes O known read few A whole) = absurd (none-read other O.read)
       unset-put name (AnswersPut.given_up other bytes O known begins stops runs left) =
           absurd (none-read other O.read)
 
@@ -537,8 +508,7 @@ module _ (start : State) (ms : List Moment) (R : IsRun 8 start ms) (old : Seen)
       opened_at faults =
           record (settled (continued w) records rs area) { is_open = true; disk_faults = faults }
 
-      run-opened : (faults : ℕ) → old.disk_faults ≤ faults →
-          (setup_in_effect rs).n ≤ length old.providers →
+      run-opened : (faults : ℕ) → old.disk_faults ≤ faults → (setup_in_effect rs).n ≤ length old.providers →
           IsRun 8 start (moment Reopen Opened (opened_at faults) ∷ later ∷ ms)
       unfolding setup_in
       run-opened faults l enough = (
@@ -686,38 +656,52 @@ module _ (start : State) (ms : List Moment) (R : IsRun 8 start ms) (old : Seen)
           store-opened L.disk L.providers,
         )
 
+        -- a job that begins in the vault that was opened goes on with the run
+        module _ (faults : ℕ) (before : old.disk_faults ≤ faults) (begin : Event) (spelled : IsSpelled begin)
+            (c : State) (begins : Happens 8 (length (moment Reopen Opened (opened_at faults) ∷ later ∷ ms))
+            (opened_at faults) begin (Begun 1) c) where
+          abbrev before-it : ℕ
+          before-it = length (moment Reopen Opened (opened_at faults) ∷ later ∷ ms)
+
+          abbrev begun-moments : List Moment
+          begun-moments = moment begin (Begun 1) c ∷ moment Reopen Opened (opened_at faults) ∷ later ∷ []
+
+          at : before-it + 1 ≡ length (begun-moments ++ ms)
+          at = omega arith
+
+          -- with its steps
+          stepped : (steps : List Moment) → AreSteps c (before-it + 1) 1 steps →
+              IsRun 8 start (steps ++ (begun-moments ++ ms))
+          stepped steps are = steps-run start c (begun-moments ++ ms) steps refl
+              (subst (λ k. AreSteps c k 1 steps) at are) (spelled, begins, run-opened faults before enough)
+
+          -- and with its end
+          ended-so : (how : Answer) (heard : List Entry) (last : State)
+              (g : GoesOnTo c (before-it + 1) 1 how heard last) →
+              IsRun 8 start ((moment (Step 1) (Ended how) last ∷ (g.steps ++ begun-moments)) ++ ms)
+          ended-so how heard last g = subst (λ l. IsRun 8 start (moment (Step 1) (Ended how) last ∷ l))
+              (sym (append_assoc g.steps begun-moments ms)) (
+                omega arith,
+                happens-at start c (begun-moments ++ ms) g.steps (Step 1) (Ended how) last refl
+                    (subst (λ k. Happens 8 (k + length g.steps) (now c g.steps) (Step 1) (Ended how) last)
+                    at g.ends),
+                stepped g.steps g.are_steps,
+              )
+
         scrubbed-on : command ≡ ScrubAll → (how : Answer) → end.heard ≡ [] → IsSynced old new →
             ScrubsAlone area rs how old new → EndsByAnswer (scrub_text how) how old new end → GoesOn
         scrubbed-on is how heard sync A by =
             (let v : State = opened_at A.faults in
-            let two : Moment = moment Reopen Opened v in
-            let n : ℕ = length (two ∷ later ∷ ms) in
+            let n : ℕ = length (moment Reopen Opened v ∷ later ∷ ms) in
             let ran : RanScrub rs how old new A.faults v n = A.ran v n (over A.faults A.before enough) in
             let c : State = ran.runs.begun in
-            let job_is : ran.runs.job ≡ 1 = ran.runs.begins.2 in
-            let three : Moment = moment BeginScrub (Begun 1) c in
-            let begun : IsRun 8 start (three ∷ two ∷ later ∷ ms) = (
-              tt,
-              subst (λ j. Happens 8 n v BeginScrub (Begun j) c) job_is ran.runs.begins,
-              run-opened A.faults A.before enough,
-            ) in
+            let begun : Happens 8 n v BeginScrub (Begun 1) c =
+            subst (λ j. Happens 8 n v BeginScrub (Begun j) c) ran.runs.begins.2 ran.runs.begins in
             let g : GoesOnTo c (n + 1) 1 how [] ran.last =
-            subst (λ j. GoesOnTo c (n + 1) j how [] ran.last) job_is ran.runs.goes_on in
-            let at : n + 1 ≡ length (three ∷ two ∷ later ∷ ms) = omega arith in
-            let stepped : IsRun 8 start (g.steps ++ three ∷ two ∷ later ∷ ms) =
-            steps-run start c (three ∷ two ∷ later ∷ ms) g.steps refl
-            (subst (λ k. AreSteps c k 1 g.steps) at g.are_steps) begun in
-            let four : Moment = moment (Step 1) (Ended how) ran.last in
-            let ended : IsRun 8 start (four ∷ (g.steps ++ three ∷ two ∷ later ∷ ms)) = (
-              omega arith,
-              happens-at start c (three ∷ two ∷ later ∷ ms) g.steps (Step 1) (Ended how) ran.last refl
-                  (subst (λ k. Happens 8 (k + length g.steps) (now c g.steps) (Step 1)
-                  (Ended how) ran.last) at g.ends),
-              stepped,
-            ) in
-            let own : List Moment = four ∷ (g.steps ++ three ∷ two ∷ later ∷ []) in
-            let run : IsRun 8 start (own ++ ms) = subst (λ l. IsRun 8 start (four ∷ l))
-            (sym (append_assoc g.steps (three ∷ two ∷ later ∷ []) ms)) ended in (
+            subst (λ j. GoesOnTo c (n + 1) j how [] ran.last) ran.runs.begins.2 ran.runs.goes_on in
+            let own : List Moment =
+            moment (Step 1) (Ended how) ran.last ∷ (g.steps ++ begun-moments A.faults A.before BeginScrub tt c begun) in
+            let run : IsRun 8 start (own ++ ms) = ended-so A.faults A.before BeginScrub tt c begun how [] ran.last g in (
               own,
               IsCall.scrubbed (continued w) v c ran.last g.steps how is
                   (steps-go c (n + 1) g.steps g.are_steps) refl by heard,
@@ -754,34 +738,16 @@ module _ (start : State) (ms : List Moment) (R : IsRun 8 start ms) (old : Seen)
             PacksAlone area rs how old new → EndsByAnswer (pack_text how) how old new end → GoesOn
         packed-on is how heard tells A by =
             (let v : State = opened_at A.faults in
-            let two : Moment = moment Reopen Opened v in
-            let n : ℕ = length (two ∷ later ∷ ms) in
+            let n : ℕ = length (moment Reopen Opened v ∷ later ∷ ms) in
             let ran : RanPack rs how old new v n = A.ran v n (over A.faults A.before enough) in
             let c : State = ran.runs.begun in
-            let job_is : ran.runs.job ≡ 1 = ran.runs.begins.2 in
-            let three : Moment = moment BeginPack (Begun 1) c in
-            let begun : IsRun 8 start (three ∷ two ∷ later ∷ ms) = (
-              tt,
-              subst (λ j. Happens 8 n v BeginPack (Begun j) c) job_is ran.runs.begins,
-              run-opened A.faults A.before enough,
-            ) in
+            let begun : Happens 8 n v BeginPack (Begun 1) c =
+            subst (λ j. Happens 8 n v BeginPack (Begun j) c) ran.runs.begins.2 ran.runs.begins in
             let g : GoesOnTo c (n + 1) 1 how [] ran.last =
-            subst (λ j. GoesOnTo c (n + 1) j how [] ran.last) job_is ran.runs.goes_on in
-            let at : n + 1 ≡ length (three ∷ two ∷ later ∷ ms) = omega arith in
-            let stepped : IsRun 8 start (g.steps ++ three ∷ two ∷ later ∷ ms) =
-            steps-run start c (three ∷ two ∷ later ∷ ms) g.steps refl
-            (subst (λ k. AreSteps c k 1 g.steps) at g.are_steps) begun in
-            let four : Moment = moment (Step 1) (Ended how) ran.last in
-            let ended : IsRun 8 start (four ∷ (g.steps ++ three ∷ two ∷ later ∷ ms)) = (
-              omega arith,
-              happens-at start c (three ∷ two ∷ later ∷ ms) g.steps (Step 1) (Ended how) ran.last refl
-                  (subst (λ k. Happens 8 (k + length g.steps) (now c g.steps) (Step 1)
-                  (Ended how) ran.last) at g.ends),
-              stepped,
-            ) in
-            let own : List Moment = four ∷ (g.steps ++ three ∷ two ∷ later ∷ []) in
-            let run : IsRun 8 start (own ++ ms) = subst (λ l. IsRun 8 start (four ∷ l))
-            (sym (append_assoc g.steps (three ∷ two ∷ later ∷ []) ms)) ended in (
+            subst (λ j. GoesOnTo c (n + 1) j how [] ran.last) ran.runs.begins.2 ran.runs.goes_on in
+            let own : List Moment =
+            moment (Step 1) (Ended how) ran.last ∷ (g.steps ++ begun-moments A.faults A.before BeginPack tt c begun) in
+            let run : IsRun 8 start (own ++ ms) = ended-so A.faults A.before BeginPack tt c begun how [] ran.last g in (
               own,
               IsCall.packed (continued w) v c ran.last g.steps how is
                   (steps-go c (n + 1) g.steps g.are_steps) refl by heard,
@@ -800,8 +766,7 @@ module _ (start : State) (ms : List Moment) (R : IsRun 8 start ms) (old : Seen)
             (byte : (p : ℕ) → own ≡ Some p → p < 256) where
           refused-on : (status at : ℕ) (why : Refusal) → IsSpelledKind kind →
               (refusal_over area rs kind own ≡ Some why) ⊎ (why ≡ refusal.Memory) →
-              end.status ≡ status_of why →
-              IsSynced old new → IsRefused status at old new end → GoesOn
+              end.status ≡ status_of why → IsSynced old new → IsRefused status at old new end → GoesOn
           refused-on status at why spelled cause status_is sync r = (
             moment (begin_of kind own) (Refused why) opened ∷ reopened ∷ later ∷ [],
             IsCall.refused kind (continued w) opened opened why is_job
@@ -828,8 +793,7 @@ module _ (start : State) (ms : List Moment) (R : IsRun 8 start ms) (old : Seen)
           unfolding setup_in
           ended-on how spelled whole A by =
               (let v : State = opened_at A.faults in
-              let two : Moment = moment Reopen Opened v in
-              let n : ℕ = length (two ∷ later ∷ ms) in
+              let n : ℕ = length (moment Reopen Opened v ∷ later ∷ ms) in
               let V : IsJustOpened v area rs 1 A.faults old.providers = over A.faults A.before enough in
               let ran : RanAlone area rs kind own how old new end.heard A.faults v n = A.ran v n V in
               let L = last-state v ran.last n kind own how end.heard V.at_rest spelled may ran.runs in
@@ -837,35 +801,18 @@ module _ (start : State) (ms : List Moment) (R : IsRun 8 start ms) (old : Seen)
               subst (λ (t : Setup). EndsByAnswer (text_of t.tolerance kind how) how old new end) same-setup-in
               by in
               let c : State = ran.runs.begun in
-              let job_is : ran.runs.job ≡ 1 = ran.runs.begins.2 in
-              let three : Moment = moment (begin_of kind own) (Begun 1) c in
-              let begun : IsRun 8 start (three ∷ two ∷ later ∷ ms) = (
-                begin-spelled kind own spelled byte,
-                begin-happens kind own may n v (Begun 1) c
-                    (subst (λ j. BeginsAt 8 n v kind own (Begun j) c) job_is ran.runs.begins),
-                run-opened A.faults A.before enough,
-              ) in
+              let begun : Happens 8 n v (begin_of kind own) (Begun 1) c = begin-happens kind own may n v (Begun 1)
+              c (subst (λ j. BeginsAt 8 n v kind own (Begun j) c) ran.runs.begins.2 ran.runs.begins) in
+              let words : IsSpelled (begin_of kind own) = begin-spelled kind own spelled byte in
               let g : GoesOnTo c (n + 1) 1 how end.heard ran.last =
-              subst (λ j. GoesOnTo c (n + 1) j how end.heard ran.last) job_is ran.runs.goes_on in
-              let at : n + 1 ≡ length (three ∷ two ∷ later ∷ ms) = omega arith in
-              let stepped : IsRun 8 start (g.steps ++ three ∷ two ∷ later ∷ ms) =
-              steps-run start c (three ∷ two ∷ later ∷ ms) g.steps refl
-              (subst (λ k. AreSteps c k 1 g.steps) at g.are_steps) begun in
-              let four : Moment = moment (Step 1) (Ended how) ran.last in
-              let ended : IsRun 8 start (four ∷ (g.steps ++ three ∷ two ∷ later ∷ ms)) = (
-                omega arith,
-                happens-at start c (three ∷ two ∷ later ∷ ms) g.steps (Step 1) (Ended how) ran.last refl
-                    (subst (λ k. Happens 8 (k + length g.steps) (now c g.steps) (Step 1)
-                    (Ended how) ran.last) at g.ends),
-                stepped,
-              ) in (
-                four ∷ (g.steps ++ three ∷ two ∷ later ∷ []),
+              subst (λ j. GoesOnTo c (n + 1) j how end.heard ran.last) ran.runs.begins.2 ran.runs.goes_on in (
+                moment (Step 1) (Ended how) ran.last
+                    ∷ (g.steps ++ begun-moments A.faults A.before (begin_of kind own) words c begun),
                 IsCall.ended kind (continued w) v c ran.last g.steps how is_job whole
                     (steps-go c (n + 1) g.steps g.are_steps)
-                    (ap (λ o. four ∷ (g.steps ++ moment (begin_of kind o) (Begun 1) c ∷ two ∷ later ∷ []))
-                    (sym named)) said g.heard_is,
-                subst (λ l. IsRun 8 start (four ∷ l))
-                    (sym (append_assoc g.steps (three ∷ two ∷ later ∷ []) ms)) ended,
+                    (ap (λ o. moment (Step 1) (Ended how) ran.last ∷ (g.steps ++ moment (begin_of kind o) (Begun 1) c
+                    ∷ moment Reopen Opened v ∷ later ∷ [])) (sym named)) said g.heard_is,
+                ended-so A.faults A.before (begin_of kind own) words c begun how end.heard ran.last g,
                 record {
                   sound = L.sound;
                   tells = tells-outside area kind own how rs ran.last.journal old.disk new.disk ran.outside_text
@@ -892,38 +839,30 @@ module _ (start : State) (ms : List Moment) (R : IsRun 8 start ms) (old : Seen)
             PartRuns area rs name bytes own old new → PartLeft area rs name bytes own old new → GoesOn
         given-on name bytes own is_job named byte spelled stops A left =
             (let v : State = opened_at A.faults in
-            let two : Moment = moment Reopen Opened v in
-            let n : ℕ = length (two ∷ later ∷ ms) in
+            let n : ℕ = length (moment Reopen Opened v ∷ later ∷ ms) in
             let V : IsJustOpened v area rs 1 A.faults old.providers = over A.faults A.before enough in
             let ran : PartRan area rs name bytes own old new A.faults v n = A.ran v n V in
             let L = part-state v ran.last n (PutJob name bytes) own _ V.at_rest spelled
             (MayName.put name bytes refl) ran.runs in
             let c : State = ran.runs.begun in
             let steps : List Moment = ran.runs.steps in
-            let job_is : ran.runs.job ≡ 1 = ran.runs.begins.2 in
-            let three : Moment = moment (begin_of (PutJob name bytes) own) (Begun 1) c in
-            let begun : IsRun 8 start (three ∷ two ∷ later ∷ ms) = (
-              begin-spelled (PutJob name bytes) own spelled byte,
-              begin-happens (PutJob name bytes) own (MayName.put name bytes refl) n v (Begun 1) c
-                  (subst (λ j. BeginsAt 8 n v (PutJob name bytes) own (Begun j) c) job_is ran.runs.begins),
-              run-opened A.faults A.before enough,
-            ) in
+            let begin : Event = begin_of (PutJob name bytes) own in
+            let words : IsSpelled begin = begin-spelled (PutJob name bytes) own spelled byte in
+            let begun : Happens 8 n v begin (Begun 1) c =
+            begin-happens (PutJob name bytes) own (MayName.put name bytes refl) n v (Begun 1) c
+            (subst (λ j. BeginsAt 8 n v (PutJob name bytes) own (Begun j) c) ran.runs.begins.2 ran.runs.begins) in
             let are : AreSteps c (n + 1) 1 steps =
-            subst (λ j. AreSteps c (n + 1) j steps) job_is ran.runs.are_steps in
-            let at : n + 1 ≡ length (three ∷ two ∷ later ∷ ms) = omega arith in
-            let stepped : IsRun 8 start (steps ++ three ∷ two ∷ later ∷ ms) =
-            steps-run start c (three ∷ two ∷ later ∷ ms) steps refl
-            (subst (λ k. AreSteps c k 1 steps) at are) begun in
-            let own_moments : List Moment = steps ++ three ∷ two ∷ later ∷ [] in
-            let whole_is : own_moments ++ ms ≡ steps ++ three ∷ two ∷ later ∷ ms =
-            append_assoc steps (three ∷ two ∷ later ∷ []) ms in
+            subst (λ j. AreSteps c (n + 1) j steps) ran.runs.begins.2 ran.runs.are_steps in
+            let first : List Moment = begun-moments A.faults A.before begin words c begun in
+            let own_moments : List Moment = steps ++ first in
+            let whole_is : own_moments ++ ms ≡ steps ++ (first ++ ms) = append_assoc steps first ms in
             let last_is : ran.last ≡ now start (own_moments ++ ms) = ran.runs.last
-            ∙ (sym (now-more start steps (three ∷ two ∷ later ∷ ms)) ∙ ap (now start) (sym whole_is)) in (
+            ∙ (sym (now-more start steps (first ++ ms)) ∙ ap (now start) (sym whole_is)) in (
               own_moments,
               IsCall.given_up name bytes (continued w) v c steps is_job (steps-go c (n + 1) steps are)
-                  (ap (λ o. steps ++ moment (begin_of (PutJob name bytes) o) (Begun 1) c ∷ two ∷ later ∷ [])
-                  (sym named)) (given-status _ bytes old new end stops) stops.heard,
-              subst (IsRun 8 start) (sym whole_is) stepped,
+                  (ap (λ o. steps ++ moment (begin_of (PutJob name bytes) o) (Begun 1) c
+                  ∷ moment Reopen Opened v ∷ later ∷ []) (sym named)) (given-status _ bytes old new end stops) stops.heard,
+              subst (IsRun 8 start) (sym whole_is) (stepped A.faults A.before begin words c begun steps are),
               subst (λ s. IsStore s new) last_is (record {
                 sound = L.sound;
                 tells = sym (is_some-option_map (outside area (after_begin rs name)) new.disk)
@@ -940,8 +879,7 @@ module _ (start : State) (ms : List Moment) (R : IsRun 8 start ms) (old : Seen)
           subst (λ l. (setup_in_effect l).n ≤ length old.providers) (once other O.read).1 O.enough
 
       alone-on : (kind : Kind) → ReadsWhole kind old new → RunsKind command old new kind →
-          profile_named command ≡ None →
-          IsSpelledKind kind → AnswersAlone kind old new end → GoesOn
+          profile_named command ≡ None → IsSpelledKind kind → AnswersAlone kind old new end → GoesOn
       alone-on kind whole is named spelled (AnswersAlone.unstarted u) = unstarted-on u
       alone-on kind whole is named spelled (AnswersAlone.begun other O A) =
           (let B = both other O (λ a l. AnswersJob kind None a l old new end) A in
@@ -1033,8 +971,6 @@ module _ (start : State) (ms : List Moment) (R : IsRun 8 start ms) (old : Seen)
   pub command-on : (command : Command) (new : Seen) (end : Ending) (counts : NoCountFalls old new) →
       opens_store command ≡ true → IsSpelledCommand command → Answers command old new end →
       GoesOn command new end counts
-  command-on (RowOf n l b seen) new end counts opens spelled A = absurd (false≢true opens)
-  command-on (InitWith numbers) new end counts opens spelled A = absurd (false≢true opens)
   command-on (PutUnder name) new end counts opens spelled A =
       put-by (PutUnder name) new end counts found name None
       (λ bytes rest read few. (bytes, rest, read, few, refl)) refl spelled
@@ -1056,3 +992,4 @@ module _ (start : State) (ms : List Moment) (R : IsRun 8 start ms) (old : Seen)
       alone-by UpgradeJournal new end counts found UpgradeJob tt refl refl tt A.0
   command-on ScrubAll new end counts opens spelled A = scrub-by ScrubAll new end counts found refl A.0
   command-on PackJournal new end counts opens spelled A = pack-by PackJournal new end counts found refl A.0
+  command-on command new end counts opens spelled A = absurd (false≢true opens)

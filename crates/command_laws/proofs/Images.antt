@@ -1,19 +1,8 @@
 -- What the images of the disk stand for after a command.
-use Rattle.std.proofs.Common.{◌≡◌, ◌≢◌, ℕ, zero, suc, ◌+◌, ◌<◌, ◌⊎◌, true, false, List, [], ◌∷◌, ◌++◌, length, take, reverse, Option, None, Some, refl, ap, sym, subst, ◌∙◌, inl, inr, arith}
-use Rattle.std.specs.Prelude.{IfSome, IsSomeAnd, is_some}
-use Rattle.std.specs.Option.{option_map}
+use Rattle.command_laws.proofs.Words.{◌≡◌, ◌≢◌, ℕ, zero, suc, ◌+◌, ◌<◌, ◌⊎◌, true, false, List, [], ◌∷◌, ◌++◌, length, take, reverse, Option, None, Some, refl, ap, sym, subst, ◌∙◌, inl, inr, arith, IfSome, IsSomeAnd, is_some, option_map, false≢true, reverse-append, Cells, reads, synced, IsImage, EachImage, Record, PutStart, AuditStart, AuditDone, largest_journal, Area, other_area, StandsActive, packed, StandsFor, next_id, next_audit, Kind, PutJob, GetJob, DropJob, AuditJob, RepairJob, UpgradeJob, Answer, Command, Numbers, RowOf, InitWith, PutUnder, PutAt, GetOf, DropOf, ListAll, AuditAll, RepairAll, UpgradeJournal, ScrubAll, PackJournal, IsResynced, IsFree, IsSetUpOn, MayBeLeft, Seen, Ending, IsRefused, KeepsDisk, ReadsFront, IsOpened, Unstarted, Ran, IsWhole, IsCut, IsCutInDoubt, put_done, put_records, MayHaveEnd, PutIsCut, after_begin, audit_records, AuditIsCut, AnswersJob, LeavesBy, setup_with, AnswersInit, InitsDisk, AnswersScrub, PackLeaves, AnswersPack, MayBeWhole, AnswersPut, AnswersAlone, AnswersList, Answers, IsKnown, put_of, profile_named, RunsKind, ReadsWhole, opens_store, KeepsImages, AreAppended, IsAfter, LeavesImages, InitImages, image-firm, each_image-mono, IsImage-reads, stands-front, stands-long, one_list, image-resynced, resynced, set_up-free}
 use Rattle.std.proofs.Math.Seq.{take-append_seam, take-append-add, take-length}
-use Rattle.std.proofs.lemmas.Bool.{false≢true}
-use Rattle.std.proofs.lemmas.List.{reverse-append}
-use Rattle.command_laws.specs.Words.{Cells, reads, synced, IsImage, EachImage, Record, PutStart, AuditStart, AuditDone, largest_journal, Area, other_area, StandsActive, packed, StandsFor, next_id, next_audit, Kind, PutJob, GetJob, DropJob, AuditJob, RepairJob, UpgradeJob, Answer, Command, Numbers, RowOf, InitWith, PutUnder, PutAt, GetOf, DropOf, ListAll, AuditAll, RepairAll, UpgradeJournal, ScrubAll, PackJournal, IsResynced, IsFree, IsSetUpOn, MayBeLeft, Seen, Ending, IsRefused, KeepsDisk, ReadsFront, IsOpened, Unstarted, Ran, IsWhole, IsCut, IsCutInDoubt, put_done, put_records, MayHaveEnd, PutIsCut, after_begin, audit_records, AuditIsCut, AnswersJob, LeavesBy, setup_with, AnswersInit, InitsDisk, AnswersScrub, PackLeaves, AnswersPack, MayBeWhole, AnswersPut, AnswersAlone, AnswersList, Answers, IsKnown, put_of, profile_named, RunsKind, ReadsWhole, opens_store, KeepsImages, AreAppended, IsAfter, LeavesImages, InitImages}
 use Rattle.device_defs.specs.Told.{Goes}
-use Rattle.device_defs.proofs.Lasting.{image-firm, each_image-mono}
-use Rattle.device_defs.proofs.PickLaws.{IsImage-reads}
-use Rattle.record_defs.proofs.Standing.{stands-front, stands-long}
-use Rattle.journal_core.proofs.Meanings.{one_list}
 use Rattle.machine_defs.specs.Answers as answer
-use Rattle.opening_defs.proofs.Resyncs.{image-resynced, resynced}
-use Rattle.opening_defs.proofs.SetUps.{set_up-free}
 use Rattle.command_laws.proofs.Known.{known-once}
 use Rattle.command_laws.proofs.GetEnds.{ran_left}
 use Rattle.command_laws.proofs.JobEnds.{unstarted-refused, named-by, put-kind, given-kind}
@@ -30,9 +19,8 @@ Keeps old new = IfSome old (λ cells. EachImage new (IsImage cells))
 
 keeps-resynced : (old new : Option Cells) → Goes IsResynced old new → Keeps old new
 keeps-resynced None None g = tt
-keeps-resynced None (Some new) g = absurd g
-keeps-resynced (Some old) None g = absurd g
 keeps-resynced (Some old) (Some new) g = image-resynced old new g
+keeps-resynced old new g = absurd g
 
 keeps-synced : (old new : Option Cells) → new ≡ option_map synced old → Keeps old new
 keeps-synced None new is = tt
@@ -218,18 +206,13 @@ all-came x (PutJob name bytes) profile old new all own are (suc (suc count)) aft
     all (inl (after ∙ ap (λ rs. reverse (take (suc (suc count)) rs) ++ x.records) are
     ∙ ap (λ rs. reverse (PutStart (next_id x.records) name
     ∷ put_done x.records (length bytes) profile ∷ rs) ++ x.records) (take-none count)))
-all-came x (GetJob name) profile old new all own are count after l = tt
-all-came x (DropJob name) profile old new all own are count after l = tt
-all-came x AuditJob profile old new all own are count after l = tt
-all-came x RepairJob profile old new all own are count after l = tt
-all-came x UpgradeJob profile old new all own are count after l = tt
+all-came x kind profile old new all own are count after l = tt
 
 -- and where the first came in, and the other is in doubt
 all-doubted : (x : Ran) (kind : Kind) (profile : Option ℕ) (old new : Seen) →
-    ReadsAll x kind profile old new →
-    (own : List Record) → AreAppended x.records kind profile own → (count : ℕ) → (next : Record) →
-    x.doubt ≡ Some next → next ∷ x.after ≡ reverse (take (suc count) own) ++ x.records → 1 < suc count →
-    ReadsWhole kind old new
+    ReadsAll x kind profile old new → (own : List Record) → AreAppended x.records kind profile own →
+    (count : ℕ) → (next : Record) → x.doubt ≡ Some next →
+    next ∷ x.after ≡ reverse (take (suc count) own) ++ x.records → 1 < suc count → ReadsWhole kind old new
 all-doubted x (PutJob name bytes) profile old new all own are zero next is more l = absurd (omega (arith, l))
 all-doubted x (PutJob name bytes) profile old new all own are (suc count) next is more l =
     all (inr (is ∙ ap Some (head-same next x.after _ _
@@ -240,11 +223,7 @@ all-doubted x (PutJob name bytes) profile old new all own are (suc count) next i
     head-same : (a : Record) (more : List Record) (b : Record) (rest : List Record) →
         a ∷ more ≡ b ∷ rest → a ≡ b
     head-same a more b rest e = cc
-all-doubted x (GetJob name) profile old new all own are count next is more l = tt
-all-doubted x (DropJob name) profile old new all own are count next is more l = tt
-all-doubted x AuditJob profile old new all own are count next is more l = tt
-all-doubted x RepairJob profile old new all own are count next is more l = tt
-all-doubted x UpgradeJob profile old new all own are count next is more l = tt
+all-doubted x kind profile old new all own are count next is more l = tt
 
 image-after : (x : Ran) (area : Area) (kind : Kind) (profile : Option ℕ) (old new : Seen) →
     ReadsAll x kind profile old new → Wrote x kind profile → (image : List ℕ) →
@@ -285,12 +264,10 @@ images-after x area kind profile old new all W (Some cells) h =
 
 -- the job of a put has read its whole source where its last record is in effect or in doubt
 abbrev WholeBy : {area : Area} (kind : Kind) (profile : Option ℕ) (records : List Record) (old new : Seen)
-    (end : Ending) →
-    AnswersJob kind profile area records old new end → Type 0
-WholeBy kind profile records old new end (AnswersJob.refused why is after r) = Unit {0}
-WholeBy kind profile records old new end (AnswersJob.no_memory after r) = Unit {0}
+    (end : Ending) → AnswersJob kind profile area records old new end → Type 0
 WholeBy kind profile records old new end (AnswersJob.ended how none runs left by) =
     ReadsAll (ran_left records kind how old new end.heard left) kind profile old new
+WholeBy kind profile records old new end h = Unit {0}
 
 job-images : (kind : Kind) (profile : Option ℕ) (records : List Record) (old new : Seen) (end : Ending) →
     (opened : IsOpened old records) → (A : AnswersJob kind profile opened.area records old new end) →
@@ -315,29 +292,22 @@ of-job command kind profile records old new named opened is (inr images) =
     (subst (λ p. EachImage new.disk (IsAfter records kind p old new)) (sym named) images)
 
 put-whole : {area : Area} (name bytes : List ℕ) (own : Option ℕ) (records : List Record) (old new : Seen)
-    (end : Ending) →
-    ReadsFront old.source new.source bytes →
+    (end : Ending) → ReadsFront old.source new.source bytes →
     (A : AnswersJob (PutJob name bytes) own area records old new end) →
     (MayBeWhole name bytes own area records A → IfSome new.source (λ left. left ≡ [])) →
     WholeBy (PutJob name bytes) own records old new end A
-put-whole name bytes own records old new end read (AnswersJob.refused why is after r) whole = tt
-put-whole name bytes own records old new end read (AnswersJob.no_memory after r) whole = tt
 put-whole name bytes own records old new end read (AnswersJob.ended how none runs left by) whole =
     λ may. (read, whole may)
+put-whole name bytes own records old new end read A whole = tt
 
 -- no other job reads a source
 alone-whole : {area : Area} (kind : Kind) (records : List Record) (old new : Seen) (end : Ending) →
     ReadsNone kind →
     (A : AnswersJob kind None area records old new end) → WholeBy kind None records old new end A
 alone-whole kind records old new end none (AnswersJob.refused why is after r) = tt
-alone-whole kind records old new end none (AnswersJob.no_memory after r) = tt
-alone-whole (GetJob name) records old new end none (AnswersJob.ended how begins runs left by) = tt
-alone-whole (DropJob name) records old new end none (AnswersJob.ended how begins runs left by) = tt
-alone-whole AuditJob records old new end none (AnswersJob.ended how begins runs left by) = tt
-alone-whole RepairJob records old new end none (AnswersJob.ended how begins runs left by) = tt
-alone-whole UpgradeJob records old new end none (AnswersJob.ended how begins runs left by) = tt
 alone-whole (PutJob name bytes) records old new end none (AnswersJob.ended how begins runs left by) =
     absurd none
+alone-whole kind records old new end none A = tt
 
 put-images : (name : List ℕ) (own : Option ℕ) (old new : Seen) (end : Ending) →
     AnswersPut name own old new end → LeavesImages (put_of name own) old new
@@ -410,8 +380,7 @@ pack-by area records (answer.Packed before after) old new L =
     each_image-mono new.disk _ _ (λ image h. inr (other_area area, h)) L.2
 pack-by area records answer.DiskFault old new L =
     each_image-mono new.disk _ _
-    (λ image h. elim h [ inl s ↦ inl (area, s) | inr s ↦ inr (other_area area, s) ])
-    L.1
+    (λ image h. elim h [ inl s ↦ inl (area, s) | inr s ↦ inr (other_area area, s) ]) L.1
 pack-by area records answer.Memory old new L = each_image-mono new.disk _ _ (λ image h. inl (area, h)) L
 pack-by area records how old new L = absurd L
 
@@ -427,8 +396,6 @@ pack-images old new end (AnswersPack.ended records how opened none heard runs le
 -- a command leaves images as before, or ones of the records read with some that its job wrote, or packed
 pub store-images : (command : Command) (old new : Seen) (end : Ending) → Answers command old new end →
     opens_store command ≡ true → LeavesImages command old new
-store-images (RowOf n l b seen) old new end A opens = absurd (false≢true opens)
-store-images (InitWith numbers) old new end A opens = absurd (false≢true opens)
 store-images (PutUnder name) old new end A opens = put-images name None old new end A
 store-images (PutAt name profile) old new end A opens = put-images name (Some profile) old new end A
 store-images (GetOf name) old new end A opens =
@@ -442,6 +409,7 @@ store-images UpgradeJournal old new end A opens =
     alone-images UpgradeJournal UpgradeJob old new end refl refl tt A.0
 store-images ScrubAll old new end A opens = LeavesImages.kept (scrub-images old new end A.0)
 store-images PackJournal old new end A opens = pack-images old new end A.0
+store-images command old new end A opens = absurd (false≢true opens)
 
 -- what each image stands for, where each stood for the records before
 abbrev StandsAfter : Command → List Record → Seen → Seen → List ℕ → Type 0
@@ -506,9 +474,8 @@ left-kept cells numbers key taken (Some now) h =
 kept-left : (numbers : Numbers) (key : List ℕ) (old new : Option Cells) →
     IfSome old (λ cells. EachImage new (IsImage cells)) →
     IfSome old (λ cells. EachImage new (MayBeLeft (setup_with numbers key) cells))
-kept-left numbers key None new h = tt
-kept-left numbers key (Some cells) None h = tt
 kept-left numbers key (Some cells) (Some now) h = λ image is. inl (h image is)
+kept-left numbers key old new h = tt
 
 refused-init : (numbers : Numbers) (status at : ℕ) (old new : Seen) (end : Ending) →
     IsRefused status at old new end → InitImages numbers old new

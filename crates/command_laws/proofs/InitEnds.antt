@@ -1,14 +1,7 @@
 -- How `init` and `list` end, and what they have done where they are done.
-use Rattle.std.proofs.Common.{◌≡◌, ◌≢◌, ℕ, ◌+◌, ◌<◌, ◌≤◌, ◌⊎◌, true, false, List, [], ◌∷◌, ◌++◌, length, Option, None, Some, ap, sym, subst, ◌∙◌, inl, inr, arith, length-append, length-take}
-use Rattle.std.specs.Prelude.{IfSome}
-use Rattle.std.proofs.lemmas.Bool.{false≢true}
-use Rattle.std.proofs.lemmas.List.{append-nil}
-use Rattle.command_laws.specs.Words.{Cells, reads, Rose, Record, Setup, SetUp, PutStart, PutDone, Drop, AuditStart, AuditDone, RepairDone, PutDoneIn, Version, Resume, InEffect, RepairDue, is_setup, largest_journal, base_of, files_of, Numbers, IsKeyForm, longest_key, WritesLine, Seen, Ending, IsRefused, ReadsUpTo, sinking, journal_read, BeginsWithSetup, BeginsOtherwise, IsBadInit, IsSetUpAlready, IsFree, IsSetUpOn, setup_with, AnswersInit, InitsDisk, ready_line, list_lines, AnswersList, IsDone, IsKnown, GivesUnlessMemory, IsKeyed, IsInit, IsListed}
+use Rattle.command_laws.proofs.Words.{◌≡◌, ◌≢◌, ℕ, ◌==◌, Bool, refl, ◌+◌, ◌<◌, ◌≤◌, ◌⊎◌, true, false, List, [], ◌∷◌, ◌++◌, length, Option, None, Some, ap, sym, subst, ◌∙◌, inl, inr, arith, length-append, length-take, IfSome, false≢true, append-nil, Cells, reads, Rose, Record, Setup, SetUp, PutStart, PutDone, Drop, AuditStart, AuditDone, RepairDone, PutDoneIn, Version, Resume, InEffect, RepairDue, is_setup, largest_journal, base_of, files_of, Numbers, IsKeyForm, longest_key, WritesLine, Seen, Ending, IsRefused, ReadsUpTo, sinking, journal_read, BeginsWithSetup, BeginsOtherwise, IsBadInit, IsSetUpAlready, IsFree, IsSetUpOn, setup_with, AnswersInit, InitsDisk, ready_line, list_lines, AnswersList, IsDone, IsKnown, GivesUnlessMemory, IsKeyed, IsInit, IsListed, one_meaning, one_list, bad_is_none, one_place, IsKeyForm-once, set_up-free}
+use Rattle.std.specs.Prelude.{◌||◌}
 use Rattle.device_defs.specs.Told.{Goes}
-use Rattle.journal_core.proofs.Meanings.{one_meaning, one_list, bad_is_none, one_place}
-use Rattle.algebra_laws.proofs.Numbers.{not_two}
-use Rattle.command_defs.proofs.Keys.{IsKeyForm-once}
-use Rattle.opening_defs.proofs.SetUps.{set_up-free}
 use Rattle.command_laws.proofs.Known.{none-written, written-well, known-once, unstarted-known}
 use Rattle.command_laws.proofs.JobEnds.{unstarted-done, not-done, memory-well}
 
@@ -57,19 +50,7 @@ form-all old new bytes seen key is R F =
 
 -- records begin with a setup or otherwise
 one-begin : (rs : List Record) → BeginsOtherwise rs → BeginsWithSetup rs → ⊥
-one-begin [] other first = first
 one-begin (SetUp s ∷ []) other first = other
-one-begin (PutStart id name ∷ []) other first = first
-one-begin (PutDone id size ∷ []) other first = first
-one-begin (Drop name ∷ []) other first = first
-one-begin (AuditStart number ∷ []) other first = first
-one-begin (AuditDone number undecided counts ∷ []) other first = first
-one-begin (RepairDone number ∷ []) other first = first
-one-begin (PutDoneIn id size profile ∷ []) other first = first
-one-begin (Version ∷ []) other first = first
-one-begin (Resume next audit ∷ []) other first = first
-one-begin (InEffect id size profile kept ∷ []) other first = first
-one-begin (RepairDue number counts ∷ []) other first = first
 one-begin (SetUp s ∷ q ∷ rs) other first = one-begin (q ∷ rs) other first
 one-begin (PutStart id name ∷ q ∷ rs) other first = one-begin (q ∷ rs) other first
 one-begin (PutDone id size ∷ q ∷ rs) other first = one-begin (q ∷ rs) other first
@@ -82,6 +63,7 @@ one-begin (Version ∷ q ∷ rs) other first = one-begin (q ∷ rs) other first
 one-begin (Resume next audit ∷ q ∷ rs) other first = one-begin (q ∷ rs) other first
 one-begin (InEffect id size profile kept ∷ q ∷ rs) other first = one-begin (q ∷ rs) other first
 one-begin (RepairDue number counts ∷ q ∷ rs) other first = one-begin (q ∷ rs) other first
+one-begin rs other first = first
 
 bad-once : (bytes : List ℕ) (at other : ℕ) → IsBadInit bytes at → IsBadInit bytes other → at ≡ other
 bad-once bytes at other (inl a) (inl b) = one_place bytes at other a b
@@ -114,29 +96,60 @@ already-free cells long set_up (inl short) = (let e = read-short cells in omega 
 already-free cells long set_up (inr none) =
     subst BeginsWithSetup (one_list (journal_read cells) set_up.0 [] set_up.1 none) set_up.2
 
+-- ---- which statuses an init may end with
+
+abbrev pub line-may : ℕ → Bool
+line-may n = (n == 0) || ((n == 15) || (n == 70))
+
+-- whether this may be the status of an init that ended so
+abbrev pub init-may : {numbers : Numbers} {old new : Seen} {end : Ending} → AnswersInit numbers old new end →
+    ℕ → Bool
+init-may (AnswersInit.bad_setup bad same r) n = n == 20
+init-may (AnswersInit.too_few_providers good few same r) n = n == 22
+init-may (AnswersInit.source_fault good enough rose taken r) n = n == 14
+init-may (AnswersInit.bad_key seen good enough read none r) n = n == 18
+init-may (AnswersInit.no_memory taken r) n = n == 70
+init-may (AnswersInit.keyed seen key good enough read form (InitsDisk.disk_fault rose F)) n = n == 12
+init-may (AnswersInit.keyed seen key good enough read form (InitsDisk.bad_journal at is r)) n = n == 8
+init-may (AnswersInit.keyed seen key good enough read form (InitsDisk.already is r)) n = n == 10
+init-may (AnswersInit.keyed seen key good enough read form (InitsDisk.no_memory F)) n = n == 70
+init-may (AnswersInit.keyed seen key good enough read form (InitsDisk.ready R)) n = line-may n
+
+line-ends : (text : List ℕ) (old new : Seen) (end : Ending) → WritesLine text end.status (sinking old new) →
+    line-may end.status ≡ true
+line-ends text old new end (inl w) = ap line-may w.0
+line-ends text old new end (inr (inl w)) = ap line-may w.1
+line-ends text old new end (inr (inr w)) = ap line-may w.0
+
+init-ends : (numbers : Numbers) (old new : Seen) (end : Ending) (A : AnswersInit numbers old new end) →
+    init-may A end.status ≡ true
+init-ends numbers old new end (AnswersInit.bad_setup bad same r) = ap (λ n. n == 20) r.status_is
+init-ends numbers old new end (AnswersInit.too_few_providers good few same r) = ap (λ n. n == 22) r.status_is
+init-ends numbers old new end (AnswersInit.source_fault good enough rose taken r) = ap (λ n. n == 14) r.status_is
+init-ends numbers old new end (AnswersInit.bad_key seen good enough read none r) = ap (λ n. n == 18) r.status_is
+init-ends numbers old new end (AnswersInit.no_memory taken r) = ap (λ n. n == 70) r.status_is
+init-ends numbers old new end (AnswersInit.keyed seen key good enough read form (InitsDisk.disk_fault rose F)) =
+    ap (λ n. n == 12) F.status_is
+init-ends numbers old new end (AnswersInit.keyed seen key good enough read form (InitsDisk.bad_journal at is r)) =
+    ap (λ n. n == 8) r.status_is
+init-ends numbers old new end (AnswersInit.keyed seen key good enough read form (InitsDisk.already is r)) =
+    ap (λ n. n == 10) r.status_is
+init-ends numbers old new end (AnswersInit.keyed seen key good enough read form (InitsDisk.no_memory F)) =
+    ap (λ n. n == 70) F.status_is
+init-ends numbers old new end (AnswersInit.keyed seen key good enough read form (InitsDisk.ready R)) =
+    line-ends ready_line old new end R.written
+
+-- an init does not end with a status that it may not have
+pub init-not : (numbers : Numbers) (old new : Seen) (end : Ending) (A : AnswersInit numbers old new end)
+    (n : ℕ) → end.status ≡ n → init-may A n ≡ false → ⊥
+init-not numbers old new end A n is none =
+    false≢true (sym none ∙ (ap (init-may A) (sym is) ∙ init-ends numbers old new end A))
+
 -- ---- an init that is done
 
 -- a done init set the store up with the numbers and the key of its source
 pub init-done : (numbers : Numbers) (old new : Seen) (end : Ending) → AnswersInit numbers old new end →
     IsDone end → IsInit numbers old new end
-init-done numbers old new end (AnswersInit.bad_setup bad same r) done =
-    absurd (not-done end.status 20 r.status_is (λ e. omega (arith, e)) (λ e. omega (arith, e)) done)
-init-done numbers old new end (AnswersInit.too_few_providers good few same r) done =
-    absurd (not-done end.status 22 r.status_is (λ e. omega (arith, e)) (λ e. omega (arith, e)) done)
-init-done numbers old new end (AnswersInit.source_fault good enough rose taken r) done =
-    absurd (not-done end.status 14 r.status_is (λ e. omega (arith, e)) (λ e. omega (arith, e)) done)
-init-done numbers old new end (AnswersInit.bad_key seen good enough read none r) done =
-    absurd (not-done end.status 18 r.status_is (λ e. omega (arith, e)) (λ e. omega (arith, e)) done)
-init-done numbers old new end (AnswersInit.no_memory taken r) done =
-    absurd (not-done end.status 70 r.status_is (λ e. omega (arith, e)) (λ e. omega (arith, e)) done)
-init-done numbers old new end (AnswersInit.keyed seen key good enough read form (InitsDisk.disk_fault rose F)) done =
-    absurd (not-done end.status 12 F.status_is (λ e. omega (arith, e)) (λ e. omega (arith, e)) done)
-init-done numbers old new end (AnswersInit.keyed seen key good enough read form (InitsDisk.bad_journal at is r)) done =
-    absurd (not-done end.status 8 r.status_is (λ e. omega (arith, e)) (λ e. omega (arith, e)) done)
-init-done numbers old new end (AnswersInit.keyed seen key good enough read form (InitsDisk.already is r)) done =
-    absurd (not-done end.status 10 r.status_is (λ e. omega (arith, e)) (λ e. omega (arith, e)) done)
-init-done numbers old new end (AnswersInit.keyed seen key good enough read form (InitsDisk.no_memory F)) done =
-    absurd (not-done end.status 70 F.status_is (λ e. omega (arith, e)) (λ e. omega (arith, e)) done)
 init-done numbers old new end (AnswersInit.keyed seen key good enough read form (InitsDisk.ready R)) done =
     record {
       bytes = seen;
@@ -150,140 +163,58 @@ init-done numbers old new end (AnswersInit.keyed seen key good enough read form 
       disk = R.disk;
       providers = R.providers;
     }
+init-done numbers old new end A done = absurd (elim done [
+  | inl e ↦ init-not numbers old new end A 0 e refl
+  | inr e ↦ init-not numbers old new end A 15 e refl
+])
 
 -- ---- statuses only with their causes
-
-written-not : (text : List ℕ) (old new : Seen) (end : Ending) (m : ℕ) →
-    WritesLine text end.status (sinking old new) → end.status ≡ m → 0 ≢ m → 15 ≢ m → 70 ≢ m → ⊥
-written-not text old new end m (inl w) is zero sink memory = zero (sym w.0 ∙ is)
-written-not text old new end m (inr (inl w)) is zero sink memory = sink (sym w.1 ∙ is)
-written-not text old new end m (inr (inr w)) is zero sink memory = memory (sym w.0 ∙ is)
 
 -- an init ends with 20 only where its numbers are no setup
 pub setup-only : (numbers : Numbers) (old new : Seen) (end : Ending) → AnswersInit numbers old new end →
     end.status ≡ 20 → is_setup (setup_with numbers []) ≡ false
 setup-only numbers old new end (AnswersInit.bad_setup bad same r) is_20 = bad
-setup-only numbers old new end (AnswersInit.too_few_providers good few same r) is_20 =
-    absurd (not_two end.status 22 20 r.status_is is_20 (λ e. omega (arith, e)))
-setup-only numbers old new end (AnswersInit.source_fault good enough rose taken r) is_20 =
-    absurd (not_two end.status 14 20 r.status_is is_20 (λ e. omega (arith, e)))
-setup-only numbers old new end (AnswersInit.bad_key seen good enough read none r) is_20 =
-    absurd (not_two end.status 18 20 r.status_is is_20 (λ e. omega (arith, e)))
-setup-only numbers old new end (AnswersInit.no_memory taken r) is_20 =
-    absurd (not_two end.status 70 20 r.status_is is_20 (λ e. omega (arith, e)))
-setup-only numbers old new end (AnswersInit.keyed seen key good enough read form (InitsDisk.disk_fault rose F)) is_20 =
-    absurd (not_two end.status 12 20 F.status_is is_20 (λ e. omega (arith, e)))
-setup-only numbers old new end (AnswersInit.keyed seen key good enough read form (InitsDisk.bad_journal at is r)) is_20 =
-    absurd (not_two end.status 8 20 r.status_is is_20 (λ e. omega (arith, e)))
-setup-only numbers old new end (AnswersInit.keyed seen key good enough read form (InitsDisk.already is r)) is_20 =
-    absurd (not_two end.status 10 20 r.status_is is_20 (λ e. omega (arith, e)))
-setup-only numbers old new end (AnswersInit.keyed seen key good enough read form (InitsDisk.no_memory F)) is_20 =
-    absurd (not_two end.status 70 20 F.status_is is_20 (λ e. omega (arith, e)))
 setup-only numbers old new end (AnswersInit.keyed seen key good enough read form (InitsDisk.ready R)) is_20 =
-    absurd (written-not ready_line old new end 20 R.written is_20 (λ e. omega (arith, e))
-    (λ e. omega (arith, e)) (λ e. omega (arith, e)))
+    absurd (init-not numbers old new end
+    (AnswersInit.keyed seen key good enough read form (InitsDisk.ready R)) 20 is_20 refl)
+setup-only numbers old new end A is_20 = absurd (init-not numbers old new end A 20 is_20 refl)
 
 -- an init ends with 22 only where too few providers are handed in
 pub few-only : (numbers : Numbers) (old new : Seen) (end : Ending) → AnswersInit numbers old new end →
     end.status ≡ 22 → (is_setup (setup_with numbers []) ≡ true) × (length old.providers < numbers.n)
-few-only numbers old new end (AnswersInit.bad_setup bad same r) is_22 =
-    absurd (not_two end.status 20 22 r.status_is is_22 (λ e. omega (arith, e)))
 few-only numbers old new end (AnswersInit.too_few_providers good few same r) is_22 = (good, few)
-few-only numbers old new end (AnswersInit.source_fault good enough rose taken r) is_22 =
-    absurd (not_two end.status 14 22 r.status_is is_22 (λ e. omega (arith, e)))
-few-only numbers old new end (AnswersInit.bad_key seen good enough read none r) is_22 =
-    absurd (not_two end.status 18 22 r.status_is is_22 (λ e. omega (arith, e)))
-few-only numbers old new end (AnswersInit.no_memory taken r) is_22 =
-    absurd (not_two end.status 70 22 r.status_is is_22 (λ e. omega (arith, e)))
-few-only numbers old new end (AnswersInit.keyed seen key good enough read form (InitsDisk.disk_fault rose F)) is_22 =
-    absurd (not_two end.status 12 22 F.status_is is_22 (λ e. omega (arith, e)))
-few-only numbers old new end (AnswersInit.keyed seen key good enough read form (InitsDisk.bad_journal at is r)) is_22 =
-    absurd (not_two end.status 8 22 r.status_is is_22 (λ e. omega (arith, e)))
-few-only numbers old new end (AnswersInit.keyed seen key good enough read form (InitsDisk.already is r)) is_22 =
-    absurd (not_two end.status 10 22 r.status_is is_22 (λ e. omega (arith, e)))
-few-only numbers old new end (AnswersInit.keyed seen key good enough read form (InitsDisk.no_memory F)) is_22 =
-    absurd (not_two end.status 70 22 F.status_is is_22 (λ e. omega (arith, e)))
 few-only numbers old new end (AnswersInit.keyed seen key good enough read form (InitsDisk.ready R)) is_22 =
-    absurd (written-not ready_line old new end 22 R.written is_22 (λ e. omega (arith, e))
-    (λ e. omega (arith, e)) (λ e. omega (arith, e)))
+    absurd (init-not numbers old new end
+    (AnswersInit.keyed seen key good enough read form (InitsDisk.ready R)) 22 is_22 refl)
+few-only numbers old new end A is_22 = absurd (init-not numbers old new end A 22 is_22 refl)
 
 -- an init whose source is a key does not end with 18
 pub key-only : (numbers : Numbers) (bytes spelled : List ℕ) (old new : Seen) (end : Ending) →
     old.source ≡ Some bytes → IsKeyForm bytes spelled → AnswersInit numbers old new end → end.status ≡ 18 → ⊥
-key-only numbers bytes spelled old new end told spells (AnswersInit.bad_setup bad same r) is_18 =
-    absurd (not_two end.status 20 18 r.status_is is_18 (λ e. omega (arith, e)))
-key-only numbers bytes spelled old new end told spells (AnswersInit.too_few_providers good few same r) is_18 =
-    absurd (not_two end.status 22 18 r.status_is is_18 (λ e. omega (arith, e)))
-key-only numbers bytes spelled old new end told spells (AnswersInit.source_fault good enough rose taken r) is_18 =
-    absurd (not_two end.status 14 18 r.status_is is_18 (λ e. omega (arith, e)))
 key-only numbers bytes spelled old new end told spells (AnswersInit.bad_key seen good enough read none r) is_18 =
     none spelled (form-seen old.source new.source bytes seen spelled told read spells)
-key-only numbers bytes spelled old new end told spells (AnswersInit.no_memory taken r) is_18 =
-    absurd (not_two end.status 70 18 r.status_is is_18 (λ e. omega (arith, e)))
-key-only numbers bytes spelled old new end told spells (AnswersInit.keyed seen key good enough read form (InitsDisk.disk_fault rose F)) is_18 =
-    absurd (not_two end.status 12 18 F.status_is is_18 (λ e. omega (arith, e)))
-key-only numbers bytes spelled old new end told spells (AnswersInit.keyed seen key good enough read form (InitsDisk.bad_journal at is r)) is_18 =
-    absurd (not_two end.status 8 18 r.status_is is_18 (λ e. omega (arith, e)))
-key-only numbers bytes spelled old new end told spells (AnswersInit.keyed seen key good enough read form (InitsDisk.already is r)) is_18 =
-    absurd (not_two end.status 10 18 r.status_is is_18 (λ e. omega (arith, e)))
-key-only numbers bytes spelled old new end told spells (AnswersInit.keyed seen key good enough read form (InitsDisk.no_memory F)) is_18 =
-    absurd (not_two end.status 70 18 F.status_is is_18 (λ e. omega (arith, e)))
 key-only numbers bytes spelled old new end told spells (AnswersInit.keyed seen key good enough read form (InitsDisk.ready R)) is_18 =
-    absurd (written-not ready_line old new end 18 R.written is_18 (λ e. omega (arith, e))
-    (λ e. omega (arith, e)) (λ e. omega (arith, e)))
+    absurd (init-not numbers old new end
+    (AnswersInit.keyed seen key good enough read form (InitsDisk.ready R)) 18 is_18 refl)
+key-only numbers bytes spelled old new end told spells A is_18 =
+    absurd (init-not numbers old new end A 18 is_18 refl)
 
 -- an init ends with 8 only where the disk holds a journal that is bad at this place
 pub journal-only : (numbers : Numbers) (cells : Cells) (old new : Seen) (end : Ending) →
     old.disk ≡ Some cells → AnswersInit numbers old new end → end.status ≡ 8 →
     (9 < length (journal_read cells)) × IsBadInit (journal_read cells) end.at
-journal-only numbers cells old new end tells (AnswersInit.bad_setup bad same r) is_8 =
-    absurd (not_two end.status 20 8 r.status_is is_8 (λ e. omega (arith, e)))
-journal-only numbers cells old new end tells (AnswersInit.too_few_providers good few same r) is_8 =
-    absurd (not_two end.status 22 8 r.status_is is_8 (λ e. omega (arith, e)))
-journal-only numbers cells old new end tells (AnswersInit.source_fault good enough rose taken r) is_8 =
-    absurd (not_two end.status 14 8 r.status_is is_8 (λ e. omega (arith, e)))
-journal-only numbers cells old new end tells (AnswersInit.bad_key seen good enough read none r) is_8 =
-    absurd (not_two end.status 18 8 r.status_is is_8 (λ e. omega (arith, e)))
-journal-only numbers cells old new end tells (AnswersInit.no_memory taken r) is_8 =
-    absurd (not_two end.status 70 8 r.status_is is_8 (λ e. omega (arith, e)))
-journal-only numbers cells old new end tells (AnswersInit.keyed seen key good enough read form (InitsDisk.disk_fault rose F)) is_8 =
-    absurd (not_two end.status 12 8 F.status_is is_8 (λ e. omega (arith, e)))
 journal-only numbers cells old new end tells (AnswersInit.keyed seen key good enough read form (InitsDisk.bad_journal at is r)) is_8 =
     subst (λ k. (9 < length (journal_read cells)) × IsBadInit (journal_read cells) k) (sym r.place)
     (subst (λ d. IfSome d (λ c. (9 < length (journal_read c)) × IsBadInit (journal_read c) at)) tells is)
-journal-only numbers cells old new end tells (AnswersInit.keyed seen key good enough read form (InitsDisk.already is r)) is_8 =
-    absurd (not_two end.status 10 8 r.status_is is_8 (λ e. omega (arith, e)))
-journal-only numbers cells old new end tells (AnswersInit.keyed seen key good enough read form (InitsDisk.no_memory F)) is_8 =
-    absurd (not_two end.status 70 8 F.status_is is_8 (λ e. omega (arith, e)))
-journal-only numbers cells old new end tells (AnswersInit.keyed seen key good enough read form (InitsDisk.ready R)) is_8 =
-    absurd (written-not ready_line old new end 8 R.written is_8 (λ e. omega (arith, e))
-    (λ e. omega (arith, e)) (λ e. omega (arith, e)))
+journal-only numbers cells old new end tells A is_8 = absurd (init-not numbers old new end A 8 is_8 refl)
 
 -- an init ends with 10 only where the disk holds the journal of a store that is set up
 pub already-only : (numbers : Numbers) (cells : Cells) (old new : Seen) (end : Ending) →
     old.disk ≡ Some cells → AnswersInit numbers old new end → end.status ≡ 10 →
     (9 < length (journal_read cells)) × IsSetUpAlready (journal_read cells)
-already-only numbers cells old new end tells (AnswersInit.bad_setup bad same r) is_10 =
-    absurd (not_two end.status 20 10 r.status_is is_10 (λ e. omega (arith, e)))
-already-only numbers cells old new end tells (AnswersInit.too_few_providers good few same r) is_10 =
-    absurd (not_two end.status 22 10 r.status_is is_10 (λ e. omega (arith, e)))
-already-only numbers cells old new end tells (AnswersInit.source_fault good enough rose taken r) is_10 =
-    absurd (not_two end.status 14 10 r.status_is is_10 (λ e. omega (arith, e)))
-already-only numbers cells old new end tells (AnswersInit.bad_key seen good enough read none r) is_10 =
-    absurd (not_two end.status 18 10 r.status_is is_10 (λ e. omega (arith, e)))
-already-only numbers cells old new end tells (AnswersInit.no_memory taken r) is_10 =
-    absurd (not_two end.status 70 10 r.status_is is_10 (λ e. omega (arith, e)))
-already-only numbers cells old new end tells (AnswersInit.keyed seen key good enough read form (InitsDisk.disk_fault rose F)) is_10 =
-    absurd (not_two end.status 12 10 F.status_is is_10 (λ e. omega (arith, e)))
-already-only numbers cells old new end tells (AnswersInit.keyed seen key good enough read form (InitsDisk.bad_journal at is r)) is_10 =
-    absurd (not_two end.status 8 10 r.status_is is_10 (λ e. omega (arith, e)))
 already-only numbers cells old new end tells (AnswersInit.keyed seen key good enough read form (InitsDisk.already is r)) is_10 =
     subst (λ d. IfSome d (λ c. (9 < length (journal_read c)) × IsSetUpAlready (journal_read c))) tells is
-already-only numbers cells old new end tells (AnswersInit.keyed seen key good enough read form (InitsDisk.no_memory F)) is_10 =
-    absurd (not_two end.status 70 10 F.status_is is_10 (λ e. omega (arith, e)))
-already-only numbers cells old new end tells (AnswersInit.keyed seen key good enough read form (InitsDisk.ready R)) is_10 =
-    absurd (written-not ready_line old new end 10 R.written is_10 (λ e. omega (arith, e))
-    (λ e. omega (arith, e)) (λ e. omega (arith, e)))
+already-only numbers cells old new end tells A is_10 = absurd (init-not numbers old new end A 10 is_10 refl)
 
 -- ---- and always with them
 
@@ -319,8 +250,7 @@ few-always numbers old new end (AnswersInit.no_memory taken r) good is = inr r.s
 -- an init whose source is no key ends with 18, or finds no memory
 pub key-always : (numbers : Numbers) (bytes : List ℕ) (old new : Seen) (end : Ending) →
     AnswersInit numbers old new end → is_setup (setup_with numbers []) ≡ true →
-    numbers.n ≤ length old.providers →
-    old.source ≡ Some bytes → ((key : List ℕ) → IsKeyForm bytes key → ⊥) →
+    numbers.n ≤ length old.providers → old.source ≡ Some bytes → ((key : List ℕ) → IsKeyForm bytes key → ⊥) →
     (Rose old.source_faults new.source_faults → ⊥) → (end.status ≡ 18) ⊎ (end.status ≡ 70)
 key-always numbers bytes old new end (AnswersInit.bad_setup bad same r) good enough told none calm =
     absurd (false≢true (sym bad ∙ good))
@@ -460,8 +390,7 @@ list-done old new end (AnswersList.listed records opened L) done = record {
 -- a list over known records with no fault gives the lines of the files, or finds no memory
 pub list-well : (records : List Record) (old new : Seen) (end : Ending) → AnswersList old new end →
     IsKnown old records → (Rose old.disk_faults new.disk_faults → ⊥) →
-    (Rose old.sink_faults new.sink_faults → ⊥) →
-    GivesUnlessMemory (list_lines (files_of records)) old new end
+    (Rose old.sink_faults new.sink_faults → ⊥) → GivesUnlessMemory (list_lines (files_of records)) old new end
 list-well records old new end (AnswersList.unstarted u) K disk sink =
     elim (unstarted-known old new end records K u) [
       | inl (rose, r) ↦ absurd (disk rose)

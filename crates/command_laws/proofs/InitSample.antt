@@ -1,7 +1,6 @@
 -- An init of an empty disk with a key of zeros.
-use Rattle.std.proofs.Common.{[], refl, ap, inl, arith}
-use Rattle.std.proofs.lemmas.List.{get_or-replicate}
-use Rattle.command_laws.specs.Words.{decode_pairs, is_hex_digit, InitWith, IsKeyForm, longest_key, ReadsUpTo, AnswersInit, InitsDisk, Answers, written, IsBlankIn, A, text, spelling, IsKeyed, small_setup, small_numbers, key_text, key_devices, ready_store, ends}
+use Rattle.command_laws.proofs.Words.{[], refl, ap, inl, arith, get_or-replicate, InitWith, IsKeyForm, longest_key, ReadsUpTo, AnswersInit, InitsDisk, Answers, written, IsBlankIn, A, text, spelling, IsKeyed, small_setup, small_numbers, key_text, key_devices, ready_store, ends}
+use Rattle.hex.specs.Hex.{decode_pairs, is_hex_digit}
 
 -- a key of zeros is a key
 pub key-form : IsKeyForm key_text small_setup.master

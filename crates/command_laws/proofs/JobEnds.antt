@@ -1,18 +1,11 @@
 -- How puts, drops, audits and repairs end, and what they have done where they are done.
-use Rattle.std.proofs.Common.{◌≡◌, ◌≢◌, ℕ, ◌+◌, ◌*◌, ◌<◌, ◌≤◌, ◌==◌, ◌⊎◌, Bool, true, false, cond, List, [], ◌∷◌, ◌++◌, length, drop, Option, None, Some, refl, ap, sym, subst, ◌∙◌, inl, inr, arith, length-append}
-use Rattle.std.specs.Prelude.{IsSomeAnd, IfSome, IsTrue, nat_lt}
-use Rattle.std.proofs.lemmas.Bool.{cases_Bool, cases_lt, eq-eqb, false≢true}
-use Rattle.std.proofs.lemmas.List.{append-nil, take-append-drop}
-use Rattle.command_laws.specs.Words.{Cells, Rose, EachImage, then_told, Held, Provider, Setup, Record, PutStart, PutDone, PutDoneIn, is_byte, largest_file, Area, StandsActive, File, Due, version_of, next_id, next_audit, file_of, due_of, started_as, is_start_of, file_as, profile_in, setup_of, Kind, PutJob, GetJob, DropJob, AuditJob, RepairJob, UpgradeJob, ToPut, ToUpgrade, Answer, AreBytes, Entry, setup_or_none, chosen, done_record, Refusal, causes, Command, DropOf, AuditAll, UpgradeJournal, Seen, Ending, IsRefused, ReadsUpTo, ReadsFront, provider_at, IsOpened, Unstarted, setup_in_effect, sight_over, is_unknown, refusal_over, status_of, text_of, stored_line, dropped_line, audit_lines, repaired_line, upgraded_line, Ran, SameHeld, put_done, MayHaveEnd, PutLeaves, put_stripe, StopsReading, PartLeft, DropLeaves, AuditGives, HearsRounds, CountsHeard, RepairGives, UpgradeLeaves, AnswersJob, EndsByAnswer, LeftAlone, IsTold, MayBeWhole, AnswersPut, AnswersAlone, AnswersList, Answers, bad_seen, IsDone, IsKnown, GivesUnlessMemory, EndsInOrder, GivesUpPut, RunsKind, SameHolds, put_of, profile_named, put_refusal, after_put, IsWholePut, IsDropped, IsAudited, IsRepaired, IsUpgraded}
-use Rattle.device_defs.proofs.Lasting.{rose-before}
-use Rattle.record_defs.proofs.FilesLaws.{same-refl}
+use Rattle.command_laws.proofs.Words.{◌≡◌, ◌≢◌, ℕ, ◌+◌, ◌*◌, ◌<◌, ◌≤◌, ◌==◌, ◌⊎◌, Bool, true, false, cond, List, [], ◌∷◌, ◌++◌, length, drop, Option, None, Some, refl, ap, sym, subst, ◌∙◌, inl, inr, arith, length-append, IsSomeAnd, IfSome, nat_lt, cases_Bool, cases_lt, eq-eqb, false≢true, append-nil, take-append-drop, Cells, Rose, EachImage, then_told, Held, Provider, Setup, Record, PutStart, PutDone, PutDoneIn, is_byte, largest_file, Area, StandsActive, File, Due, version_of, next_id, next_audit, file_of, due_of, started_as, is_start_of, file_as, profile_in, setup_of, Kind, PutJob, GetJob, DropJob, AuditJob, RepairJob, UpgradeJob, ToPut, ToUpgrade, Answer, AreBytes, Entry, setup_or_none, chosen, Refusal, causes, Command, DropOf, AuditAll, UpgradeJournal, Seen, Ending, IsRefused, ReadsUpTo, ReadsFront, provider_at, IsOpened, Unstarted, setup_in_effect, sight_over, is_unknown, refusal_over, status_of, text_of, stored_line, dropped_line, audit_lines, repaired_line, upgraded_line, Ran, SameHeld, put_done, MayHaveEnd, PutLeaves, put_stripe, StopsReading, PartLeft, DropLeaves, AuditGives, HearsRounds, CountsHeard, RepairGives, AnswersJob, EndsByAnswer, LeftAlone, IsTold, MayBeWhole, AnswersPut, AnswersAlone, AnswersList, Answers, bad_seen, IsDone, IsKnown, GivesUnlessMemory, EndsInOrder, GivesUpPut, RunsKind, SameHolds, put_of, profile_named, put_refusal, after_put, IsWholePut, IsDropped, IsAudited, IsRepaired, IsUpgraded, rose-before, same-refl, cond_true, cond_false, same_value, version-either, put-end, drop-end, audit-end, upgrade-end, repair-end}
+use Rattle.std.specs.Prelude.{IsTrue}
+use Rattle.machine_defs.specs.Appends.{done_record}
+use Rattle.command_defs.specs.Upgrades.{UpgradeLeaves}
 use Rattle.machine_defs.specs.Answers as answer
 use Rattle.machine_defs.specs.Refusals as refusal
-use Rattle.machine_defs.proofs.JobLists.{cond_true, cond_false, same_value}
 use Rattle.state_laws.proofs.Begun.{none-applies}
-use Rattle.state_laws.proofs.Records.{version-either}
-use Rattle.job_laws.proofs.Complete.{put-end, drop-end, audit-end, upgrade-end}
-use Rattle.job_laws.proofs.Mended.{repair-end}
 use Rattle.command_laws.proofs.Known.{EndStatus, status-ended, none-written, told-refusal, written-well, known-once, unstarted-known, alone-known, refused-not, refused-only, refused-always, own-status, known-both}
 use Rattle.command_laws.proofs.GetEnds.{shape-at, ran_left}
 
@@ -83,10 +76,8 @@ refused-done why status is (inr done) = refused-not why 15 refl (λ e. omega (ar
 
 -- a calm disk was calm once it was opened
 pub calm-disk : {area : Area} (records : List Record) (kind : Kind) {own : Option ℕ} (how : Answer)
-    (old new : Seen)
-    (heard : List Entry)
-    (left : LeftAlone area records kind own how old new heard) → (Rose old.disk_faults new.disk_faults → ⊥) →
-    Rose left.faults new.disk_faults → ⊥
+    (old new : Seen) (heard : List Entry) (left : LeftAlone area records kind own how old new heard) →
+    (Rose old.disk_faults new.disk_faults → ⊥) → Rose left.faults new.disk_faults → ⊥
 calm-disk records kind how old new heard left calm rose =
     calm (rose-before old.disk_faults left.faults new.disk_faults left.before left.leaves.counts.disk rose)
 
@@ -145,8 +136,7 @@ setup-profile (Some s) = refl
 
 -- in the first version a put that is not refused names no profile, so that its file has the setup's
 first-profile : (area : Area) (records : List Record) (name bytes : List ℕ) (own : Option ℕ) →
-    version_of records ≡ 1 →
-    refusal_over area records (PutJob name bytes) own ≡ None →
+    version_of records ≡ 1 → refusal_over area records (PutJob name bytes) own ≡ None →
     profile_in (setup_of records) ≡ chosen (setup_in_effect records) own
 first-profile area records name bytes None one h = setup-profile (setup_of records)
 first-profile area records name bytes (Some p) one h = absurd
@@ -328,8 +318,7 @@ short-is area records name bytes (Some p) few = rw (no-lt largest_file (length b
 
 -- two files that are not too long are refused alike
 pub same-refusal : (area : Area) (records : List Record) (name a b : List ℕ) (own : Option ℕ) →
-    length a ≤ largest_file →
-    length b ≤ largest_file →
+    length a ≤ largest_file → length b ≤ largest_file →
     refusal_over area records (PutJob name a) own ≡ refusal_over area records (PutJob name b) own
 same-refusal area records name a b own la lb =
     short-is area records name a own la ∙ sym (short-is area records name b own lb)
@@ -358,8 +347,7 @@ short-never area records name bytes own few is =
 
 -- what no file is refused for that is not too long, no put is refused for
 pub known-refusal : (area : Area) (records : List Record) (name bytes : List ℕ) (own : Option ℕ) →
-    is_unknown own ≡ false →
-    length bytes ≤ largest_file →
+    is_unknown own ≡ false → length bytes ≤ largest_file →
     put_refusal area records name own ≡ refusal_over area records (PutJob name bytes) own
 known-refusal area records name bytes own known few =
     cond_false (is_unknown own) (Some refusal.BadProfile)
@@ -367,8 +355,7 @@ known-refusal area records name bytes own known few =
     ∙ same-refusal area records name [] bytes own (omega arith) few
 
 unknown-refusal : (area : Area) (records : List Record) (name : List ℕ) (own : Option ℕ) →
-    is_unknown own ≡ true →
-    put_refusal area records name own ≡ Some refusal.BadProfile
+    is_unknown own ≡ true → put_refusal area records name own ≡ Some refusal.BadProfile
 unknown-refusal area records name own unknown =
     cond_true (is_unknown own) (Some refusal.BadProfile)
     (refusal_over area records (PutJob name []) own) unknown
@@ -420,9 +407,8 @@ given-taken area records name bytes own known none =
 
 -- a put ends with the status of a refusal only where that one is the first that applies
 pub put-only : (name : List ℕ) (own : Option ℕ) (records : List Record) (old new : Seen) (end : Ending)
-    (why : Refusal) → AnswersPut name own old new end → (K : IsKnown old records) →
-    status_of why ≢ 70 → status_of why ≢ 16 → end.status ≡ status_of why →
-    put_refusal K.opened.area records name own ≡ Some why
+    (why : Refusal) → AnswersPut name own old new end → (K : IsKnown old records) → status_of why ≢ 70 →
+    status_of why ≢ 16 → end.status ≡ status_of why → put_refusal K.opened.area records name own ≡ Some why
 put-only name own records old new end why (AnswersPut.unstarted u same) K tells short e =
     elim (unstarted-known old new end records K u) [
       | inl (rose, r) ↦ absurd (own-status end why 12 refl r.status_is tells e)
@@ -463,8 +449,7 @@ put-always name own records old new end why (AnswersPut.bad_profile other opened
     (unknown-refusal K.opened.area records name own unknown) applies) r)
 put-always name own records old new end why (AnswersPut.source_fault other opened known rose synced taken r) K disk source applies =
     absurd (source rose)
-put-always name own records old new end why (AnswersPut.no_memory taken r) K disk source applies =
-    inr r
+put-always name own records old new end why (AnswersPut.no_memory taken r) K disk source applies = inr r
 put-always name own records old new end why (AnswersPut.begun other seen opened known read few A whole) K disk source applies =
     refused-always (PutJob name seen) own records old new end why
     (known-both old records other K opened (λ a rs. AnswersJob (PutJob name seen) own a rs old new end) A)
@@ -497,25 +482,18 @@ unstarted-cut old new end (Unstarted.no_memory r) =
 
 -- nor does a job that began
 pub ended-cut : (status : ℕ) → EndStatus status → (status ≡ 14) ⊎ (status ≡ 16) → ⊥
-ended-cut status (EndStatus.by_done e) =
-    cut-not status 0 e (λ k. omega (arith, k)) (λ k. omega (arith, k))
-ended-cut status (EndStatus.by_lost e) =
-    cut-not status 4 e (λ k. omega (arith, k)) (λ k. omega (arith, k))
-ended-cut status (EndStatus.by_disk e) =
-    cut-not status 12 e (λ k. omega (arith, k)) (λ k. omega (arith, k))
+ended-cut status (EndStatus.by_done e) = cut-not status 0 e (λ k. omega (arith, k)) (λ k. omega (arith, k))
+ended-cut status (EndStatus.by_lost e) = cut-not status 4 e (λ k. omega (arith, k)) (λ k. omega (arith, k))
+ended-cut status (EndStatus.by_disk e) = cut-not status 12 e (λ k. omega (arith, k)) (λ k. omega (arith, k))
 ended-cut status (EndStatus.by_provider e) =
     cut-not status 13 e (λ k. omega (arith, k)) (λ k. omega (arith, k))
-ended-cut status (EndStatus.by_sink e) =
-    cut-not status 15 e (λ k. omega (arith, k)) (λ k. omega (arith, k))
-ended-cut status (EndStatus.by_memory e) =
-    cut-not status 70 e (λ k. omega (arith, k)) (λ k. omega (arith, k))
+ended-cut status (EndStatus.by_sink e) = cut-not status 15 e (λ k. omega (arith, k)) (λ k. omega (arith, k))
+ended-cut status (EndStatus.by_memory e) = cut-not status 70 e (λ k. omega (arith, k)) (λ k. omega (arith, k))
 
 -- nor one that is refused for no length
 pub job-cut : {area : Area} (kind : Kind) (own : Option ℕ) (records : List Record) (old new : Seen)
-    (end : Ending) →
-    (refusal_over area records kind own ≡ Some refusal.TooLong → ⊥) →
-    AnswersJob kind own area records old new end →
-    (end.status ≡ 14) ⊎ (end.status ≡ 16) → ⊥
+    (end : Ending) → (refusal_over area records kind own ≡ Some refusal.TooLong → ⊥) →
+    AnswersJob kind own area records old new end → (end.status ≡ 14) ⊎ (end.status ≡ 16) → ⊥
 job-cut kind own records old new end short (AnswersJob.refused why is synced r) (inl e) =
     refused-not why 14 refl (λ k. omega (arith, k)) (sym r.status_is ∙ e)
 job-cut kind own records old new end short (AnswersJob.refused why is synced r) (inr e) =
@@ -632,8 +610,7 @@ drop-done name old new end (AnswersAlone.begun records opened (AnswersJob.ended 
 
 drop-job-well : {area : Area} (name : List ℕ) (records : List Record) (old new : Seen) (end : Ending) →
     refusal_over area records (DropJob name) None ≡ None → (Rose old.disk_faults new.disk_faults → ⊥) →
-    (Rose old.sink_faults new.sink_faults → ⊥) →
-    AnswersJob (DropJob name) None area records old new end →
+    (Rose old.sink_faults new.sink_faults → ⊥) → AnswersJob (DropJob name) None area records old new end →
     GivesUnlessMemory (dropped_line name) old new end
 drop-job-well name records old new end begins disk sink (AnswersJob.refused why is synced r) =
     absurd (let e : None ≡ Some why = sym begins ∙ is in cc)
@@ -747,8 +724,7 @@ audit-well records old new end A K begins disk sink = elim (alone-known AuditJob
 
 repair-by : (records : List Record) (old new : Seen) (end : Ending) → (opened : IsOpened old records) →
     (how : Answer) (left : LeftAlone opened.area records RepairJob None how old new end.heard) (due : Due) →
-    due_of records ≡ Some due →
-    RepairGives (ran_left records RepairJob how old new end.heard left) due how →
+    due_of records ≡ Some due → RepairGives (ran_left records RepairJob how old new end.heard left) due how →
     EndsWith records RepairJob how old new end → IsDone end → IsRepaired old new end
 repair-by records old new end opened (answer.Repaired number) left due is_due L by done = record {
   records = records;
@@ -922,8 +898,7 @@ pub given-gives : (name bytes : List ℕ) (own : Option ℕ) (records : List Rec
     (end : Ending) → (opened : IsOpened old records) → is_unknown own ≡ false →
     refusal_over opened.area records (PutJob name bytes) own ≡ None →
     StopsReading (put_stripe records own) bytes old new end →
-    PartLeft opened.area records name bytes own old new →
-    GivesUpPut name own old new end
+    PartLeft opened.area records name bytes own old new → GivesUpPut name own old new end
 given-gives name bytes own records old new end opened known none stops left = record {
   records = records;
   bytes = bytes;
@@ -1053,8 +1028,7 @@ refused-same of status at old new end r j = ap (λ ps. of (provider_at ps j)) r.
 
 -- and so does ending before there is a job
 pub unstarted-same : {X : Type 0} (of : Provider → X) (old new : Seen) (end : Ending) →
-    Unstarted old new end →
-    (j : ℕ) → of (provider_at new.providers j) ≡ of (provider_at old.providers j)
+    Unstarted old new end → (j : ℕ) → of (provider_at new.providers j) ≡ of (provider_at old.providers j)
 unstarted-same of old new end u =
     (let r = unstarted-refused old new end u in refused-same of r.0 r.1 old new end r.3)
 

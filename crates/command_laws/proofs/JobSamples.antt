@@ -1,12 +1,9 @@
 -- Commands over the sample stores that run a job, given by its turns from every state that was just opened.
-use Rattle.std.proofs.Common.{◌≡◌, ℕ, ◌==◌, List, [], ◌∷◌, length, None, Some, refl, inl, arith, if◌then◌else◌}
-use Rattle.command_laws.specs.Words.{Sums, Provider, AuditDone, A, spelling, actions_of, Put, Got, Audited, Repaired, Upgraded, PutJob, GetJob, AuditJob, RepairJob, UpgradeJob, State, setup_in, IsJustOpened, MayName, AnswersPut, Answers, PutUnder, PartRuns, refusal_over, store, small_setup, idle_provider, held_name, held_file, set_up_records, held_records, upgraded_records, own_records, no_counts, audited_records, due_records, repaired_records, put_store, given_up_store, own_store, audited_store, repaired_store, upgraded_store, ends, get_held, get_other, IsLater, IsChain, Notes, Gives}
+use Rattle.command_laws.proofs.Words.{◌≡◌, ℕ, ◌==◌, List, [], ◌∷◌, length, None, Some, refl, inl, arith, Sums, Provider, AuditDone, A, spelling, actions_of, Put, Got, Audited, Repaired, Upgraded, PutJob, GetJob, AuditJob, RepairJob, UpgradeJob, State, setup_in, IsJustOpened, MayName, AnswersPut, Answers, PutUnder, PartRuns, refusal_over, store, small_setup, idle_provider, held_name, held_file, set_up_records, held_records, upgraded_records, own_records, no_counts, audited_records, due_records, repaired_records, put_store, given_up_store, own_store, audited_store, repaired_store, upgraded_store, ends, get_held, get_other, IsLater, IsChain, part-left, bytes_at-same, file-long, Run, PutRun, ran-over, ran-plain, put-so, part-so}
+use Rattle.std.proofs.Common.{if◌then◌else◌}
+use Rattle.made_runs.specs.Turns.{Notes, Gives}
 use Rattle.machine_defs.specs.Refusals as refusal
-use Rattle.job_laws.proofs.Parts.{part-left}
 use Rattle.made_runs.specs.Turns.{Goes}
-use Rattle.turn_laws.proofs.Shape.{bytes_at-same, file-long}
-use Rattle.turn_laws.proofs.Turned.{Run, PutRun, ran-over, ran-plain, put-so}
-use Rattle.turn_laws.proofs.Parts.{part-so}
 use Rattle.command_laws.proofs.Chains.{first-begins}
 use Rattle.command_laws.proofs.SureStores.{stands_for}
 use Rattle.command_laws.proofs.Samples.{set_up-sure, started-fit, held-fit, held-sure, upgraded-fit, upgraded-sure, own-fit, audited-fit, due-sure, repaired-fit, none-fell, same-disk, refused}

@@ -1,15 +1,5 @@
 -- Which records a disk reads, and its images stand for, after a job that ran over known records.
-use Rattle.std.proofs.Common.{◌≡◌, ◌≢◌, ℕ, ◌<◌, ◌≤◌, ◌⊎◌, Bool, true, false, cond, not, List, [], ◌∷◌, length, Option, None, Some, refl, ap, sym, subst, ◌∙◌, inl, inr, arith}
-use Rattle.std.specs.Prelude.{is_some, IfSome}
-use Rattle.std.specs.List.{list_all}
-use Rattle.std.proofs.lemmas.Bool.{false≢true}
-use Rattle.std.proofs.lemmas.Bool.Decides.{nat_tests}
-use Rattle.command_laws.specs.Words.{Cells, reads, EachImage, Record, Setup, is_byte, is_name_byte, is_name, largest_journal, Area, end_in, StandsActive, setup_of, AreAccepted, Kind, PutJob, GetJob, DropJob, AuditJob, RepairJob, UpgradeJob, Answer, AreBytes, IsSpelledKind, Entry, Refusal, setup_or_none, State, setup_in, StandsPlain, StandsWithDoubt, StandsSwitched, StandsForState, Seen, journal_read, IsRead, IsOpened, setup_in_effect, refusal_over, RunsAlone, PartRuns, MayName, IsKnown, DiskHas, IsSure}
-use Rattle.device_defs.proofs.PickLaws.{IsImage-reads}
-use Rattle.record_defs.proofs.Standing.{active-take, stands-long}
-use Rattle.journal_core.proofs.Meanings.{one_meaning}
-use Rattle.state_laws.proofs.Records.{setup-more}
-use Rattle.job_laws.proofs.Telling.{opened_state, state-over}
+use Rattle.command_laws.proofs.Words.{◌≡◌, ◌≢◌, ℕ, ◌<◌, ◌≤◌, ◌⊎◌, Bool, true, false, cond, not, List, [], ◌∷◌, length, Option, None, Some, refl, ap, sym, subst, ◌∙◌, inl, inr, arith, is_some, IfSome, list_all, false≢true, nat_tests, Cells, reads, EachImage, Record, Setup, is_byte, is_name_byte, is_name, largest_journal, Area, end_in, StandsActive, setup_of, AreAccepted, Kind, PutJob, GetJob, DropJob, AuditJob, RepairJob, UpgradeJob, Answer, AreBytes, IsSpelledKind, Entry, Refusal, setup_or_none, State, setup_in, StandsPlain, StandsWithDoubt, StandsSwitched, StandsForState, Seen, journal_read, IsRead, IsOpened, setup_in_effect, refusal_over, RunsAlone, PartRuns, MayName, IsKnown, DiskHas, IsSure, IsImage-reads, active-take, stands-long, one_meaning, setup-more, opened_state, state-over}
 use Rattle.command_laws.proofs.LastStates.{IsLast, last-state, part-state}
 
 -- ---- a text that fits is looked at
@@ -162,9 +152,7 @@ spelled-kind area records (PutJob name bytes) own are none =
     (name-bytes name (first-off (is_name name) _ _ none), are)
 spelled-kind area records (GetJob name) own are none = name-bytes name (first-off (is_name name) _ _ none)
 spelled-kind area records (DropJob name) own are none = name-bytes name (first-off (is_name name) _ _ none)
-spelled-kind area records AuditJob own are none = tt
-spelled-kind area records RepairJob own are none = tt
-spelled-kind area records UpgradeJob own are none = tt
+spelled-kind area records kind own are none = tt
 
 -- ---- what a job leaves
 
@@ -176,8 +164,7 @@ LeavesGood records old new =
 -- a job that ran alone leaves only good images, and as many providers
 pub ran-good : (records : List Record) (kind : Kind) {own : Option ℕ} (how : Answer) (old new : Seen)
     (heard : List Entry) → (opened : IsOpened old records) → IsSpelledKind kind → MayName kind own →
-    RunsAlone opened.area records kind own how old new heard →
-    LeavesGood records old new
+    RunsAlone opened.area records kind own how old new heard → LeavesGood records old new
 unfolding setup_in
 ran-good records kind how old new heard R spelled named A =
     (let w : State = opened_state R.area records A.faults old.providers in

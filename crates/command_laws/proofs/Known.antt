@@ -1,13 +1,8 @@
 -- How a command ends over a disk that tells its records: before its begin, or by its job.
-use Rattle.std.proofs.Common.{◌≡◌, ◌≢◌, ℕ, ◌<◌, ◌≤◌, ◌==◌, ◌⊎◌, Bool, true, false, List, [], ◌∷◌, length, take, Option, None, Some, refl, ap, sym, subst, ◌∙◌, inl, inr, arith}
-use Rattle.std.specs.Prelude.{IfSome, if◌then◌else◌}
-use Rattle.std.proofs.lemmas.List.{append-nil}
-use Rattle.command_laws.specs.Words.{Rose, told_then, TakesFront, Record, Area, HasNoSetup, Kind, Answer, Refusal, WritesLine, Seen, Ending, IsRefused, sinking, journal_read, IsRead, IsBadStart, IsOpened, Unstarted, setup_in_effect, refusal_over, status_of, AnswersJob, EndsByAnswer, AnswersAlone, IsKnown, GivesUnlessMemory}
+use Rattle.command_laws.proofs.Words.{◌≡◌, ◌≢◌, ℕ, ◌<◌, ◌≤◌, ◌==◌, ◌⊎◌, Bool, true, false, List, [], ◌∷◌, length, take, Option, None, Some, refl, ap, sym, subst, ◌∙◌, inl, inr, arith, IfSome, append-nil, Rose, told_then, TakesFront, Record, Area, HasNoSetup, Kind, Answer, Refusal, WritesLine, Seen, Ending, IsRefused, sinking, journal_read, IsRead, IsBadStart, IsOpened, Unstarted, setup_in_effect, refusal_over, status_of, AnswersJob, EndsByAnswer, AnswersAlone, IsKnown, GivesUnlessMemory, same_value, is_some-at, read-once, read-set_up, read-good}
+use Rattle.std.specs.Prelude.{if◌then◌else◌}
 use Rattle.machine_defs.specs.Answers as answer
 use Rattle.machine_defs.specs.Refusals as refusal
-use Rattle.machine_defs.proofs.JobLists.{same_value}
-use Rattle.state_laws.proofs.Records.{is_some-at}
-use Rattle.opening_defs.proofs.Readings.{read-once, read-set_up, read-good}
 
 -- ---- what was written
 
@@ -112,18 +107,10 @@ refusal_at n =
     else if n == 11 then Some refusal.JournalFull else if n == 16 then Some refusal.TooLong
     else if n == 17 then Some refusal.BadName
     else if n == 20 then Some refusal.BadProfile else if n == 23 then Some refusal.OldVersion
-    else if n == 24 then Some refusal.NewVersion
-    else if n == 21 then Some refusal.TooManyFiles
+    else if n == 24 then Some refusal.NewVersion else if n == 21 then Some refusal.TooManyFiles
     else if n == 26 then Some refusal.PackTooLong else None
 
 status-back : (why : Refusal) → status_of why ≢ 70 → refusal_at (status_of why) ≡ Some why
-status-back refusal.NoSuchName own = refl
-status-back refusal.RepairDue own = refl
-status-back refusal.NothingDue own = refl
-status-back refusal.JournalFull own = refl
-status-back refusal.TooLong own = refl
-status-back refusal.BadName own = refl
-status-back refusal.TooManyFiles own = refl
 status-back refusal.MustReopen own = absurd (own refl)
 status-back refusal.Busy own = absurd (own refl)
 status-back refusal.Memory own = absurd (own refl)
@@ -134,20 +121,10 @@ status-back refusal.Already own = absurd (own refl)
 status-back refusal.NotSetUp own = absurd (own refl)
 status-back refusal.TooFewProviders own = absurd (own refl)
 status-back refusal.NoSuchJob own = absurd (own refl)
-status-back refusal.BadProfile own = refl
-status-back refusal.OldVersion own = refl
-status-back refusal.NewVersion own = refl
-status-back refusal.PackTooLong own = refl
+status-back why own = refl
 
 -- any refusal but of those has the status of no memory, which is no refusal's
 refused-at : (why : Refusal) → (status_of why ≡ 70) ⊎ (refusal_at (status_of why) ≡ Some why)
-refused-at refusal.NoSuchName = inr refl
-refused-at refusal.RepairDue = inr refl
-refused-at refusal.NothingDue = inr refl
-refused-at refusal.JournalFull = inr refl
-refused-at refusal.TooLong = inr refl
-refused-at refusal.BadName = inr refl
-refused-at refusal.TooManyFiles = inr refl
 refused-at refusal.MustReopen = inl refl
 refused-at refusal.Busy = inl refl
 refused-at refusal.Memory = inl refl
@@ -158,10 +135,7 @@ refused-at refusal.Already = inl refl
 refused-at refusal.NotSetUp = inl refl
 refused-at refusal.TooFewProviders = inl refl
 refused-at refusal.NoSuchJob = inl refl
-refused-at refusal.BadProfile = inr refl
-refused-at refusal.OldVersion = inr refl
-refused-at refusal.NewVersion = inr refl
-refused-at refusal.PackTooLong = inr refl
+refused-at why = inr refl
 
 -- no refusal ends a command at a status that tells of none
 pub refused-not : (why : Refusal) (n : ℕ) → refusal_at n ≡ None → n ≢ 70 → status_of why ≡ n → ⊥
@@ -195,16 +169,7 @@ status-ended text (answer.Lost stripe row) old new end e = EndStatus.by_lost e.s
 status-ended text (answer.ProviderFault j) old new end e = EndStatus.by_provider e.status_is
 status-ended text answer.DiskFault old new end e = EndStatus.by_disk e.status_is
 status-ended text answer.Memory old new end e = EndStatus.by_memory e.status_is
-status-ended text answer.Put old new end e = status-written text old new end e.written
-status-ended text (answer.Got bytes) old new end e = status-written text old new end e.written
-status-ended text answer.Dropped old new end e = status-written text old new end e.written
-status-ended text (answer.Audited number undecided counts) old new end e =
-    status-written text old new end e.written
-status-ended text (answer.Repaired number) old new end e = status-written text old new end e.written
-status-ended text answer.Upgraded old new end e = status-written text old new end e.written
-status-ended text (answer.Scrubbed stripes symbols blocks) old new end e =
-    status-written text old new end e.written
-status-ended text (answer.Packed before after) old new end e = status-written text old new end e.written
+status-ended text how old new end e = status-written text old new end e.written
 
 ended-none : (n : ℕ) → EndStatus n → refusal_at n ≡ None
 ended-none n (EndStatus.by_done e) = ap refusal_at e
@@ -269,31 +234,11 @@ ended-opened n (EndStatus.by_memory e) = ap is_unopened e
 
 pub refused-opened : (why : Refusal) → is_unopened (status_of why) ≡ false
 refused-opened refusal.NoSuchName = refl
-refused-opened refusal.RepairDue = refl
-refused-opened refusal.NothingDue = refl
-refused-opened refusal.JournalFull = refl
-refused-opened refusal.TooLong = refl
-refused-opened refusal.BadName = refl
-refused-opened refusal.TooManyFiles = refl
-refused-opened refusal.MustReopen = refl
-refused-opened refusal.Busy = refl
-refused-opened refusal.Memory = refl
-refused-opened refusal.BadSetup = refl
-refused-opened refusal.DiskFault = refl
-refused-opened (refusal.BadJournal at) = refl
-refused-opened refusal.Already = refl
-refused-opened refusal.NotSetUp = refl
-refused-opened refusal.TooFewProviders = refl
-refused-opened refusal.NoSuchJob = refl
-refused-opened refusal.BadProfile = refl
-refused-opened refusal.OldVersion = refl
-refused-opened refusal.NewVersion = refl
-refused-opened refusal.PackTooLong = refl
+refused-opened why = refl
 
 -- a job over records that were read does not end as a store that is not opened
 pub job-opened : {area : Area} (kind : Kind) (own : Option ℕ) (records : List Record) (old new : Seen)
-    (end : Ending) →
-    AnswersJob kind own area records old new end → is_unopened end.status ≡ false
+    (end : Ending) → AnswersJob kind own area records old new end → is_unopened end.status ≡ false
 job-opened kind own records old new end (AnswersJob.refused why is synced r) =
     ap is_unopened r.status_is ∙ refused-opened why
 job-opened kind own records old new end (AnswersJob.no_memory synced r) = ap is_unopened r.status_is
@@ -304,9 +249,8 @@ job-opened kind own records old new end (AnswersJob.ended how none runs left by)
 
 -- over a known store a command is refused only for the first cause that applies
 pub known-only : (kind : Kind) (records : List Record) (old new : Seen) (end : Ending) (why : Refusal) →
-    AnswersAlone kind old new end → (K : IsKnown old records) →
-    status_of why ≢ 70 → end.status ≡ status_of why →
-    refusal_over K.opened.area records kind None ≡ Some why
+    AnswersAlone kind old new end → (K : IsKnown old records) → status_of why ≢ 70 →
+    end.status ≡ status_of why → refusal_over K.opened.area records kind None ≡ Some why
 known-only kind records old new end why A K own e = elim (alone-known kind old new end records K A) [
   | inl (inl (rose, r)) ↦
       absurd (none-some end.status why (ap refusal_at r.status_is) (at-some why end own e))

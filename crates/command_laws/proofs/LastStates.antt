@@ -1,10 +1,7 @@
 -- The state in which a job ended is sound, and has the setup and the providers that it began with.
-use Rattle.std.proofs.Common.{◌≡◌, ℕ, ◌+◌, true, false, List, length, Option, Some, refl, ap, sym, subst, ◌∙◌, arith}
-use Rattle.std.specs.Prelude.{is_some}
-use Rattle.command_laws.specs.Words.{setup_of, Kind, Job, Action, WriteBody, SyncBody, WriteGate, SyncGate, Store, Work, End, Answer, Step, Ended, IsSpelledKind, Entry, State, Append, setup_in, setup_or_none, chosen, beginning, Acts, now, AreSteps, GoesOnTo, RunsJob, RunsPart, IsSound, IsOpenAtRest, MayName, WalkedAt}
+use Rattle.command_laws.proofs.Words.{◌≡◌, ℕ, ◌+◌, true, false, List, length, Option, Some, refl, ap, sym, subst, ◌∙◌, arith, is_some, setup_of, Kind, Job, Action, WriteBody, SyncBody, WriteGate, SyncGate, Store, Work, End, Answer, Step, Ended, IsSpelledKind, Entry, State, Append, setup_in, setup_or_none, chosen, beginning, Acts, now, AreSteps, GoesOnTo, RunsJob, RunsPart, IsSound, IsOpenAtRest, MayName, WalkedAt, events-sound}
 use Rattle.machine_defs.specs.Answers as answer
 use Rattle.machine_defs.specs.Appends.{Moves}
-use Rattle.state_laws.proofs.Events.{events-sound}
 use Rattle.lone_laws.proofs.Walk.{walk-begin, walk-last}
 use Rattle.job_laws.proofs.Runs.{walk-steps}
 use Rattle.job_laws.proofs.Keeping.{part-keeps, runs-keep}
@@ -29,10 +26,10 @@ module _ (w : State) (job : Job) (new : State) where
   moves-stay : (action : Action) (flight : Option Append) (how : Answer) →
       Moves w job action flight (Ended how) new → Stays w new
   moves-stay WriteBody flight answer.DiskFault (faults, low, rose, is) = by-state w new _ is refl refl
-  moves-stay WriteBody flight answer.Memory (faults, low, is) = by-state w new _ is refl refl
+  moves-stay WriteBody flight answer.Memory is = by-state w new _ is refl refl
   moves-stay SyncBody (Some a) answer.DiskFault (at, (faults, low, rose, is)) = by-state w new _ is refl refl
   moves-stay WriteGate (Some a) answer.DiskFault (at, (faults, low, rose, is)) = by-state w new _ is refl refl
-  moves-stay WriteGate (Some a) answer.Memory (at, (faults, low, is)) = by-state w new _ is refl refl
+  moves-stay WriteGate (Some a) answer.Memory (at, is) = by-state w new _ is refl refl
   moves-stay SyncGate (Some a) answer.DiskFault (at, (faults, low, rose, is)) = by-state w new _ is refl refl
   moves-stay action flight how h = absurd h
 

@@ -1,3 +1,4 @@
+mod Words
 pub mod Known
 pub mod GetEnds
 pub mod JobEnds

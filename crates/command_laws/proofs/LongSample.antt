@@ -1,10 +1,8 @@
 -- A put of a source of one byte more than a file may have, over providers that tell nothing: four moves, and
 -- a store of each whole stripe on each provider.
-use Rattle.std.proofs.Common.{◌≡◌, ℕ, zero, suc, ◌+◌, ◌*◌, List, [], ◌∷◌, length, take, Some, None, refl, ap, sym, inr, arith, length-take}
-use Rattle.std.proofs.lemmas.List.{append-nil}
-use Rattle.command_laws.specs.Words.{columns, largest_file, A, spelling, AreBytes, PutJob, object_of, stripes_of, PutUnder, nobody, refusal_over, put_stripe, StopsReading, PartRuns, AnswersPut, Answers, MayName, IsSure, small_setup, held_name, set_up_records, started_records, reading, ends, stored, given_stripes}
-use Rattle.job_laws.proofs.Parts.{part-left}
-use Rattle.turn_laws.proofs.Parts.{part-so}
+use Rattle.command_laws.proofs.Words.{◌≡◌, ℕ, zero, suc, ◌+◌, ◌*◌, List, [], ◌∷◌, length, take, Some, None, refl, ap, sym, inr, arith, length-take, append-nil, columns, largest_file, A, spelling, AreBytes, PutJob, object_of, stripes_of, PutUnder, nobody, refusal_over, put_stripe, StopsReading, PartRuns, AnswersPut, Answers, MayName, IsSure, small_setup, held_name, set_up_records, started_records, reading, ends, part-left, part-so}
+use Rattle.made_runs.specs.Steps.{stored}
+use Rattle.turn_laws.specs.Turned.{given_stripes}
 use Rattle.command_laws.proofs.Chains.{first-begins}
 use Rattle.command_laws.proofs.JobEnds.{given-front}
 use Rattle.command_laws.proofs.SureStores.{stands_for}

@@ -1,11 +1,6 @@
 -- How packs end, and what they have done where they are done.
-use Rattle.std.proofs.Common.{◌≡◌, ◌≢◌, ℕ, ◌⊎◌, ◌==◌, Bool, true, false, cond, List, Option, None, Some, refl, ap, sym, subst, ◌∙◌, inl, inr, arith}
-use Rattle.std.proofs.lemmas.Bool.{false≢true, eq-eqb}
-use Rattle.command_laws.specs.Words.{Rose, Provider, Record, Area, other_area, text_length, version_of, setup_of, AreAccepted, AreAlike, packed, Answer, Refusal, PackJournal, Seen, Ending, IsRefused, provider_at, IsOpened, pack_refusal_over, status_of, packed_line, pack_text, EndsByAnswer, IsTold, PackLeaves, PackedAlone, AnswersPack, IsDone, IsKnown, GivesUnlessMemory, EndsInOrder, SameHolds, IsPacked, SameFetches}
-use Rattle.record_defs.proofs.PackLaws.{packed_are}
+use Rattle.command_laws.proofs.Words.{◌≡◌, ◌≢◌, ℕ, ◌⊎◌, ◌==◌, Bool, true, false, cond, List, Option, None, Some, refl, ap, sym, subst, ◌∙◌, inl, inr, arith, false≢true, eq-eqb, Rose, Provider, Record, Area, other_area, text_length, version_of, setup_of, AreAccepted, AreAlike, packed, Answer, Refusal, PackJournal, Seen, Ending, IsRefused, provider_at, IsOpened, pack_refusal_over, status_of, packed_line, pack_text, EndsByAnswer, IsTold, PackLeaves, PackedAlone, AnswersPack, IsDone, IsKnown, GivesUnlessMemory, EndsInOrder, SameHolds, IsPacked, SameFetches, packed_are, same_value, is_some-at, version-either, second-set_up}
 use Rattle.machine_defs.specs.Answers as answer
-use Rattle.machine_defs.proofs.JobLists.{same_value}
-use Rattle.state_laws.proofs.Records.{is_some-at, version-either, second-set_up}
 use Rattle.command_laws.proofs.Known.{EndStatus, status-ended, known-both, unstarted-known, none-written, written-well, own-status, told-refusal}
 use Rattle.command_laws.proofs.JobEnds.{unstarted-done, not-done, refused-done, memory-well, in-order, zero-or-memory, refused-same, unstarted-same}
 

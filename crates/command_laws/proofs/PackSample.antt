@@ -1,11 +1,7 @@
 -- A pack of the store whose journal has its second version, from every state that was just opened: four moves,
 -- and its end.
-use Rattle.std.proofs.Common.{◌≡◌, ℕ, ◌-◌, ◌^◌, List, [], ◌∷◌, ◌++◌, length, refl, inl, arith}
-use Rattle.std.proofs.lemmas.List.{drop_at}
-use Rattle.command_laws.specs.Words.{A, B, magic_front, entries, text_length, StandsActive, packed, unalone, Packed, IsSure, store, upgraded_records, packed_bytes, packed_store, ends}
+use Rattle.command_laws.proofs.Words.{◌≡◌, ℕ, ◌-◌, ◌^◌, List, [], ◌∷◌, ◌++◌, length, refl, inl, arith, drop_at, A, B, magic_front, entries, text_length, StandsActive, packed, unalone, Packed, IsSure, store, upgraded_records, packed_bytes, packed_store, ends, Pack, pack-so, turn}
 use Rattle.made_runs.specs.Sweeps.{Moves}
-use Rattle.turn_laws.proofs.Swept.{Pack, pack-so}
-use Rattle.turn_laws.proofs.Turned.{turn}
 use Rattle.command_laws.proofs.SureStores.{AreFitIn, fits, stands, sure_in}
 use Rattle.command_laws.proofs.Samples.{upgraded-sure}
 

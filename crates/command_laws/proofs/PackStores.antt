@@ -1,11 +1,6 @@
 -- The images that a pack leaves are good: each stands for records that a start accepts.
-use Rattle.std.proofs.Common.{◌≡◌, ℕ, ◌≤◌, List, length, None, refl, ap, sym, subst, ◌∙◌, inl, inr}
-use Rattle.std.specs.Prelude.{is_some}
-use Rattle.device_defs.proofs.Lasting.{each_image-mono}
-use Rattle.command_laws.specs.Words.{Record, other_area, StandsActive, AreAlike, packed, Answer, setup_or_none, IsOpened, setup_in_effect, PackLeaves, PackedAlone, pack_refusal_over, Seen}
+use Rattle.command_laws.proofs.Words.{◌≡◌, ℕ, ◌≤◌, List, length, None, refl, ap, sym, subst, ◌∙◌, inl, inr, is_some, each_image-mono, Record, other_area, StandsActive, AreAlike, packed, Answer, setup_or_none, IsOpened, setup_in_effect, PackLeaves, PackedAlone, pack_refusal_over, Seen, switched-room, second-set_up}
 use Rattle.machine_defs.specs.Answers as answer
-use Rattle.state_laws.proofs.Packs.{switched-room}
-use Rattle.state_laws.proofs.Records.{second-set_up}
 use Rattle.command_laws.proofs.Knowing.{MayBeGood, AreGood, LeavesGood, none-up}
 use Rattle.command_laws.proofs.PackEnds.{pack-second, pack-alike}
 

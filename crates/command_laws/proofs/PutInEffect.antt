@@ -1,13 +1,7 @@
 -- However a put ended: where the next command finds its end in effect, its file is right on every provider
 -- that tells.
-use Rattle.std.proofs.Common.{◌≡◌, ℕ, ◌+◌, ◌<◌, ◌≤◌, ◌⊎◌, Bool, true, false, List, [], ◌∷◌, ◌++◌, length, reverse, Option, None, Some, refl, ap, sym, subst, ◌∙◌, inl, inr, arith, length-append}
-use Rattle.std.specs.Prelude.{is_some, IfSome, IsSomeAnd}
-use Rattle.std.proofs.lemmas.Bool.{false≢true}
-use Rattle.std.proofs.lemmas.List.{length-reverse}
-use Rattle.command_laws.specs.Words.{Cells, reads, Stopped, EachImage, Record, PutStart, largest_journal, Area, StandsActive, StandsFor, next_id, AreBytes, PutJob, Answer, Seen, Ending, IsRefused, provider_at, journal_read, setup_in_effect, refusal_over, Ran, put_records, MayHaveEnd, PutIsCut, PutLeaves, after_begin, AnswersJob, LeftAlone, MayBeWhole, AnswersPut, IsKnown, after_put, IsSure, Follows, HasRightFile}
+use Rattle.command_laws.proofs.Words.{◌≡◌, ℕ, ◌+◌, ◌<◌, ◌≤◌, ◌⊎◌, Bool, true, false, List, [], ◌∷◌, ◌++◌, length, reverse, Option, None, Some, refl, ap, sym, subst, ◌∙◌, inl, inr, arith, length-append, is_some, IfSome, IsSomeAnd, false≢true, length-reverse, Cells, reads, Stopped, EachImage, Record, PutStart, largest_journal, Area, StandsActive, StandsFor, next_id, AreBytes, PutJob, Answer, Seen, Ending, IsRefused, provider_at, journal_read, setup_in_effect, refusal_over, Ran, put_records, MayHaveEnd, PutIsCut, PutLeaves, after_begin, AnswersJob, LeftAlone, MayBeWhole, AnswersPut, IsKnown, after_put, IsSure, Follows, HasRightFile, active-front, one_list}
 use Rattle.device_defs.specs.Told.{Goes}
-use Rattle.record_defs.proofs.Standing.{active-front}
-use Rattle.journal_core.proofs.Meanings.{one_list}
 use Rattle.machine_defs.specs.Answers as answer
 use Rattle.command_laws.proofs.Known.{known-once}
 use Rattle.command_laws.proofs.GetEnds.{ran_left}
@@ -56,9 +50,8 @@ module _ (name bytes : List ℕ) (own : Option ℕ) (records : List Record) (spo
       let few = g.2 in
       omega (arith, size, few))
 
-  has-fewer : (area : Area) (told : Option Cells) → EachImage told
-      (λ image. StandsActive image area records) →
-      EachImage told Fewer
+  has-fewer : (area : Area) (told : Option Cells) →
+      EachImage told (λ image. StandsActive image area records) → EachImage told Fewer
   has-fewer area None h = tt
   has-fewer area (Some cells) h = λ image is. (records, (area, h image is), omega arith)
 
@@ -87,9 +80,8 @@ module _ (name bytes : List ℕ) (own : Option ℕ) (records : List Record) (spo
       λ image is. image-fewer area image after doubt few less (h image is)
 
   -- a put that was given up has one record in effect
-  given-fewer : (area : Area) → EachImage new.disk (λ image. StandsActive image area
-      (after_begin records name)) →
-      ⊥
+  given-fewer : (area : Area) →
+      EachImage new.disk (λ image. StandsActive image area (after_begin records name)) → ⊥
   given-fewer area h = not-fewer (one-more new.disk h)
     where
       one-more : (told : Option Cells) →
@@ -106,8 +98,7 @@ module _ (name bytes : List ℕ) (own : Option ℕ) (records : List Record) (spo
     x = ran_left records (PutJob name seen) how old new end.heard left
 
     -- what was read is all that the source held
-    with-all : seen ≡ bytes →
-        HasRightFile new (after_put records name (length seen) own) name seen spoilt →
+    with-all : seen ≡ bytes → HasRightFile new (after_put records name (length seen) own) name seen spoilt →
         HasRightFile new (after_put records name (length bytes) own) name bytes spoilt
     with-all same =
         subst (λ bs. HasRightFile new (after_put records name (length bs) own) name bs spoilt) same

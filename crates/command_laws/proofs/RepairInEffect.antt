@@ -1,14 +1,8 @@
 -- However a repair ended: where the next command finds its end in effect, each flagged provider that tells is
 -- right for a file that stood.
-use Rattle.std.proofs.Common.{◌≡◌, ℕ, ◌<◌, ◌≤◌, ◌&&◌, Bool, true, false, not, List, [], ◌∷◌, ◌++◌, length, reverse, None, Some, ap, subst, inl, inr, arith, length-append}
-use Rattle.std.specs.Prelude.{is_some, IfSome}
-use Rattle.std.proofs.lemmas.Bool.{cases_Bool}
-use Rattle.command_laws.specs.Words.{is_flagged, reads, EachImage, Record, RepairDone, largest_journal, Area, StandsActive, StandsFor, Due, due_of, RepairJob, Answer, Seen, Ending, IsRefused, provider_at, journal_read, setup_in_effect, object_in_effect, Ran, flags, RewritesAll, RepairGives, AnswersJob, LeftAlone, AnswersAlone, bad_seen, IsKnown, after_repair, is_wrong_or_untold, IsSure, Follows, HasRightFile, IsSteady, spoilt_below}
-use Rattle.device_defs.proofs.Lasting.{each_image-mono}
-use Rattle.record_defs.proofs.Standing.{active-front}
-use Rattle.journal_core.proofs.Meanings.{one_list}
+use Rattle.command_laws.proofs.Words.{◌≡◌, ℕ, ◌<◌, ◌≤◌, Bool, true, false, not, List, [], ◌∷◌, ◌++◌, length, reverse, None, Some, ap, subst, inl, inr, arith, length-append, is_some, IfSome, cases_Bool, is_flagged, reads, EachImage, Record, RepairDone, largest_journal, Area, StandsActive, StandsFor, Due, due_of, RepairJob, Answer, Seen, Ending, IsRefused, provider_at, journal_read, setup_in_effect, object_in_effect, Ran, flags, RewritesAll, RepairGives, AnswersJob, LeftAlone, AnswersAlone, bad_seen, IsKnown, after_repair, is_wrong_or_untold, IsSure, Follows, HasRightFile, IsSteady, spoilt_below, each_image-mono, active-front, one_list, same_value}
+use Rattle.std.proofs.Common.{◌&&◌}
 use Rattle.machine_defs.specs.Answers as answer
-use Rattle.machine_defs.proofs.JobLists.{same_value}
 use Rattle.command_laws.proofs.Known.{known-both}
 use Rattle.command_laws.proofs.GetEnds.{shape-at, ran_left}
 use Rattle.command_laws.proofs.JobEnds.{unstarted-refused, images-have}

@@ -1,7 +1,5 @@
 -- A status of a fault comes of a row only where the sink's count rose.
-use Rattle.std.proofs.Common.{◌≡◌, ◌≢◌, ℕ, List, Option, sym, ◌∙◌, inl, inr, arith}
-use Rattle.std.proofs.lemmas.Bool.{cases_lt}
-use Rattle.command_laws.specs.Words.{IsShape, Rose, WritesLine, TellsLine, Seen, Ending, sinking, AnswersRow, FaultsHaveCauses}
+use Rattle.command_laws.proofs.Words.{◌≡◌, ◌≢◌, ℕ, List, Option, sym, ◌∙◌, inl, inr, arith, cases_lt, IsShape, Rose, WritesLine, TellsLine, Seen, Ending, sinking, AnswersRow, FaultsHaveCauses}
 
 module _ (n l b : ℕ) (seen : List (Option ℕ)) (old new : Seen) (end : Ending)
     (A : AnswersRow n l b seen end.status (sinking old new)) where

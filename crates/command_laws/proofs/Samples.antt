@@ -1,13 +1,7 @@
 -- Stores with no file or one empty file, and commands over them that run no job.
-use Rattle.std.proofs.Common.{◌≡◌, ℕ, ◌<◌, ◌≤◌, false, List, [], None, Some, Option, refl, ap, sym, subst, ◌∙◌, inl, inr, arith}
-use Rattle.std.proofs.lemmas.Bool.{cases_Bool}
-use Rattle.command_laws.specs.Words.{is_wrong, stripes, Cells, firm, synced, Rose, last_count, Record, text, File, files_of, file_as, is_start_of, A, Kind, Refusal, object_of, IsResynced, ListAll, PutAt, PackJournal, list_lines, IsOpened, setup_in_effect, AnswersPack, refusal_over, pack_refusal_over, status_of, Seen, IsRefused, IsSynced, SameSource, NoCountFalls, provider_at, AnswersJob, AnswersAlone, AnswersList, AnswersPut, Answers, AreSafe, IsSure, HasRightFile, is_wrong_at, store, small_setup, idle_providers, held_name, held_file, set_up_records, held_records, started_records, upgraded_records, own_records, audited_records, due_records, repaired_records, scrubbed_store, with_sink, ends, bad_seen}
+use Rattle.command_laws.proofs.Words.{◌≡◌, ℕ, ◌<◌, ◌≤◌, false, List, [], None, Some, Option, refl, ap, sym, subst, ◌∙◌, inl, inr, arith, cases_Bool, is_wrong, stripes, Cells, firm, synced, Rose, last_count, Record, text, File, files_of, file_as, is_start_of, A, Kind, Refusal, object_of, IsResynced, ListAll, PutAt, PackJournal, list_lines, IsOpened, setup_in_effect, AnswersPack, refusal_over, pack_refusal_over, status_of, Seen, IsRefused, IsSynced, SameSource, NoCountFalls, provider_at, AnswersJob, AnswersAlone, AnswersList, AnswersPut, Answers, AreSafe, IsSure, HasRightFile, is_wrong_at, store, small_setup, idle_providers, held_name, held_file, set_up_records, held_records, started_records, upgraded_records, own_records, audited_records, due_records, repaired_records, scrubbed_store, with_sink, ends, bad_seen, reads-firm, cond_true, cond_false, each-not-wrong, always, four}
 use Rattle.device_defs.specs.Told.{Goes}
-use Rattle.device_defs.proofs.Lasting.{reads-firm}
 use Rattle.machine_defs.specs.Refusals as refusal
-use Rattle.machine_defs.proofs.JobLists.{cond_true, cond_false}
-use Rattle.job_laws.proofs.Complete.{each-not-wrong}
-use Rattle.turn_laws.proofs.Shape.{always, four}
 use Rattle.command_laws.proofs.FilesStay.{bad-few}
 use Rattle.command_laws.proofs.SureStores.{AreFitIn, fits, sure}
 

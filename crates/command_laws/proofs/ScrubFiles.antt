@@ -1,14 +1,8 @@
 -- A file that is in effect over a scrub: right on each provider that tells where it is done, and no less
 -- right than before whatever comes of it.
-use Rattle.std.proofs.Common.{◌≡◌, ℕ, zero, suc, ◌<◌, ◌≤◌, ◌⊎◌, Bool, true, false, List, [], ◌∷◌, length, Option, None, Some, refl, ap, sym, subst, ◌∙◌, inl, inr, arith, Contains}
-use Rattle.std.specs.Prelude.{is_some}
-use Rattle.std.proofs.lemmas.Bool.{cases_eq, false≢true}
-use Rattle.std.proofs.lemmas.List.{append-nil}
-use Rattle.command_laws.specs.Words.{In, Object, is_wrong, is_wrong_block, column_of_symbols, Held, Record, File, file_of, profiled, stripes_of, Answer, Seen, Ending, provider_at, setup_in_effect, object_in_effect, Ran, object_numbered, Place, Gave, places_of, RewrittenOn, PartlyRewrittenOn, RewritesAll, RewritesPart, SweepsAll, everyone, ScrubGives, ScrubbedAlone, AnswersScrub, bad_seen, IsDone, IsKnown, HoldsFile, IsScrubbed, ran_to, is_wrong_or_untold, HasRightFile, IsSteady, spoilt_below}
-use Rattle.column_laws.proofs.Worked.{column-right}
+use Rattle.command_laws.proofs.Words.{◌≡◌, ℕ, zero, suc, ◌<◌, ◌≤◌, ◌⊎◌, Bool, true, false, List, [], ◌∷◌, length, Option, None, Some, refl, ap, sym, subst, ◌∙◌, inl, inr, arith, Contains, is_some, cases_eq, false≢true, append-nil, In, Object, is_wrong, is_wrong_block, column_of_symbols, Held, Record, File, file_of, profiled, stripes_of, Answer, Seen, Ending, provider_at, setup_in_effect, object_in_effect, Ran, object_numbered, Place, Gave, places_of, RewrittenOn, PartlyRewrittenOn, RewritesAll, RewritesPart, SweepsAll, everyone, ScrubGives, ScrubbedAlone, AnswersScrub, bad_seen, IsDone, IsKnown, HoldsFile, IsScrubbed, ran_to, is_wrong_or_untold, HasRightFile, IsSteady, spoilt_below, column-right, each-not-wrong, not-wrong-each}
 use Rattle.device_defs.specs.Told.{Goes}
 use Rattle.machine_defs.specs.Answers as answer
-use Rattle.job_laws.proofs.Complete.{each-not-wrong, not-wrong-each}
 use Rattle.command_laws.proofs.Known.{known-once}
 use Rattle.command_laws.proofs.GetEnds.{shape-at}
 use Rattle.command_laws.proofs.JobEnds.{unstarted-refused}
@@ -101,10 +95,9 @@ goes-partly : (objects : ℕ → Object) (symbols : Place → List ℕ) (all : L
     (a b : Option Held) → Goes (RewrittenOn objects symbols all j) a b →
     Goes (PartlyRewrittenOn objects symbols all j) a b
 goes-partly objects symbols all j None None g = tt
-goes-partly objects symbols all j None (Some b) g = absurd g
-goes-partly objects symbols all j (Some a) None g = absurd g
 goes-partly objects symbols all j (Some a) (Some b) g =
     record { stored = λ k z below. inr (g.stored k z below); others = g.others }
+goes-partly objects symbols all j a b g = absurd g
 
 module _ (name bytes : List ℕ) (records : List Record) (spoilt : ℕ → Bool) (old new : Seen) (end : Ending)
     (K : IsKnown old records) (H : HasRightFile old records name bytes spoilt)

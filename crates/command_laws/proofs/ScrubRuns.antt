@@ -1,8 +1,6 @@
 -- A scrub leaves how many providers are handed in.
-use Rattle.std.proofs.Common.{◌≡◌, ℕ, ◌+◌, ◌==◌, Bool, true, false, List, [], ◌∷◌, length, Option, None, Some, refl, ap, sym, subst, ◌∙◌}
-use Rattle.command_laws.specs.Words.{Record, Answer, Outcome, More, Ended, job_of, number_alone, Moment, now, State, Alone, StepsJob, StepsMine, StepsOne, StepsOpen, Steps, AreSteps, IsOpened, RunsScrub, RanScrub, ScrubsAlone, Seen}
+use Rattle.command_laws.proofs.Words.{◌≡◌, ℕ, ◌+◌, ◌==◌, Bool, true, false, List, [], ◌∷◌, length, Option, None, Some, refl, ap, sym, subst, ◌∙◌, Record, Answer, Outcome, More, Ended, job_of, number_alone, Moment, now, State, Alone, StepsJob, StepsMine, StepsOne, StepsOpen, Steps, AreSteps, IsOpened, RunsScrub, RanScrub, ScrubsAlone, Seen, opened_state, state-over}
 use Rattle.machine_defs.proofs.Asides.{steps_aside}
-use Rattle.job_laws.proofs.Telling.{opened_state, state-over}
 
 -- a step went on, or ended
 abbrev IsOn : Outcome → Type 0

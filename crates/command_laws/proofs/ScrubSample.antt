@@ -1,8 +1,6 @@
 -- A scrub of the store with one empty file, from every state that was just opened: its end alone.
-use Rattle.std.proofs.Common.{[], refl, inl}
-use Rattle.command_laws.specs.Words.{A, unalone, Answer, Scrubbed, setup_in, Answers, ScrubAll, ScrubsAlone, AnswersScrub, store, held_records, no_counts, scrubbed_store, ends}
+use Rattle.command_laws.proofs.Words.{[], refl, inl, A, unalone, Answer, Scrubbed, setup_in, Answers, ScrubAll, ScrubsAlone, AnswersScrub, store, held_records, no_counts, scrubbed_store, ends, scrubs-so}
 use Rattle.scrub_laws.proofs.Telling.{scrubbed-alone}
-use Rattle.turn_laws.proofs.Swept.{scrubs-so}
 use Rattle.command_laws.proofs.JobSamples.{no_bytes, no_bytes-is}
 use Rattle.command_laws.proofs.SureStores.{stands_for}
 use Rattle.command_laws.proofs.Samples.{held-fit, held-sure, same-disk}

@@ -1,14 +1,10 @@
 -- The words of a command are text, so the name in them is of bytes.
-use Rattle.std.proofs.Common.{◌≡◌, ℕ, ◌+◌, ◌<◌, ◌/◌, Bool, true, false, cond, List, [], ◌∷◌, ◌++◌, String, IsUtf8, refl, subst, arith, inl, inr}
-use Rattle.std.specs.List.{list_all}
+use Rattle.command_laws.proofs.Words.{◌≡◌, ℕ, ◌+◌, ◌<◌, ◌/◌, Bool, true, false, cond, List, [], ◌∷◌, ◌++◌, String, IsUtf8, refl, subst, arith, inl, inr, list_all, ltb-true, and_parts, and_from, nat_tests, is_byte, AreBytes, Command, RowOf, InitWith, PutUnder, PutAt, GetOf, DropOf, ListAll, AuditAll, RepairAll, UpgradeJournal, ScrubAll, PackJournal, IsNamedForm, IsForm, IsSpelledCommand}
 use Rattle.std.specs.String.{string_bytes}
 use Rattle.std.specs.declared.alloc.Global.{Global}
-use Rattle.std.proofs.lemmas.Bool.{ltb-true, and_parts, and_from}
-use Rattle.std.proofs.lemmas.Bool.Decides.{nat_tests}
 use Rattle.std.proofs.lemmas.Str.{IsUtf8-string_bytes}
 use lib.Utf8.{scalar, scalars, encode, encodes, next, scalar_cases}
 use lib.Dec.{ltb}
-use Rattle.command_laws.specs.Words.{is_byte, AreBytes, Command, RowOf, InitWith, PutUnder, PutAt, GetOf, DropOf, ListAll, AuditAll, RepairAll, UpgradeJournal, ScrubAll, PackJournal, IsNamedForm, IsForm, IsSpelledCommand}
 
 -- ---- a character's bytes
 
@@ -62,15 +58,11 @@ name-spelled : (form : List ℕ) (words : List (String Global)) (name : List ℕ
     IsNamedForm form words name → AreBytes name
 name-spelled form (first ∷ second ∷ []) name h =
     subst (λ l. AreBytes l) h.1 (text-bytes (string_bytes second) (IsUtf8-string_bytes second))
-name-spelled form [] name h = absurd h
-name-spelled form (first ∷ []) name h = absurd h
-name-spelled form (first ∷ second ∷ third ∷ rest) name h = absurd h
+name-spelled form words name h = absurd h
 
 -- the words of a command are text, so the name in them is of bytes, and the number of a profile fits
 pub form-spelled : (words : List (String Global)) (command : Command) → IsForm words command →
     IsSpelledCommand command
-form-spelled words (RowOf n l b seen) h = tt
-form-spelled words (InitWith numbers) h = tt
 form-spelled words (PutUnder name) h = name-spelled _ words name h
 form-spelled (first ∷ second ∷ third ∷ []) (PutAt name profile) h =
     (subst (λ l. AreBytes l) h.1 (text-bytes (string_bytes second) (IsUtf8-string_bytes second)), h.3)
@@ -80,9 +72,4 @@ form-spelled (first ∷ second ∷ []) (PutAt name profile) h = absurd h
 form-spelled (first ∷ second ∷ third ∷ fourth ∷ rest) (PutAt name profile) h = absurd h
 form-spelled words (GetOf name) h = name-spelled _ words name h
 form-spelled words (DropOf name) h = name-spelled _ words name h
-form-spelled words ListAll h = tt
-form-spelled words AuditAll h = tt
-form-spelled words RepairAll h = tt
-form-spelled words UpgradeJournal h = tt
-form-spelled words ScrubAll h = tt
-form-spelled words PackJournal h = tt
+form-spelled words command h = tt

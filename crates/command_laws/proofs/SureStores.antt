@@ -1,8 +1,6 @@
 -- Stores whose disk reads given records are known, in each image of the disk.
-use Rattle.std.proofs.Common.{◌≡◌, ◌≢◌, ℕ, ◌≤◌, List, [], ◌∷◌, length, Some, refl, sym, subst, IsTrue}
-use Rattle.std.specs.List.{list_all}
-use Rattle.command_laws.specs.Words.{firm, IsImage, EachImage, Record, is_in_grammar, largest_journal, text, AreAccepted, Area, A, end_in, StandsActive, setup_in_effect, Seen, IsSure}
-use Rattle.device_defs.proofs.Lasting.{reads-firm, image-firm}
+use Rattle.command_laws.proofs.Words.{◌≡◌, ◌≢◌, ℕ, ◌≤◌, List, [], ◌∷◌, length, Some, refl, sym, subst, list_all, firm, IsImage, EachImage, Record, is_in_grammar, largest_journal, text, AreAccepted, Area, A, end_in, StandsActive, setup_in_effect, Seen, IsSure, reads-firm, image-firm}
+use Rattle.std.proofs.Common.{IsTrue}
 use Rattle.record_defs.proofs.AreaLaws.{text-active}
 use Rattle.command_laws.proofs.Knowing.{known-good}
 

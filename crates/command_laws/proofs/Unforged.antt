@@ -1,15 +1,12 @@
 -- With few providers that are wrong or failed what a get heard holds no forgery, however it ended.
-use Rattle.std.proofs.Common.{◌≡◌, ℕ, zero, suc, ◌+◌, ◌<◌, ◌≤◌, ◌==◌, ◌&&◌, Bool, true, false, List, [], ◌∷◌, ◌++◌, map, None, Some, refl, ap, sym, subst, ◌∙◌, inl, inr, arith}
-use Rattle.std.specs.List.{range_with_len, flat_map}
-use Rattle.std.proofs.lemmas.Bool.{cases_Bool, cases_lt, ne_eqb, and_parts, false≢true}
-use Rattle.command_laws.specs.Words.{Each, IsShape, value, is_seen, upto, Object, point, is_wrong_block, is_wrong, SeenBlock, OpensTo, symbol_in, block_at, is_agreeing, IsForgery, Record, Area, File, file_of, GetJob, Given, Fetched, Answered, Worked, block_given, blocks_given, Answer, Entry, given_to, HoldsForgery, Seen, Ending, setup_in_effect, object_in_effect, Ran, ran_alone, setup_at_begin, job_number, object_at_begin, stripes_at_begin, block_heard, HearsStripes, GetGives, GetLeaves, AnswersJob, AnswersAlone, is_bad, bad_count, bad_seen, IsKnown}
-use Rattle.algebra_laws.proofs.Each.{each_append, each_map}
+use Rattle.command_laws.proofs.Words.{◌≡◌, ℕ, zero, suc, ◌+◌, ◌<◌, ◌≤◌, ◌==◌, Bool, true, false, List, [], ◌∷◌, ◌++◌, map, None, Some, refl, ap, sym, subst, ◌∙◌, inl, inr, arith, range_with_len, flat_map, cases_Bool, cases_lt, ne_eqb, and_parts, false≢true, Each, IsShape, upto, Object, point, is_wrong_block, is_wrong, SeenBlock, OpensTo, symbol_in, block_at, Record, Area, File, file_of, GetJob, Given, Fetched, Answered, Worked, Answer, Entry, given_to, HoldsForgery, Seen, Ending, setup_in_effect, object_in_effect, Ran, ran_alone, setup_at_begin, job_number, object_at_begin, stripes_at_begin, block_heard, HearsStripes, GetGives, GetLeaves, AnswersJob, AnswersAlone, is_bad, bad_count, bad_seen, IsKnown, each_append, each_map, count_of-within, opens-at, cond_true, cond_false, same_value, block_at-map, bad-block}
+use Rattle.std.proofs.Common.{◌&&◌}
+use Rattle.code_defs.specs.Polynomials.{value, is_seen}
+use Rattle.column_defs.specs.Forgeries.{is_agreeing, IsForgery}
+use Rattle.machine_defs.specs.Given.{block_given, blocks_given}
 use Rattle.algebra_laws.specs.Poly.{is_seen as is_seen_over}
-use Rattle.column_laws.proofs.Counts.{count_of-within, opens-at}
 use Rattle.column_laws.proofs.OtherRows.{forgery-of_other}
 use Rattle.machine_defs.specs.Answers as answer
-use Rattle.machine_defs.proofs.JobLists.{cond_true, cond_false, same_value}
-use Rattle.job_laws.proofs.Complete.{block_at-map, bad-block}
 use Rattle.command_laws.proofs.Known.{alone-known}
 use Rattle.command_laws.proofs.GetEnds.{shape-at, ran_left}
 
@@ -22,8 +19,7 @@ IsElse t other = Unit {0}
 
 and-off : (a b c : Bool) → c ≡ false → (a && b && c) ≡ false
 and-off true true c h = h
-and-off true false c h = refl
-and-off false b c h = refl
+and-off a b c h = refl
 
 none-given : (t object j : ℕ) (gs : List Given) → Each (IsElse t) gs → block_given gs object t j ≡ None
 none-given t object j [] h = refl

@@ -1,9 +1,5 @@
 -- The statuses that tell of a store that is not opened come exactly where their causes apply.
-use Rattle.std.proofs.Common.{◌≡◌, ℕ, ◌<◌, ◌≤◌, ◌⊎◌, true, false, List, length, Option, Some, ap, sym, subst, ◌∙◌, inl, inr, arith, None}
-use Rattle.std.specs.Prelude.{IfSome}
-use Rattle.std.proofs.lemmas.Bool.{false≢true}
-use Rattle.command_laws.specs.Words.{Cells, Rose, Record, Area, HasNoSetup, Kind, GetJob, DropJob, AuditJob, RepairJob, UpgradeJob, Command, RowOf, InitWith, PutUnder, PutAt, GetOf, DropOf, ListAll, AuditAll, RepairAll, UpgradeJournal, ScrubAll, PackJournal, WritesLine, Seen, Ending, sinking, journal_read, IsRead, IsBadStart, IsOpened, Unstarted, setup_in_effect, AnswersScrub, AnswersPack, AnswersPut, AnswersAlone, AnswersList, Answers, opens_store}
-use Rattle.opening_defs.proofs.Readings.{read-once, read-set_up, read-good, fresh-good, bad-once}
+use Rattle.command_laws.proofs.Words.{◌≡◌, ℕ, ◌<◌, ◌≤◌, ◌⊎◌, true, false, List, length, Option, Some, ap, sym, subst, ◌∙◌, inl, inr, arith, None, IfSome, false≢true, Cells, Rose, Record, Area, HasNoSetup, Kind, GetJob, DropJob, AuditJob, RepairJob, UpgradeJob, Command, RowOf, InitWith, PutUnder, PutAt, GetOf, DropOf, ListAll, AuditAll, RepairAll, UpgradeJournal, ScrubAll, PackJournal, WritesLine, Seen, Ending, sinking, journal_read, IsRead, IsBadStart, IsOpened, Unstarted, setup_in_effect, AnswersScrub, AnswersPack, AnswersPut, AnswersAlone, AnswersList, Answers, opens_store, read-once, read-set_up, read-good, fresh-good, bad-once}
 use Rattle.command_laws.proofs.Known.{is_unopened, refused-opened, ended-opened, status-ended, job-opened}
 use Rattle.command_laws.proofs.JobEnds.{given-status}
 
@@ -15,8 +11,7 @@ data Opening (old new : Seen) (end : Ending) : Type 0 where
   over : (records : List Record) → IsOpened old records → is_unopened end.status ≡ false → Opening old new end
 
 put-opening : (name : List ℕ) (old new : Seen) (end : Ending) {own : Option ℕ} →
-    AnswersPut name own old new end →
-    Opening old new end
+    AnswersPut name own old new end → Opening old new end
 put-opening name old new end (AnswersPut.unstarted u same) = Opening.before u
 put-opening name old new end (AnswersPut.source_fault records opened known rose synced taken r) =
     Opening.over records opened (ap is_unopened r.status_is)
@@ -65,8 +60,6 @@ pack-opening old new end (AnswersPack.ended records how opened none heard runs l
 
 opening-of : (command : Command) (old new : Seen) (end : Ending) → Answers command old new end →
     opens_store command ≡ true → Opening old new end
-opening-of (RowOf n l b seen) old new end A opens = absurd (false≢true opens)
-opening-of (InitWith numbers) old new end A opens = absurd (false≢true opens)
 opening-of (PutUnder name) old new end A opens = put-opening name old new end A
 opening-of (PutAt name profile) old new end A opens = put-opening name old new end A
 opening-of (GetOf name) old new end A opens = alone-opening (GetJob name) old new end A.0
@@ -77,6 +70,7 @@ opening-of RepairAll old new end A opens = alone-opening RepairJob old new end A
 opening-of UpgradeJournal old new end A opens = alone-opening UpgradeJob old new end A.0
 opening-of ScrubAll old new end A opens = scrub-opening old new end A.0
 opening-of PackJournal old new end A opens = pack-opening old new end A.0
+opening-of command old new end A opens = absurd (false≢true opens)
 
 status-not : (status n m : ℕ) → status ≡ n → status ≡ m → (n ≡ m → ⊥) → ⊥
 status-not status n m is also differ = differ (sym is ∙ also)
@@ -149,8 +143,7 @@ module _ (cells : Cells) (old new : Seen) (end : Ending) (tells : old.disk ≡ S
   unset-always fresh (Opening.before (Unstarted.not_set_up is sync r)) = inl r.status_is
   unset-always fresh (Opening.before (Unstarted.bad_journal at is r)) =
       absurd (let bad : (9 < length (journal_read cells)) × IsBadStart (journal_read cells) at =
-      subst (λ d. IfSome d (λ c. (9 < length (journal_read c)) × IsBadStart (journal_read c) at)) tells
-      is in
+      subst (λ d. IfSome d (λ c. (9 < length (journal_read c)) × IsBadStart (journal_read c) at)) tells is in
       fresh-good (journal_read cells) at bad.0 fresh bad.1)
   unset-always fresh (Opening.before (Unstarted.too_few_providers area records read few synced r)) =
       absurd (read-set_up cells area records (told-read area records read) fresh)
@@ -186,8 +179,7 @@ module _ (cells : Cells) (old new : Seen) (end : Ending) (tells : old.disk ≡ S
       (subst (λ d. IfSome d (λ c. HasNoSetup (journal_read c))) tells is))
   few-always here records read few (Opening.before (Unstarted.bad_journal at is r)) =
       absurd (let bad : (9 < length (journal_read cells)) × IsBadStart (journal_read cells) at =
-      subst (λ d. IfSome d (λ c. (9 < length (journal_read c)) × IsBadStart (journal_read c) at)) tells
-      is in
+      subst (λ d. IfSome d (λ c. (9 < length (journal_read c)) × IsBadStart (journal_read c) at)) tells is in
       read-good cells at here records (told-read here records read) bad.1)
   few-always here records read few (Opening.before (Unstarted.too_few_providers area other also less synced r)) =
       inl r.status_is
@@ -224,9 +216,8 @@ broken-only command cells old new end A opens tells eight =
 -- a command over a bad journal ends with 8 and the bad place, or finds no memory
 pub broken-always : (command : Command) (cells : Cells) (old new : Seen) (end : Ending) (at : ℕ) →
     Answers command old new end → opens_store command ≡ true → old.disk ≡ Some cells →
-    9 < length (journal_read cells) →
-    IsBadStart (journal_read cells) at → (Rose old.disk_faults new.disk_faults → ⊥) →
-    ((end.status ≡ 8) × (end.at ≡ at)) ⊎ (end.status ≡ 70)
+    9 < length (journal_read cells) → IsBadStart (journal_read cells) at →
+    (Rose old.disk_faults new.disk_faults → ⊥) → ((end.status ≡ 8) × (end.at ≡ at)) ⊎ (end.status ≡ 70)
 broken-always command cells old new end at A opens tells long bad calm =
     bad-always cells old new end tells calm at long bad (opening-of command old new end A opens)
 

@@ -1,12 +1,5 @@
 -- Disks that runs leave on which nothing is set up: one before its first use, and one of which an init failed.
-use Rattle.std.proofs.Common.{◌≡◌, ℕ, zero, suc, ◌<◌, ◌≤◌, false, List, [], ◌∷◌, length, None, Some, refl, sym, subst, inl, inr, arith}
-use Rattle.std.proofs.lemmas.Bool.{false≢true}
-use Rattle.command_laws.specs.Words.{IsImage, SetUp, A, end_in, Init, Refused, DiskFault, IsRun, State, Doubt, IsSound, provider_at, small_setup, idle_providers, empty_devices, failed_devices, IsStore, moment}
-use Rattle.device_defs.proofs.Lasting.{image-firm}
-use Rattle.state_laws.proofs.Packs.{journal-whole}
-use Rattle.state_laws.proofs.Resting.{rest-sound}
-use Rattle.job_laws.proofs.Telling.{opened_state}
-use Rattle.std.specs.Prelude.{slice_get}
+use Rattle.command_laws.proofs.Words.{◌≡◌, ℕ, zero, suc, ◌<◌, ◌≤◌, false, List, [], ◌∷◌, length, None, Some, refl, sym, subst, inl, inr, arith, false≢true, IsImage, SetUp, A, end_in, Init, Refused, DiskFault, IsRun, State, Doubt, IsSound, provider_at, small_setup, idle_providers, empty_devices, failed_devices, IsStore, moment, image-firm, journal-whole, rest-sound, opened_state, slice_get}
 use Rattle.command_laws.proofs.GoingOn.{run-sound}
 
 -- nothing is in effect, and no vault is open
@@ -31,11 +24,8 @@ none-long : (image : List ℕ) → IsImage [] image → length image ≤ 9
 none-long image is = subst (λ l. length l ≤ 9) (sym (image-firm [] image is)) (omega arith)
 
 idle-each : (j : ℕ) → j < 4 → slice_get idle_providers j ≡ Some (provider_at idle_providers j)
-idle-each zero l = refl
-idle-each (suc zero) l = refl
-idle-each (suc (suc zero)) l = refl
-idle-each (suc (suc (suc zero))) l = refl
 idle-each (suc (suc (suc (suc j)))) l = absurd (omega (arith, l))
+idle-each j l = refl
 
 -- a state stands for an empty disk
 pub unset-store : IsStore unset empty_devices

@@ -45,7 +45,8 @@ use Rattle.machine_defs.specs.Refusals.{Refusal, BadProfile}
 use Rattle.machine_defs.specs.Heard.{Entry}
 use Rattle.command_defs.specs.Seen.{Seen, Ending, ReadsUpTo, ReadsFront, IsRefused, IsSynced, provider_at}
 use Rattle.command_defs.specs.Opens.{IsOpened, Unstarted, setup_in_effect, object_in_effect, stripes_in_effect}
-use Rattle.command_defs.specs.Refusals.{is_unknown, refusal_over, pack_refusal_over, status_of}
+use Rattle.code_defs.specs.Profiles.{is_unknown}
+use Rattle.command_defs.specs.Refusals.{refusal_over, pack_refusal_over, status_of}
 use Rattle.command_defs.specs.Ran.{Ran, ran_alone, EachHeldGoes}
 use Rattle.command_defs.specs.Forms.{Command, RowOf, InitWith, PutUnder, PutAt, GetOf, DropOf, AuditAll, RepairAll, UpgradeJournal, PackJournal}
 use Rattle.command_defs.specs.Lines.{stored_line, dropped_line, audit_lines, repaired_line, upgraded_line, scrub_lines, packed_line}

@@ -4,4 +4,3 @@ pub mod Opened
 pub mod After
 pub mod Pieces
 pub mod Instances
-pub mod Words

@@ -42,7 +42,8 @@ use Rattle.command_defs.specs.Sinking.{WritesLine}
 use Rattle.opening_defs.specs.Opened.{AreHanded}
 use Rattle.command_defs.specs.Jobs.{EndsByAnswer}
 use Rattle.command_defs.specs.Lines.{text_of, list_lines, scrub_text, pack_text}
-use Rattle.command_defs.specs.Refusals.{is_unknown, status_of}
+use Rattle.code_defs.specs.Profiles.{is_unknown}
+use Rattle.command_defs.specs.Refusals.{status_of}
 use Rattle.command_defs.specs.Commands.{Answers}
 use Rattle.command_laws.specs.Ends.{profile_named, RunsKind, ReadsWhole, opens_store}
 

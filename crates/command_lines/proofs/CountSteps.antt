@@ -1,10 +1,7 @@
 -- The lines of an audit: the line of a provider, and one provider more.
-use Rattle.std.proofs.Common.{◌≡◌, ℕ, ◌+◌, ◌<◌, ◌≤◌, Bool, true, false, codes, List, [], ◌∷◌, ◌++◌, length, take, get_or, sym, ap, ◌∙◌, append_assoc, arith}
-use Rattle.std.proofs.lemmas.List.{take_more, append-nil, length-take-le}
+use Rattle.command_lines.proofs.Words.{◌≡◌, ℕ, ◌+◌, ◌<◌, ◌≤◌, Bool, true, false, codes, List, [], ◌∷◌, ◌++◌, length, take, get_or, sym, ap, ◌∙◌, append_assoc, arith, take_more, append-nil, length-take-le, nat_lt, line, then_number, count_line, count_lines}
 use Rattle.std.proofs.lemmas.Bool.Decides.{nat_tests}
-use Rattle.std.specs.Prelude.{nat_lt, if◌then◌else◌}
-use Rattle.machine_defs.specs.Lines.{line, then_number}
-use Rattle.command_defs.specs.Lines.{count_line, count_lines}
+use Rattle.std.specs.Prelude.{if◌then◌else◌}
 use Rattle.command_lines.proofs.Pushed.{behind_two}
 
 -- the line of a provider from its pieces

@@ -1,3 +1,4 @@
+mod Words
 mod ValueSteps
 mod ListSteps
 mod CountSteps

@@ -1,11 +1,7 @@
 -- The lines of files grow by one file.
-use Rattle.std.proofs.Common.{◌≡◌, ℕ, ◌+◌, List, [], ◌∷◌, ◌++◌, take, Some, sym, ap, ◌∙◌, append_assoc}
-use Rattle.std.specs.List.{slice_get}
-use Rattle.std.proofs.lemmas.List.{take_more, flat_map_more}
+use Rattle.command_lines.proofs.Words.{◌≡◌, ℕ, ◌+◌, List, [], ◌∷◌, ◌++◌, take, Some, sym, ap, ◌∙◌, append_assoc, slice_get, take_more, flat_map_more, file_line, list_lines}
 use Rattle.std.proofs.lemmas.Option.{slice_get_within, get_or_from_slice_get}
 use Rattle.record_defs.specs.Table.{File}
-use Rattle.machine_defs.specs.Lines.{file_line}
-use Rattle.command_defs.specs.Lines.{list_lines}
 
 -- one file more
 pub listed_more : (files : List File) (start text : List ℕ) (place : ℕ) (file : File) →

@@ -1,8 +1,5 @@
 -- The lines of a scrub: the line of a provider, and one provider more.
-use Rattle.std.proofs.Common.{◌≡◌, ℕ, ◌+◌, ◌<◌, codes, List, [], ◌∷◌, ◌++◌, length, take, get_or, sym, ap, ◌∙◌, append_assoc, arith}
-use Rattle.std.proofs.lemmas.List.{take_more, append-nil, length-take-le}
-use Rattle.machine_defs.specs.Lines.{then_number}
-use Rattle.command_defs.specs.Lines.{off_line, off_lines}
+use Rattle.command_lines.proofs.Words.{◌≡◌, ℕ, ◌+◌, ◌<◌, codes, List, [], ◌∷◌, ◌++◌, length, take, get_or, sym, ap, ◌∙◌, append_assoc, arith, take_more, append-nil, length-take-le, then_number, off_line, off_lines}
 use Rattle.command_lines.proofs.Pushed.{behind_two}
 
 -- the line of a provider from its pieces

@@ -1,31 +1,22 @@
 -- What runs alone, whose steps are computed: scrubs of the file of one byte and packs of a journal, from
 -- every state that was just opened; and a get from a packed store.
-use Rattle.std.proofs.Common.{◌≡◌, ℕ, ◌+◌, ◌==◌, false, List, [], ◌∷◌, ◌++◌, length, map, Some, None, refl, sym, ◌∙◌, arith, ◌≤◌, Option, ap, subst, inl, ◌^◌, length-append, if◌then◌else◌, replicate, flat_map, option_map, eq-eqb}
-use Rattle.std.proofs.lemmas.List.{drop_at, length-replicate}
+use Rattle.command_runs.proofs.Words.{◌≡◌, ℕ, ◌+◌, ◌==◌, false, List, [], ◌∷◌, ◌++◌, length, map, Some, None, refl, sym, ◌∙◌, arith, ◌≤◌, Option, ap, subst, inl, ◌^◌, length-append, if◌then◌else◌, replicate, flat_map, option_map, eq-eqb, drop_at, length-replicate, column-right, none-lose, symbols, block_sized, own_work, byte_back, same-disk, pack-refused, with_alone, thing, shown, all_open, whole, altered_is, without_two_give, upto, column_of_symbols, is_wrong_block, Store, End, actions_of, Fetched, GetJob, Kind, byte, firm, synced, EachImage, StandsActive, B, four, text, Answer, Scrubbed, Lost, ProviderFault, Packed, DiskFault, Got, State, Scrubbing, setup_in, IsJustOpened, Answers, ScrubAll, PackJournal, EndsByAnswer, RunsAlone, scrub_text, ScrubsAlone, AnswersScrub, Seen, Ending, SameSource, provider_at, called, ends, Record, spelling, Works, Came, Gives, IsSure, IsChain, Entry, IsOpened, own_block, altered_block, byte_records, failed_store, two_damaged, symbols_off, blocks_off, scrub_failed, damaged, all_lost, found_lost, ends_at, named, byte_upgraded_records, upgraded_kept, byte_kept, all_hold, holds, own_blocks_heard, disk_failed, ends_hearing, packed_records, IsFilling, named_second, second_text, in_second, packed_kept, packed_store, fetched_hold, got_packed, pack_call, get_packed, seen_as, always}
 use Rattle.code_defs.specs.ServerCode.{differences}
 use Rattle.code_defs.proofs.Codewords.{differences-same}
 use Rattle.column_defs.specs.Objects.{symbol_of, symbols_in}
 use Rattle.column_defs.specs.Opened.{GivesSymbols}
 use Rattle.column_defs.proofs.ColumnLaws.{length-column_of_symbols}
 use Rattle.column_laws.proofs.RightBlocks.{opens-right}
-use Rattle.column_laws.proofs.Worked.{column-right, none-lose}
 use Rattle.column_laws.proofs.RightRows.{given-right, kept-symbol}
 use Rattle.machine_defs.specs.Alone.{differs, new_scrub, unalone, barred_pack}
 use Rattle.machine_defs.specs.Given.{block_given}
 use Rattle.machine_defs.specs.Refusals as refusal
 use Rattle.scrub_laws.proofs.Telling.{scrubbed-alone}
-use Rattle.second_half_laws.proofs.ByteSteps.{symbols, block_sized, own_work, byte_back}
-use Rattle.command_laws.proofs.Samples.{same-disk, pack-refused}
 use Rattle.made_runs.specs.Sweeps.{Sweep, Brings, Opens, Mends, swept, Moves}
-use Rattle.made_runs.specs.Instructions.{with_alone}
-use Rattle.damage_run.proofs.Values.{thing, shown, all_open, whole, altered_is, without_two_give}
-use Rattle.command_runs.specs.Words.{upto, column_of_symbols, is_wrong_block, Store, End, actions_of, Fetched, GetJob, Kind, byte, firm, synced, EachImage, A, StandsActive, B, four, text, Answer, Scrubbed, Lost, ProviderFault, Packed, DiskFault, Got, State, Scrubbing, setup_in, IsJustOpened, Answers, ScrubAll, PackJournal, EndsByAnswer, RunsAlone, scrub_text, ScrubsAlone, AnswersScrub, Seen, Ending, SameSource, provider_at, called, ends, Record, spelling, Works, Came, Gives, IsSure, IsChain, Entry, IsOpened}
-use Rattle.command_runs.specs.Devices.{own_block, altered_block, each, byte_records, failed_store, two_damaged, symbols_off, blocks_off, scrub_failed, damaged, all_lost, found_lost, ends_at, named, byte_upgraded_records, upgraded_kept, byte_kept, all_hold, holds, own_blocks_heard, disk_failed, ends_hearing}
-use Rattle.command_runs.specs.Packed.{packed_records, IsFilling, named_second, second_text, in_second, packed_kept, packed_store, fetched_hold, got_packed, pack_call, get_packed}
+use Rattle.command_runs.specs.Words.{A}
+use Rattle.command_runs.specs.Devices.{each}
 use Rattle.command_runs.specs.Lone.{RunsSomewhere, ScrubsSomewhere}
 use Rattle.command_runs.specs.Devices as devices
-use Rattle.turn_laws.specs.Turned.{seen_as}
-use Rattle.turn_laws.proofs.Shape.{always}
 use Rattle.turn_laws.proofs.Swept.{after_sweeps, AreGoing, GoesAlone, scrubs-so, Pack, pack-so}
 use Rattle.command_laws.proofs.SureStores.{AreFitIn, fits, sure, stands_for, sure_in, stands}
 use Rattle.command_runs.proofs.Stores.{byte-fit, upgraded-fit, stored-sure, upgraded_kept-sure}

@@ -1,17 +1,11 @@
 -- Puts that are given up, from every state that was just opened: what was read is stored stripe by stripe,
 -- and no end is appended.
 use Rattle.std.specs.List.{list_all}
-use Rattle.std.proofs.Common.{◌≡◌, ℕ, zero, suc, ◌+◌, ◌<◌, ◌≤◌, List, [], length, take, drop, Option, None, Some, refl, ap, sym, subst, ◌∙◌, inl, inr, arith}
-use Rattle.std.proofs.lemmas.List.{length-take-le, length-replicate, take-append-drop, take-append-le}
+use Rattle.command_runs.proofs.Words.{◌≡◌, ℕ, zero, suc, ◌+◌, ◌<◌, ◌≤◌, List, [], length, take, drop, Option, None, Some, refl, ap, sym, subst, ◌∙◌, inl, inr, arith, length-take-le, length-replicate, take-append-drop, take-append-le, setup, first-begins, never-rises, Rose, largest_file, spelling, PutJob, stripes_of, AreBytes, empty_provider, PutUnder, Seen, provider_at, refusal_over, put_stripe, StopsReading, PartRuns, AnswersPut, Answers, IsSure, put_of, ends, named, four_records, sevens, long, first_stripe, longest_part, holds_stripes, storing, to_put_source, put_given_up, put_too_long}
 use Rattle.std.proofs.lemmas.List.Folds.{list_all-append}
-use Rattle.record_defs.specs.Examples.{four as setup}
 use Rattle.job_laws.proofs.Parts.{part-left}
-use Rattle.command_laws.proofs.Chains.{first-begins}
-use Rattle.command_laws.proofs.Samples.{never-rises}
 use Rattle.made_runs.proofs.Steps.{first}
-use Rattle.command_runs.specs.Words.{Rose, A, largest_file, spelling, PutJob, stripes_of, AreBytes, empty_provider, PutUnder, Seen, provider_at, refusal_over, put_stripe, StopsReading, PartRuns, AnswersPut, Answers, MayName, IsSure, put_of, ends}
-use Rattle.command_runs.specs.Devices.{named, four_records}
-use Rattle.command_runs.specs.GivenUp.{sevens, long, first_stripe, longest_part, holds_stripes, storing, to_put_source, put_given_up, put_too_long}
+use Rattle.command_runs.specs.Words.{A, MayName}
 use Rattle.turn_laws.proofs.Parts.{part-so}
 use Rattle.command_runs.proofs.Stores.{four-fit, started-fit, four, sure, stands_for}
 

@@ -1,3 +1,4 @@
+mod Words
 pub mod Stores
 pub mod Puts
 pub mod Made

@@ -1,11 +1,8 @@
 -- Jobs over the file of one byte that are given by their turns, from every state that was just opened over
 -- four providers. What proofs cite of turn_laws is passed on.
-use Rattle.std.proofs.Common.{◌≡◌, ℕ, ◌==◌, List, [], ◌∷◌, length, Some, None, refl, arith, if◌then◌else◌}
-use Rattle.command_runs.specs.Words.{EachImage, Provider, Record, Area, A, StandsActive, File, file_of, Kind, Answer, Ended, IsSpelledKind, State, IsJustOpened, Seen, Ending, SameSource, provider_at, text_of, IsOpened, setup_in_effect, refusal_over, EndsByAnswer, Turn, told}
-use Rattle.command_runs.specs.Devices.{named}
-use Rattle.turn_laws.specs.Turned.{each, spelled, GoesSo}
-use Rattle.turn_laws.proofs.Shape.{bytes_at-same, file-long}
-use Rattle.turn_laws.proofs.Turned.{ran-over}
+use Rattle.command_runs.proofs.Words.{◌≡◌, ℕ, ◌==◌, List, [], ◌∷◌, length, Some, None, refl, arith, if◌then◌else◌, EachImage, Provider, Record, Area, StandsActive, File, file_of, Kind, Answer, Ended, IsSpelledKind, State, IsJustOpened, Seen, Ending, SameSource, provider_at, text_of, IsOpened, setup_in_effect, refusal_over, EndsByAnswer, Turn, told, named, spelled, GoesSo, bytes_at-same, file-long, ran-over}
+use Rattle.command_runs.specs.Words.{A}
+use Rattle.turn_laws.specs.Turned.{each}
 pub use Rattle.turn_laws.proofs.Turned.{Run, turn, next, behind}
 
 -- ---- the byte of the file

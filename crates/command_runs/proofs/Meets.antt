@@ -1,10 +1,6 @@
 -- What the laws ask for beside the commands. What they cite of Stores and of turn_laws is passed on.
-use Rattle.std.proofs.Common.{◌≡◌, ◌≢◌, ℕ, suc, ◌<◌, ◌==◌, ◌&&◌, Bool, true, false, List, Some, None, refl, inl, arith, is_some, not, if◌then◌else◌, length, reverse, take, ◌++◌, ne_eqb}
-use Rattle.column_laws.proofs.Worked.{column-right}
-use Rattle.record_defs.specs.Examples.{four as setup}
-use Rattle.command_laws.proofs.Samples.{never-rises}
-use Rattle.command_runs.specs.Words.{columns, is_wrong, is_flagged, Rose, Kind, object_of, Record, file_of, Command, setup_in_effect, Seen, provider_at, Follows, HasGrown, HasRightFile, IsUntouched, IsSteady, is_wrong_at, profile_named, RunsKind, ReadsWhole, AreAppended, other_name, counts, byte}
-use Rattle.command_runs.specs.Devices.{named, byte_records, byte_audited_records, byte_stored, damaged, due, repaired, mended, got, none_hold, byte_kept, byte_upgraded_records, upgraded_kept, altered_block, two_damaged, swept, robbed_later, got_later}
+use Rattle.command_runs.proofs.Words.{◌≡◌, ◌≢◌, ℕ, suc, ◌<◌, ◌==◌, ◌&&◌, Bool, true, false, List, Some, None, refl, inl, arith, is_some, not, if◌then◌else◌, length, reverse, take, ◌++◌, ne_eqb, column-right, setup, never-rises, columns, is_wrong, is_flagged, Rose, Kind, object_of, Record, file_of, Command, setup_in_effect, Seen, provider_at, Follows, HasGrown, HasRightFile, IsUntouched, IsSteady, is_wrong_at, profile_named, RunsKind, ReadsWhole, AreAppended, other_name, counts, byte, named, byte_records, byte_audited_records, byte_stored, damaged, due, repaired, mended, got, none_hold, byte_kept, byte_upgraded_records, upgraded_kept, altered_block, two_damaged, robbed_later, got_later}
+use Rattle.command_runs.specs.Devices.{swept}
 use Rattle.command_runs.proofs.Made.{kept}
 use Rattle.command_runs.proofs.Alone.{altered-right}
 pub use Rattle.turn_laws.proofs.Shape.{always, four, from_some}

@@ -1,15 +1,12 @@
 -- Puts of one byte, from every state that was just opened; one leaves a disk whose last gate is loose.
-use Rattle.std.proofs.Common.{◌⊎◌, ℕ, true, List, [], ◌∷◌, ◌++◌, take, refl, ap, sym, subst, inl, inr, Some, None, arith}
+use Rattle.command_runs.proofs.Words.{◌⊎◌, ℕ, true, List, [], ◌∷◌, ◌++◌, take, refl, ap, sym, subst, inl, inr, Some, None, arith, Cells, firm, Stopped, IsImage, PutDone, PutStart, spelling, magic, text, before_gate, IsSwitched, entries, StandsActive, PutJob, actions_of, Put, ProviderFault, DiskFault, Memory, setup_in, byte, other_name, Goes, Gives, StoreFails, Cut, started_records, byte_records, named, four_records, both_records, byte_upgraded_records, byte_own_records, to_put, byte_stored, put_failed, put_cut, put_torn, put_unmade, all_hidden, to_put_other, stored_other, to_put_own, stored_own, spelled, after_turns, PutRun, put-so, put-ends, alone-so, ends-by, next, behind}
 use Rattle.std.proofs.lemmas.Bool.{false≢true}
 use Rattle.device_defs.proofs.Lasting.{reads-firm}
 use Rattle.device_defs.proofs.PickLaws.{IsImage-reads}
 use Rattle.journal_core.proofs.CellLemmas.{IsImage-firm}
 use Rattle.journal_core.proofs.ImageLemmas.{either-after}
-use Rattle.command_runs.specs.Words.{Cells, firm, Stopped, IsImage, PutDone, PutStart, spelling, magic, text, before_gate, A, IsSwitched, entries, StandsActive, PutJob, actions_of, Put, ProviderFault, DiskFault, Memory, setup_in, MayName, byte, other_name, Goes, Gives, StoreFails, Cut}
-use Rattle.command_runs.specs.Devices.{started_records, byte_records, named, four_records, both_records, byte_upgraded_records, byte_own_records, to_put, byte_stored, put_failed, put_cut, put_torn, put_unmade, all_hidden, to_put_other, stored_other, to_put_own, stored_own}
+use Rattle.command_runs.specs.Words.{A, MayName}
 use Rattle.command_runs.proofs.Stores.{put_begins, started-fit, four-fit, byte-fit, both-fit, own-fit, put-old, hidden-fresh, to_put_other-sure, to_put_own-sure, stands_for}
-use Rattle.turn_laws.specs.Turned.{spelled, after_turns}
-use Rattle.turn_laws.proofs.Turned.{PutRun, put-so, put-ends, alone-so, ends-by, next, behind}
 
 -- the last record with its closed gate
 abbrev last_entry : List ℕ
@@ -107,7 +104,7 @@ unmade = put-ends (MayName.none refl) put-old.known.opened
     (record { status_is = refl; place = refl; sink = refl })
     (alone-so A four_records (PutJob named byte) None Memory to_put put_unmade [] (λ bytes. bytes)
     four_records [] _ (λ w V. refl) (refl, refl, put_begins, (refl, refl), MayName.none refl)
-    (λ w n image is. inl (inl (stands_for four-fit image is))) (λ w n. tt) (λ w n. (0, omega arith, refl))
+    (λ w n image is. inl (inl (stands_for four-fit image is))) (λ w n. tt) (λ w n. refl)
     (λ w n. refl) (λ w n. record { next = None; is_next = tt; same = refl }))
 
 -- a put over devices that tell nothing

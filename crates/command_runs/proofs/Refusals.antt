@@ -1,5 +1,5 @@
 -- Commands that end before a job of theirs begins: refused, or by a fault, or for want of memory.
-use Rattle.std.proofs.Common.{◌≡◌, ◌<◌, ℕ, false, List, [], ◌∷◌, length, Option, Some, None, refl, ap, sym, ◌∙◌, inl, inr, arith, length-append, replicate}
+use Rattle.command_runs.proofs.Words.{◌≡◌, ◌<◌, ℕ, false, List, [], ◌∷◌, length, Option, Some, None, refl, ap, sym, ◌∙◌, inl, inr, arith, length-append, replicate, same-disk, quiet, upto, values_at, Accepts, AcceptsNone, firm, text, HasNoFront, spelling, PutJob, Refusal, byte, journal_read, ListAll, IsKeyForm, Seen, Ending, SameSource, Unstarted, is_unknown, refusal_over, status_of, AnswersJob, AnswersPut, AnswersList, TouchesSink, Answers, with_sink, ends, four_records, byte_records, to_put, put_unmade, byte_kept}
 use Rattle.std.specs.Fmt.{digits}
 use Rattle.hail_field.specs.Nim.{nim_mul, nim_add, product}
 use Rattle.algebra_laws.specs.Poly.{value as value_over, agree as agree_over, is_seen as is_seen_over}
@@ -8,9 +8,7 @@ use Rattle.code_defs.proofs.Points.{Apart-range}
 use Rattle.code_defs.proofs.Values.{value-constant}
 use Rattle.column_laws.proofs.UniqueLaws.{often_same, values_same}
 use Rattle.damage_run.proofs.LostGet.{at_most_two}
-use Rattle.command_laws.proofs.Samples.{same-disk, quiet}
-use Rattle.command_runs.specs.Words.{upto, values_at, Accepts, AcceptsNone, firm, text, A, HasNoFront, spelling, PutJob, Refusal, byte, journal_read, ListAll, IsKeyForm, Seen, Ending, SameSource, Unstarted, is_unknown, refusal_over, status_of, AnswersJob, AnswersPut, AnswersList, TouchesSink, Answers, with_sink, ends}
-use Rattle.command_runs.specs.Devices.{four_records, byte_records, to_put, put_unmade, byte_kept}
+use Rattle.command_runs.specs.Words.{A}
 use Rattle.command_runs.proofs.Stores.{put-old, stored-sure}
 
 -- ---- a command that changes nothing

@@ -1,9 +1,6 @@
 -- Each store before and after the commands is known. What proofs cite of turn_laws and command_laws is passed on.
-use Rattle.std.proofs.Common.{◌≡◌, None, ◌≤◌, List, refl, arith}
-use Rattle.record_defs.specs.Examples.{four as setup}
-use Rattle.command_laws.proofs.Chains.{first-begins}
-use Rattle.command_runs.specs.Words.{PutJob, refusal_over, byte, A, Record, IsOpened, setup_in_effect, IsSure}
-use Rattle.command_runs.specs.Devices.{named, four_records, started_records, byte_records, dropped_records, byte_audited_records, byte_repaired_records, both_records, to_put_other, all_hidden, to_put, byte_stored, byte_kept, all_lost, due_lost, damaged, due, mended, byte_upgraded_records, byte_own_records, upgraded_kept, to_put_own, two_damaged}
+use Rattle.command_runs.proofs.Words.{◌≡◌, None, ◌≤◌, List, refl, arith, setup, first-begins, PutJob, refusal_over, byte, Record, IsOpened, setup_in_effect, IsSure, named, four_records, started_records, byte_records, dropped_records, byte_audited_records, byte_repaired_records, both_records, to_put_other, all_hidden, to_put, byte_stored, byte_kept, all_lost, due_lost, damaged, due, mended, byte_upgraded_records, byte_own_records, upgraded_kept, to_put_own, two_damaged}
+use Rattle.command_runs.specs.Words.{A}
 pub use Rattle.turn_laws.specs.Turned.{formed}
 pub use Rattle.turn_laws.proofs.Shape.{four, from_some, over-is}
 pub use Rattle.command_laws.proofs.SureStores.{AreFitIn, fits, stands_for, sure}

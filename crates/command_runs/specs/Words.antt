@@ -47,7 +47,8 @@ pub use Rattle.command_defs.specs.Lines.{audit_lines, dropped_line, pack_text, p
 pub use Rattle.command_defs.specs.Opens.{IsOpened, Unstarted, setup_in_effect}
 pub use Rattle.command_defs.specs.Packs.{AnswersPack, PackedAlone, PacksAlone, RanPack}
 pub use Rattle.command_defs.specs.Puts.{put_records}
-pub use Rattle.command_defs.specs.Refusals.{is_unknown, pack_refusal_over, refusal_over, status_of}
+pub use Rattle.code_defs.specs.Profiles.{is_unknown}
+pub use Rattle.command_defs.specs.Refusals.{pack_refusal_over, refusal_over, status_of}
 pub use Rattle.command_defs.specs.Scrubs.{AnswersScrub, RanScrub, RunsScrub, ScrubsAlone}
 pub use Rattle.command_defs.specs.Seen.{Ending, IsRefused, IsSynced, ReadsUpTo, SameSource, Seen, nobody, provider_at}
 pub use Rattle.command_laws.specs.After.{Follows, HasGrown, HasRightFile, IsSteady, IsSure, IsThen, IsUntouched, is_wrong_at}

@@ -1,9 +1,7 @@
 // Calls of a disk and what they are to answer, each made through a function with no clause.
 use disk_model::Disk;
+use record_defs::LARGEST_JOURNAL;
 use stream_model::{Failed, WriteFault};
-
-/// The most bytes of a disk.
-const LARGEST: u64 = 1 << 24;
 
 /// A call of a disk, and what it is to answer. The first number is the offset.
 #[derive(Clone, Copy)]
@@ -45,7 +43,7 @@ fn reads<D: Disk>(
 
 /// Writes within the most bytes of a disk.
 fn write<D: Disk>(disk: &mut D, at: u64, bytes: &[u8]) -> Option<Result<(), WriteFault>> {
-    if at > LARGEST || bytes.len() as u64 > LARGEST - at {
+    if at > LARGEST_JOURNAL || bytes.len() as u64 > LARGEST_JOURNAL - at {
         return None;
     }
     Some(disk.write_at(at, bytes))

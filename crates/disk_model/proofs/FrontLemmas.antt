@@ -1,8 +1,6 @@
 -- A read of the front of a disk that may tell what it holds.
-use Rattle.std.proofs.Common.{◌≡◌, ℕ, min, List, length, take, drop, Option, Some, None, ap, ◌∙◌, subst, arith}
-use Rattle.std.specs.Prelude.{IfSome}
-use Rattle.std.proofs.lemmas.List.{take_min, length-map}
-use Rattle.device_defs.specs.Cells.{Cells, reads}
+use Rattle.disk_model.proofs.Words.{◌≡◌, ℕ, min, List, take, drop, Option, Some, None, ap, ◌∙◌, subst, arith, IfSome, take_min, length-map, Cells, reads}
+use Rattle.std.proofs.Common.{length}
 
 -- a read of a front gives what the disk reads there
 pub front_read : (held mid : Option Cells) (len n k limit : ℕ) (out items : List ℕ) → mid ≡ held →

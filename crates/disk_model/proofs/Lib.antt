@@ -1,3 +1,4 @@
+mod Words
 pub mod Zips
 pub mod FrontLemmas
 pub mod PickLemmas

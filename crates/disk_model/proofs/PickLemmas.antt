@@ -1,11 +1,6 @@
 -- The loop that picks, and what it leaves.
-use Rattle.std.proofs.Common.{◌≡◌, ◌⊎◌, inl, inr, ⊎_elim, ℕ, ◌+◌, ◌<◌, ◌≤◌, Bool, true, false, List, [], ◌∷◌, ◌++◌, length, get_or, set, take, drop, replicate, refl, ap, ◌∙◌, sym, arith, append_assoc}
-use Rattle.std.proofs.lemmas.List.{drop_more, take_more, drop_all, take_more_set, drop-set-lt}
-use Rattle.std.specs.List.{zip}
-use Rattle.device_defs.specs.Cells.{Cells, firm}
-use Rattle.device_defs.specs.Picks.{picked}
-use Rattle.device_defs.proofs.PickLaws.{length-picked}
-use Rattle.std.proofs.lemmas.Slice.Zip.{length-zip}
+use Rattle.disk_model.proofs.Words.{◌≡◌, ◌⊎◌, inl, inr, ⊎_elim, ℕ, ◌+◌, ◌<◌, ◌≤◌, Bool, true, false, List, [], ◌∷◌, ◌++◌, get_or, set, take, drop, replicate, refl, ap, ◌∙◌, sym, arith, append_assoc, drop_more, take_more, drop_all, take_more_set, drop-set-lt, zip, Cells, firm, picked, length-picked, length-zip}
+use Rattle.std.proofs.Common.{length}
 use Rattle.disk_model.proofs.Zips.{zip_marked}
 
 -- One place more of the loop that picks. The rest is what stands behind the place.

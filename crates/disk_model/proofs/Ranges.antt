@@ -1,11 +1,7 @@
 -- The range in which bytes of a disk in memory may be loose.
-use Rattle.std.proofs.Common.{◌≡◌, ◌≢◌, ◌⊎◌, inl, inr, ℕ, zero, suc, ◌+◌, ◌-◌, ◌≤◌, ◌<◌, min, Bool, true, false, List, [], ◌∷◌, ◌++◌, length, take, drop, replicate, Some, refl, sym, ap, ◌∙◌, subst, arith, length-append, length-take, length-drop}
-use Rattle.std.proofs.lemmas.List.{length-replicate, replicate-append-replicate}
-use Rattle.std.specs.List.{zip, slice_get}
-use Rattle.device_defs.specs.Cells.{Cells, firm, is_loose_at}
-use Rattle.device_defs.specs.Disks.{spliced, written, Torn}
+use Rattle.disk_model.proofs.Words.{◌≡◌, ◌≢◌, ◌⊎◌, inl, inr, ℕ, zero, suc, ◌+◌, ◌-◌, ◌≤◌, ◌<◌, min, Bool, true, false, List, [], ◌∷◌, ◌++◌, take, drop, replicate, Some, refl, sym, ap, ◌∙◌, subst, arith, length-append, length-take, length-drop, length-replicate, replicate-append-replicate, zip, slice_get, Cells, firm, is_loose_at, spliced, written, Torn, IsFirmOutside, IsUnmarkedOutside}
+use Rattle.std.proofs.Common.{length}
 use Rattle.device_defs.proofs.WriteLaws.{loose_outside}
-use Rattle.disk_model.specs.Ranges.{IsFirmOutside, IsUnmarkedOutside}
 
 -- a mark stands at a loose byte
 is_loose_zip : (held : List ℕ) (marks : List Bool) (k : ℕ) → length marks ≡ length held →

@@ -1,12 +1,6 @@
 -- A write that fails half way, on bytes and marks.
-use Rattle.std.proofs.Common.{◌≡◌, ◌⊎◌, inl, inr, ℕ, ◌+◌, ◌-◌, ◌/◌, min, Bool, true, List, length, take, drop, replicate, Result, Ok, Err, sym, ap, ◌∙◌, arith, length-take, length-drop}
-use Rattle.std.specs.Prelude.{OnOk, OnErr}
-use Rattle.std.specs.List.{zip}
-use Rattle.std.proofs.lemmas.List.{length-replicate}
-use Rattle.std.proofs.lemmas.Slice.Zip.{length-zip, firsts-zip}
-use Rattle.device_defs.specs.Cells.{Cells, loose, reads}
-use Rattle.device_defs.specs.Disks.{spliced, written, halved, marked}
-use Rattle.device_defs.proofs.Splices.{spliced_itself}
+use Rattle.disk_model.proofs.Words.{◌≡◌, ◌⊎◌, inl, inr, ℕ, ◌+◌, ◌-◌, ◌/◌, min, Bool, true, List, take, drop, replicate, Result, Ok, Err, sym, ap, ◌∙◌, arith, length-take, length-drop, OnOk, OnErr, zip, length-replicate, length-zip, firsts-zip, Cells, loose, reads, spliced, written, halved, marked, spliced_itself}
+use Rattle.std.proofs.Common.{length}
 use Rattle.disk_model.proofs.Zips.{zip_marked, zip_spliced, zip-take, zip-drop}
 
 module _ (at n : ℕ) (held : List ℕ) (marks : List Bool) (same : length marks ≡ length held) where

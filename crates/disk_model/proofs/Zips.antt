@@ -1,10 +1,6 @@
 -- The cells of a disk that keeps its bytes and its marks apart.
-use Rattle.std.proofs.Common.{◌≡◌, ℕ, zero, suc, ◌+◌, ◌-◌, ◌≤◌, min, Bool, true, false, List, [], ◌∷◌, ◌++◌, length, take, drop, map, replicate, refl, sym, ap, ◌∙◌, arith, length-append, length-take}
-use Rattle.std.proofs.lemmas.Slice.Zip.{length-zip, firsts-zip}
-use Rattle.std.proofs.lemmas.List.{length-replicate, replicate-append-replicate}
-use Rattle.std.specs.List.{zip}
-use Rattle.device_defs.specs.Cells.{firm, loose, reads}
-use Rattle.device_defs.specs.Disks.{spliced, written}
+use Rattle.disk_model.proofs.Words.{◌≡◌, ℕ, zero, suc, ◌+◌, ◌-◌, ◌≤◌, min, Bool, true, false, List, [], ◌∷◌, ◌++◌, take, drop, map, replicate, refl, sym, ap, ◌∙◌, arith, length-append, length-take, length-zip, firsts-zip, length-replicate, replicate-append-replicate, zip, firm, loose, reads, spliced, written}
+use Rattle.std.proofs.Common.{length}
 
 -- marked all the same
 pub zip_marked : (v : Bool) (n : ℕ) (bytes : List ℕ) → n ≡ length bytes →

@@ -1,19 +1,8 @@
 -- A row with absent symbols: it is its present symbols that are decoded.
-use Rattle.std.proofs.Common.{◌≡◌, ◌≢◌, ◌≤◌, ◌<◌, ◌+◌, ◌*◌, ℕ, List, [], ◌∷◌, length, Option, Some, None, refl, ap, arith}
-use Rattle.algebra_laws.specs.Lists.{Each}
-use Rattle.algebra_laws.specs.Field.{Apart}
-use Rattle.hail_field.specs.Nim.{nim}
-use Rattle.hail_field.specs.Shape.{IsShape}
-use Rattle.hail_field.proofs.AllNumbers.{nim_laws}
-use Rattle.algebra_laws.specs.Poly.{Decodes, present, agree as agree_over}
-use Rattle.algebra_laws.proofs.Agree.{agree_le}
+use Rattle.dispersal_code.proofs.Words.{◌≡◌, ◌≢◌, ◌≤◌, ◌<◌, ◌+◌, ◌*◌, ℕ, List, [], ◌∷◌, length, Option, Some, None, refl, ap, arith, Each, Apart, nim, IsShape, nim_laws, Decodes, present, agree_over, agree_le, length-trim, value, agree, trim, interpolate, Accepts, AcceptsNone, IsOnlyAccepted, present_points, present_symbols, room_for}
 use Rattle.algebra_laws.proofs.Steps.{is_seen-none}
-use Rattle.algebra_laws.proofs.Trim.{length-trim}
 use Rattle.algebra_laws.proofs.Interpolate.{length-interpolate}
-use Rattle.code_defs.specs.Polynomials.{value, agree, trim, interpolate}
-use Rattle.code_defs.specs.DispersalCode.{Accepts, AcceptsNone, IsOnlyAccepted}
 use Rattle.hail_poly.specs.Decoding.{matches, IsDecoded, NoneDecodes}
-use Rattle.dispersal_code.specs.Present.{present_points, present_symbols, room_for}
 
 -- as many points as symbols
 pub length-present : (xs : List ℕ) (ss : List (Option ℕ)) → length xs ≡ length ss →

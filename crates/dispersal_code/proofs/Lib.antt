@@ -1,3 +1,4 @@
+mod Words
 pub mod PresentSteps
 pub mod Erasures
 pub mod Unique

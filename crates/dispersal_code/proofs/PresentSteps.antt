@@ -1,8 +1,6 @@
 -- The steps of `present_of`.
-use Rattle.std.proofs.Common.{◌≡◌, ◌≤◌, ◌<◌, ◌+◌, ◌++◌, [], ◌∷◌, ℕ, zero, suc, List, length, drop, get_or, add-one, Option, Some, None, refl, sym, ◌∙◌, ap, subst, arith}
-use Rattle.std.proofs.lemmas.List.{append_assoc, drop_all, get_or_default}
+use Rattle.dispersal_code.proofs.Words.{◌≡◌, ◌≤◌, ◌<◌, ◌+◌, ◌++◌, [], ◌∷◌, ℕ, zero, suc, List, length, drop, get_or, add-one, Option, Some, None, refl, sym, ◌∙◌, ap, subst, arith, append_assoc, drop_all, get_or_default, Chosen, present_points, present_symbols}
 use Rattle.hail_syndrome.proofs.GatherSteps.{append-none}
-use Rattle.dispersal_code.specs.Present.{Chosen, present_points, present_symbols}
 
 -- the point of an absent symbol is passed over
 points-none : (xs : List ℕ) (ss : List (Option ℕ)) (k : ℕ) → k < length xs → k < length ss →

@@ -1,12 +1,5 @@
 -- The steps of `encode_row`.
-use Rattle.std.proofs.Common.{◌≡◌, ◌≤◌, ◌<◌, ◌+◌, ◌++◌, [], ◌∷◌, ℕ, List, length, take, get_or, refl, ap, sym, ◌∙◌, arith}
-use Rattle.std.proofs.lemmas.List.{take_more, take_all, get_or_read, map-append}
-use Rattle.hail_field.specs.Nim.{nim}
-use Rattle.hail_field.proofs.AllNumbers.{nim_laws}
-use Rattle.algebra_laws.proofs.Trim.{value-trim}
-use Rattle.code_defs.specs.Polynomials.{value, interpolate, trim}
-use Rattle.code_defs.specs.Points.{values_at}
-use Rattle.code_defs.specs.DispersalCode.{row_of}
+use Rattle.dispersal_code.proofs.Words.{◌≡◌, ◌≤◌, ◌<◌, ◌+◌, ◌++◌, [], ◌∷◌, ℕ, List, length, take, get_or, refl, ap, sym, ◌∙◌, arith, take_more, take_all, get_or_read, map-append, nim, nim_laws, value-trim, value, interpolate, trim, values_at, row_of}
 
 -- the values of a polynomial without zeros at its end
 values-trim : (p points : List ℕ) → values_at points (trim p) ≡ values_at points p

@@ -1,16 +1,6 @@
 -- At most one polynomial is accepted.
-use Rattle.std.proofs.Common.{◌≡◌, ◌≤◌, ℕ, List, [], ◌∷◌, length, Option, Some, None, arith}
-use Rattle.algebra_laws.specs.Lists.{Each}
-use Rattle.algebra_laws.specs.Field.{Apart}
-use Rattle.hail_field.specs.Nim.{nim}
-use Rattle.hail_field.specs.Shape.{IsShape}
-use Rattle.hail_field.proofs.AllNumbers.{nim_laws}
-use Rattle.algebra_laws.specs.Poly.{present}
-use Rattle.algebra_laws.proofs.Agree.{unique}
+use Rattle.dispersal_code.proofs.Words.{◌≡◌, ◌≤◌, ℕ, List, [], ◌∷◌, length, Option, Some, None, arith, Each, Apart, nim, IsShape, nim_laws, present, unique, trim_same, value, plus, trim, Accepts}
 use Rattle.algebra_laws.proofs.Roots.{same_values}
-use Rattle.algebra_laws.proofs.Trim.{trim_same}
-use Rattle.code_defs.specs.Polynomials.{value, plus, trim}
-use Rattle.code_defs.specs.DispersalCode.{Accepts}
 
 -- no more symbols are present than there are places
 present_at_most : (ss : List (Option ℕ)) → present ss ≤ length ss

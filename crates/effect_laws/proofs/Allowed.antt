@@ -1,18 +1,11 @@
 -- Which begins of puts and drops are allowed.
-use Rattle.std.proofs.Common.{◌≡◌, ℕ, List, [], ◌∷◌, refl, ap, sym, subst, ◌∙◌, inl, inr}
-use Rattle.machine_defs.specs.Jobs.{Kind, PutJob, GetJob, DropJob, AuditJob, RepairJob, UpgradeJob, Job}
-use Rattle.machine_defs.specs.Events.{Event, Begin, BeginAt, Begun}
-use Rattle.machine_defs.specs.Runs.{Moment}
-use Rattle.machine_defs.specs.Began.{IsBeginOf, IsPutBegin}
-use Rattle.machine_defs.specs.Untouched.{Touches, IsBeginFor, NoneBeganOn}
-use Rattle.effect_laws.specs.Puts.{PutsUnder, Drops, NoPutBegan}
+use Rattle.effect_laws.proofs.Words.{◌≡◌, ℕ, List, [], ◌∷◌, refl, ap, sym, subst, ◌∙◌, inl, inr, Kind, PutJob, GetJob, DropJob, AuditJob, RepairJob, UpgradeJob, Job, Event, Begin, BeginAt, Begun, Moment, IsBeginOf, IsPutBegin, Touches, IsBeginFor, NoneBeganOn, PutsUnder, Drops, NoPutBegan}
 use Rattle.effect_laws.proofs.Offers.{Allows, BeginsAllowed, AllAllowed}
 
 -- the begin of a put of bytes under a name is one
 put_begin : (event : Event) (j : Job) (n name bytes : List ℕ) → IsBeginOf event j → j.kind ≡ PutJob n bytes →
     n ≡ name → IsPutBegin event name bytes
-put_begin event j n name bytes (inl is) kind same =
-    inl (is ∙ ap Begin (kind ∙ ap (λ q. PutJob q bytes) same))
+put_begin event j n name bytes (inl is) kind same = inl (is ∙ ap Begin (kind ∙ ap (λ q. PutJob q bytes) same))
 put_begin event j n name bytes (inr (m, by, is_kind, is)) kind same =
     (let e : PutJob m by ≡ PutJob n bytes = sym is_kind ∙ kind in
     let f : m ≡ n = cc in
@@ -23,8 +16,7 @@ put_begin event j n name bytes (inr (m, by, is_kind, is)) kind same =
 begin_for : (Meant : Kind → Type 0) (event : Event) (j : Job) → IsBeginOf event j → Meant j.kind →
     IsBeginFor Meant event
 begin_for Meant event j (inl is) t = subst (IsBeginFor Meant) (sym is) t
-begin_for Meant event j (inr (n, bytes, kind, is)) t =
-    subst (IsBeginFor Meant) (sym is) (subst Meant kind t)
+begin_for Meant event j (inr (n, bytes, kind, is)) t = subst (IsBeginFor Meant) (sym is) (subst Meant kind t)
 
 -- the begin of a put of a name is the begin of a job that puts it
 pub put_for : (Meant : Kind → Type 0) (event : Event) (name bytes : List ℕ) →
@@ -44,10 +36,7 @@ module _ (Fit : List ℕ → Type 0) (Absent : Type 0) (name : List ℕ) where
       by_kind (PutJob q bytes) is = λ same. puts bytes n (put_begin m.event j q name bytes on is same) begun
       by_kind (DropJob q) is = λ same.
           drops (begin_for (Drops name) m.event j on (subst (Drops name) (sym is) same)) n begun
-      by_kind (GetJob q) is = tt
-      by_kind AuditJob is = tt
-      by_kind RepairJob is = tt
-      by_kind UpgradeJob is = tt
+      by_kind kind is = tt
 
   -- where no put of the name begins and drops may, all are
   pub none_put : (ms : List Moment) → Absent → NoPutBegan name ms → AllAllowed Fit Absent name ms
@@ -71,6 +60,4 @@ module _ (Fit : List ℕ → Type 0) (Absent : Type 0) (name : List ℕ) where
     where
       drop_touches : (event : Event) → IsBeginFor (Drops name) event → IsBeginFor (Touches name) event
       drop_touches (Begin (DropJob n)) on = on
-      drop_touches (Begin kind) on = absurd on
-      drop_touches (BeginAt profile n bytes) on = absurd on
       drop_touches event on = absurd on

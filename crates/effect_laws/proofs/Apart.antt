@@ -1,13 +1,5 @@
 -- Commands behind others are carried out behind them.
-use Rattle.std.proofs.Common.{◌≡◌, ℕ, suc, List, [], ◌∷◌, ◌++◌, length, refl, ap, sym, ◌∙◌, append_assoc, append-nil, arith}
-use Rattle.record_defs.specs.Table.{File}
-use Rattle.machine_defs.specs.Events.{Outcome, Listed}
-use Rattle.machine_defs.specs.Lines.{lines_of}
-use Rattle.machine_defs.specs.Runs.{Moment}
-use Rattle.machine_defs.specs.Transcripts.{Instruction, Once, RunJob, CarriesOut}
-use Rattle.line_laws.specs.Read.{lines_of_all, EndsAs}
-use Rattle.effect_laws.specs.Lists.{AreListed, IsRead, ReadsAs}
-use Rattle.effect_laws.specs.Transcripts.{CarriesApart, EndsApart}
+use Rattle.effect_laws.proofs.Words.{◌≡◌, ℕ, suc, List, [], ◌∷◌, ◌++◌, length, refl, ap, sym, ◌∙◌, append_assoc, append-nil, arith, File, Outcome, Listed, lines_of, Moment, Instruction, Once, RunJob, CarriesOut, lines_of_all, EndsAs, AreListed, IsRead, ReadsAs, CarriesApart, EndsApart}
 
 -- the moments and lines of commands behind others
 pub carried_apart : (own others : List Instruction) (ms : List Moment) (lines : List ℕ) →
@@ -83,9 +75,7 @@ ends_read (Once event ∷ cs) ms (r ∷ rs) (m, older, is, here, outcome, E) =
     (m, older, is, here, read_itself m.outcome r outcome, ends_read cs older rs E)
 ends_read (RunJob job ∷ cs) ms (r ∷ rs) (m, steps, older, is, here, outcome, E) =
     (m, steps, older, is, here, read_itself m.outcome r outcome, ends_read cs older rs E)
-ends_read [] ms (r ∷ rs) E = absurd E
-ends_read (Once event ∷ cs) ms [] E = absurd E
-ends_read (RunJob job ∷ cs) ms [] E = absurd E
+ends_read commands ms rs E = absurd E
 
 -- the moments of commands behind others, by how many outcomes are theirs
 pub ends_apart : (own others : List Instruction) (ms : List Moment) (outcomes before : List Outcome) →
@@ -110,9 +100,7 @@ ends_apart (RunJob job ∷ own) others ms (r ∷ rs) before (m, steps, older, is
       owns = (m, steps, P.later, refl, here, outcome, P.owns);
       rest = P.rest;
     })
-ends_apart [] others ms (r ∷ rs) before E same = absurd (omega (arith, same))
-ends_apart (Once event ∷ own) others ms [] before E same = absurd (omega (arith, same))
-ends_apart (RunJob job ∷ own) others ms [] before E same = absurd (omega (arith, same))
+ends_apart own others ms outcomes before E same = absurd (omega (arith, same))
 
 -- the outcomes of commands behind others
 pub outcomes_apart : (own others : List Instruction) (ms : List Moment) (outcomes : List Outcome) →

@@ -1,16 +1,6 @@
 -- What commands do not ask for, the moments that carry them out do not begin.
-use Rattle.std.proofs.Common.{◌≡◌, ℕ, true, not, List, [], ◌∷◌, ◌++◌, ap, sym, subst, ◌∙◌, inl, inr, append_assoc}
-use Rattle.std.proofs.lemmas.Bool.{and_parts, false≢true}
-use Rattle.machine_defs.specs.Jobs.{Kind, PutJob}
-use Rattle.machine_defs.specs.Events.{Event, Begin, BeginAt, Step, Outcome, Begun, More, Listed, Continue}
-use Rattle.machine_defs.specs.Heard.{NoneContinues}
-use Rattle.machine_defs.specs.Runs.{Moment}
-use Rattle.machine_defs.specs.Began.{NoneBegan, GivesUp, IsPutBegin}
-use Rattle.machine_defs.specs.Transcripts.{Instruction, Once, RunJob, GoOn}
-use Rattle.machine_defs.specs.Untouched.{Touches, IsBeginFor, NoneBeganFor, NoneUnderWay, IsFree, NoneBeganOn, NoneAsksOn}
-use Rattle.effect_laws.specs.Puts.{PutsOnly}
-use Rattle.effect_laws.specs.Lists.{IsRead, is_call, calls_none, NoneCalls, ReadsAs}
-use Rattle.effect_laws.specs.Transcripts.{NoneAsksFor, AsksPutsOnly, LeavesFree, NoneIsBegun}
+use Rattle.effect_laws.proofs.Words.{◌≡◌, ℕ, true, List, [], ◌∷◌, ◌++◌, ap, sym, subst, ◌∙◌, inl, inr, append_assoc, and_parts, false≢true, Kind, PutJob, Event, Begin, BeginAt, Step, Outcome, Begun, More, Listed, Continue, NoneContinues, Moment, NoneBegan, GivesUp, IsPutBegin, Instruction, Once, RunJob, GoOn, Touches, IsBeginFor, NoneBeganFor, NoneUnderWay, IsFree, NoneBeganOn, NoneAsksOn, PutsOnly, IsRead, is_call, calls_none, NoneCalls, ReadsAs, NoneAsksFor, AsksPutsOnly, LeavesFree, NoneIsBegun}
+use Rattle.std.proofs.Common.{not}
 
 -- ---- moments
 
@@ -41,9 +31,7 @@ none_for Meant (RunJob job ∷ cs) ms (r ∷ rs) (m, steps, older, is, runs, out
       both_none Meant steps older (steps_none Meant job steps runs.before)
           (none_for Meant cs older rs more none),
     )
-none_for Meant [] ms (r ∷ rs) E none = absurd E
-none_for Meant (Once event ∷ cs) ms [] E none = absurd E
-none_for Meant (RunJob job ∷ cs) ms [] E none = absurd E
+none_for Meant cs ms rs E none = absurd E
 
 -- none asks on a name where none asks for a job that touches it
 asks_for : (name : List ℕ) (cs : List Instruction) → NoneAsksOn name cs → NoneAsksFor (Touches name) cs
@@ -87,9 +75,7 @@ puts_only name bytes (RunJob job ∷ cs) ms (r ∷ rs) (m, steps, older, is, run
       (λ other n put begun. step_puts job name bytes other m.event runs.step put),
       steps_put job name bytes steps older runs.before (puts_only name bytes cs older rs more only),
     )
-puts_only name bytes [] ms (r ∷ rs) E only = absurd E
-puts_only name bytes (Once event ∷ cs) ms [] E only = absurd E
-puts_only name bytes (RunJob job ∷ cs) ms [] E only = absurd E
+puts_only name bytes cs ms rs E only = absurd E
 
 -- ---- numbers
 
@@ -119,9 +105,7 @@ none_begun number (RunJob job ∷ cs) ms (r ∷ rs) (m, steps, older, is, runs, 
       (λ begun. none.0 (read_begun number m.outcome r outcome begun)),
       steps_begin job number steps older runs.before (none_begun number cs older rs more none.1),
     )
-none_begun number [] ms (r ∷ rs) E none = absurd E
-none_begun number (Once event ∷ cs) ms [] E none = absurd E
-none_begun number (RunJob job ∷ cs) ms [] E none = absurd E
+none_begun number cs ms rs E none = absurd E
 
 -- ---- names that are free
 
@@ -150,9 +134,7 @@ free_behind name (RunJob job ∷ cs) ms base (r ∷ rs) (m, steps, older, is, ru
       (λ t n begun. subst (IsBeginFor (Touches name)) runs.step t),
       steps_none (Touches name) job steps runs.before,
     )))
-free_behind name [] ms base (r ∷ rs) E leaves free = absurd E
-free_behind name (Once event ∷ cs) ms base [] E leaves free = absurd E
-free_behind name (RunJob job ∷ cs) ms base [] E leaves free = absurd E
+free_behind name cs ms base rs E leaves free = absurd E
 
 -- commands of which none asks on a name leave it free
 pub none_leaves : (name : List ℕ) (cs : List Instruction) → NoneAsksOn name cs → LeavesFree name cs
@@ -181,9 +163,7 @@ one_call (RunJob job ∷ cs) ms (r ∷ rs) (m, steps, older, is, runs, outcome, 
       (λ e. (let f : Step job ≡ Continue = sym runs.step ∙ e in cc)),
       steps_on job steps older runs.before (one_call cs older rs more none),
     )
-one_call [] ms (r ∷ rs) E none = absurd E
-one_call (Once event ∷ cs) ms [] E none = absurd E
-one_call (RunJob job ∷ cs) ms [] E none = absurd E
+one_call cs ms rs E none = absurd E
 
 -- a test tells it of commands
 pub tested_calls : (cs : List Instruction) → calls_none cs ≡ true → NoneCalls cs

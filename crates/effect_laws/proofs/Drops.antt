@@ -1,35 +1,10 @@
 -- A drop that ended well takes its name out.
-use Rattle.std.proofs.Common.{◌≡◌, ℕ, zero, suc, ◌+◌, ◌<◌, ◌≤◌, ◌==◌, ◌⊎◌, Bool, true, false, List, [], ◌∷◌, ◌++◌, length, Some, None, refl, ap, sym, subst, ◌∙◌, inl, inr, arith}
-use Rattle.std.specs.Prelude.{slice_get, is_some, not}
-use Rattle.std.proofs.lemmas.Bool.{cases_Bool, cases_lt, eqb-true, and_parts}
-use Rattle.algebra_laws.proofs.Options.{some-not-none, is_some-none}
-use Rattle.record_defs.specs.Records.{Record, Drop}
-use Rattle.record_defs.specs.Table.{is_same_name, file_of}
-use Rattle.record_defs.proofs.FilesLaws.{same-refl}
-use Rattle.machine_defs.specs.Jobs.{Kind, PutJob, GetJob, DropJob, AuditJob, RepairJob, UpgradeJob, Job, job_of}
-use Rattle.machine_defs.specs.Actions.{Action, WriteBody, SyncBody, WriteGate, SyncGate, End, actions_by, append_actions, remove_actions}
-use Rattle.machine_defs.specs.Answers.{Dropped}
-use Rattle.machine_defs.specs.Events.{Event, Begin, BeginAt, Step, Begun, Ended}
-use Rattle.machine_defs.specs.States.{State, Append, IsStart, setup_in, file_in}
-use Rattle.machine_defs.specs.Steps.{next_action, is_idle_drop}
-use Rattle.machine_defs.specs.Runs.{Moment, now, IsRun}
-use Rattle.machine_defs.specs.Began.{IsBeginOf, NoneBegan}
-use Rattle.machine_defs.specs.Untouched.{Touches, IsBeginFor, NoneBeganOn, NoneOn}
+use Rattle.effect_laws.proofs.Words.{◌≡◌, ℕ, zero, suc, ◌+◌, ◌<◌, ◌≤◌, ◌==◌, ◌⊎◌, Bool, true, false, List, [], ◌∷◌, ◌++◌, length, Some, None, refl, ap, sym, subst, ◌∙◌, inl, inr, arith, slice_get, is_some, cases_Bool, cases_lt, eqb-true, and_parts, some-not-none, is_some-none, Record, Drop, is_same_name, file_of, same-refl, Kind, PutJob, GetJob, DropJob, AuditJob, RepairJob, UpgradeJob, Job, job_of, Action, WriteBody, SyncBody, WriteGate, SyncGate, End, actions_by, append_actions, remove_actions, Dropped, Event, Begin, BeginAt, Step, Begun, Ended, State, Append, IsStart, setup_in, file_in, next_action, is_idle_drop, Moment, now, IsRun, IsBeginOf, NoneBegan, Touches, IsBeginFor, NoneBeganOn, NoneOn, cond_true, cond_false, same_value, IsPlain, Job_is, Doubt_is, Changes, event_end, changes, next_by, next_is_by, All, all, is_begun, ended_job, only_its, none_under_way, run_back, IsLimit, run-sound, PutsUnder, DroppedOut}
+use Rattle.std.specs.Prelude.{not}
 use Rattle.machine_defs.proofs.ActionLists.{split_get}
-use Rattle.machine_defs.proofs.JobLists.{cond_true, cond_false, same_value}
-use Rattle.machine_defs.proofs.Changes.{IsPlain, Job_is, Doubt_is, Changes}
-use Rattle.machine_defs.proofs.StepEnds.{event_end}
-use Rattle.machine_defs.proofs.Events.{changes}
-use Rattle.machine_defs.proofs.Numbers.{next_by, next_is_by}
 use Rattle.machine_defs.proofs.Pins.{Wrote}
-use Rattle.machine_defs.proofs.Held.{All, all}
 use Rattle.machine_defs.proofs.Survive.{shorter}
-use Rattle.machine_defs.proofs.Began.{is_begun, ended_job}
-use Rattle.machine_defs.proofs.Untouched.{only_its, none_under_way, run_back}
 use Rattle.run_laws.proofs.InEffect as effect
-use Rattle.state_laws.specs.Sound.{IsLimit}
-use Rattle.state_laws.proofs.Events.{run-sound}
-use Rattle.effect_laws.specs.Puts.{PutsUnder, DroppedOut}
 use Rattle.effect_laws.proofs.Offers.{Fits, Allows, Brings, Offers, offers_step, offers}
 use Rattle.effect_laws.proofs.Allowed.{none_put, none_touched}
 use Rattle.effect_laws.proofs.Origin.{none_fit}
@@ -109,10 +84,7 @@ none_puts name w number job kind runs only k j at = by_kind j.kind refl
         let one : j ≡ job = same_value _ j job at (subst (λ n. job_of w.jobs n ≡ Some job) (sym mine) runs) in
         let e : PutJob q bytes ≡ DropJob name = sym is ∙ (ap (λ (z : Job). z.kind) one ∙ kind) in cc)
     by_kind (DropJob q) is = λ same. tt
-    by_kind (GetJob q) is = tt
-    by_kind AuditJob is = tt
-    by_kind RepairJob is = tt
-    by_kind UpgradeJob is = tt
+    by_kind kd is = tt
 
 -- a drop of this number that stands behind its append has taken its name out
 abbrev HasDropped : List ℕ → ℕ → State → Type 0

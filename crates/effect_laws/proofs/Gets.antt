@@ -1,30 +1,15 @@
 -- A get gave what stood under its name at its begin, told by events and outcomes alone.
-use Rattle.std.proofs.Common.{◌≡◌, ◌⊎◌, ℕ, List, ◌∷◌, ◌++◌, length, Some, ap, sym, subst, ◌∙◌, inl, inr}
-use Rattle.record_defs.specs.Table.{File}
-use Rattle.column_defs.specs.Forgeries.{IsForgery}
-use Rattle.machine_defs.specs.Jobs.{Given, Job, job_of}
-use Rattle.machine_defs.specs.Answers.{Got}
-use Rattle.machine_defs.specs.Events.{Step}
-use Rattle.machine_defs.specs.States.{State, IsStart, file_object, file_in}
+use Rattle.effect_laws.proofs.Words.{◌≡◌, ◌⊎◌, ℕ, List, ◌∷◌, ◌++◌, length, Some, ap, sym, subst, ◌∙◌, inl, inr, File, IsForgery, Given, Job, job_of, Got, Step, State, IsStart, file_object, file_in, Moment, now, first_moments, IsRun, NoneContinues, heard_by, heard_in, given_to, HoldsForgery, first_behind, is_begun, kind_of, ended_job, run_back, Stored, GetEnds, GotRight, IsLimit, WasPut, PutsOnly}
 use Rattle.machine_defs.specs.Given.{blocks_given}
-use Rattle.machine_defs.specs.Runs.{Moment, now, first_moments, IsRun}
 use Rattle.machine_defs.specs.Halves.{IsRightGet}
-use Rattle.machine_defs.specs.Heard.{NoneContinues, heard_by, heard_in, given_to, HoldsForgery}
-use Rattle.machine_defs.proofs.Damaged.{first_behind}
 use Rattle.machine_defs.proofs.Reports.{stays}
-use Rattle.machine_defs.proofs.Began.{is_begun, kind_of, ended_job}
-use Rattle.machine_defs.proofs.Untouched.{run_back}
-use Rattle.run_laws.specs.Stories.{Stored, GetEnds, GotRight}
 use Rattle.run_laws.proofs.FirstHalf.{got_right}
-use Rattle.state_laws.specs.Sound.{IsLimit}
-use Rattle.effect_laws.specs.Puts.{WasPut, PutsOnly}
 use Rattle.effect_laws.proofs.Origin.{was_put}
 use Rattle.effect_laws.proofs.Since.{OldOrNew, whose, put_only}
 
 -- a forgery among what a job heard is one among what a report has of it
 reported : (start : State) (file : File) (w : State) (own : List ℕ) (k : ℕ) (all : List Moment) (job : Job) →
-    job.number ≡ k →
-    given_to job.number (heard_in start all) ≡ given_to job.number (heard_by (Some job)) →
+    job.number ≡ k → given_to job.number (heard_in start all) ≡ given_to job.number (heard_by (Some job)) →
     HoldsForgery (file_object w file) own job.number (heard_by (Some job)) →
     HoldsForgery (file_object w file) own k (heard_in start all)
 reported start file w own k all job number same h = record {

@@ -1,17 +1,5 @@
 -- Jobs that a transcript tells of: begun by one command, and run to their end by a later one.
-use Rattle.std.proofs.Common.{◌≡◌, ℕ, List, [], ◌∷◌, ◌++◌, length, ap, sym, subst, ◌∙◌, append_assoc}
-use Rattle.machine_defs.specs.Jobs.{GetJob, DropJob}
-use Rattle.machine_defs.specs.Answers.{Answer, Put, Dropped}
-use Rattle.machine_defs.specs.Events.{Event, Begin, Outcome, Begun, Ended}
-use Rattle.machine_defs.specs.Runs.{Moment}
-use Rattle.machine_defs.specs.Began.{NoneBegan, IsPutBegin}
-use Rattle.machine_defs.specs.Transcripts.{Instruction, Once, RunJob}
-use Rattle.machine_defs.specs.Untouched.{Touches, NoneUnderWay, IsFree, NoneAsksOn}
-use Rattle.machine_defs.proofs.Untouched.{steps_begin_none}
-use Rattle.run_laws.specs.Stories.{Stored, GetEnds}
-use Rattle.effect_laws.specs.Puts.{PutsUnder, DroppedOut}
-use Rattle.effect_laws.specs.Lists.{ReadsAs}
-use Rattle.effect_laws.specs.Transcripts.{NonePuts, NoneIsBegun, job_behind, TellsJob}
+use Rattle.effect_laws.proofs.Words.{◌≡◌, ℕ, List, [], ◌∷◌, ◌++◌, length, ap, sym, subst, ◌∙◌, append_assoc, GetJob, DropJob, Answer, Put, Dropped, Event, Begin, Outcome, Begun, Ended, Moment, NoneBegan, IsPutBegin, Instruction, Once, RunJob, Touches, NoneUnderWay, IsFree, NoneAsksOn, steps_begin_none, Stored, GetEnds, PutsUnder, DroppedOut, ReadsAs, NonePuts, NoneIsBegun, job_behind, TellsJob}
 use Rattle.effect_laws.proofs.Apart.{ends_apart}
 use Rattle.effect_laws.proofs.Asked.{none_for, none_on, none_begun, both_none, free_more}
 

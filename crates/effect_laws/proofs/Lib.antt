@@ -1,3 +1,4 @@
+mod Words
 pub mod Offers
 pub mod Allowed
 pub mod Origin

@@ -1,35 +1,10 @@
 -- A text read from its front as the outcomes that wrote it, lists of the names among them.
-use Rattle.std.proofs.Common.{◌≡◌, ◌≢◌, ℕ, Bool, true, false, List, [], ◌∷◌, ◌++◌, length, drop, get_or, Some, refl, sym, ap, subst, ◌∙◌, inl, inr, arith, append_assoc, append-nil}
-use Rattle.std.specs.Prelude.{codes, IsTrue, ◌&&◌, nat_le}
-use Rattle.std.specs.List.{AllByRecursion, flat_map, list_all}
-use Rattle.std.specs.Fmt.{decimal}
-use Rattle.std.proofs.lemmas.Bool.{and_parts, cases_Bool}
+use Rattle.effect_laws.proofs.Words.{◌≡◌, ◌≢◌, ℕ, Bool, true, false, List, [], ◌∷◌, ◌++◌, length, drop, get_or, Some, refl, sym, ap, subst, ◌∙◌, inl, inr, arith, append_assoc, append-nil, codes, IsTrue, ◌&&◌, nat_le, AllByRecursion, flat_map, list_all, decimal, and_parts, cases_Bool, In, is_name, is_name_byte, File, files_of, find_file, is_same_name, find-files_of, same-refl, Put, Event, Step, Names, Continue, Outcome, Ended, Listed, Closed, Continued, line, then_number, file_line, lines_of, Lists, Happens, Moment, now, IsRun, State, IsStart, file_in, Instruction, Once, RunJob, CarriesOut, cond_true, cond_false, run_back, IsToldByLine, WritesOneLine, HasNoNewline, lines_of_all, IsDigit, digits-decimal, number-split, one-line, differ, IsLimit, IsSound, run-sound, AreListed, IsListedAs, IsRead, IsToldFile, IsToldByLines, NoneCalls, ReadsAs}
 use Rattle.std.proofs.lemmas.Bool.Decides.{nat_tests}
-use Rattle.algebra_laws.specs.Lists.{In}
-use Rattle.record_defs.specs.Records.{is_name, is_name_byte}
-use Rattle.record_defs.specs.Table.{File, files_of, find_file, is_same_name}
-use Rattle.record_defs.proofs.FilesLaws.{find-files_of, same-refl}
-use Rattle.machine_defs.specs.Answers.{Put}
-use Rattle.machine_defs.specs.Events.{Event, Step, Names, Continue, Outcome, Ended, Listed, Closed, Continued}
-use Rattle.machine_defs.specs.Lines.{line, then_number, file_line, lines_of}
-use Rattle.machine_defs.specs.Machine.{Lists, Happens}
-use Rattle.machine_defs.specs.Runs.{Moment, now, IsRun}
-use Rattle.machine_defs.specs.States.{State, IsStart, file_in}
-use Rattle.machine_defs.specs.Transcripts.{Instruction, Once, RunJob, CarriesOut}
-use Rattle.machine_defs.proofs.JobLists.{cond_true, cond_false}
-use Rattle.machine_defs.proofs.Untouched.{run_back}
-use Rattle.line_laws.specs.Told.{IsToldByLine, WritesOneLine, HasNoNewline}
-use Rattle.line_laws.specs.Read.{lines_of_all}
-use Rattle.line_laws.proofs.Digits.{IsDigit, digits-decimal, number-split}
-use Rattle.line_laws.proofs.OneLine.{one-line}
 use Rattle.line_laws.proofs.LastLines.{one-told}
-use Rattle.line_laws.proofs.Marks.{differ}
 use Rattle.line_laws.proofs.Outcomes.{lines-tell}
 use Rattle.line_laws.proofs.Happened.{happened}
-use Rattle.state_laws.specs.Sound.{IsLimit, IsSound}
 use Rattle.state_laws.proofs.Records.{file-spelled}
-use Rattle.state_laws.proofs.Events.{run-sound}
-use Rattle.effect_laws.specs.Lists.{AreListed, IsListedAs, IsRead, IsToldFile, IsToldByLines, NoneCalls, ReadsAs}
 
 -- ---- the first line of a text
 
@@ -85,14 +60,13 @@ files-tell : (fs gs : List File) (x y : List ℕ) → AreNamed fs → AllByRecur
     length fs ≡ length gs → flat_map file_line fs ++ x ≡ flat_map file_line gs ++ y →
     AreListed fs gs × (x ≡ y)
 files-tell [] [] x y named told many same = (tt, same)
-files-tell [] (g ∷ gs) x y named told many same = absurd (omega (arith, many))
-files-tell (f ∷ fs) [] x y named told many same = absurd (omega (arith, many))
 files-tell (f ∷ fs) (g ∷ gs) x y named told many same =
     (let p = file-tells f g (flat_map file_line fs ++ x) (flat_map file_line gs ++ y) named.0 told.0
     (sym (append_assoc (file_line f) (flat_map file_line fs) x)
     ∙ (same ∙ append_assoc (file_line g) (flat_map file_line gs) y)) in
     let q = files-tell fs gs x y named.1 told.1 (omega (arith, many)) p.2 in
     ((p.0, p.1, q.0), q.1))
+files-tell fs gs x y named told many same = absurd (omega (arith, many))
 
 -- ---- one outcome
 
@@ -131,8 +105,6 @@ header-differs files (Listed fs) one same = one
 header-differs files Continued one same = one
 header-differs files (Ended Put) one same =
     differ 0 2 3 (line (header files)) (lines_of (Ended Put)) refl same
-header-differs files (Ended how) one same =
-    differ 0 2 3 (line (header files)) (lines_of (Ended how)) refl same
 header-differs files r one same = differ 0 2 3 (line (header files)) (lines_of r) refl same
 
 -- an outcome whose lines can be read: no later call, and names in a list
@@ -288,8 +260,7 @@ same-found (f ∷ fs) (g ∷ gs) name same = elim (cases_Bool (is_same_name g.na
       (sym (cond_false (is_same_name g.name name) (Some g) (find_file gs name) n))
       (same-found fs gs name same.2))
 ]
-same-found [] (g ∷ gs) name same = absurd same
-same-found (f ∷ fs) [] name same = absurd same
+same-found fs gs name same = absurd same
 
 -- so a list tells of each name what stands under it
 pub lists : (limit : ℕ) (start : State) (m : Moment) (ms : List Moment) (told : List File) →
@@ -302,11 +273,10 @@ lists limit start m ms told run event (files, is, same) name =
     (same-found files told name same)
 
 -- what a text tells whole
-pub whole : (limit : ℕ) (start : State) (base ms : List Moment) (commands : List Instruction)
-    (bytes : List ℕ) (outcomes : List Outcome) → IsLimit limit → IsStart start →
-    IsRun limit start (ms ++ base) → NoneCalls commands → CarriesOut commands ms bytes →
-    AllByRecursion IsToldByLines outcomes → length outcomes ≡ length commands →
-    bytes ≡ lines_of_all outcomes → ReadsAs commands ms outcomes
+pub whole : (limit : ℕ) (start : State) (base ms : List Moment) (commands : List Instruction) (bytes : List ℕ)
+    (outcomes : List Outcome) → IsLimit limit → IsStart start → IsRun limit start (ms ++ base) →
+    NoneCalls commands → CarriesOut commands ms bytes → AllByRecursion IsToldByLines outcomes →
+    length outcomes ≡ length commands → bytes ≡ lines_of_all outcomes → ReadsAs commands ms outcomes
 whole limit start base ms commands bytes outcomes fits clean run calls C told many same =
     (forward limit start base fits clean commands ms bytes outcomes [] [] run calls C told many
     (ap (λ l. l ++ []) same)).0

@@ -1,9 +1,5 @@
 -- How many providers a list names.
-use Rattle.std.proofs.Common.{ℕ, zero, suc, ◌+◌, ◌≤◌, ◌<◌, ◌==◌, Bool, true, false, cond, List, [], ◌∷◌, length, inl, inr, arith}
-use Rattle.std.specs.Prelude.{◌||◌}
-use Rattle.std.specs.List.{range_with_len}
-use Rattle.std.proofs.lemmas.Bool.{cases_Bool, eqb-true, ne_eqb}
-use Rattle.column_defs.specs.Forgeries.{count_of}
+use Rattle.effect_laws.proofs.Words.{ℕ, zero, suc, ◌+◌, ◌≤◌, ◌<◌, ◌==◌, Bool, true, false, cond, List, [], ◌∷◌, length, inl, inr, arith, ◌||◌, range_with_len, cases_Bool, eqb-true, ne_eqb, count_of}
 use Rattle.effect_laws.specs.Counts.{is_among}
 
 none_of : (p a n : ℕ) → p < a → count_of (λ j. j == p) (range_with_len a n) ≤ 0
@@ -20,8 +16,7 @@ one_of p a (suc n) = elim (cases_Bool (a == p)) [
 ]
 
 -- those of two kinds count at most as both
-pub either_of : (p q : ℕ → Bool) (js : List ℕ) →
-    count_of (λ j. p j || q j) js ≤ count_of p js + count_of q js
+pub either_of : (p q : ℕ → Bool) (js : List ℕ) → count_of (λ j. p j || q j) js ≤ count_of p js + count_of q js
 either_of p q [] = omega arith
 either_of p q (j ∷ js) = go (p j) (q j) (either_of p q js)
   where

@@ -1,25 +1,7 @@
 -- What may stand under a name, at each moment of a run, by the puts and drops of it that began.
-use Rattle.std.proofs.Common.{◌≡◌, ℕ, ◌+◌, ◌<◌, ◌≤◌, cond, List, [], ◌∷◌, ◌++◌, length, Option, Some, None, refl, ap, sym, subst, ◌∙◌, inl, inr, arith}
-use Rattle.std.proofs.lemmas.Bool.{cases_Bool, cases_lt}
-use Rattle.record_defs.specs.Records.{Record, PutStart}
-use Rattle.record_defs.specs.Table.{File, file_as, version_of, next_id, started_as, is_start_of, is_same_name, file_of}
-use Rattle.record_defs.proofs.FilesLaws.{same-eq}
-use Rattle.machine_defs.specs.Jobs.{Kind, PutJob, GetJob, DropJob, AuditJob, RepairJob, UpgradeJob, Job, job_of}
-use Rattle.machine_defs.specs.Actions.{WriteBody}
-use Rattle.machine_defs.specs.Events.{Begun}
-use Rattle.machine_defs.specs.States.{State, Append, Doubt, IsStart}
-use Rattle.machine_defs.specs.Appends.{Writes, done_record, is_first_append}
-use Rattle.machine_defs.specs.Steps.{next_action}
-use Rattle.machine_defs.specs.Runs.{Moment, now, IsRun}
-use Rattle.machine_defs.specs.Began.{IsBeginOf}
-use Rattle.machine_defs.proofs.JobLists.{cond_true, cond_false}
+use Rattle.effect_laws.proofs.Words.{◌≡◌, ℕ, ◌+◌, ◌<◌, ◌≤◌, cond, List, [], ◌∷◌, ◌++◌, length, Option, Some, None, refl, ap, sym, subst, ◌∙◌, inl, inr, arith, cases_Bool, cases_lt, Record, PutStart, File, file_as, version_of, next_id, started_as, is_start_of, is_same_name, file_of, same-eq, Kind, PutJob, GetJob, DropJob, AuditJob, RepairJob, UpgradeJob, Job, job_of, WriteBody, Begun, State, Append, Doubt, IsStart, Writes, done_record, is_first_append, next_action, Moment, now, IsRun, IsBeginOf, cond_true, cond_false, Append_is, Doubt_is, Records_is, Changes, changes, objects, Draws, next_of_records, first_above, first_below, All, all, Came, came_all}
 use Rattle.machine_defs.proofs.Done.{profile_done, done-file}
-use Rattle.machine_defs.proofs.Changes.{Append_is, Doubt_is, Records_is, Changes}
-use Rattle.machine_defs.proofs.Events.{changes}
-use Rattle.machine_defs.proofs.Numbers.{objects, Draws, next_of_records, first_above, first_below}
 use Rattle.machine_defs.proofs.Fair.{PutAt, put_next, stores_count}
-use Rattle.machine_defs.proofs.Held.{All, all}
-use Rattle.machine_defs.proofs.Began.{Came, came_all}
 use Rattle.run_laws.proofs.InEffect as effect
 
 -- Bytes that fit stand under the name, and nothing does only where it may be absent.

@@ -1,12 +1,5 @@
 -- A file in effect is that of a put begun in the run.
-use Rattle.std.proofs.Common.{◌≡◌, ◌⊎◌, ℕ, List, [], ◌∷◌, ◌++◌, Option, Some, None, refl, ap, sym, subst, inl, inr, append_assoc, append-nil}
-use Rattle.algebra_laws.proofs.Options.{some-not-none}
-use Rattle.record_defs.specs.Records.{Record}
-use Rattle.record_defs.specs.Table.{File, file_of}
-use Rattle.machine_defs.specs.States.{State, AreFirst, IsStart, file_in}
-use Rattle.machine_defs.specs.Runs.{Moment, now, IsRun}
-use Rattle.machine_defs.proofs.JobLists.{found_none}
-use Rattle.effect_laws.specs.Puts.{WasPut, NoPutBegan, NoDropBegan, MayStand}
+use Rattle.effect_laws.proofs.Words.{◌≡◌, ◌⊎◌, ℕ, List, [], ◌∷◌, ◌++◌, Option, Some, None, refl, ap, sym, subst, inl, inr, append_assoc, append-nil, some-not-none, Record, File, file_of, State, AreFirst, IsStart, file_in, Moment, now, IsRun, found_none, WasPut, NoPutBegan, NoDropBegan, MayStand}
 use Rattle.effect_laws.proofs.Offers.{Fits, Offers, AllAllowed, offers}
 use Rattle.effect_laws.proofs.Allowed.{allowed_by, none_put}
 

@@ -1,17 +1,6 @@
 -- Whom commands damage, and that no job of theirs of some kinds is under way behind them.
-use Rattle.std.proofs.Common.{◌≡◌, ℕ, List, [], ◌∷◌, ◌++◌, refl, sym, ap, subst, ◌∙◌, inl, inr, append_assoc}
-use Rattle.algebra_laws.specs.Lists.{In}
-use Rattle.machine_defs.specs.Jobs.{Kind}
-use Rattle.machine_defs.specs.Answers.{Answer}
-use Rattle.machine_defs.specs.Began.{GivesUp}
+use Rattle.effect_laws.proofs.Words.{◌≡◌, ℕ, List, [], ◌∷◌, ◌++◌, refl, sym, ap, subst, ◌∙◌, inl, inr, append_assoc, In, Kind, Answer, GivesUp, Step, Outcome, Begun, Ended, Listed, Moment, Instruction, Once, RunJob, RunsToEnd, Touches, IsBeginFor, NoneBeganFor, NoneUnderWay, both_only, steps_damage_none, IsRead, ReadsAs, LeavesFree, AreOverFor}
 use Rattle.machine_defs.specs.Damaged.{IsAmong, DamagesOnly, AsksDamageOf}
-use Rattle.machine_defs.specs.Events.{Step, Outcome, Begun, Ended, Listed}
-use Rattle.machine_defs.specs.Runs.{Moment}
-use Rattle.machine_defs.specs.Transcripts.{Instruction, Once, RunJob, RunsToEnd}
-use Rattle.machine_defs.specs.Untouched.{Touches, IsBeginFor, NoneBeganFor, NoneUnderWay}
-use Rattle.machine_defs.proofs.Damaged.{both_only, steps_damage_none}
-use Rattle.effect_laws.specs.Lists.{IsRead, ReadsAs}
-use Rattle.effect_laws.specs.Transcripts.{LeavesFree, AreOverFor}
 use Rattle.effect_laws.proofs.Asked.{steps_none, both_none}
 
 -- commands damage only those whom they name
@@ -25,9 +14,7 @@ damages ps (RunJob job ∷ cs) ms (r ∷ rs) (m, steps, older, is, runs, outcome
       subst (IsAmong ps) (sym runs.step) tt,
       both_only ps steps older (steps_damage_none ps job steps runs.before) (damages ps cs older rs more asks),
     )
-damages ps [] ms (r ∷ rs) E asks = absurd E
-damages ps (Once event ∷ cs) ms [] E asks = absurd E
-damages ps (RunJob job ∷ cs) ms [] E asks = absurd E
+damages ps cs ms rs E asks = absurd E
 
 -- a job's last moment and its steps come apart from what is newer
 run-apart : (newer : List Moment) (m : Moment) (steps older base : List Moment) →
@@ -165,9 +152,7 @@ module _ (Meant : Kind → Type 0) where
       (subst (NoneUnderWay Meant) (run-apart newer m steps older base)
       (closed base free cs older rs ran (newer ++ m ∷ steps) more is_over
       (closes-more ran newer (m ∷ steps) C (run-none job m steps runs))))
-  closed base free [] ms (r ∷ rs) ran newer E is_over C = absurd E
-  closed base free (Once event ∷ cs) ms [] ran newer E is_over C = absurd E
-  closed base free (RunJob job ∷ cs) ms [] ran newer E is_over C = absurd E
+  closed base free cs ms rs ran newer E is_over C = absurd E
 
   pub over : (cs : List Instruction) (ms base : List Moment) (rs : List Outcome) → ReadsAs cs ms rs →
       AreOverFor Meant [] cs rs → NoneUnderWay Meant base → NoneUnderWay Meant (ms ++ base)
@@ -185,6 +170,4 @@ leaves_over name (RunJob job ∷ cs) ms (Ended how ∷ rs) ran (m, steps, older,
     leaves_over name cs older rs (job ∷ ran) more leaves
 leaves_over name (RunJob job ∷ cs) ms (r ∷ rs) ran (m, steps, older, is, runs, outcome, more) leaves =
     leaves_over name cs older rs ran more leaves
-leaves_over name [] ms (r ∷ rs) ran E leaves = absurd E
-leaves_over name (Once event ∷ cs) ms [] ran E leaves = absurd E
-leaves_over name (RunJob job ∷ cs) ms [] ran E leaves = absurd E
+leaves_over name cs ms rs ran E leaves = absurd E

@@ -1,28 +1,9 @@
 -- A file that is put, put again and dropped: the run of it, and what its text tells.
-use Rattle.std.proofs.Common.{◌≡◌, ℕ, ◌<◌, ◌^◌, List, [], ◌∷◌, ◌++◌, refl, inl, inr, arith, sym, subst, ap, ◌∙◌, append_assoc, append-nil}
-use Rattle.std.specs.Fmt.{digits}
-use Rattle.std.specs.List.{AllByRecursion}
+use Rattle.effect_laws.proofs.Words.{◌≡◌, ℕ, ◌<◌, ◌^◌, List, [], ◌∷◌, ◌++◌, refl, inl, inr, arith, sym, subst, ap, ◌∙◌, append_assoc, append-nil, digits, AllByRecursion, PutJob, DropJob, actions_of, Put, Dropped, Begin, BeginAt, Reopen, Names, Opened, Listed, set_up, IsPutBegin, run_back, Moment, IsRun, IsStart, setup_in, Once, CarriesOut, NoneUnderWay, IsFree, lines_of_all, Stored, PutsUnder, Drops, NoPutBegan, DroppedOut, IsToldByLines, NoneCalls, ReadsAs, EndsApart, TellsJob, name, byte, other, told_file, first_commands, put_commands, commands, again_commands, again_outcomes, PutsAgain, first_outcomes, put_outcomes, outcomes, first, second, instructions, moments}
 use Rattle.record_defs.specs.Examples.{four}
-use Rattle.machine_defs.specs.Jobs.{PutJob, DropJob}
-use Rattle.machine_defs.specs.Actions.{actions_of}
-use Rattle.machine_defs.specs.Answers.{Put, Dropped}
-use Rattle.machine_defs.specs.Events.{Begin, BeginAt, Reopen, Names, Opened, Listed}
-use Rattle.machine_defs.specs.Examples.{set_up}
-use Rattle.machine_defs.specs.Began.{IsPutBegin}
-use Rattle.machine_defs.proofs.Untouched.{run_back}
-use Rattle.machine_defs.specs.Runs.{Moment, IsRun}
-use Rattle.machine_defs.specs.States.{IsStart, setup_in}
-use Rattle.machine_defs.specs.Transcripts.{Once, CarriesOut}
-use Rattle.machine_defs.specs.Untouched.{NoneUnderWay, IsFree}
 use Rattle.made_runs.specs.Instructions.{AreFit}
 use Rattle.made_runs.proofs.Instructions.{are-run}
 use Rattle.made_runs.proofs.Written.{carries}
-use Rattle.line_laws.specs.Read.{lines_of_all}
-use Rattle.run_laws.specs.Stories.{Stored}
-use Rattle.effect_laws.specs.Puts.{PutsUnder, Drops, NoPutBegan, DroppedOut}
-use Rattle.effect_laws.specs.Lists.{IsToldByLines, NoneCalls, ReadsAs}
-use Rattle.effect_laws.specs.Transcripts.{EndsApart, TellsJob}
-use Rattle.effect_laws.specs.Instances.{name, byte, other, told_file, first_commands, put_commands, commands, again_commands, again_outcomes, PutsAgain, first_outcomes, put_outcomes, outcomes, first, second, instructions, moments}
 use Rattle.effect_laws.proofs.Lists.{whole}
 use Rattle.effect_laws.proofs.Jobs.{tells, stores, drops, frees}
 use Rattle.effect_laws.proofs.Asked.{none_for, puts_only, free_behind, tested_calls}

@@ -1,49 +1,11 @@
 -- A text with scrubs, read from its front as the outcomes that wrote it, but for the blocks of a scrub.
-use Rattle.std.proofs.Common.{◌≡◌, ℕ, List, [], ◌∷◌, ◌++◌, length, drop, refl, sym, ap, subst, ◌∙◌, arith, append_assoc}
-use Rattle.std.specs.Prelude.{codes}
-use Rattle.std.specs.List.{AllByRecursion, flat_map}
-use Rattle.std.specs.Fmt.{decimal}
-use Rattle.machine_defs.specs.Answers.{Scrubbed, Put}
-use Rattle.machine_defs.specs.Events.{Step, Continue, Outcome, Ready, Ended, Listed, Continued}
-use Rattle.machine_defs.specs.Lines.{line, then_number, answer_text, lines_of}
-use Rattle.machine_defs.specs.Runs.{Moment, IsRun}
-use Rattle.machine_defs.specs.States.{State, IsStart}
-use Rattle.machine_defs.specs.Transcripts.{Instruction, Once, RunJob, CarriesOut}
-use Rattle.machine_defs.proofs.Untouched.{run_back}
-use Rattle.line_laws.specs.Told.{IsShortNumber}
-use Rattle.line_laws.specs.Read.{lines_of_all}
-use Rattle.line_laws.proofs.Digits.{IsBehind, number-split}
-use Rattle.line_laws.proofs.Marks.{differ}
-use Rattle.line_laws.proofs.OneLine.{one-line}
-use Rattle.state_laws.specs.Sound.{IsLimit}
-use Rattle.effect_laws.specs.Lists.{IsRead, IsToldByLines, NoneCalls, ReadsAs}
+use Rattle.effect_laws.proofs.Words.{◌≡◌, ℕ, List, [], ◌∷◌, ◌++◌, length, drop, refl, sym, ap, subst, ◌∙◌, arith, append_assoc, codes, AllByRecursion, flat_map, decimal, Scrubbed, Step, Continue, Outcome, Ended, Listed, Continued, line, then_number, answer_text, lines_of, Moment, IsRun, State, IsStart, Instruction, Once, RunJob, CarriesOut, run_back, IsShortNumber, lines_of_all, differ, one-line, IsLimit, IsRead, IsToldByLines, NoneCalls, ReadsAs}
 use Rattle.effect_laws.specs.Scrubs.{IsToldButBlocks, IsButBlocks, AreButBlocks}
+use Rattle.line_laws.proofs.Answers.{number-next, numbers-tell}
 use Rattle.effect_laws.proofs.Lists.{CanRead, first-line, list-not, newest-can, one-read}
 use Rattle.effect_laws.proofs.Apart.{read_itself}
 
 -- ---- the line of a scrub
-
--- a number, and what is behind it up to the end of the line
-next : (m n : ℕ) (x y : List ℕ) → IsShortNumber n → IsBehind (line x) → IsBehind (line y) →
-    line (decimal m ++ x) ≡ line (decimal n ++ y) → (m ≡ n) × (line x ≡ line y)
-next m n x y small behind after same =
-    number-split m n (line x) (line y) small behind after
-    (sym (append_assoc (decimal m) x (10 ∷ [])) ∙ (same ∙ append_assoc (decimal n) y (10 ∷ [])))
-
-behind : (ns : List ℕ) → IsBehind (line (flat_map then_number ns))
-behind [] = omega arith
-behind (n ∷ ns) = omega arith
-
-numbers-tell : (ms ns : List ℕ) → AllByRecursion IsShortNumber ns →
-    line (flat_map then_number ms) ≡ line (flat_map then_number ns) → ms ≡ ns
-numbers-tell [] [] small same = refl
-numbers-tell [] (n ∷ ns) small same = absurd (differ 0 0 0 _ _ refl same)
-numbers-tell (m ∷ ms) [] small same = absurd (differ 0 0 0 _ _ refl same)
-numbers-tell (m ∷ ms) (n ∷ ns) small same =
-    (let parts = next m n (flat_map then_number ms) (flat_map then_number ns) small.0 (behind ms) (behind ns)
-    (ap (drop 1) same) in
-    let rest = numbers-tell ms ns small.1 parts.1 in
-    (λ i. parts.0 i ∷ rest i))
 
 -- what a scrub says behind the number of its stripes
 abbrev with-symbols : List ℕ → List ℕ
@@ -57,16 +19,10 @@ scrub-parts m xs blocks = ap line (append_assoc (decimal m) (codes " symbols") (
 scrub-tells : (r : Outcome) (n : ℕ) (ys blocks : List ℕ) → IsShortNumber n → AllByRecursion IsShortNumber ys →
     lines_of r ≡ lines_of (Ended (Scrubbed n ys blocks)) → IsButBlocks r (Ended (Scrubbed n ys blocks))
 scrub-tells (Ended (Scrubbed m xs own)) n ys blocks small few same =
-    (let first = next m n (with-symbols xs) (with-symbols ys) small (omega arith) (omega arith)
+    (let first = number-next m n (with-symbols xs) (with-symbols ys) small (omega arith) (omega arith)
     (sym (scrub-parts m xs own) ∙ (ap (drop 9) same ∙ scrub-parts n ys blocks)) in
     let second = numbers-tell xs ys few (ap (drop 8) first.1) in
     (own, (λ i. Ended (Scrubbed (first.0 i) (second i) own))))
-scrub-tells (Ended Put) n ys blocks small few same =
-    absurd (differ 0 2 3 (lines_of (Ended Put)) (lines_of (Ended (Scrubbed n ys blocks))) refl same)
-scrub-tells (Ended how) n ys blocks small few same =
-    absurd (differ 0 2 3 (lines_of (Ended how)) (lines_of (Ended (Scrubbed n ys blocks))) refl same)
-scrub-tells Ready n ys blocks small few same =
-    absurd (differ 0 2 3 (lines_of Ready) (lines_of (Ended (Scrubbed n ys blocks))) refl same)
 scrub-tells Continued n ys blocks small few same =
     absurd (differ 0 0 0 (lines_of Continued) (lines_of (Ended (Scrubbed n ys blocks))) refl same)
 scrub-tells r n ys blocks small few same =
@@ -139,11 +95,10 @@ module _ (limit : ℕ) (start : State) (base : List Moment) (fits : IsLimit limi
       ((O.0.0 ∷ R.0.0, (O.0.1, R.0.1), (C.0, C.1, C.2, C.4, C.5, O.0.2, R.0.2)), O.1))
 
 -- what a text tells whole
-pub whole : (limit : ℕ) (start : State) (base ms : List Moment) (commands : List Instruction)
-    (bytes : List ℕ) (outcomes : List Outcome) → IsLimit limit → IsStart start →
-    IsRun limit start (ms ++ base) → NoneCalls commands → CarriesOut commands ms bytes →
-    AllByRecursion IsToldButBlocks outcomes → length outcomes ≡ length commands →
-    bytes ≡ lines_of_all outcomes →
+pub whole : (limit : ℕ) (start : State) (base ms : List Moment) (commands : List Instruction) (bytes : List ℕ)
+    (outcomes : List Outcome) → IsLimit limit → IsStart start → IsRun limit start (ms ++ base) →
+    NoneCalls commands → CarriesOut commands ms bytes → AllByRecursion IsToldButBlocks outcomes →
+    length outcomes ≡ length commands → bytes ≡ lines_of_all outcomes →
     (own : List Outcome) × AreButBlocks own outcomes × ReadsAs commands ms own
 whole limit start base ms commands bytes outcomes fits clean run calls C told many same =
     (forward limit start base fits clean commands ms bytes outcomes [] [] run calls C told many

@@ -1,18 +1,6 @@
 -- What stands under a name since a put of it ended well.
-use Rattle.std.proofs.Common.{◌≡◌, ◌⊎◌, ℕ, List, [], ◌∷◌, ◌++◌, length, Option, Some, None, refl, sym, subst, inl, inr}
-use Rattle.record_defs.specs.Table.{File, file_of}
-use Rattle.machine_defs.specs.Jobs.{Kind, PutJob, GetJob, DropJob, AuditJob, RepairJob, UpgradeJob, Job, job_of}
-use Rattle.machine_defs.specs.Answers.{Put}
-use Rattle.machine_defs.specs.States.{State, IsStart, file_in, with_doubt}
-use Rattle.machine_defs.specs.Runs.{Moment, now, IsRun}
-use Rattle.machine_defs.specs.Untouched.{Touches, NoneOn}
-use Rattle.machine_defs.proofs.Held.{all}
-use Rattle.machine_defs.proofs.Untouched.{none_under_way, none_left, run_back}
-use Rattle.run_laws.specs.Stories.{Stored}
+use Rattle.effect_laws.proofs.Words.{◌≡◌, ◌⊎◌, ℕ, List, [], ◌∷◌, ◌++◌, length, Option, Some, None, refl, sym, subst, inl, inr, File, file_of, Kind, PutJob, GetJob, DropJob, AuditJob, RepairJob, UpgradeJob, Job, job_of, Put, State, IsStart, file_in, with_doubt, Moment, now, IsRun, Touches, NoneOn, all, none_under_way, none_left, run_back, Stored, IsLimit, run-sound, WasPut, PutsOnly, NoDropBegan, MayStand, HasFile}
 use Rattle.run_laws.proofs.ByEvents.{stored_is_kept}
-use Rattle.state_laws.specs.Sound.{IsLimit}
-use Rattle.state_laws.proofs.Events.{run-sound}
-use Rattle.effect_laws.specs.Puts.{WasPut, PutsOnly, NoDropBegan, MayStand, HasFile}
 use Rattle.effect_laws.proofs.Offers.{Fits, Allows, Offers, offers}
 use Rattle.effect_laws.proofs.Allowed.{none_touched}
 use Rattle.effect_laws.proofs.Origin.{stands_fit, each_was_put}
@@ -26,10 +14,7 @@ none_run Fit Absent name w none k j at = by_kind j.kind refl
     by_kind : (kd : Kind) → j.kind ≡ kd → Allows Fit Absent name kd
     by_kind (PutJob q bytes) is = λ same. absurd (none k j at (subst (Touches name) (sym is) same))
     by_kind (DropJob q) is = λ same. absurd (none k j at (subst (Touches name) (sym is) same))
-    by_kind (GetJob q) is = tt
-    by_kind AuditJob is = tt
-    by_kind RepairJob is = tt
-    by_kind UpgradeJob is = tt
+    by_kind kd is = tt
 
 -- at the end of the put, and until another put or drop of the name begins
 pub stored_offers : (Fit : List ℕ → Type 0) (Absent : Type 0) (limit : ℕ) (start : State) (ms : List Moment)

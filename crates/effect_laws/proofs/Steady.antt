@@ -1,26 +1,12 @@
 -- While a vault goes on, what stands under a name fits, also with what is in flight and in doubt, where it does
 -- so in effect and each running job is allowed.
-use Rattle.std.proofs.Common.{◌≡◌, ℕ, ◌<◌, ◌≤◌, ◌==◌, Bool, true, false, List, Option, Some, None, refl, ap, sym, subst, ◌∙◌, arith}
-use Rattle.std.proofs.lemmas.Bool.{eq-eqb}
-use Rattle.algebra_laws.proofs.Options.{some-not-none}
-use Rattle.record_defs.specs.Table.{next_id, started_as, file_of}
-use Rattle.machine_defs.specs.Jobs.{PutJob, AuditJob, Job, job_of}
-use Rattle.machine_defs.specs.Actions.{Action, WriteBody, SyncBody, WriteGate, SyncGate, Store, Work, End, actions_left, appends_left}
+use Rattle.effect_laws.proofs.Words.{◌≡◌, ℕ, ◌<◌, ◌≤◌, ◌==◌, Bool, true, false, List, Option, Some, None, refl, ap, sym, subst, ◌∙◌, arith, eq-eqb, some-not-none, next_id, started_as, file_of, PutJob, AuditJob, Job, job_of, Action, WriteBody, SyncBody, WriteGate, SyncGate, Store, Work, End, actions_left, appends_left, Answer, Event, Step, Outcome, Ended, State, Append, Doubt, setup_in, ended, Moves, Acts, Happens, cond_true, HasFailed, alone_fails, IsDoubtOf, IsGatedDoubt, IsSoundAppend, IsSound}
 use Rattle.machine_defs.specs.Answers as answer
-use Rattle.machine_defs.specs.Answers.{Answer}
-use Rattle.machine_defs.specs.Events.{Event, Step, Outcome, Ended}
-use Rattle.machine_defs.specs.States.{State, Append, Doubt, setup_in, ended}
-use Rattle.machine_defs.specs.Appends.{Moves}
-use Rattle.machine_defs.specs.Steps.{Acts}
 use Rattle.machine_defs.specs.Alone.{StepsAlone}
 use Rattle.machine_defs.specs.Begins.{beginning}
-use Rattle.machine_defs.specs.Machine.{Happens}
 use Rattle.machine_defs.proofs.Cases.{IsStill, by_step}
-use Rattle.machine_defs.proofs.JobLists.{cond_true}
-use Rattle.machine_defs.proofs.StepEnds.{HasFailed, alone_fails}
 use Rattle.state_laws.specs.Orders.{moves_made}
 use Rattle.state_laws.specs.SoundJobs.{IsReady, HasDrawn}
-use Rattle.state_laws.specs.Sound.{IsDoubtOf, IsGatedDoubt, IsSoundAppend, IsSound}
 use Rattle.state_laws.proofs.Orders.{appends-order}
 use Rattle.effect_laws.proofs.Offers.{Fits, Allows, Brings, Offers, written}
 

@@ -1,17 +1,7 @@
 -- Tests tell what commands ask for.
-use Rattle.std.proofs.Common.{◌≡◌, ℕ, Bool, true, not, List, [], ◌∷◌, ap, sym, subst, ◌∙◌, inl, inr}
-use Rattle.std.proofs.lemmas.Bool.{and_parts, false≢true}
-use Rattle.record_defs.specs.Table.{is_same_name}
-use Rattle.record_defs.proofs.FilesLaws.{same-eq, same-refl}
-use Rattle.machine_defs.specs.Jobs.{Kind, PutJob, DropJob}
-use Rattle.machine_defs.specs.Events.{Event, Begin, BeginAt}
-use Rattle.machine_defs.specs.Began.{IsPutBegin}
-use Rattle.machine_defs.specs.Transcripts.{Instruction, Once, RunJob}
-use Rattle.machine_defs.specs.Untouched.{Touches, IsBeginFor, NoneAsksOn}
-use Rattle.machine_defs.proofs.JobLists.{cond_true}
-use Rattle.effect_laws.specs.Puts.{PutsUnder, Drops}
+use Rattle.effect_laws.proofs.Words.{◌≡◌, ℕ, Bool, true, List, [], ◌∷◌, ap, sym, subst, ◌∙◌, inl, inr, and_parts, false≢true, is_same_name, same-eq, same-refl, Kind, PutJob, DropJob, Event, Begin, BeginAt, IsPutBegin, Instruction, Once, RunJob, Touches, IsBeginFor, NoneAsksOn, cond_true, PutsUnder, Drops, NoneAsksFor, NonePuts, NoneDrops, AsksPutsOnly}
+use Rattle.std.proofs.Common.{not}
 use Rattle.effect_laws.specs.Tests.{touches, puts_under, drops, asks, asks_none, puts_same, asks_puts_only}
-use Rattle.effect_laws.specs.Transcripts.{NoneAsksFor, NonePuts, NoneDrops, AsksPutsOnly}
 
 -- one name is the same as itself
 same : (n name : List ℕ) → n ≡ name → is_same_name n name ≡ true

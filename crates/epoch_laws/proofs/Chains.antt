@@ -1,24 +1,9 @@
 -- Scrubs that ended well, one behind the other, as a transcript tells them.
-use Rattle.std.proofs.Common.{◌≡◌, ℕ, List, [], ◌∷◌, ◌++◌, length, refl, ap, sym, subst, ◌∙◌, inr, append_assoc}
+use Rattle.epoch_laws.proofs.Words.{◌≡◌, ℕ, List, [], ◌∷◌, ◌++◌, length, refl, ap, sym, subst, ◌∙◌, inr, append_assoc, DamagesOnly, AsksDamageOf, BeginScrub, Outcome, Begun, Ended, AllTell, Moment, IsRun, now, IsScrubCalm, scrubbed, State, IsStart, Instruction, run_back, steps_begin_none, IsMarkedRun, scrub_marked, ReadsAs, ends_apart, damages, IsSwept, AreExactBut, done_by, ByScrubs, oldest, newest, both_only}
 use Rattle.std.specs.List.{AllByRecursion}
 use Rattle.machine_defs.specs.Answers.{Scrubbed}
-use Rattle.machine_defs.specs.Damaged.{DamagesOnly, AsksDamageOf}
-use Rattle.machine_defs.specs.Events.{BeginScrub, Outcome, Begun, Ended}
-use Rattle.machine_defs.specs.Halves.{AllTell}
-use Rattle.machine_defs.specs.Runs.{Moment, IsRun, now}
-use Rattle.machine_defs.specs.Scrubs.{IsScrubCalm, scrubbed}
-use Rattle.machine_defs.specs.States.{State, IsStart}
-use Rattle.machine_defs.specs.Transcripts.{Instruction}
-use Rattle.machine_defs.proofs.Untouched.{run_back, steps_begin_none}
-use Rattle.second_half_laws.specs.MarkedRuns.{IsMarkedRun}
 use Rattle.second_half_laws.proofs.FewDamaged as few-damaged
-use Rattle.second_half_laws.proofs.Finished.{scrub_marked}
-use Rattle.effect_laws.specs.Lists.{ReadsAs}
-use Rattle.effect_laws.proofs.Apart.{ends_apart}
-use Rattle.effect_laws.proofs.Over.{damages}
-use Rattle.epoch_laws.specs.Epochs.{IsSwept, AreExactBut}
-use Rattle.epoch_laws.specs.Told.{done_by, AreFew, ByScrubs, oldest, newest}
-use Rattle.machine_defs.proofs.Damaged.{both_only}
+use Rattle.epoch_laws.specs.Told.{AreFew}
 use Rattle.epoch_laws.proofs.Epochs.{few_first, calm_on, exact_on}
 
 -- the moments of a scrub that ended well, with those of commands behind it and before it

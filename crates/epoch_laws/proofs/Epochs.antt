@@ -1,28 +1,8 @@
 -- Behind a scrub that ended well a run goes on calm, whoever was damaged before.
-use Rattle.std.proofs.Common.{◌≡◌, ℕ, ◌≤◌, true, false, List, [], ◌∷◌, ◌++◌, length, Option, Some, None, refl, sym, subst, ◌∙◌, inl, inr, arith, append_assoc}
-use Rattle.std.specs.Prelude.{nat_le, is_some}
-use Rattle.std.proofs.lemmas.Bool.{cases_Bool, le-leb, false≢true}
-use Rattle.algebra_laws.specs.Lists.{In}
-use Rattle.column_defs.specs.Columns.{columns}
-use Rattle.record_defs.specs.Records.{Setup}
+use Rattle.epoch_laws.proofs.Words.{◌≡◌, ℕ, ◌≤◌, true, false, List, [], ◌∷◌, ◌++◌, length, Option, Some, None, refl, sym, subst, ◌∙◌, inl, inr, arith, append_assoc, nat_le, is_some, cases_Bool, le-leb, false≢true, In, columns, Setup, Outcome, Ended, State, Alone, Scrubbing, Packing, IsStart, setup_in, file_object, Moment, now, IsRun, first_moments, is_replaced_since, replaced_count, scrub_begun, mark_scrubbed, scrubbed, IsScrubCalm, DamagesOnly, AllTell, Relies, NoneRuns, among_since, both_only, cond_true, cond_false, found_none, setup_same, begun_later, run_back, setups_stay, few_now, few_before, few_calm, few_scrubs, exact_by_scrubs, IsSwept, AreExactBut}
 use Rattle.record_defs.specs.Table.{setup_of}
 use Rattle.machine_defs.specs.Answers.{Scrubbed}
-use Rattle.machine_defs.specs.Events.{Outcome, Ended}
-use Rattle.machine_defs.specs.States.{State, Alone, Scrubbing, Packing, IsStart, setup_in, file_object}
-use Rattle.machine_defs.specs.Runs.{Moment, now, IsRun, first_moments, is_replaced_since}
-use Rattle.machine_defs.specs.Calm.{replaced_count}
-use Rattle.machine_defs.specs.Scrubs.{scrub_begun, mark_scrubbed, scrubbed, IsScrubCalm}
-use Rattle.machine_defs.specs.Damaged.{DamagesOnly}
-use Rattle.machine_defs.specs.Halves.{AllTell}
-use Rattle.machine_defs.specs.Untouched.{Relies, NoneRuns}
-use Rattle.machine_defs.proofs.Damaged.{among_since, both_only}
-use Rattle.machine_defs.proofs.JobLists.{cond_true, cond_false, found_none}
-use Rattle.machine_defs.proofs.PinFacts.{setup_same}
-use Rattle.machine_defs.proofs.Untouched.{begun_later, run_back}
-use Rattle.second_half_laws.proofs.Doubts.{setups_stay}
-use Rattle.second_half_laws.proofs.FewDamaged.{AreFew, few_now, few_before, few_calm, few_scrubs}
-use Rattle.second_half_laws.proofs.Finished.{exact_by_scrubs}
-use Rattle.epoch_laws.specs.Epochs.{IsSwept, AreExactBut}
+use Rattle.second_half_laws.proofs.FewDamaged.{AreFew}
 use Rattle.epoch_laws.proofs.Sweeps.{no_fewer, NoScrub, scrub_later, IsOver, is_over}
 
 module _ (limit : ℕ) (start : State) (clean : IsStart start) (from : ℕ) (base : List Moment)
@@ -37,10 +17,9 @@ module _ (limit : ℕ) (start : State) (clean : IsStart start) (from : ℕ) (bas
 
       by_alone : (x : Option Alone) → (now start ms).alone ≡ x → from ≤ scrubbed start ms →
           from ≤ scrub_begun x (scrubbed start ms)
-      by_alone None at before = before
-      by_alone (Some (Packing pack)) at before = before
       by_alone (Some (Scrubbing scrub)) at before =
           (let l = scrub_later limit start clean later base run.2 none scrub at in omega (arith, l, late))
+      by_alone x at before = before
 
       marks_on : (r : Outcome) → from ≤ scrubbed start ms →
           from ≤ mark_scrubbed (now start ms).alone r (scrubbed start ms)
@@ -148,8 +127,7 @@ module _ (limit : ℕ) (start : State) (later recent older : List Moment) (qs : 
       named later run (parts_only qs later recent only).0 few
 
   -- who is not named was not replaced since the scrub's begin
-  unnamed : (j : ℕ) → (In j qs → ⊥) →
-      is_replaced_since (length older) j (later ++ (recent ++ older)) ≡ false
+  unnamed : (j : ℕ) → (In j qs → ⊥) → is_replaced_since (length older) j (later ++ (recent ++ older)) ≡ false
   unnamed j none = elim (cases_Bool (is_replaced_since (length older) j (later ++ (recent ++ older)))) [
     | inl t ↦ absurd (none (named later (parts_only qs later recent only).0 (length older) (omega arith) j t))
     | inr f ↦ f

@@ -1,3 +1,4 @@
+mod Words
 pub mod Sweeps
 pub mod Epochs
 pub mod Moved

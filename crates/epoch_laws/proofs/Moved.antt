@@ -1,79 +1,25 @@
 -- A mark moves on to a later moment since which all damage is new, while nothing that reads is under way; scrubs
 -- may come before and behind it.
-use Rattle.std.proofs.Common.{◌≡◌, ℕ, ◌≤◌, ◌<◌, true, false, List, [], ◌∷◌, ◌++◌, length, Option, Some, None, refl, ap, sym, subst, ◌∙◌, inl, inr, arith, append_assoc}
-use Rattle.std.specs.Prelude.{nat_le, IsSome}
+use Rattle.epoch_laws.proofs.Words.{◌≡◌, ℕ, ◌≤◌, ◌<◌, true, false, List, [], ◌∷◌, ◌++◌, length, Option, Some, None, refl, ap, sym, subst, ◌∙◌, inl, inr, arith, append_assoc, IsSome, cases_Bool, false≢true, In, is_wrong_block, RepairJob, Repaired, NoneBegan, Begin, BeginScrub, Step, Begun, Ended, State, Scrubbing, IsStart, setup_in, file_object, Moment, now, first_moments, IsRun, is_replaced_since, Mark, since, relies, replaced_count, DamagesOnly, AllTell, AreScrubsCalm, Relies, NoneRuns, NoneUnderWay, found_none, ended_of_kind, begun_later, none_under_way, run_back, first_enough, calm_back, among_since, both_only, moved_mark, AreMarks, IsMarkedRun, IsCalmRun, IsMended, few_now, few_before, all_tell, Scrub_is, scrub_was, AreRightBut}
 use Rattle.std.specs.Option.{option_map}
-use Rattle.std.proofs.lemmas.Bool.{cases_Bool, le-leb, lt-leb, false≢true}
-use Rattle.algebra_laws.specs.Lists.{In}
-use Rattle.column_defs.specs.Columns.{is_wrong_block}
 use Rattle.device_defs.specs.Providers.{Held}
-use Rattle.machine_defs.specs.Jobs.{RepairJob}
-use Rattle.machine_defs.specs.Answers.{Repaired}
-use Rattle.machine_defs.specs.Began.{NoneBegan}
-use Rattle.machine_defs.specs.Events.{Begin, BeginScrub, Step, Begun, Ended}
-use Rattle.machine_defs.specs.States.{State, Scrubbing, IsStart, setup_in, file_object}
 use Rattle.machine_defs.specs.Deeds.{told_block}
-use Rattle.machine_defs.specs.Runs.{Moment, now, first_moments, IsRun, is_replaced_since}
-use Rattle.machine_defs.specs.Calm.{Mark, since, relies, replaced_count, IsCalm}
-use Rattle.machine_defs.specs.Damaged.{DamagesOnly}
-use Rattle.machine_defs.specs.Halves.{AllTell}
-use Rattle.machine_defs.specs.Scrubs.{AreScrubsCalm}
-use Rattle.machine_defs.specs.Untouched.{Relies, NoneRuns, NoneUnderWay}
-use Rattle.machine_defs.proofs.JobLists.{cond_true, cond_false, found_none}
-use Rattle.machine_defs.proofs.Lone.{ended_of_kind}
-use Rattle.machine_defs.proofs.Untouched.{begun_later, none_under_way, run_back}
-use Rattle.machine_defs.proofs.Damaged.{first_enough, first_fewer, calm_back, among_since, both_only}
-use Rattle.second_half_laws.specs.Epochs.{moved_mark}
 use Rattle.second_half_laws.specs.Marks.{IsMark}
-use Rattle.second_half_laws.specs.MarkedRuns.{AreMarks, IsMarkedRun, IsCalmRun}
-use Rattle.second_half_laws.specs.Mended.{IsMended}
-use Rattle.second_half_laws.proofs.FewDamaged.{AreFew, few_now, few_before}
+use Rattle.second_half_laws.proofs.Epochs.{moved, same_first, moved_now}
+use Rattle.second_half_laws.proofs.FewDamaged.{AreFew}
 use Rattle.second_half_laws.proofs.InRuns.{calm_marked, mark_stays}
 use Rattle.second_half_laws.proofs.Mended.{mended_mark}
-use Rattle.second_half_laws.proofs.Onward.{all_tell}
-use Rattle.second_half_laws.proofs.Scrubbing.{Scrub_is}
-use Rattle.second_half_laws.proofs.SecondHalf.{scrub_was}
-use Rattle.epoch_laws.specs.Epochs.{AreRightBut}
 use Rattle.epoch_laws.proofs.Sweeps.{no_fewer, NoScrub, scrub_later, lone}
 use Rattle.epoch_laws.proofs.Epochs.{parts_only}
 
 module _ (k from : ℕ) (mark : Mark) where
-  moved : (ms : List Moment) → k ≤ length ms → moved_mark k from mark ms ≡ from
-  moved ms l = cond_true (nat_le k (length ms)) from (mark ms) (le-leb k (length ms) l)
-
-  unmoved : (ms : List Moment) → length ms < k → moved_mark k from mark ms ≡ mark ms
-  unmoved ms l = cond_false (nat_le k (length ms)) from (mark ms) (lt-leb k (length ms) l)
-
-  -- before, what is calm by the mark is calm by the moved one, and marks are marks
-  same_first : (m : Moment) (ms : List Moment) (begun : ℕ) → length (m ∷ ms) < k →
-      replaced_count m.state (mark (first_moments begun (m ∷ ms))) (m ∷ ms) ≤ (setup_in m.state).b →
-      replaced_count m.state (moved_mark k from mark (first_moments begun (m ∷ ms))) (m ∷ ms)
-      ≤ (setup_in m.state).b
-  same_first m ms begun l few = subst (λ n. replaced_count m.state n (m ∷ ms) ≤ (setup_in m.state).b)
-      (sym (unmoved (first_moments begun (m ∷ ms)) (let s = first_fewer begun (m ∷ ms) in omega arith))) few
-
-  calm_same : (ms : List Moment) → length ms < k → IsCalm relies mark ms →
-      IsCalm relies (moved_mark k from mark) ms
-  calm_same [] l calm = tt
-  calm_same (m ∷ ms) l calm = (
-    λ number job runs reads. same_first m ms job.begun l (calm.0 number job runs reads),
-    calm_same ms (omega arith) calm.1,
-  )
-
+  -- before, what is calm by the mark is calm by the moved one
   scrubs_same : (ms : List Moment) → length ms < k → AreScrubsCalm mark ms →
       AreScrubsCalm (moved_mark k from mark) ms
   scrubs_same [] l calm = tt
   scrubs_same (m ∷ ms) l calm = (
-    λ scrub at. same_first m ms scrub.begun l (calm.0 scrub at),
+    λ scrub at. same_first k from mark m ms scrub.begun l (calm.0 scrub at),
     scrubs_same ms (omega arith) calm.1,
-  )
-
-  marks_same : (start : State) (ms : List Moment) → length ms < k → AreMarks mark start ms →
-      AreMarks (moved_mark k from mark) start ms
-  marks_same start [] l marks = subst (IsMark start []) (sym (unmoved [] l)) marks
-  marks_same start (m ∷ ms) l marks = (
-    subst (IsMark start (m ∷ ms)) (sym (unmoved (m ∷ ms) l)) marks.0,
-    marks_same start ms (omega arith) marks.1,
   )
 
 -- what holds of a run behind the moved mark
@@ -92,15 +38,6 @@ module _ (limit : ℕ) (mark : Mark) (start : State) (base : List Moment) (from 
   next = moved_mark (length base) from mark
 
   -- at the moment itself
-  calm_first : (xs : List Moment) → xs ≡ base → NoneRuns Relies (now start xs) → IsCalm relies mark xs →
-      IsCalm relies next xs
-  unfolding next
-  calm_first [] is free calm = tt
-  calm_first (m ∷ xs) is free calm = (
-    λ number job runs reads. absurd (free number job runs reads),
-    calm_same (length base) from mark xs (subst (λ hs. length xs < length hs) is (omega arith)) calm.1,
-  )
-
   scrubs_first : (xs : List Moment) → xs ≡ base → NoScrub (now start xs) → AreScrubsCalm mark xs →
       AreScrubsCalm next xs
   unfolding next
@@ -110,27 +47,10 @@ module _ (limit : ℕ) (mark : Mark) (start : State) (base : List Moment) (from 
     scrubs_same (length base) from mark xs (subst (λ hs. length xs < length hs) is (omega arith)) calm.1,
   )
 
-  marks_first : (xs : List Moment) → xs ≡ base → IsMark start xs from → AreMarks mark start xs →
-      AreMarks next start xs
-  unfolding next
-  marks_first [] is moment marks =
-      subst (IsMark start []) (sym (moved (length base) from mark []
-      (subst (λ hs. length base ≤ length hs) (sym is) (omega arith)))) moment
-  marks_first (m ∷ xs) is moment marks = (
-    subst (IsMark start (m ∷ xs)) (sym (moved (length base) from mark (m ∷ xs)
-        (subst (λ hs. length base ≤ length hs) (sym is) (omega arith)))) moment,
-    marks_same (length base) from mark start xs (subst (λ hs. length xs < length hs) is (omega arith)) marks.1,
-  )
-
   first : GoesOn limit next start base from
+  unfolding next
   first = record {
-    marked = record {
-      clean = h.clean;
-      tell = h.tell;
-      run = h.run;
-      calm = calm_first base refl none h.calm;
-      marks = marks_first base refl new h.marks;
-    };
+    marked = moved_now limit mark start base from h new none;
     scrubs = scrubs_first base refl none_sweeps calm_scrubs;
     moment = new;
   }

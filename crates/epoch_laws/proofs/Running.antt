@@ -1,19 +1,10 @@
 -- What holds of a scrub while it runs.
-use Rattle.std.proofs.Common.{◌≡◌, ℕ, List, [], ◌∷◌, length, Some, sym, ◌∙◌, inl, inr}
-use Rattle.std.proofs.lemmas.Bool.{false≢true}
-use Rattle.algebra_laws.proofs.Options.{some-not-none}
+use Rattle.epoch_laws.proofs.Words.{◌≡◌, ℕ, List, [], ◌∷◌, length, Some, sym, ◌∙◌, inl, inr, false≢true, some-not-none, AllTell, Moment, IsRun, now, scrubbed, IsScrubCalm, State, Scrub, Scrubbing, IsStart, scrub_marked, all_tell, marked_scrubs, calm_scrub, scrub_was}
 use Rattle.machine_defs.specs.Begins.{pinned_file}
-use Rattle.machine_defs.specs.Halves.{AllTell}
-use Rattle.machine_defs.specs.Runs.{Moment, IsRun, now}
-use Rattle.machine_defs.specs.Scrubs.{scrubbed, IsScrubCalm}
-use Rattle.machine_defs.specs.States.{State, Scrub, Scrubbing, IsStart}
 use Rattle.machine_defs.proofs.Events.{changes}
 use Rattle.machine_defs.proofs.Held.{all}
 use Rattle.run_laws.proofs.InEffect as eff
-use Rattle.second_half_laws.proofs.Finished.{scrub_marked}
-use Rattle.second_half_laws.proofs.Onward.{all_tell}
 use Rattle.second_half_laws.proofs.ScrubFacts.{Scrubbed, right}
-use Rattle.second_half_laws.proofs.SecondHalf.{marked_scrubs, calm_scrub, scrub_was}
 use Rattle.second_half_laws.proofs.Swept.{Swept, swept_step}
 use Rattle.epoch_laws.specs.Sweeping.{HasSweptSoFar}
 

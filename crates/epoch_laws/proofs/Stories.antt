@@ -1,43 +1,12 @@
 -- A file over scrubs, audits and repairs, as a transcript tells it.
-use Rattle.std.proofs.Common.{◌≡◌, ℕ, ◌≤◌, true, List, [], ◌∷◌, ◌++◌, length, Option, Some, refl, ap, sym, subst, ◌∙◌, inl, inr, append_assoc}
-use Rattle.algebra_laws.specs.Lists.{In}
+use Rattle.epoch_laws.proofs.Words.{◌≡◌, ℕ, ◌≤◌, true, List, [], ◌∷◌, ◌++◌, length, Option, Some, refl, ap, sym, subst, ◌∙◌, inl, inr, append_assoc, In, Setup, NoneBegan, Answer, Put, Audited, Repaired, since, DamagesOnly, AsksDamageOf, Begin, BeginScrub, Step, Outcome, Begun, Ended, put_event, AllTell, GetJob, AuditJob, RepairJob, job_of, Moment, IsRun, now, IsScrubCalm, scrubbed, State, IsStart, setup_in, Instruction, RunsToEnd, Touches, Relies, NoneBeganFor, NoneUnderWay, IsFree, NoneBeganOn, NoneAsksOn, ended_of_kind, setup_same, run_back, steps_begin_none, Stored, moved_mark, IsAudit, FindsAll, IsMarkedRun, IsCalmRun, IsMended, setups_stay, few_calm, few_scrubs, few_marked, scrub_marked, ReadsAs, NoneAsksFor, AreOver, AreOverOn, ends_apart, both_none, none_for, none_on, steps_none, damages, over, IsSwept, AreExactBut, AreRightBut, done_by, GotBack, IsWhole, both_only}
 use Rattle.column_defs.specs.Verdicts.{is_flagged}
-use Rattle.record_defs.specs.Records.{Setup}
-use Rattle.machine_defs.specs.Began.{NoneBegan}
-use Rattle.machine_defs.specs.Answers.{Answer, Put, Audited, Repaired, Scrubbed}
-use Rattle.machine_defs.specs.Calm.{since}
-use Rattle.machine_defs.specs.Damaged.{DamagesOnly, AsksDamageOf}
-use Rattle.machine_defs.specs.Events.{Begin, BeginScrub, Step, Outcome, Begun, Ended, put_event}
-use Rattle.machine_defs.specs.Halves.{AllTell}
-use Rattle.machine_defs.specs.Jobs.{GetJob, AuditJob, RepairJob, job_of}
-use Rattle.machine_defs.specs.Runs.{Moment, IsRun, now}
-use Rattle.machine_defs.specs.Scrubs.{IsScrubCalm, scrubbed}
-use Rattle.machine_defs.specs.States.{State, IsStart, setup_in}
-use Rattle.machine_defs.specs.Transcripts.{Instruction, RunsToEnd}
-use Rattle.machine_defs.specs.Untouched.{Touches, Relies, NoneBeganFor, NoneUnderWay, IsFree, NoneBeganOn, NoneAsksOn}
-use Rattle.machine_defs.proofs.Lone.{ended_of_kind}
-use Rattle.machine_defs.proofs.PinFacts.{setup_same}
-use Rattle.machine_defs.proofs.Untouched.{run_back, steps_begin_none}
-use Rattle.run_laws.specs.Stories.{Stored}
-use Rattle.second_half_laws.specs.Epochs.{moved_mark}
-use Rattle.second_half_laws.specs.Flagging.{IsAudit, FindsAll}
-use Rattle.second_half_laws.specs.MarkedRuns.{IsMarkedRun, IsCalmRun}
-use Rattle.second_half_laws.specs.Mended.{IsMended}
-use Rattle.second_half_laws.proofs.Doubts.{setups_stay}
-use Rattle.second_half_laws.proofs.FewDamaged.{few_calm, few_scrubs, few_marked}
-use Rattle.second_half_laws.proofs.Finished.{scrub_marked}
+use Rattle.machine_defs.specs.Answers.{Scrubbed}
 use Rattle.second_half_laws.proofs.Flagging.{flagging_misses_none}
 use Rattle.state_laws.specs.Sound.{IsLimit}
 use Rattle.state_laws.proofs.Events.{run-sound}
 use Rattle.state_laws.proofs.Written.{runs-open, set_up-in}
-use Rattle.effect_laws.specs.Lists.{ReadsAs}
-use Rattle.effect_laws.specs.Transcripts.{NoneAsksFor, AreOver, AreOverOn}
-use Rattle.effect_laws.proofs.Apart.{ends_apart}
-use Rattle.effect_laws.proofs.Asked.{both_none, none_for, none_on, steps_none}
-use Rattle.effect_laws.proofs.Over.{damages, over}
-use Rattle.epoch_laws.specs.Epochs.{IsSwept, AreExactBut, AreRightBut}
-use Rattle.epoch_laws.specs.Told.{done_by, AreFew, GotBack, IsWhole}
-use Rattle.machine_defs.proofs.Damaged.{both_only}
+use Rattle.epoch_laws.specs.Told.{AreFew}
 use Rattle.epoch_laws.proofs.Epochs.{few_first, calm_on, exact_on}
 use Rattle.epoch_laws.proofs.Moved.{mended_on, mended_right}
 use Rattle.epoch_laws.proofs.Told.{no-audit, both-ask-none, stored-behind, stored-more, parts, later, later-damages, all-is, got-back, gives}

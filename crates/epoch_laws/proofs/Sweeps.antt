@@ -1,27 +1,16 @@
 -- A scrub that was begun and ended, told by events and outcomes.
-use Rattle.std.proofs.Common.{◌≡◌, ℕ, zero, suc, ◌≤◌, ◌==◌, Bool, true, false, List, [], ◌∷◌, ◌++◌, length, Option, Some, None, refl, ap, sym, subst, ◌∙◌, arith}
-use Rattle.std.proofs.lemmas.Bool.{eqb-true}
-use Rattle.algebra_laws.proofs.Options.{some-not-none}
-use Rattle.machine_defs.specs.Jobs.{Kind, PutJob, GetJob, DropJob, AuditJob, RepairJob, UpgradeJob, Job, job_of}
+use Rattle.epoch_laws.proofs.Words.{◌≡◌, ℕ, zero, suc, ◌≤◌, ◌==◌, Bool, true, false, List, [], ◌∷◌, ◌++◌, length, Option, Some, None, refl, ap, sym, subst, ◌∙◌, arith, eqb-true, some-not-none, Kind, PutJob, GetJob, DropJob, AuditJob, RepairJob, UpgradeJob, Job, job_of, Event, BeginScrub, Step, Outcome, Closed, Refused, Begun, Ended, State, Scrub, Pack, Alone, Scrubbing, Packing, IsStart, NoneBegan, Moment, now, IsRun, mark_scrubbed, scrubbed, Scrub_goes, Scrub_is, scrub_was, IsSwept}
 use Rattle.machine_defs.specs.Actions.{Action, End}
 use Rattle.machine_defs.specs.Answers.{Scrubbed}
-use Rattle.machine_defs.specs.Events.{Event, BeginScrub, Step, Outcome, Closed, Refused, Begun, Ended}
-use Rattle.machine_defs.specs.States.{State, Scrub, Pack, Alone, Scrubbing, Packing, IsStart}
 use Rattle.machine_defs.specs.Alone.{number_alone, unalone, Scrubs, StepsScrub, Packs, new_scrub, BeginsScrub, BeginsAlone, alone_refusal}
-use Rattle.machine_defs.specs.Began.{NoneBegan}
 use Rattle.machine_defs.specs.JobEnds.{EndsSo}
 use Rattle.machine_defs.specs.Machine.{Happens}
 use Rattle.machine_defs.specs.Refusals.{Refusal}
-use Rattle.machine_defs.specs.Runs.{Moment, now, IsRun}
-use Rattle.machine_defs.specs.Scrubs.{mark_scrubbed, scrubbed}
 use Rattle.machine_defs.specs.Steps.{StepsJob, StepsMine, StepsOne, StepsOpen, Steps}
 use Rattle.machine_defs.proofs.Changes.{IsLone}
 use Rattle.machine_defs.proofs.JobEnds.{job_ends_so}
 use Rattle.machine_defs.proofs.Numbers.{objects}
 use Rattle.machine_defs.proofs.Numbers as num
-use Rattle.second_half_laws.proofs.Scrubbing.{Scrub_goes, Scrub_is}
-use Rattle.second_half_laws.proofs.SecondHalf.{scrub_was}
-use Rattle.epoch_laws.specs.Epochs.{IsSwept}
 
 -- no scrub runs
 abbrev pub NoScrub : State → Type 0
@@ -125,21 +114,13 @@ module _ (old new : State) (k a : ℕ) (xs ys : List ℕ) where
   steps_scrub scrub (action ∷ rest) h = scrubs scrub action rest h
 
   packs : (pack : Pack) (moves : ℕ) → Packs old pack moves (Ended (Scrubbed a xs ys)) new → ⊥
-  packs pack zero h = h
-  packs pack (suc zero) h = h
-  packs pack (suc (suc zero)) h = h
-  packs pack (suc (suc (suc zero))) h = h
   packs pack (suc (suc (suc (suc zero)))) h = h
-  packs pack (suc (suc (suc (suc (suc moves))))) h = h
+  packs pack moves h = h
 
   -- a job of no kind ends so
   no_kind : (kind : Kind) → EndsSo old new kind (Scrubbed a xs ys) → ⊥
   no_kind (PutJob name bytes) h = h
-  no_kind (GetJob name) h = h
-  no_kind (DropJob name) h = h
-  no_kind AuditJob h = h
-  no_kind RepairJob h = h
-  no_kind UpgradeJob h = h
+  no_kind kind h = h
 
   -- a scrub of the number ran, and runs no more
   abbrev pub EndsScrub : Type 0

@@ -1,27 +1,7 @@
 -- A get that a transcript tells last, and a put before it.
-use Rattle.std.proofs.Common.{◌≡◌, ℕ, List, [], ◌∷◌, ◌++◌, length, Option, None, Some, refl, ap, sym, subst, ◌∙◌, inl, inr, append_assoc}
-use Rattle.machine_defs.specs.Jobs.{GetJob}
-use Rattle.machine_defs.specs.Answers.{Answer, Put}
-use Rattle.machine_defs.specs.Began.{IsPutBegin}
-use Rattle.machine_defs.specs.Calm.{Mark}
-use Rattle.machine_defs.specs.Damaged.{DamagesOnly, AsksDamageOf}
-use Rattle.machine_defs.specs.Events.{Begin, Outcome, Begun, Ended, put_event}
-use Rattle.machine_defs.specs.Runs.{Moment}
-use Rattle.machine_defs.specs.States.{State}
-use Rattle.machine_defs.specs.Transcripts.{Instruction, Once, RunJob, RunsToEnd}
-use Rattle.machine_defs.specs.Untouched.{Touches, IsBeginFor, IsFree, NoneBeganOn, NoneAsksOn}
-use Rattle.machine_defs.proofs.Untouched.{steps_begin_none}
-use Rattle.run_laws.specs.Stories.{Stored, GetEnds}
-use Rattle.second_half_laws.specs.MarkedRuns.{IsMarkedRun}
-use Rattle.second_half_laws.specs.Flagging.{IsAudit}
+use Rattle.epoch_laws.proofs.Words.{◌≡◌, ℕ, List, [], ◌∷◌, ◌++◌, length, Option, None, Some, refl, ap, sym, subst, ◌∙◌, inl, inr, append_assoc, GetJob, Answer, Put, IsPutBegin, Mark, DamagesOnly, AsksDamageOf, Begin, Outcome, Begun, Ended, put_event, Moment, State, Instruction, Once, RunJob, RunsToEnd, Touches, IsBeginFor, IsFree, NoneBeganOn, NoneAsksOn, steps_begin_none, Stored, GetEnds, IsMarkedRun, IsAudit, ReadsAs, NoneAsksFor, AreOverOn, EndsApart, TellsJob, ends_apart, both_none, none_on, damages, over, done_by, GotBack, IsWhole}
 use Rattle.second_half_laws.proofs.GetsByEvents.{stored_got}
-use Rattle.effect_laws.specs.Lists.{ReadsAs}
-use Rattle.effect_laws.specs.Transcripts.{NoneAsksFor, AreOverOn, EndsApart, TellsJob}
-use Rattle.effect_laws.proofs.Apart.{ends_apart}
-use Rattle.effect_laws.proofs.Asked.{both_none, none_on}
 use Rattle.effect_laws.proofs.Jobs.{tells, stores}
-use Rattle.effect_laws.proofs.Over.{damages, over}
-use Rattle.epoch_laws.specs.Told.{done_by, GotBack, IsWhole}
 
 -- the begin of a put, with a profile of its own or without, is one, and begins no audit
 begins-put : (own : Option ℕ) (name bytes : List ℕ) → IsPutBegin (put_event own name bytes) name bytes

@@ -1,6 +1,9 @@
 //! What the program ends with: the status of each refusal and fault.
 #![tactic(auto)]
 
+ghost use Rattle.std.specs.Prelude.{◌≡◌};
+ghost use Rattle.exit_statuses.specs.Statuses.{statuses};
+
 /// The words are no form of a command.
 pub const USAGE: u8 = 2;
 
@@ -75,3 +78,36 @@ pub const PACK_TOO_LONG: u8 = 26;
 
 /// There was no memory.
 pub const NO_MEMORY: u8 = 70;
+
+/// The statuses but 0, in ascending order.
+pub fn statuses() -> [u8; 25]
+    ensures { result ≡ statuses }
+{
+    [
+        USAGE,
+        NO_SUCH_NAME,
+        LOST_ROW,
+        REPAIR_DUE,
+        NOTHING_DUE,
+        BAD_JOURNAL,
+        NOT_SET_UP,
+        ALREADY_SET_UP,
+        JOURNAL_FULL,
+        DISK_FAULT,
+        PROVIDER_FAULT,
+        SOURCE_FAULT,
+        SINK_FAULT,
+        TOO_LONG,
+        BAD_NAME,
+        BAD_KEY,
+        BAD_SCHEDULE,
+        BAD_SETUP,
+        TOO_MANY_FILES,
+        TOO_FEW_PROVIDERS,
+        OLD_VERSION,
+        NEW_VERSION,
+        BAD_FRAME,
+        PACK_TOO_LONG,
+        NO_MEMORY,
+    ]
+}

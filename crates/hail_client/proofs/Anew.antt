@@ -1,48 +1,16 @@
 -- Clients over a disk of no known state: a run begins at each reopening.
-use Rattle.std.proofs.Common.{◌≡◌, ℕ, ◌<◌, ◌≤◌, true, false, List, [], length, Option, Some, None, Result, Err, refl, sym, subst, inl, arith}
-use Rattle.std.specs.Prelude.{IsSome, IfSome, IsTrue, IsErrAnd, is_some}
-use Rattle.std.specs.List.{list_all}
-use Rattle.std.proofs.lemmas.Bool.{false≢true}
-use Rattle.algebra_laws.proofs.Options.{is_some-none}
-use Rattle.device_defs.specs.Cells.{Cells}
-use Rattle.device_defs.specs.Faults.{Rose}
-use Rattle.device_defs.specs.Images.{EachImage}
-use Rattle.device_defs.specs.Providers.{Provider}
-use Rattle.device_defs.specs.Told.{Goes}
-use Rattle.record_defs.specs.Records.{Record, Setup, is_in_grammar, largest_journal}
-use Rattle.record_defs.specs.Acceptance.{AreAccepted}
-use Rattle.record_defs.specs.Areas.{Area, A, end_in}
+use Rattle.hail_client.proofs.Words.{◌≡◌, ℕ, ◌<◌, ◌≤◌, false, List, [], Option, Some, None, Result, Err, refl, sym, subst, inl, arith, IsSome, IfSome, IsTrue, IsErrAnd, is_some, list_all, false≢true, is_some-none, Cells, Rose, EachImage, Provider, Goes, Record, is_in_grammar, largest_journal, AreAccepted, Area, A, end_in, Outcome, Reopen, State, setup_in, IsSetUp, Rereads, Reopens, StandsForState, IsSound, IsAtRest, journal-whole, rest-sound, StartFault, Vault, IsJustOpened, devices, IsRead, IsResynced, MayBeLeft, provider_count, Stands, IsStreamless, Client, ReopenFault, client_next_job, with_vault, without_vault, start_refusal, reopen_outcome, UnlessBadJournal, provider_or_empty, StandsClosed, StandsBy, IsMadeAnew, IsStanding, OpensOver, err-is}
+use Rattle.std.proofs.Common.{true, length}
+use Rattle.record_defs.specs.Records.{Setup}
 use Rattle.machine_defs.specs.Events as events
-use Rattle.machine_defs.specs.Events.{Outcome, Reopen}
 use Rattle.machine_defs.specs.Refusals as refusal
-use Rattle.machine_defs.specs.States.{State, setup_in}
-use Rattle.machine_defs.specs.Openings.{IsSetUp, Rereads, Reopens}
-use Rattle.machine_defs.specs.Stands.{StandsForState}
-use Rattle.state_laws.specs.Sound.{IsSound, IsAtRest}
-use Rattle.state_laws.proofs.Packs.{journal-whole}
-use Rattle.state_laws.proofs.Resting.{rest-sound}
-use Rattle.vault_open.specs.declared.fault.StartFault.{StartFault}
 use Rattle.vault_open.specs.declared.fault.StartFault.TheVariants as start_fault
-use Rattle.vault.specs.declared.vault.Vault.{Vault}
-use Rattle.opening_defs.specs.Opened.{IsJustOpened}
-use Rattle.vault_open.specs.Devices.{devices}
-use Rattle.opening_defs.specs.Journals.{IsRead, IsResynced, MayBeLeft}
-use Rattle.vault.specs.Seen.{provider_count}
-use Rattle.vault.specs.Stands.{Stands}
-use Rattle.vault.specs.Streams.{IsStreamless}
-use Rattle.hail_client.specs.declared.client.Client.{Client}
-use Rattle.hail_client.specs.declared.fault.ReopenFault.{ReopenFault}
 use Rattle.hail_client.specs.declared.fault.ReopenFault.TheVariants as reopen_fault
-use Rattle.hail_client.specs.Client.{client_next_job, with_vault, without_vault}
-use Rattle.hail_client.specs.Outcomes.{start_refusal, reopen_outcome, UnlessBadJournal}
-use Rattle.hail_client.specs.Start.{provider_or_empty}
-use Rattle.hail_client.specs.Stands.{StandsClosed, StandsBy, IsMadeAnew, IsStanding, OpensOver}
 use Rattle.hail_client.proofs.Held.{zeros, zeros-held}
 use Rattle.hail_client.proofs.Fresh.{each-at}
 use Rattle.hail_client.proofs.Reopened.{stands-opened, count-is, up, opened}
 use Rattle.hail_client.proofs.Settled.{same-left}
 use Rattle.hail_client.proofs.Reopening.{WasOpened}
-use Rattle.vault_open.proofs.InitEvents.{err-is}
 
 -- by whether a disk tells
 pub by-told : {A X : Type 0} (told : Option A) → (IsSome told → X) → (is_some told ≡ false → X) → X

@@ -1,23 +1,11 @@
 -- An init as an event of the machine.
-use Rattle.std.proofs.Common.{◌≡◌, inl, inr, ℕ, Bool, true, false, List, Option, Some, None, Result, refl, ap, sym, subst, ◌∙◌, arith}
-use Rattle.std.specs.Prelude.{IsSome, is_some}
-use Rattle.std.proofs.lemmas.Bool.{false≢true}
-use Rattle.device_defs.specs.Cells.{Cells}
-use Rattle.device_defs.specs.Providers.{Provider}
-use Rattle.record_defs.specs.Records.{Setup, is_setup}
-use Rattle.machine_defs.specs.Events.{Outcome, Init, Ready, Refused, IsSpelled}
+use Rattle.hail_client.proofs.Words.{◌≡◌, inl, inr, ℕ, Bool, false, List, Option, Some, None, Result, refl, ap, sym, subst, ◌∙◌, arith, IsSome, is_some, false≢true, Cells, Provider, is_setup, Outcome, Init, Ready, Refused, IsSpelled, State, Settles, Inits, InitsBy, InitsClosed, events-sound, Vault, Devices, devices, AreDevices, Alone, Client, StandsBy, ClientStands, MakesEvent}
+use Rattle.std.proofs.Common.{true}
+use Rattle.record_defs.specs.Records.{Setup}
 use Rattle.machine_defs.specs.Refusals as refusal
-use Rattle.machine_defs.specs.States.{State, Settles}
-use Rattle.machine_defs.specs.Openings.{Inits, InitsBy, InitsClosed}
-use Rattle.state_laws.proofs.Events.{events-sound}
 use Rattle.vault_open.specs.declared.fault.InitFault.{InitFault}
-use Rattle.vault.specs.declared.vault.Vault.{Vault}
-use Rattle.vault_open.specs.Devices.{Devices, devices, AreDevices}
 use Rattle.vault_open.specs.Inits.{MayInit, MakesInit}
 use Rattle.vault_open.specs.Inits.{init_outcome}
-use Rattle.hail_client.specs.declared.alone.Alone.{Alone}
-use Rattle.hail_client.specs.declared.client.Client.{Client}
-use Rattle.hail_client.specs.Stands.{StandsBy, ClientStands, MakesEvent}
 use Rattle.hail_client.proofs.Standing.{open-of}
 
 -- a vault is open or not as before, and job numbers go on

@@ -1,44 +1,21 @@
 -- A vault that is held, beside a scrub or a pack.
 use mathlib.Core.Bool.{Bool-set}
 use mathlib.Core.HLevel.{is_prop→PathP}
-use Rattle.std.proofs.Common.{◌≡◌, ℕ, ◌≤◌, false, [], Option, Some, None, Result, Err, List, ap, sym, subst, ◌∙◌}
-use Rattle.std.specs.Prelude.{OnErr, IfSome, is_some, true}
-use Rattle.std.proofs.Math.Logic.{∥∥₁_elim, ∥∥₁_map, ∥∥₁_prop}
-use Rattle.std.proofs.Math.Nat.{ℕ_set}
-use Rattle.algebra_laws.proofs.Options.{is_some-none}
-use Rattle.record_codec.specs.Entries.{with_master}
+use Rattle.hail_client.proofs.Words.{◌≡◌, ℕ, ◌≤◌, false, [], Option, Some, None, Result, Err, List, ap, sym, subst, ◌∙◌, OnErr, IfSome, is_some, ∥∥₁_elim, ∥∥₁_map, ∥∥₁_prop, ℕ_set, is_some-none, with_master, Pack, WritesText, number_alone, unalone, State, setup_in, other_area, CoreIs, BeginFault, Devices, devices, PackJob, Vault, DeskStands, IsAtWork, IsShaped, IsFlight, IsPackText, IsPackOf, StandsPacking, plain, held_by, IsUnchanged, wants_of, IsStreamless, KeepsStreamless, by_work, Alone, ScrubJob, Client, StandsHeld, StandsAlone}
+use Rattle.std.specs.Prelude.{true}
 use Rattle.record_codec.specs.declared.setup.Setup.{Setup}
-use Rattle.journal_pack.specs.declared.pack.Pack.{Pack}
-use Rattle.journal_pack.specs.Packs.{WritesText}
 use Rattle.journal_pack.specs.Tables.{packed_table}
-use Rattle.machine_defs.specs.Alone.{number_alone, unalone}
 use Rattle.machine_defs.specs.States as states
-use Rattle.machine_defs.specs.States.{State, setup_in}
-use Rattle.record_defs.specs.Areas.{other_area}
-use Rattle.vault_core.specs.Carried.{CoreIs}
 use Rattle.vault_core.specs.View.{CoreView}
-use Rattle.vault_core.specs.declared.wish.BeginFault.{BeginFault}
 use Rattle.vault_core.specs.declared.wish.BeginFault.TheVariants as fault
-use Rattle.vault_open.specs.Devices.{Devices, devices}
 use Rattle.vault.specs.declared.desk.Desk.{Desk}
 use Rattle.vault.specs.declared.flight.Flight.{Flight}
 use Rattle.vault.specs.declared.tasks.Running.{Running}
-use Rattle.vault.specs.declared.packing.PackJob.{PackJob}
-use Rattle.vault.specs.declared.vault.Vault.{Vault}
 use Rattle.vault.specs.AtHand.{AreAtHand}
-use Rattle.vault.specs.Desks.{DeskStands, IsAtWork, IsShaped, IsFlight}
-use Rattle.vault.specs.Packing.{IsPackText, IsPackOf, StandsPacking, plain}
 use Rattle.vault.specs.Running.{IsSameDesk}
-use Rattle.vault.specs.Seen.{held_by, IsUnchanged}
-use Rattle.vault.specs.Streams.{wants_of, IsStreamless, KeepsStreamless}
 use Rattle.vault.specs.Tasks.{AreRunning}
-use Rattle.vault.proofs.AtWork.{by_work}
 use Rattle.hail_client.specs.AtWork as client
-use Rattle.hail_client.specs.declared.alone.Alone.{Alone}
 use Rattle.hail_client.specs.declared.alone.Alone.TheVariants as alone
-use Rattle.hail_client.specs.declared.alone.ScrubJob.{ScrubJob}
-use Rattle.hail_client.specs.declared.client.Client.{Client}
-use Rattle.hail_client.specs.Stands.{StandsHeld, StandsAlone}
 
 -- clients of the same parts are one
 pub same-client : (a b : Client) → a.vault ≡ b.vault → a.alone ≡ b.alone → a.next_job ≡ b.next_job → a ≡ b

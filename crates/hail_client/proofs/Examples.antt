@@ -1,49 +1,17 @@
 -- The worked rows.
-use Rattle.std.proofs.Common.{◌≡◌, ℕ, zero, suc, [], ◌∷◌, replicate, codes, Some, None, refl, ap, sym, subst, ◌∙◌, inl, inr, arith}
-use Rattle.std.specs.Prelude.{slice_get, slice_index, IsSome}
-use Rattle.std.proofs.lemmas.Bool.{cases_Bool, false≢true}
-use Rattle.device_defs.specs.Providers.{Provider}
-use Rattle.device_defs.specs.Cells.{firm}
+use Rattle.hail_client.proofs.Words.{◌≡◌, ℕ, zero, suc, [], ◌∷◌, replicate, Some, None, refl, ap, sym, subst, ◌∙◌, inl, inr, arith, slice_get, slice_index, IsSome, cases_Bool, false≢true, Provider, firm, moves_of, WritesText, A, B, StandsActive, text_length, packed, File, is_same_name, new_scrub, new_pack, Names, Closed, BeginScrub, BeginPack, Begun, Happens, Moment, IsStart, setup_in, IsFresh, IsKept, cond_true, cond_false, AreHeld, IsSound, IsAtRest, events-sound, journal-whole, rest-sound, hold_begins, held_stands, ScrubIs, ScrubStands, PackJob, Vault, pack_number, IsPackOf, StandsBeside, Client, devices, AreDevices, closed_client, fresh, hidden, stored_devices, stored_state, stored_open, stored_scrub, scrubbed_state, notes, raised_records, raised_devices, raised_open, packing_state, start_of, TellAll, ClientStands, IsReached, bytes-shown}
+use Rattle.std.proofs.Common.{codes}
 use Rattle.journal_core.specs.Texts.{StandsFirm}
 use Rattle.journal_core.proofs.AreaStands.{read-firm}
 use Rattle.journal_pack.specs.Moves.{IsAfterPack}
-use Rattle.journal_pack.specs.Packs.{moves_of, WritesText}
-use Rattle.record_defs.specs.Areas.{A, B, StandsActive, text_length}
-use Rattle.record_defs.specs.Packed.{packed}
 use Rattle.record_defs.specs.Journal.{text}
 use Rattle.record_defs.proofs.AreaLaws.{text-active}
-use Rattle.record_defs.specs.Table.{File, is_same_name}
 use Rattle.column_defs.specs.Objects.{Object}
-use Rattle.machine_defs.specs.Alone.{new_scrub, new_pack}
-use Rattle.machine_defs.specs.Events.{Names, Closed, BeginScrub, BeginPack, Begun}
 use Rattle.machine_defs.specs.Given.{pinned_profile}
-use Rattle.machine_defs.specs.Machine.{Happens}
 use Rattle.machine_defs.specs.Setups.{profiled, object_of}
 use Rattle.machine_defs.specs.Examples.{empty_provider, six, one_file, hundred}
-use Rattle.machine_defs.specs.Runs.{Moment}
-use Rattle.machine_defs.specs.States.{IsStart, setup_in}
-use Rattle.machine_defs.specs.Stands.{IsFresh}
-use Rattle.machine_defs.specs.Survival.{IsKept}
-use Rattle.machine_defs.proofs.JobLists.{cond_true, cond_false}
-use Rattle.state_laws.specs.Follows.{AreHeld}
-use Rattle.state_laws.specs.Sound.{IsSound, IsAtRest}
-use Rattle.state_laws.proofs.Events.{events-sound}
-use Rattle.state_laws.proofs.Packs.{journal-whole}
-use Rattle.state_laws.proofs.Resting.{rest-sound}
-use Rattle.hail_scrub.proofs.Starts.{hold_begins, held_stands}
-use Rattle.hail_scrub.specs.Stands.{ScrubIs, ScrubStands}
-use Rattle.vault.specs.declared.packing.PackJob.{PackJob}
-use Rattle.vault.specs.declared.vault.Vault.{Vault}
-use Rattle.vault.specs.Packing.{pack_number, IsPackOf}
-use Rattle.vault.specs.Stands.{StandsBeside}
 use Rattle.hail_client.specs.declared.alone.Alone.TheVariants as alone
-use Rattle.hail_client.specs.declared.client.Client.{Client}
-use Rattle.vault_open.specs.Devices.{devices, AreDevices}
-use Rattle.hail_client.specs.Examples.{closed_client, fresh, hidden, stored_devices, stored_state, stored_open, stored_scrub, scrubbed_state, notes, raised_records, raised_devices, raised_open, packing_state}
-use Rattle.hail_client.specs.Start.{start_of, TellAll}
-use Rattle.hail_client.specs.Stands.{ClientStands, IsReached}
 use Rattle.hail_client.proofs.Fresh.{is-start, are-devices, untold-start, each-at}
-use Rattle.vault_open.proofs.Images.{bytes-shown}
 use Rattle.hail_client.proofs.Standing.{start-stands, stands-of}
 
 -- a disk that reads nothing is one before its first use

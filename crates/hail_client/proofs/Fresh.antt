@@ -1,16 +1,7 @@
 -- A disk before its first use, and the state before the first event.
-use Rattle.std.proofs.Common.{◌≡◌, ◌⊎◌, inl, inr, ℕ, zero, suc, ◌<◌, true, false, List, [], ◌∷◌, length, Option, Some, None, refl, ap, sym, subst, ◌∙◌, arith}
-use Rattle.device_defs.specs.Cells.{Cells, reads, firm, loose_from}
-use Rattle.std.specs.Prelude.{IsTrue, IsSome, slice_get}
-use Rattle.std.specs.List.{list_all}
-use Rattle.device_defs.specs.Providers.{Provider}
-use Rattle.record_defs.specs.Records.{Record, Setup, SetUp, is_in_grammar}
-use Rattle.record_defs.specs.Areas.{Area, A, StandsActive}
-use Rattle.machine_defs.specs.States.{State, IsStart, AreFirst}
-use Rattle.machine_defs.specs.Stands.{IsFresh, StandsForState}
-use Rattle.vault_open.specs.Devices.{Devices, AreDevices}
-use Rattle.hail_client.specs.Start.{provider_or_empty, start_of, TellAll}
-use Rattle.vault_open.proofs.Images.{Shows, bytes-shown}
+use Rattle.hail_client.proofs.Words.{◌≡◌, ◌⊎◌, inl, inr, ℕ, zero, suc, ◌<◌, false, List, [], ◌∷◌, Option, Some, None, refl, ap, sym, subst, ◌∙◌, arith, Cells, reads, firm, loose_from, IsTrue, IsSome, slice_get, list_all, Provider, Record, SetUp, is_in_grammar, Area, A, StandsActive, State, IsStart, AreFirst, IsFresh, StandsForState, Devices, AreDevices, provider_or_empty, start_of, TellAll, Shows, bytes-shown}
+use Rattle.std.proofs.Common.{true, length}
+use Rattle.record_defs.specs.Records.{Setup}
 
 -- cells of which none is loose
 none-loose : (at : ℕ) (cells : Cells) → loose_from at cells ≡ [] → cells ≡ firm (reads cells)

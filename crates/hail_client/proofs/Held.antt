@@ -1,12 +1,7 @@
 -- Over all accepted records there are bytes for the files in effect.
-use Rattle.std.proofs.Common.{ℕ, List, replicate, ◌∙◌}
-use Rattle.std.proofs.lemmas.List.{length-replicate}
-use Rattle.record_defs.specs.Records.{Record}
-use Rattle.record_defs.specs.Table.{files_of}
-use Rattle.record_defs.specs.Acceptance.{AreAccepted}
+use Rattle.hail_client.proofs.Words.{ℕ, List, replicate, ◌∙◌, length-replicate, Record, files_of, AreAccepted, AreHeld}
 use Rattle.machine_defs.proofs.Given.{zeros-bytes}
 use Rattle.record_defs.proofs.SizeLaws.{size_by_id, size-in_effect}
-use Rattle.state_laws.specs.Follows.{AreHeld}
 
 -- zeros for the bytes of each file
 abbrev pub zeros : List Record → ℕ → List ℕ

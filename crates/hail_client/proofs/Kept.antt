@@ -1,18 +1,5 @@
 -- What the images of a client's disk have.
-use Rattle.std.proofs.Common.{◌≡◌, inl, inr, ℕ, List, [], Option, Some, None, sym, ◌∙◌, ap}
-use Rattle.std.proofs.lemmas.Bool.{false≢true}
-use Rattle.device_defs.specs.Cells.{Cells}
-use Rattle.device_defs.specs.Images.{EachImage}
-use Rattle.record_defs.specs.Records.{Record}
-use Rattle.record_defs.specs.Table.{File, file_of}
-use Rattle.record_defs.specs.Areas.{Area}
-use Rattle.machine_defs.specs.States.{State}
-use Rattle.machine_defs.specs.Stands.{StandsForState}
-use Rattle.machine_defs.specs.Survival.{IsKept}
-use Rattle.state_laws.specs.Sound.{IsSound}
-use Rattle.state_laws.proofs.Packs.{file-alike}
-use Rattle.vault_open.proofs.Images.{Shows}
-use Rattle.hail_client.specs.Stands.{ImageHasFile}
+use Rattle.hail_client.proofs.Words.{◌≡◌, inl, inr, ℕ, List, [], Option, Some, None, sym, ◌∙◌, ap, false≢true, Cells, EachImage, Record, File, file_of, Area, State, StandsForState, IsKept, IsSound, file-alike, Shows, ImageHasFile}
 use Rattle.hail_client.proofs.Settled.{AreLeft, left_with, left-sound, image-left}
 
 empty-has-none : (rs : List Record) (name : List ℕ) (file : File) → rs ≡ [] → file_of rs name ≡ Some file → ⊥

@@ -1,3 +1,4 @@
+mod Words
 pub mod Beside
 pub mod Scrubbed
 pub mod Scrubs

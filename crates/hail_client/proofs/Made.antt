@@ -1,30 +1,15 @@
 -- Begins, steps and lists of files, as events of the machine.
-use Rattle.std.proofs.Common.{◌≡◌, ℕ, ◌<◌, ◌^◌, ◌||◌, true, false, List, Option, Some, None, Result, Err, refl, ap, sym, subst, ◌∙◌, inl}
-use Rattle.std.specs.Prelude.{IfSome, OnErr, is_some}
-use Rattle.std.specs.List.{list_any}
+use Rattle.hail_client.proofs.Words.{◌≡◌, ℕ, ◌<◌, ◌^◌, ◌||◌, false, List, Option, Some, None, Result, Err, refl, ap, sym, subst, ◌∙◌, inl, IfSome, OnErr, is_some, list_any, Begin, put_event, Closed, IsSpelledKind, Kind, PutJob, aim_of, job_of, heard_by, State, cond_true, cond_false, BeginFault, Vault, Devices, held_by, IsUnchanged, Stands, MakesBegin, Alone, Client, client_begin_outcome, StandsBy, ClientStands, MakesEvent, ClientMakesStep}
+use Rattle.std.proofs.Common.{true}
 use Rattle.machine_defs.specs.Begins.{BeginsAt, refusal_of_begin}
-use Rattle.machine_defs.specs.Events.{Begin, put_event, Closed, IsSpelledKind}
-use Rattle.machine_defs.specs.Jobs.{Kind, PutJob, aim_of, job_of}
-use Rattle.machine_defs.specs.Heard.{heard_by}
 use Rattle.machine_defs.specs.Refusals as refusal
 use Rattle.machine_defs.specs.Sights.{sight_of, is_busy, is_upgrade, aims_of, are_jobs_in_the_way}
 use Rattle.machine_defs.specs.States as states
-use Rattle.machine_defs.specs.States.{State}
-use Rattle.machine_defs.proofs.JobLists.{cond_true, cond_false}
-use Rattle.vault_core.specs.declared.wish.BeginFault.{BeginFault}
 use Rattle.vault_core.specs.declared.wish.BeginFault.TheVariants as fault
 use Rattle.vault.specs.declared.turn.Turn.{Turn}
-use Rattle.vault.specs.declared.vault.Vault.{Vault}
-use Rattle.vault_open.specs.Devices.{Devices}
 use Rattle.vault.specs.Outcomes.{IfEnded, begin_outcome}
-use Rattle.vault.specs.Seen.{held_by, IsUnchanged}
-use Rattle.vault.specs.Stands.{Stands, MakesBegin}
 use Rattle.vault.specs.Stands as vault
-use Rattle.hail_client.specs.declared.alone.Alone.{Alone}
-use Rattle.hail_client.specs.declared.client.Client.{Client}
 use Rattle.hail_client.specs.declared.turn.ClientTurn.TheVariants as client_turn
-use Rattle.hail_client.specs.Outcomes.{client_begin_outcome}
-use Rattle.hail_client.specs.Stands.{StandsBy, ClientStands, MakesEvent, ClientMakesStep}
 use Rattle.hail_client.proofs.Beside.{beside-of, same-alone}
 use Rattle.hail_client.proofs.Standing.{stands-of, parts-of, open-of}
 

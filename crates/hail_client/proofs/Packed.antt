@@ -1,45 +1,16 @@
 -- A pack that runs alone beside a client's vault: its begin and its steps, as events of the machine.
 use mathlib.Core.Bool.{Bool-set}
-use Rattle.std.proofs.Common.{◌≡◌, ℕ, zero, suc, ◌==◌, ◌<◌, ◌≤◌, ◌^◌, true, false, List, [], ◌∷◌, length, Option, None, Some, Result, Err, refl, ap, sym, subst, ◌∙◌, inl, inr, ◌⊎◌, arith}
-use Rattle.std.specs.Prelude.{is_some, unwrap_or}
-use Rattle.std.proofs.Math.Logic.{∥∥₁_elim}
-use Rattle.std.proofs.Math.Nat.{ℕ_set}
+use Rattle.hail_client.proofs.Words.{◌≡◌, ℕ, zero, suc, ◌==◌, ◌<◌, ◌≤◌, ◌^◌, false, List, [], ◌∷◌, Option, None, Some, Result, Err, refl, ap, sym, subst, ◌∙◌, inl, inr, ◌⊎◌, arith, is_some, unwrap_or, ∥∥₁_elim, ℕ_set, false≢true, eq-eqb, is_some-none, Cells, Provider, Pack, moves_of, is_too_long, pack_refusal, BeginsPack, BeginPack, Step, Refused, More, Ended, Happens, State, cond_true, version_of, refusal_of, IsNoJob, calls_disk, called_provider, BeginFault, Devices, devices, PackJob, Vault, IsPackOf, StandsPacking, pack_answer, PacksOver, MakesPackStep, held_by, IsUnchanged, Stands, client_coming, coming_by, pack_coming, pack_alone, Alone, Client, client_begin_outcome, StandsBy, ClientStands, MakesEvent, ClientMakesStep}
+use Rattle.std.proofs.Common.{true, length}
 use Rattle.std.proofs.Props.{props}
-use Rattle.std.proofs.lemmas.Bool.{false≢true, eq-eqb}
-use Rattle.algebra_laws.proofs.Options.{is_some-none}
-use Rattle.device_defs.specs.Cells.{Cells}
-use Rattle.device_defs.specs.Providers.{Provider}
-use Rattle.journal_pack.specs.declared.pack.Pack.{Pack}
-use Rattle.journal_pack.specs.Packs.{moves_of}
-use Rattle.machine_defs.specs.Alone.{is_too_long, pack_refusal, BeginsPack}
-use Rattle.machine_defs.specs.Events.{BeginPack, Step, Refused, More, Ended}
-use Rattle.machine_defs.specs.Machine.{Happens}
 use Rattle.machine_defs.specs.Refusals as refusal
 use Rattle.machine_defs.specs.States as states
-use Rattle.machine_defs.specs.States.{State}
-use Rattle.machine_defs.proofs.JobLists.{cond_true}
-use Rattle.record_defs.specs.Table.{version_of}
-use Rattle.vault_core.specs.Carried.{refusal_of}
-use Rattle.vault_core.specs.Coming.{IsNoJob, calls_disk, called_provider}
-use Rattle.vault_core.specs.declared.wish.BeginFault.{BeginFault}
 use Rattle.vault_core.specs.declared.wish.BeginFault.TheVariants as fault
-use Rattle.vault_open.specs.Devices.{Devices, devices}
 use Rattle.vault.specs.declared.packing.PackAnswer.{PackAnswer}
-use Rattle.vault.specs.declared.packing.PackJob.{PackJob}
 use Rattle.vault.specs.declared.packing.PackTurn.TheVariants as turn
-use Rattle.vault.specs.declared.vault.Vault.{Vault}
-use Rattle.vault.specs.Packing.{IsPackOf, StandsPacking, pack_answer, PacksOver, MakesPackStep}
-use Rattle.vault.specs.Seen.{held_by, IsUnchanged}
-use Rattle.vault.specs.Stands.{Stands}
-use Rattle.hail_client.specs.Client.{client_coming, coming_by, pack_coming}
-use Rattle.hail_client.specs.PackCells.{pack_alone}
-use Rattle.hail_client.specs.declared.alone.Alone.{Alone}
 use Rattle.hail_client.specs.declared.alone.Alone.TheVariants as alone
-use Rattle.hail_client.specs.declared.client.Client.{Client}
 use Rattle.hail_client.specs.declared.turn.ClientTurn.TheVariants as client_turn
 use Rattle.hail_client.specs.declared.turn.PackStep.TheVariants as pack_step
-use Rattle.hail_client.specs.Outcomes.{client_begin_outcome}
-use Rattle.hail_client.specs.Stands.{StandsBy, ClientStands, MakesEvent, ClientMakesStep}
 use Rattle.hail_client.proofs.Beside.{beside-of, same-alone}
 use Rattle.hail_client.proofs.Scrubs.{alone-busy}
 use Rattle.hail_client.proofs.Standing.{stands-of, parts-of}

@@ -1,40 +1,11 @@
 -- A reopening as an event of the machine.
-use Rattle.std.proofs.Common.{◌≡◌, ◌≢◌, ◌⊎◌, inl, inr, ℕ, zero, suc, ◌<◌, ◌≤◌, true, false, List, [], length, replicate, length-take, Option, Some, None, refl, ap, sym, subst, ◌∙◌, arith}
-use Rattle.std.specs.Prelude.{is_some, slice_get}
-use Rattle.std.specs.Option.{option_map}
-use Rattle.std.proofs.lemmas.List.{length-replicate}
-use Rattle.device_defs.specs.Cells.{Cells, reads}
-use Rattle.device_defs.specs.Disks.{synced}
-use Rattle.device_defs.specs.Faults.{Rose}
-use Rattle.device_defs.specs.Told.{Goes}
-use Rattle.device_defs.specs.Providers.{Provider}
-use Rattle.record_defs.specs.Records.{Record, Setup, largest_journal}
-use Rattle.record_defs.specs.Areas.{Area, StandsActive}
+use Rattle.hail_client.proofs.Words.{◌≡◌, ◌≢◌, ◌⊎◌, inl, inr, ℕ, zero, suc, ◌<◌, ◌≤◌, false, List, [], replicate, length-take, Option, Some, None, refl, ap, sym, subst, ◌∙◌, arith, is_some, slice_get, option_map, length-replicate, Cells, reads, synced, Rose, Goes, Provider, Record, largest_journal, Area, StandsActive, setup_of, Reopen, State, setup_in, given_up, StandsForState, Reopens, IsSetUp, IsNotSetUp, IsSound, IsAtRest, events-sound, StartFault, Vault, AreHanded, IsJustOpened, devices, AreDevices, journal_read, IsRead, IsResynced, IsStartFault, LiesInJournal, provider_count, Stands, IsStreamless, Shows, shown-read, shown-long, read-accepted, read-fits, bytes-shown, shown-again, with_vault, without_vault, start_refusal, anyone, StandsClosed, MakesEvent}
+use Rattle.std.proofs.Common.{true, length}
+use Rattle.record_defs.specs.Records.{Setup}
 use Rattle.record_defs.specs.Reading.{HasNoSetup}
-use Rattle.record_defs.specs.Table.{setup_of}
 use Rattle.machine_defs.specs.Events as events
-use Rattle.machine_defs.specs.Events.{Reopen}
 use Rattle.machine_defs.specs.Refusals as refusal
-use Rattle.machine_defs.specs.States.{State, setup_in, given_up}
-use Rattle.machine_defs.specs.Stands.{StandsForState}
-use Rattle.machine_defs.specs.Openings.{Reopens, IsSetUp, IsNotSetUp}
-use Rattle.state_laws.specs.Sound.{IsSound, IsAtRest}
-use Rattle.state_laws.proofs.Events.{events-sound}
-use Rattle.vault_open.specs.declared.fault.StartFault.{StartFault}
 use Rattle.vault_open.specs.declared.fault.StartFault.TheVariants as start_fault
-use Rattle.vault.specs.declared.vault.Vault.{Vault}
-use Rattle.opening_defs.specs.Opened.{AreHanded, IsJustOpened}
-use Rattle.vault_open.specs.Devices.{devices, AreDevices}
-use Rattle.opening_defs.specs.Journals.{journal_read, IsRead, IsResynced}
-use Rattle.vault_open.specs.Causes.{IsStartFault, LiesInJournal}
-use Rattle.vault.specs.Seen.{provider_count}
-use Rattle.vault.specs.Stands.{Stands}
-use Rattle.vault.specs.Streams.{IsStreamless}
-use Rattle.vault_open.proofs.Images.{Shows, shown-read, shown-long, read-accepted, read-fits, bytes-shown, shown-again}
-use Rattle.hail_client.specs.Client.{with_vault, without_vault}
-use Rattle.hail_client.specs.Outcomes.{start_refusal}
-use Rattle.hail_client.specs.Start.{anyone}
-use Rattle.hail_client.specs.Stands.{StandsClosed, MakesEvent}
 use Rattle.hail_client.proofs.Settled.{AreLeft, left_with, left-rereads, left-sound, same-left, read-left, left-set_up, none-read}
 use Rattle.opening_defs.proofs.Readings.{bad-none}
 use Rattle.device_defs.proofs.PickLaws.{IsImage-reads}

@@ -1,37 +1,10 @@
 -- A reopening by a client, as an event of the machine.
-use Rattle.std.proofs.Common.{◌≡◌, ℕ, ◌<◌, ◌≤◌, List, length, Option, Some, None, Result, sym, subst}
-use Rattle.std.specs.Prelude.{IfSome, IsSome, IsErrAnd}
-use Rattle.std.specs.Option.{option_map}
-use Rattle.std.proofs.lemmas.Bool.{false≢true}
-use Rattle.device_defs.specs.Cells.{Cells}
-use Rattle.device_defs.specs.Disks.{synced}
-use Rattle.device_defs.specs.Faults.{Rose}
-use Rattle.device_defs.specs.Providers.{Provider}
-use Rattle.device_defs.specs.Told.{Goes}
-use Rattle.record_defs.specs.Records.{Record}
-use Rattle.record_defs.specs.Areas.{Area}
-use Rattle.machine_defs.specs.Events.{Reopen, Opened, Refused}
-use Rattle.machine_defs.specs.Refusals.{TooFewProviders}
-use Rattle.machine_defs.specs.States.{State}
-use Rattle.vault_open.specs.declared.fault.StartFault.{StartFault}
+use Rattle.hail_client.proofs.Words.{◌≡◌, ℕ, ◌<◌, ◌≤◌, List, Option, Some, None, Result, sym, subst, IfSome, IsSome, IsErrAnd, option_map, false≢true, Cells, synced, Rose, Provider, Goes, Record, Area, Reopen, Opened, Refused, TooFewProviders, State, StartFault, Vault, devices, journal_read, IsRead, IsResynced, IsStartFault, LiesInJournal, provider_count, Stands, IsStreamless, IsJustOpened, Client, ReopenFault, client_next_job, with_vault, without_vault, reopen_outcome, ClientStands, MakesEvent, err-is}
+use Rattle.std.proofs.Common.{length}
 use Rattle.vault_open.specs.declared.fault.StartFault.TheVariants as start_fault
-use Rattle.vault.specs.declared.vault.Vault.{Vault}
-use Rattle.vault_open.specs.Devices.{devices}
-use Rattle.opening_defs.specs.Journals.{journal_read, IsRead, IsResynced}
-use Rattle.vault_open.specs.Causes.{IsStartFault, LiesInJournal}
-use Rattle.vault.specs.Seen.{provider_count}
-use Rattle.vault.specs.Stands.{Stands}
-use Rattle.vault.specs.Streams.{IsStreamless}
-use Rattle.opening_defs.specs.Opened.{IsJustOpened}
-use Rattle.hail_client.specs.declared.client.Client.{Client}
-use Rattle.hail_client.specs.declared.fault.ReopenFault.{ReopenFault}
 use Rattle.hail_client.specs.declared.fault.ReopenFault.TheVariants as reopen_fault
-use Rattle.hail_client.specs.Client.{client_next_job, with_vault, without_vault}
-use Rattle.hail_client.specs.Outcomes.{reopen_outcome}
-use Rattle.hail_client.specs.Stands.{ClientStands, MakesEvent}
 use Rattle.hail_client.proofs.Standing.{devices-of, sound-of, next-of}
 use Rattle.hail_client.proofs.Reopened as reopened
-use Rattle.vault_open.proofs.InitEvents.{err-is}
 
 -- records that a start read, and the vault that was opened over them
 abbrev pub WasOpened : Vault → Option Cells → Option Cells → ℕ → ℕ → Type 0

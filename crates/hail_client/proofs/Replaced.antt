@@ -1,34 +1,11 @@
 -- An alteration or a loss as an event of the machine.
-use Rattle.std.proofs.Common.{◌≡◌, ◌↔◌, ℕ, ◌<◌, ◌≤◌, Bool, true, false, List, length, Option, Some, None, refl, sym, subst, ◌∙◌, arith}
-use Rattle.std.specs.Prelude.{IsTrue, IsSome, IfSome, nat_lt, slice_get, slice_set, if◌then◌else◌}
-use Rattle.std.specs.Option.{option_map}
-use Rattle.std.proofs.lemmas.Bool.{lt-ltb, le-ltb}
-use Rattle.device_defs.specs.Cells.{Cells}
-use Rattle.device_defs.specs.Providers.{Held, Provider}
+use Rattle.hail_client.proofs.Words.{◌≡◌, ◌↔◌, ℕ, ◌<◌, ◌≤◌, Bool, false, List, Option, Some, None, refl, sym, subst, ◌∙◌, arith, IsTrue, IsSome, IfSome, nat_lt, slice_get, slice_set, if◌then◌else◌, option_map, lt-ltb, le-ltb, Cells, Held, Provider, Event, Outcome, IsSpelled, NothingHeld, unalone, State, with_provider, Happens, devices-sound, PackJob, Vault, StandsPacking, plain, AreHanded, devices, ScrubIs, setup_same, vault_replaced, held_replaced, Alone, ScrubJob, Client, replace_outcome, StandsBy, StandsHeld, ClientStands, MakesEvent, shown-again}
+use Rattle.std.proofs.Common.{true, length}
 use Rattle.record_defs.specs.Records.{Setup}
 use Rattle.device_defs.specs.ProviderCalls.{Replaces}
-use Rattle.machine_defs.specs.Events.{Event, Outcome, IsSpelled, NothingHeld}
-use Rattle.machine_defs.specs.Alone.{unalone}
-use Rattle.machine_defs.specs.States.{State, with_provider}
 use Rattle.machine_defs.specs.Replacements.{ReplacesAt, ReplacesIf}
-use Rattle.machine_defs.specs.Machine.{Happens}
-use Rattle.state_laws.proofs.Events.{devices-sound}
-use Rattle.vault.specs.declared.packing.PackJob.{PackJob}
-use Rattle.vault.specs.declared.vault.Vault.{Vault}
-use Rattle.vault.specs.Packing.{StandsPacking, plain}
-use Rattle.opening_defs.specs.Opened.{AreHanded}
-use Rattle.vault_open.specs.Devices.{devices}
-use Rattle.hail_scrub.specs.Stands.{ScrubIs}
-use Rattle.hail_scrub.proofs.Machine.{setup_same}
-use Rattle.vault.proofs.Replaced.{vault_replaced, held_replaced}
 use Rattle.vault.proofs.Ways.{handed_on}
-use Rattle.hail_client.specs.declared.alone.Alone.{Alone}
 use Rattle.hail_client.specs.declared.alone.Alone.TheVariants as alone
-use Rattle.hail_client.specs.declared.alone.ScrubJob.{ScrubJob}
-use Rattle.hail_client.specs.declared.client.Client.{Client}
-use Rattle.hail_client.specs.Outcomes.{replace_outcome}
-use Rattle.hail_client.specs.Stands.{StandsBy, StandsHeld, ClientStands, MakesEvent}
-use Rattle.vault_open.proofs.Images.{shown-again}
 use Rattle.hail_client.proofs.Standing.{devices-of}
 
 -- what a provider that tells goes to, or one that does not

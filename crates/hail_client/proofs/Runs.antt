@@ -1,22 +1,12 @@
 -- The steps of one job behind a run.
-use Rattle.std.proofs.Common.{◌≡◌, ℕ, true, false, List, [], ◌∷◌, ◌++◌, length, Option, Some, None, refl, sym, subst, ◌∙◌}
-use Rattle.std.specs.Prelude.{IfSome}
-use Rattle.std.proofs.lemmas.Bool.{false≢true}
-use Rattle.machine_defs.specs.Events.{Step, More, Outcome}
-use Rattle.machine_defs.specs.Heard.{heard_by}
-use Rattle.machine_defs.specs.Jobs.{job_of}
-use Rattle.machine_defs.specs.States.{State}
-use Rattle.machine_defs.specs.Runs.{Moment, now}
+use Rattle.hail_client.proofs.Words.{◌≡◌, ℕ, false, List, [], ◌∷◌, ◌++◌, Option, Some, None, refl, sym, subst, ◌∙◌, IfSome, false≢true, Step, More, Outcome, heard_by, job_of, State, Moment, now, Devices, Client, step_outcome, job_goes_on, HeardIs, MakesEvent, IsReached, RunsJobOn}
+use Rattle.std.proofs.Common.{true, length}
 use Rattle.machine_defs.specs.Transcripts.{GoOn}
 use Rattle.hail_scrub.specs.declared.turn.ScrubTurn.TheVariants as scrub_turn
 use Rattle.vault.specs.declared.turn.Turn.TheVariants as turn
-use Rattle.vault_open.specs.Devices.{Devices}
-use Rattle.hail_client.specs.declared.client.Client.{Client}
 use Rattle.hail_client.specs.declared.turn.ClientTurn.{ClientTurn}
 use Rattle.hail_client.specs.declared.turn.ClientTurn.TheVariants as client_turn
 use Rattle.hail_client.specs.declared.turn.PackStep.TheVariants as pack_step
-use Rattle.hail_client.specs.Outcomes.{step_outcome, job_goes_on, HeardIs}
-use Rattle.hail_client.specs.Stands.{MakesEvent, IsReached, RunsJobOn}
 
 -- a step that goes on is told as one
 pub told-more : (t : Option ClientTurn) → job_goes_on t ≡ true → step_outcome t ≡ More

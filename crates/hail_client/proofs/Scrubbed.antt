@@ -1,46 +1,19 @@
 -- Steps of a scrub, as events of the machine.
 use mathlib.Core.HLevel.{⊥_prop}
-use Rattle.std.proofs.Common.{◌≡◌, ◌≢◌, ℕ, ◌==◌, ◌<◌, ◌≤◌, ◌^◌, Bool, true, false, List, [], ◌∷◌, length, Option, Some, None, refl, ap, sym, subst, ◌∙◌, arith}
-use Rattle.std.specs.Prelude.{slice_get}
+use Rattle.hail_client.proofs.Words.{◌≡◌, ◌≢◌, ℕ, ◌==◌, ◌<◌, ◌≤◌, ◌^◌, Bool, false, List, [], ◌∷◌, Option, Some, None, refl, ap, sym, subst, ◌∙◌, arith, slice_get, ∥∥₁_elim, false≢true, eq-eqb, Cells, Provider, unalone, Scrubs, StepsScrub, Step, Outcome, Ended, cond_true, Happens, State, Scrub, Scrubbing, setup_in, IsSound, events-sound, handed_same, setup_same, step_beside, ScrubIs, ScrubStands, MakesScrubStep, scrub_outcome, ScrubView, scrub_left, next_to_do, called_by, Vault, coming_of, provider_count, Stands, StandsBeside, held_replaced, Acts, IsNoJob, calls_disk, called_provider, Devices, devices, IsScrub, IsBesideVault, ScrubJob, Client, uses_by, scrub_coming, coming_by, client_coming, provider_or_empty, StandsHeld, ClientStands, ClientMakesStep}
+use Rattle.std.proofs.Common.{true, length}
 use Rattle.std.specs.Coded.{Unit-prop, le_prop}
-use Rattle.std.proofs.Math.Logic.{∥∥₁_elim}
-use Rattle.std.proofs.lemmas.Bool.{false≢true, eq-eqb}
-use Rattle.device_defs.specs.Cells.{Cells}
-use Rattle.device_defs.specs.Providers.{Provider}
 use Rattle.journal_core.proofs.BeyondLemmas.{goes_still}
-use Rattle.machine_defs.specs.Alone.{unalone, Scrubs, StepsScrub}
 use Rattle.machine_defs.specs.Actions.{Action, WriteBody, SyncBody, WriteGate, SyncGate, Store, Fetch, Ask, Work, Remove, End}
 use Rattle.machine_defs.specs.Answers as answers
-use Rattle.machine_defs.specs.Events.{Step, Outcome, Ended}
-use Rattle.machine_defs.proofs.JobLists.{cond_true}
-use Rattle.machine_defs.specs.Machine.{Happens}
-use Rattle.machine_defs.specs.States.{State, Scrub, Scrubbing, setup_in}
 use Rattle.machine_defs.specs.Steps.{StepsMine}
 use Rattle.record_defs.specs.Records.{Setup}
-use Rattle.state_laws.specs.Sound.{IsSound}
-use Rattle.state_laws.proofs.Events.{events-sound}
-use Rattle.hail_scrub.proofs.Machine.{handed_same, setup_same}
-use Rattle.hail_scrub.proofs.Starts.{step_beside}
 use Rattle.hail_scrub.specs.declared.turn.ScrubAnswer.{ScrubAnswer}
 use Rattle.hail_scrub.specs.declared.turn.ScrubAnswer.TheVariants as answer
 use Rattle.hail_scrub.specs.declared.turn.ScrubTurn.{ScrubTurn}
 use Rattle.hail_scrub.specs.declared.turn.ScrubTurn.TheVariants as turn
-use Rattle.hail_scrub.specs.Stands.{ScrubIs, ScrubStands, MakesScrubStep, scrub_outcome}
-use Rattle.hail_scrub.specs.Views.{ScrubView, scrub_left, next_to_do, called_by}
-use Rattle.vault.specs.declared.vault.Vault.{Vault}
-use Rattle.vault.specs.Seen.{coming_of, provider_count}
-use Rattle.vault.specs.Stands.{Stands, StandsBeside}
-use Rattle.vault.proofs.Replaced.{held_replaced}
-use Rattle.vault_core.specs.Coming.{Acts, IsNoJob, calls_disk, called_provider}
-use Rattle.vault_open.specs.Devices.{Devices, devices}
-use Rattle.hail_client.specs.AtWork.{IsScrub, IsBesideVault}
 use Rattle.hail_client.specs.declared.alone.Alone.TheVariants as alone
-use Rattle.hail_client.specs.declared.alone.ScrubJob.{ScrubJob}
-use Rattle.hail_client.specs.declared.client.Client.{Client}
 use Rattle.hail_client.specs.declared.turn.ClientTurn.TheVariants as client_turn
-use Rattle.hail_client.specs.Client.{uses_by, scrub_coming, coming_by, client_coming}
-use Rattle.hail_client.specs.Start.{provider_or_empty}
-use Rattle.hail_client.specs.Stands.{StandsHeld, ClientStands, ClientMakesStep}
 use Rattle.hail_client.proofs.Fresh.{each-at}
 use Rattle.hail_client.proofs.Replaced.{after}
 use Rattle.hail_client.proofs.Standing.{stands-of, parts-of}

@@ -1,38 +1,14 @@
 -- How a client begins a scrub.
-use Rattle.std.proofs.Common.{◌≡◌, ℕ, ◌+◌, ◌<◌, ◌≤◌, ◌||◌, true, false, List, [], Option, Some, None, Result, Ok, Err, refl, ap, sym, subst, ◌∙◌, inl, inr, arith}
-use Rattle.std.specs.Prelude.{is_some, nat_lt, length}
-use Rattle.std.proofs.Math.Logic.{∥∥₁_prop}
+use Rattle.hail_client.proofs.Words.{◌≡◌, ℕ, ◌+◌, ◌<◌, ◌≤◌, ◌||◌, false, List, [], Option, Some, None, Result, Ok, Err, refl, ap, sym, subst, ◌∙◌, inl, inr, arith, is_some, nat_lt, ∥∥₁_prop, alone_refusal, new_scrub, BeginsScrub, BeginScrub, Begun, Refused, Closed, Happens, Cause, State, setup_in, cond_true, cond_false, events-sound, hold_begins, held_beside, held_stands, setup_same, ScrubIs, ScrubView, scrub_left, refusal_of, BeginFault, Devices, devices, Vault, held_by, provider_count, IsUnchanged, Stands, StandsBeside, HoldsOver, by_work, IsAloneAtWork, Alone, ScrubJob, Client, client_begin_outcome, StandsBy, StandsHeld, ClientStands, MakesEvent}
+use Rattle.std.proofs.Common.{true}
+use Rattle.std.specs.Prelude.{length}
 use Rattle.std.proofs.Math.Bool.{or-true}
-use Rattle.machine_defs.specs.Alone.{alone_refusal, new_scrub, BeginsScrub}
-use Rattle.machine_defs.specs.Events.{BeginScrub, Begun, Refused, Closed}
-use Rattle.machine_defs.specs.Machine.{Happens}
 use Rattle.machine_defs.specs.Refusals as refusal
-use Rattle.machine_defs.specs.Refusals.{Cause}
 use Rattle.machine_defs.specs.States as states
-use Rattle.machine_defs.specs.States.{State, setup_in}
-use Rattle.machine_defs.proofs.JobLists.{cond_true, cond_false}
 use Rattle.record_defs.specs.Records.{Setup}
-use Rattle.state_laws.proofs.Events.{events-sound}
-use Rattle.hail_scrub.proofs.Starts.{hold_begins, held_beside, held_stands}
-use Rattle.hail_scrub.proofs.Machine.{setup_same}
 use Rattle.hail_scrub.specs.Begins.{held}
-use Rattle.hail_scrub.specs.Stands.{ScrubIs}
-use Rattle.hail_scrub.specs.Views.{ScrubView, scrub_left}
-use Rattle.vault_core.specs.Carried.{refusal_of}
-use Rattle.vault_core.specs.declared.wish.BeginFault.{BeginFault}
 use Rattle.vault_core.specs.declared.wish.BeginFault.TheVariants as fault
-use Rattle.vault_open.specs.Devices.{Devices, devices}
-use Rattle.vault.specs.declared.vault.Vault.{Vault}
-use Rattle.vault.specs.Seen.{held_by, provider_count, IsUnchanged}
-use Rattle.vault.specs.Stands.{Stands, StandsBeside, HoldsOver}
-use Rattle.vault.proofs.AtWork.{by_work}
-use Rattle.hail_client.specs.AtWork.{IsAloneAtWork}
-use Rattle.hail_client.specs.declared.alone.Alone.{Alone}
 use Rattle.hail_client.specs.declared.alone.Alone.TheVariants as alone
-use Rattle.hail_client.specs.declared.alone.ScrubJob.{ScrubJob}
-use Rattle.hail_client.specs.declared.client.Client.{Client}
-use Rattle.hail_client.specs.Outcomes.{client_begin_outcome}
-use Rattle.hail_client.specs.Stands.{StandsBy, StandsHeld, ClientStands, MakesEvent}
 use Rattle.hail_client.proofs.Beside.{beside-of, same-alone}
 use Rattle.hail_client.proofs.Standing.{stands-of, parts-of, open-of}
 

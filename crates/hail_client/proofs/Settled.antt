@@ -1,16 +1,8 @@
 -- What is left in effect where the vault is given up and the disk is read again.
-use Rattle.std.proofs.Common.{◌≡◌, ◌≢◌, ◌⊎◌, inl, inr, ℕ, ◌≤◌, List, [], ◌∷◌, length, Some, None, refl, ap, sym, subst, ◌∙◌, arith}
-use Rattle.std.specs.Prelude.{is_some}
-use Rattle.record_defs.specs.Records.{Record}
-use Rattle.record_defs.specs.Areas.{Area, other_area, StandsActive}
-use Rattle.record_defs.specs.Packed.{packed}
-use Rattle.machine_defs.specs.Events.{Stop, Stopped}
-use Rattle.machine_defs.specs.States.{State, Doubt}
-use Rattle.machine_defs.specs.Openings.{IsSetUp, MayHold, reread, Rereads}
-use Rattle.state_laws.specs.Sound.{IsSoundJournal, IsSound}
-use Rattle.state_laws.proofs.Events.{events-sound}
+use Rattle.hail_client.proofs.Words.{◌≡◌, ◌≢◌, ◌⊎◌, inl, inr, ℕ, ◌≤◌, List, [], ◌∷◌, Some, None, refl, ap, sym, subst, ◌∙◌, arith, is_some, Record, Area, other_area, StandsActive, packed, Stop, State, Doubt, IsSetUp, MayHold, reread, Rereads, IsSoundJournal, IsSound, events-sound, Shows, MayRead, packed-some, more-some, shown-read, shown-short}
+use Rattle.std.proofs.Common.{length}
+use Rattle.machine_defs.specs.Events.{Stopped}
 use Rattle.opening_defs.proofs.Opened.{has-setup}
-use Rattle.vault_open.proofs.Images.{Shows, MayRead, packed-some, more-some, shown-read, shown-short}
 
 -- the records that are in effect, and the journal that the disk is read to hold in this area: those of before,
 -- or the packed journal in the other area; or both with the record in doubt

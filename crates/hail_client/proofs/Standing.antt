@@ -1,29 +1,9 @@
 -- What a client and its devices stand for.
-use Rattle.std.proofs.Common.{◌≡◌, ℕ, ◌≤◌, length, Option, Some, None, refl, ap, sym, subst, ◌∙◌, arith}
-use Rattle.std.specs.Prelude.{is_some}
-use Rattle.std.specs.Option.{option_map}
+use Rattle.hail_client.proofs.Words.{◌≡◌, ℕ, ◌≤◌, Option, Some, None, refl, ap, sym, subst, ◌∙◌, arith, is_some, option_map, files_of, unalone, Continue, Continued, Listed, Closed, Lists, State, IsStart, continued, IsSound, start-sound, events-sound, Vault, DeskStands, plain, table_of, provider_count, Devices, devices, AreDevices, Alone, Client, next_job_by, uses_by, names_outcome, StandsClosed, StandsBy, ClientStands, shown-again}
+use Rattle.std.proofs.Common.{length}
 use Rattle.record_defs.specs.Records.{Setup}
-use Rattle.record_defs.specs.Table.{files_of}
-use Rattle.machine_defs.specs.Alone.{unalone}
-use Rattle.machine_defs.specs.Events.{Continue, Continued, Listed, Closed}
-use Rattle.machine_defs.specs.Machine.{Lists}
-use Rattle.machine_defs.specs.States.{State, IsStart, continued}
-use Rattle.state_laws.specs.Sound.{IsSound}
-use Rattle.state_laws.proofs.Resting.{start-sound}
-use Rattle.state_laws.proofs.Events.{events-sound}
-use Rattle.vault.specs.declared.vault.Vault.{Vault}
-use Rattle.vault.specs.Desks.{DeskStands}
-use Rattle.vault.specs.Packing.{plain}
-use Rattle.vault.specs.Seen.{table_of, provider_count}
 use Rattle.vault_core.proofs.Alike.{table-like}
-use Rattle.vault_open.specs.Devices.{Devices, devices, AreDevices}
-use Rattle.hail_client.specs.declared.alone.Alone.{Alone}
 use Rattle.hail_client.specs.declared.alone.Alone.TheVariants as alone
-use Rattle.hail_client.specs.declared.client.Client.{Client}
-use Rattle.hail_client.specs.Client.{next_job_by, uses_by}
-use Rattle.hail_client.specs.Outcomes.{names_outcome}
-use Rattle.hail_client.specs.Stands.{StandsClosed, StandsBy, ClientStands}
-use Rattle.vault_open.proofs.Images.{shown-again}
 
 -- a client whose parts are these
 pub stands-of : (c : Client) (o : Option Vault) (s : Option Alone) (next : ℕ) → c.vault ≡ o → c.alone ≡ s →

@@ -1,21 +1,7 @@
 -- A stop as an event of the machine.
-use Rattle.std.proofs.Common.{◌≡◌, ℕ, List, Option, Some, None, refl, sym, subst, ◌∙◌}
-use Rattle.device_defs.specs.Cells.{Cells}
+use Rattle.hail_client.proofs.Words.{◌≡◌, ℕ, List, Option, Some, None, refl, sym, subst, ◌∙◌, Cells, Goes, Provider, Record, Area, Stop, AreBytes, State, StandsForState, IsSound, devices, AreDevices, bytes-shown, Client, client_next_job, without_vault, StandsClosed, ClientStands, MakesEvent}
 use Rattle.device_defs.specs.Disks.{Stopped}
-use Rattle.device_defs.specs.Told.{Goes}
-use Rattle.device_defs.specs.Providers.{Provider}
-use Rattle.record_defs.specs.Records.{Record}
-use Rattle.record_defs.specs.Areas.{Area}
 use Rattle.machine_defs.specs.Events as events
-use Rattle.machine_defs.specs.Events.{Stop, AreBytes}
-use Rattle.machine_defs.specs.States.{State}
-use Rattle.machine_defs.specs.Stands.{StandsForState}
-use Rattle.state_laws.specs.Sound.{IsSound}
-use Rattle.vault_open.specs.Devices.{devices, AreDevices}
-use Rattle.vault_open.proofs.Images.{bytes-shown}
-use Rattle.hail_client.specs.declared.client.Client.{Client}
-use Rattle.hail_client.specs.Client.{client_next_job, without_vault}
-use Rattle.hail_client.specs.Stands.{StandsClosed, ClientStands, MakesEvent}
 use Rattle.hail_client.proofs.Standing.{devices-of, sound-of, next-of}
 use Rattle.hail_client.proofs.Settled.{AreLeft, left_with, left-rereads, left-sound, same-left, image-left}
 

@@ -1,10 +1,7 @@
 -- Products with F = 2 ^ width k, the first number above those of level k, of numbers in lanes of twice that
 -- width
-use Rattle.std.proofs.Common.{◌≡◌, ℕ, zero, suc, ◌+◌, ◌-◌, ◌*◌, ◌/◌, ◌%◌, ◌^◌, ◌<◌, true, false, refl, sym, ap, ap₂, ◌∙◌, bit_and, bit_xor, arith, pow_pos, mod-eq_of_lt, add-zero, mul_comm, mul-le-mul_right, lt_of_le_of_lt, [], ◌∷◌}
-use Rattle.std.specs.Int.Bits.{xor_zero_r}
-use Rattle.std.proofs.lemmas.Nat.{and_le_l, and_le_r, and_comm, xor_comm, xor_lt, and_mask, and_block, xor_block, shr_le, shr_split, shr_high, mod_low, mod_below, mul-add-lt}
+use Rattle.hail_field.proofs.Words.{◌≡◌, ℕ, zero, suc, ◌+◌, ◌-◌, ◌*◌, ◌/◌, ◌%◌, ◌^◌, ◌<◌, true, false, refl, sym, ap, ap₂, ◌∙◌, bit_and, bit_xor, arith, pow_pos, mod-eq_of_lt, add-zero, mul_comm, mul-le-mul_right, lt_of_le_of_lt, [], ◌∷◌, xor_zero_r, and_le_l, and_le_r, and_comm, xor_comm, xor_lt, and_mask, and_block, xor_block, shr_le, shr_split, shr_high, mod_low, mod_below, mul-add-lt, product, width, nim_add, nim_mul}
 use Rattle.algebra_laws.proofs.Solve.{v, ◌⊞◌, ◌⊡◌, solve}
-use Rattle.hail_field.specs.Nim.{product, width, nim_add, nim_mul}
 use Rattle.hail_field.proofs.Tower.{Tower}
 use Rattle.hail_field.proofs.Link.{number, number-lt, square_of}
 use Rattle.hail_field.proofs.Products.{by_element, half-lt}

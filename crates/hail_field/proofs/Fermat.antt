@@ -1,9 +1,5 @@
 -- Products by F = 2 ^ width k, the first number above those of level k.
-use Rattle.std.proofs.Common.{◌≡◌, ℕ, suc, ◌+◌, ◌*◌, ◌/◌, ◌%◌, ◌^◌, ◌<◌, refl, sym, ap, ap₂, ◌∙◌, bit_xor, arith, pow_pos, mod-eq_of_lt}
-use Rattle.std.proofs.Math.Nat.{div-eq_of_lt, div_self, mod_self}
-use Rattle.std.specs.Int.Bits.{xor_zero_r}
-use Rattle.std.proofs.lemmas.Nat.{xor_comm}
-use Rattle.hail_field.specs.Nim.{product, width, nim_add, nim_mul}
+use Rattle.hail_field.proofs.Words.{◌≡◌, ℕ, suc, ◌+◌, ◌*◌, ◌/◌, ◌%◌, ◌^◌, ◌<◌, refl, sym, ap, ap₂, ◌∙◌, bit_xor, arith, pow_pos, mod-eq_of_lt, div-eq_of_lt, div_self, mod_self, xor_zero_r, xor_comm, product, width, nim_add, nim_mul}
 use Rattle.hail_field.proofs.Tower.{unit, highest, none, ring_at}
 use Rattle.hail_field.proofs.Link.{number, number_add, number_none, number_unit, number_highest, square_of}
 use Rattle.hail_field.proofs.Products.{product_step, product_zero, zero_product, product_one, one_product, one-lt, half-lt}

@@ -1,16 +1,12 @@
 -- The products of all bytes of a number, looked up by the halves of each
-use Rattle.std.proofs.Common.{◌≡◌, ℕ, ◌+◌, ◌*◌, ◌/◌, ◌%◌, ◌^◌, ◌<◌, Bool, true, ◌==◌, List, length, map, get_or, replicate, bit_and, bit_xor, w8, Fits, refl, sym, ap, ap₂, ◌∙◌, arith, eqb-true, zero-add}
-use Rattle.std.specs.Int.{w128, to_le_bytes}
-use Rattle.std.proofs.lemmas.Nat.{and_le_r, and_mask, xor_comm}
-use Rattle.std.proofs.lemmas.List.{ext_get_or, length-map, get_or-map}
+use Rattle.hail_field.proofs.Words.{◌≡◌, ℕ, ◌+◌, ◌*◌, ◌/◌, ◌%◌, ◌^◌, ◌<◌, Bool, true, ◌==◌, List, length, map, get_or, replicate, bit_and, bit_xor, w8, Fits, refl, sym, ap, ap₂, ◌∙◌, arith, zero-add, w128, to_le_bytes, and_le_r, and_mask, xor_comm, ext_get_or, length-map, get_or-map, product, nim_mul, BY_16, MULTIPLES}
+use Rattle.std.proofs.Common.{eqb-true}
 use Rattle.std.proofs.lemmas.Simd.{Each1-all, Each1-weaker, Each1-zip2, Each1-get_or, Each2-splat, below_from_Fits, length-zip2, get_or-zip2, get_or-replicate, swz_l, SwzOk, SwzOk-from_below, length-swz_l, get_or-swz_l_below}
 use lib.Lanes.{zip2, Each1}
-use Rattle.hail_field.specs.Nim.{product, nim_mul}
 use Rattle.hail_field.proofs.Products.{product-lt}
 use Rattle.hail_field.proofs.AllNumbers.{nim_mul_at, nim_ring}
 use Rattle.hail_field.proofs.Table.{holds_below, at_each}
 use Rattle.hail_field.proofs.Bounds.{times_halves_first}
-use Rattle.hail_field.specs.declared.tables.TheConstants.{BY_16, MULTIPLES}
 
 -- the bytes of an entry
 abbrev pub row : ℕ → List ℕ

@@ -1,11 +1,5 @@
 -- The subfield of 256 acts on each byte of a number by itself
-use Rattle.std.proofs.Common.{◌≡◌, ℕ, zero, suc, ◌+◌, ◌-◌, ◌*◌, ◌/◌, ◌%◌, ◌^◌, ◌<◌, ◌≤◌, inl, inr, refl, sym, ap, ap₂, ◌∙◌, arith, map, pow-add, pow-suc, mul_assoc, div-one, mod-eq_of_lt, zero-add, ◌∷◌}
-use Rattle.std.specs.Int.{w128, byte_at, bytes_low_first, to_le_bytes, from_le_bytes}
-use Rattle.std.specs.Int.Bits.{xor_zero_r}
-use Rattle.std.proofs.Math.Nat.{div-div-eq-div-mul, add-mul-div_right, add-mul-mod_self_right, div-eq_of_lt}
-use Rattle.std.proofs.lemmas.Nat.{shr_split, mod_below}
-use Rattle.std.proofs.lemmas.Bool.{cases_lt}
-use Rattle.hail_field.specs.Nim.{product, width, nim_mul}
+use Rattle.hail_field.proofs.Words.{◌≡◌, ℕ, zero, suc, ◌+◌, ◌-◌, ◌*◌, ◌/◌, ◌%◌, ◌^◌, ◌<◌, ◌≤◌, inl, inr, refl, sym, ap, ap₂, ◌∙◌, arith, map, pow-add, pow-suc, mul_assoc, div-one, mod-eq_of_lt, zero-add, ◌∷◌, w128, byte_at, bytes_low_first, to_le_bytes, from_le_bytes, xor_zero_r, div-div-eq-div-mul, add-mul-div_right, add-mul-mod_self_right, div-eq_of_lt, shr_split, mod_below, cases_lt, product, width, nim_mul}
 use Rattle.hail_field.proofs.Joined.{high-lt, low-lt}
 use Rattle.hail_field.proofs.Products.{product_step, product-lt, product_zero, half-lt}
 use Rattle.hail_field.proofs.AllNumbers.{nim_mul_at, nim_mul-lt}

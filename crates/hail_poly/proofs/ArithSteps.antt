@@ -1,22 +1,6 @@
 -- The steps of the sum, the product and the division.
-use Rattle.std.proofs.Common.{◌≡◌, ◌≢◌, ◌≤◌, ◌<◌, ◌+◌, ◌++◌, [], ◌∷◌, ℕ, List, length, take, drop, get_or, replicate, add-one, refl, sym, ◌∙◌, ap, arith}
-use Rattle.std.proofs.lemmas.List.{get_or_read}
-use Rattle.std.proofs.Math.Seq.{take-length}
-use Rattle.algebra_laws.specs.Field.{Apart}
-use Rattle.algebra_laws.proofs.Ring.{zero_add, zero_mul, one_mul, add_mul}
-use Rattle.hail_field.specs.Nim.{nim, nim_add, nim_mul}
-use Rattle.hail_field.proofs.AllNumbers.{nim_laws, nim_ring, nim_endless}
-use Rattle.algebra_laws.specs.Poly.{value as value_over}
-use Rattle.algebra_laws.proofs.Trim.{value-trim, length-trim}
-use Rattle.algebra_laws.proofs.Values.{value-plus, value-scale, value-times}
-use Rattle.algebra_laws.proofs.Roots.{value-zero}
-use Rattle.algebra_laws.proofs.Interpolate.{interpolate_takes, length-interpolate}
-use Rattle.algebra_laws.proofs.Everywhere.{same_from_values}
-use Rattle.algebra_laws.proofs.Shifts.{shifted, value-added}
+use Rattle.hail_poly.proofs.Words.{◌≡◌, ◌≢◌, ◌≤◌, ◌<◌, ◌+◌, ◌++◌, [], ◌∷◌, ℕ, List, length, take, drop, get_or, replicate, add-one, refl, sym, ◌∙◌, ap, arith, get_or_read, take-length, Apart, zero_add, zero_mul, one_mul, add_mul, nim, nim_add, nim_mul, nim_laws, nim_ring, nim_endless, value_over, value-trim, length-trim, value-plus, value-scale, value-times, value-zero, interpolate_takes, length-interpolate, same_from_values, shifted, value-added, value, plus, scale, times, trim, interpolate, TakesSymbols, Reduces, IsDivision}
 use Rattle.algebra_laws.proofs.Places.{value-next, Takes-trim}
-use Rattle.code_defs.specs.Polynomials.{value, plus, scale, times, trim, interpolate, TakesSymbols}
-use Rattle.hail_poly.specs.Rows.{Reduces}
-use Rattle.hail_poly.specs.Quotient.{IsDivision}
 use Rattle.hail_poly.proofs.RowSteps.{Each-zeros, trim_trim}
 use Rattle.hail_poly.proofs.WorkSteps.{by_is}
 

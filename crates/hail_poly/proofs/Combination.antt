@@ -1,15 +1,6 @@
 -- What the first short row of Euclid's algorithm is: a multiple of each of the two polynomials that it began
 -- with.
-use Rattle.std.proofs.Common.{◌≡◌, ◌≤◌, [], ◌∷◌, ℕ, List, length, refl, sym, ◌∙◌, ap}
-use Rattle.algebra_laws.proofs.Solve.{v, o, i, ◌⊞◌, ◌⊡◌, solve}
-use Rattle.hail_field.specs.Nim.{nim, nim_add, nim_mul}
-use Rattle.hail_field.proofs.AllNumbers.{nim_laws, nim_ring}
-use Rattle.algebra_laws.specs.Poly.{value as value_over, FirstRow, here, next}
-use Rattle.algebra_laws.proofs.Trim.{value-trim}
-use Rattle.algebra_laws.proofs.Values.{value-plus, value-times}
-use Rattle.code_defs.specs.Polynomials.{value, plus, times}
-use Rattle.code_defs.proofs.Values.{value-constant}
-use Rattle.hail_poly.specs.Quotient.{IsCombination}
+use Rattle.hail_poly.proofs.Words.{◌≡◌, ◌≤◌, [], ◌∷◌, ℕ, List, length, refl, sym, ◌∙◌, ap, v, o, i, ◌⊞◌, ◌⊡◌, solve, nim, nim_add, nim_mul, nim_laws, nim_ring, value_over, FirstRow, here, next, value-trim, value-plus, value-times, value, plus, times, value-constant, IsCombination}
 
 -- the first short row is short
 pub row_below : {below : ℕ} {r0 f0 r1 f1 r f : List ℕ} → FirstRow nim below r0 f0 r1 f1 r f → length r ≤ below

@@ -1,10 +1,5 @@
 -- The steps of `agreements`.
-use Rattle.std.proofs.Common.{◌≡◌, ◌≤◌, ◌<◌, ◌+◌, ℕ, List, length, drop, map, get_or, add-one, Some, cond, Bool, sym, ◌∙◌, ap, arith}
-use Rattle.std.proofs.lemmas.List.{get_or_read, length-map, get_or-map}
-use Rattle.hail_field.specs.Nim.{nim}
-use Rattle.algebra_laws.proofs.Steps.{agree_drop, agree_past}
-use Rattle.code_defs.specs.Polynomials.{value, agree, is_seen}
-use Rattle.hail_poly.specs.Decoding.{matches}
+use Rattle.hail_poly.proofs.Words.{◌≡◌, ◌≤◌, ◌<◌, ◌+◌, ℕ, List, length, drop, map, get_or, add-one, Some, cond, Bool, sym, ◌∙◌, ap, arith, get_or_read, length-map, get_or-map, nim, agree_drop, agree_past, value, agree, is_seen, matches}
 
 -- one point more
 pub agree_more : (p xs ys : List ℕ) (k x y v count : ℕ) (b : Bool) → k < length xs → length xs ≡ length ys →

@@ -1,18 +1,6 @@
 -- What a decoder concludes of the row that `euclid` found after `load`, and of what `divide` answered.
-use Rattle.std.proofs.Common.{◌≡◌, ◌≢◌, ◌≤◌, ◌<◌, ◌+◌, ◌*◌, [], ◌∷◌, ℕ, List, length, refl, sym, ◌∙◌, subst, arith}
-use Rattle.algebra_laws.specs.Lists.{Each}
-use Rattle.algebra_laws.specs.Field.{Apart}
-use Rattle.hail_field.specs.Nim.{nim}
-use Rattle.hail_field.proofs.AllNumbers.{nim_laws, nim_endless}
-use Rattle.algebra_laws.specs.Poly.{FirstRow, Decodes}
-use Rattle.algebra_laws.proofs.Interpolate.{length-vanish, length-interpolate}
-use Rattle.algebra_laws.proofs.Trim.{length-trim}
-use Rattle.algebra_laws.proofs.Everywhere.{same_from_values}
-use Rattle.algebra_laws.proofs.Euclid.{key_row, factor_not_zero}
+use Rattle.hail_poly.proofs.Words.{◌≡◌, ◌≢◌, ◌≤◌, ◌<◌, ◌+◌, ◌*◌, [], ◌∷◌, ℕ, List, length, refl, sym, ◌∙◌, subst, arith, Each, Apart, nim, nim_laws, nim_endless, FirstRow, Decodes, length-vanish, length-interpolate, length-trim, same_from_values, key_row, factor_not_zero, vanish, interpolate, trim, Registers, IsLoaded, IsQuotient, HasNoQuotient}
 use Rattle.algebra_laws.proofs.Decode.{first_rows, decode_exact}
-use Rattle.code_defs.specs.Polynomials.{vanish, interpolate, trim}
-use Rattle.hail_poly.specs.Registers.{Registers, IsLoaded}
-use Rattle.hail_poly.specs.Quotient.{IsQuotient, HasNoQuotient}
 
 -- 1 is not 0
 one_not_zero : ◌≡◌ {A = ℕ} 1 0 → ⊥

@@ -1,17 +1,5 @@
 -- A division has one quotient and one remainder.
-use Rattle.std.proofs.Common.{◌≡◌, [], ◌∷◌, ℕ, List, refl, sym, ◌∙◌, ap, arith}
-use Rattle.algebra_laws.proofs.Ring.{sum_zero}
-use Rattle.algebra_laws.proofs.Solve.{v, ◌⊞◌, ◌⊡◌, solve}
-use Rattle.hail_field.specs.Nim.{nim, nim_add, nim_mul}
-use Rattle.hail_field.proofs.AllNumbers.{nim_laws, nim_ring, nim_endless}
-use Rattle.algebra_laws.specs.Poly.{value as value_over}
-use Rattle.algebra_laws.proofs.Trim.{value-trim, length-trim}
-use Rattle.algebra_laws.proofs.Values.{value-plus, value-times}
-use Rattle.algebra_laws.proofs.Roots.{length-plus}
-use Rattle.algebra_laws.proofs.Everywhere.{same_from_values}
-use Rattle.algebra_laws.proofs.Degree.{product_not_shorter}
-use Rattle.code_defs.specs.Polynomials.{value, plus, times, trim}
-use Rattle.hail_poly.specs.Quotient.{IsDivision}
+use Rattle.hail_poly.proofs.Words.{◌≡◌, [], ◌∷◌, ℕ, List, refl, sym, ◌∙◌, ap, arith, sum_zero, v, ◌⊞◌, ◌⊡◌, solve, nim, nim_add, nim_mul, nim_laws, nim_ring, nim_endless, value_over, value-trim, length-trim, value-plus, value-times, length-plus, same_from_values, product_not_shorter, value, plus, times, trim, IsDivision}
 use Rattle.hail_poly.proofs.EuclidSteps.{lead_of}
 use Rattle.hail_poly.proofs.RowSteps.{trim_trim}
 

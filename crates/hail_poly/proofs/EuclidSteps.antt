@@ -1,20 +1,6 @@
-use Rattle.std.proofs.Common.{◌≡◌, ◌≢◌, ◌≤◌, ◌<◌, ◌+◌, ◌-◌, ◌++◌, [], ◌∷◌, ℕ, suc, List, length, drop, take, get_or, refl, sym, ◌∙◌, ap, arith, Option, Some, IfSome}
-use Rattle.std.proofs.lemmas.List.{take_more, length-append, length-take, length-drop, get_or_read}
-use Rattle.std.proofs.Math.Seq.{take-take, take-length, take-append_seam}
+use Rattle.hail_poly.proofs.Words.{◌≡◌, ◌≢◌, ◌≤◌, ◌<◌, ◌+◌, ◌-◌, ◌++◌, [], ◌∷◌, ℕ, suc, List, length, drop, take, get_or, refl, sym, ◌∙◌, ap, arith, Option, Some, IfSome, take_more, length-append, length-take, length-drop, get_or_read, take-take, take-length, take-append_seam, nim, nim_add, nim_mul, nim_inv, trim, value, plus, scale, Reduces, nim_laws, nim_endless, zero_add, zero_mul, trim-zero_last, value-trim, length-trim, value_over, times_over, FirstRow, next, same_from_values, value-plus, value-times, length-plus, length-scale, length-times, shifted, length-shifted, value-added, take-added, get_or-added, reduce_rest}
 use Rattle.hail_poly.proofs.TrimSteps.{last_of}
-use Rattle.hail_field.specs.Nim.{nim, nim_add, nim_mul, nim_inv}
-use Rattle.code_defs.specs.Polynomials.{trim, value, plus, scale}
-use Rattle.hail_poly.specs.Rows.{Reduces}
-use Rattle.hail_field.proofs.AllNumbers.{nim_laws, nim_endless}
-use Rattle.algebra_laws.proofs.Ring.{zero_add, zero_mul}
-use Rattle.algebra_laws.proofs.Trim.{trim-zero_last, value-trim, length-trim}
-use Rattle.algebra_laws.specs.Poly.{value as value_over, times as times_over, FirstRow, next}
-use Rattle.algebra_laws.proofs.Everywhere.{same_from_values}
-use Rattle.algebra_laws.proofs.Values.{value-plus, value-times}
-use Rattle.algebra_laws.proofs.Roots.{length-plus}
 use Rattle.algebra_laws.proofs.Division.{get_or-scale}
-use Rattle.algebra_laws.proofs.Interpolate.{length-scale, length-times}
-use Rattle.algebra_laws.proofs.Shifts.{shifted, length-shifted, value-added, take-added, get_or-added, reduce_rest}
 
 -- the first coefficients less the last, which is zero
 cut : (p : List ℕ) (n m x : ℕ) → n < m → m ≡ n + 1 → m ≤ length p → get_or p n 0 ≡ 0 →

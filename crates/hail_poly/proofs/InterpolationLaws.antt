@@ -1,15 +1,8 @@
 -- Interpolation gives a polynomial back from its values.
-use Rattle.std.proofs.Common.{◌≡◌, ◌≤◌, [], ◌∷◌, ℕ, List, length, take, refl, sym, ◌∙◌, arith}
-use Rattle.std.proofs.lemmas.List.{length-map, length-take-le}
-use Rattle.algebra_laws.specs.Field.{Apart}
+use Rattle.hail_poly.proofs.Words.{◌≡◌, ◌≤◌, [], ◌∷◌, ℕ, List, length, take, refl, sym, ◌∙◌, arith, length-map, length-take-le, Apart, nim, nim_laws, value-trim, interpolate_takes, length-interpolate, value, interpolate, trim, TakesSymbols}
 use Rattle.algebra_laws.proofs.Apart.{Apart-take}
-use Rattle.hail_field.specs.Nim.{nim}
-use Rattle.hail_field.proofs.AllNumbers.{nim_laws}
 use Rattle.algebra_laws.proofs.Headlines.{one_takes}
-use Rattle.algebra_laws.proofs.Trim.{value-trim}
-use Rattle.algebra_laws.proofs.Interpolate.{interpolate_takes, length-interpolate}
 use Rattle.code_defs.specs.Points.{values_at}
-use Rattle.code_defs.specs.Polynomials.{value, interpolate, trim, TakesSymbols}
 
 -- a polynomial takes its values
 pub takes_values : (p xs : List ℕ) → TakesSymbols p xs (values_at xs p)

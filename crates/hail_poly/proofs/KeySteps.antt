@@ -1,13 +1,6 @@
 -- The steps of `load_key`.
-use Rattle.std.proofs.Common.{◌≡◌, ◌≤◌, ◌<◌, ◌+◌, ◌++◌, [], ◌∷◌, ℕ, List, length, take, set, replicate, reverse, sym, ◌∙◌, ap, refl, arith}
-use Rattle.std.proofs.lemmas.List.{take_more_set, take-replicate, length-replicate, length-append, length-reverse}
-use Rattle.std.proofs.Math.Seq.{take-append_seam}
-use Rattle.hail_field.specs.Nim.{nim}
-use Rattle.hail_field.proofs.AllNumbers.{nim_laws}
-use Rattle.algebra_laws.proofs.Trim.{trim-last, length-trim}
-use Rattle.code_defs.specs.Polynomials.{trim}
+use Rattle.hail_poly.proofs.Words.{◌≡◌, ◌≤◌, ◌<◌, ◌+◌, ◌++◌, [], ◌∷◌, ℕ, List, length, take, set, replicate, reverse, sym, ◌∙◌, ap, refl, arith, take_more_set, take-replicate, length-replicate, length-append, length-reverse, take-append_seam, nim, nim_laws, trim-last, length-trim, trim, Registers, IsLoaded}
 use Rattle.hail_poly.specs.Key.{power, key}
-use Rattle.hail_poly.specs.Registers.{Registers, IsLoaded}
 
 -- a 1 behind zeros is a power of x
 pub power_made : (zeros : List ℕ) (n m : ℕ) → zeros ≡ replicate m 0 → n < m →

@@ -1,15 +1,7 @@
 -- The steps of interpolate_into.
-use Rattle.std.proofs.Common.{◌≡◌, ◌≢◌, ◌≤◌, ◌<◌, ◌+◌, ◌-◌, ◌++◌, [], ◌∷◌, ℕ, zero, suc, List, length, drop, take, set, get_or, add-one, refl, sym, ◌∙◌, ap, subst, arith}
-use Rattle.std.proofs.lemmas.List.{take_more_set, drop_all, drop_more, length-append, length-drop}
-use Rattle.algebra_laws.specs.Lists.{Each}
+use Rattle.hail_poly.proofs.Words.{◌≡◌, ◌≢◌, ◌≤◌, ◌<◌, ◌+◌, ◌-◌, ◌++◌, [], ◌∷◌, ℕ, zero, suc, List, length, drop, take, set, get_or, add-one, refl, sym, ◌∙◌, ap, subst, arith, take_more_set, drop_all, drop_more, length-append, length-drop, Each, nim, nim_add, nim_mul, nim_inv, value, plus, scale, root_times, vanish, interpolate, nim_laws, Apart, vanish_over, interpolate_over, vanish_else}
 use Rattle.algebra_laws.proofs.Lists.{take-front}
-use Rattle.hail_field.specs.Nim.{nim, nim_add, nim_mul, nim_inv}
-use Rattle.code_defs.specs.Polynomials.{value, plus, scale, root_times, vanish, interpolate}
-use Rattle.hail_field.proofs.AllNumbers.{nim_laws}
-use Rattle.algebra_laws.specs.Field.{Apart}
-use Rattle.algebra_laws.specs.Poly.{vanish as vanish_over, interpolate as interpolate_over}
 use Rattle.algebra_laws.proofs.Loading.{vanish_step, interpolate_step}
-use Rattle.algebra_laws.proofs.Interpolate.{vanish_else}
 
 -- one point more in the product
 pub whole_step : (points whole part : List ℕ) (done x last : ℕ) → done < length points →

@@ -1,15 +1,5 @@
 -- The steps of the methods of a row.
-use Rattle.std.proofs.Common.{◌≡◌, ◌<◌, [], ◌∷◌, ℕ, zero, suc, List, length, take, set, replicate, refl, sym, ◌∙◌, ap, arith}
-use Rattle.std.proofs.lemmas.List.{length-replicate}
-use Rattle.algebra_laws.specs.Lists.{Each}
-use Rattle.hail_field.specs.Nim.{nim}
-use Rattle.hail_field.proofs.AllNumbers.{nim_laws, nim_endless}
-use Rattle.algebra_laws.specs.Poly.{trim as trim_over, front}
-use Rattle.algebra_laws.proofs.Trim.{trim-zero, trim-last, value-trim}
-use Rattle.algebra_laws.proofs.Everywhere.{same_from_values}
-use Rattle.algebra_laws.proofs.Euclid.{vanish-monic}
-use Rattle.code_defs.specs.Polynomials.{trim, vanish}
-use Rattle.hail_poly.specs.RowState.{IsDivisionRow}
+use Rattle.hail_poly.proofs.Words.{◌≡◌, ◌<◌, [], ◌∷◌, ℕ, zero, suc, List, length, take, set, replicate, refl, sym, ◌∙◌, ap, arith, length-replicate, Each, nim, nim_laws, nim_endless, trim_over, front, trim-zero, trim-last, value-trim, same_from_values, vanish-monic, trim, vanish, IsDivisionRow}
 
 -- zeros are zeros
 pub Each-zeros : (n : ℕ) → Each (λ (a : ℕ). a ≡ 0) (replicate n 0)

@@ -1,7 +1,4 @@
-use Rattle.std.proofs.Common.{◌≡◌, ◌≤◌, ◌<◌, ◌+◌, ◌++◌, [], ◌∷◌, ℕ, List, length, drop, take, set, get_or, add-one}
-use Rattle.hail_field.specs.Nim.{nim, nim_add, nim_mul}
-use Rattle.code_defs.specs.Polynomials.{value, plus, scale, root_times}
-use Rattle.algebra_laws.proofs.Steps.{value-drop, value-past, add_scaled_step as step_add_scaled, add_scaled_end as end_add_scaled, root_times_step as step_root_times, root_times_end as end_root_times}
+use Rattle.hail_poly.proofs.Words.{◌≡◌, ◌≤◌, ◌<◌, ◌+◌, ◌++◌, [], ◌∷◌, ℕ, List, length, drop, take, set, get_or, add-one, nim, nim_add, nim_mul, value, plus, scale, root_times, value-drop, value-past, step_add_scaled, end_add_scaled, step_root_times, end_root_times}
 
 -- one coefficient more in the value
 pub value_step : (p : List ℕ) (k x : ℕ) → k < length p →

@@ -1,10 +1,4 @@
-use Rattle.std.proofs.Common.{◌≡◌, ◌≢◌, ◌≤◌, ◌<◌, ◌+◌, ◌-◌, ◌++◌, [], ◌∷◌, ℕ, zero, suc, List, length, take, get_or, refl, arith}
-use Rattle.std.proofs.lemmas.List.{take_more}
-use Rattle.hail_field.specs.Nim.{nim}
-use Rattle.code_defs.specs.Polynomials.{trim}
-use Rattle.hail_field.proofs.AllNumbers.{nim_laws}
-use Rattle.algebra_laws.proofs.Trim.{trim-zero_last, trim-last}
-use Rattle.algebra_laws.specs.Poly.{trim as trim_over}
+use Rattle.hail_poly.proofs.Words.{◌≡◌, ◌≢◌, ◌≤◌, ◌<◌, ◌+◌, ◌-◌, ◌++◌, [], ◌∷◌, ℕ, zero, suc, List, length, take, get_or, refl, arith, take_more, nim, trim, nim_laws, trim-zero_last, trim-last, trim_over}
 
 -- the last coefficient apart
 pub last_of : (p : List ℕ) (n : ℕ) → 0 < n → n ≤ length p →

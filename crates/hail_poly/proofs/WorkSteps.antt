@@ -1,18 +1,5 @@
 -- The steps of the methods of a Work.
-use Rattle.std.proofs.Common.{◌≡◌, ◌≤◌, ◌<◌, [], ◌∷◌, ℕ, List, length, refl, sym, ◌∙◌, ap, arith}
-use Rattle.algebra_laws.proofs.Ring.{sum_zero}
-use Rattle.algebra_laws.proofs.Solve.{v, o, i, ◌⊞◌, ◌⊡◌, solve}
-use Rattle.hail_field.specs.Nim.{nim, nim_add, nim_mul}
-use Rattle.hail_field.proofs.AllNumbers.{nim_laws, nim_ring, nim_endless}
-use Rattle.algebra_laws.specs.Poly.{value as value_over, trim as trim_over}
-use Rattle.algebra_laws.proofs.Trim.{value-trim}
-use Rattle.algebra_laws.proofs.Values.{value-plus, value-times}
-use Rattle.algebra_laws.proofs.Everywhere.{same_from_values}
-use Rattle.algebra_laws.proofs.Degree.{product_not_shorter}
-use Rattle.code_defs.specs.Polynomials.{value, plus, times, trim}
-use Rattle.code_defs.proofs.Values.{value-constant}
-use Rattle.hail_poly.specs.Rows.{Reduces}
-use Rattle.hail_poly.specs.Quotient.{IsProduct, IsQuotient, HasNoQuotient}
+use Rattle.hail_poly.proofs.Words.{◌≡◌, ◌≤◌, ◌<◌, [], ◌∷◌, ℕ, List, length, refl, sym, ◌∙◌, ap, arith, sum_zero, v, o, i, ◌⊞◌, ◌⊡◌, solve, nim, nim_add, nim_mul, nim_laws, nim_ring, nim_endless, value_over, trim_over, value-trim, value-plus, value-times, same_from_values, product_not_shorter, value, plus, times, trim, value-constant, Reduces, IsProduct, IsQuotient, HasNoQuotient}
 use Rattle.hail_poly.proofs.EuclidSteps.{lead_of}
 use Rattle.hail_poly.proofs.RowSteps.{trim_trim}
 

@@ -1,29 +1,11 @@
 -- What each call of the client keeps, whatever the devices hold.
-use Rattle.std.proofs.Common.{◌≡◌, ℕ, ◌≤◌, true, false, List, [], ◌∷◌, ◌++◌, length, Option, Some, None, Result, Ok, Err, inl, inr, refl, sym, ◌∙◌, arith}
-use Rattle.std.specs.Prelude.{OnOk, is_ok, is_some}
-use Rattle.std.proofs.lemmas.Bool.{cases_Bool, false≢true}
-use Rattle.device_defs.specs.Cells.{Cells}
-use Rattle.device_defs.specs.Providers.{Provider}
-use Rattle.machine_defs.specs.Events.{Event, Step, Outcome}
-use Rattle.machine_defs.specs.Machine.{Happens}
-use Rattle.machine_defs.specs.Runs.{Moment, now}
-use Rattle.machine_defs.specs.States.{State}
-use Rattle.second_half_laws.proofs.Onward.{onward}
-use Rattle.vault.specs.declared.vault.Vault.{Vault}
-use Rattle.vault_open.specs.Devices.{Devices, devices}
-use Rattle.hail_client.specs.declared.client.Client.{Client}
+use Rattle.hail_replay.proofs.Words.{◌≡◌, ℕ, ◌≤◌, true, false, List, [], ◌∷◌, ◌++◌, length, Option, Some, None, Result, Ok, Err, inl, inr, refl, sym, ◌∙◌, arith, OnOk, is_ok, is_some, cases_Bool, false≢true, Cells, Provider, Event, Step, Outcome, Happens, Moment, now, State, onward, Vault, Devices, devices, Client, ClientTurn, is_open, client_next_job, next_job_by, uses, uses_by, client_coming, coming_by, IsSame, IsSameVault, ClientStands, MakesEvent, IsStanding, IsReached, RunsJobOn, OpensOver, IsNoJob, StandsWhereOpen, NoCountFell, KeepsStanding, devices-of, next-of, enough-of}
 use Rattle.hail_client.specs.declared.alone.Alone.{Alone}
-use Rattle.hail_client.specs.declared.turn.ClientTurn.{ClientTurn}
 use Rattle.hail_client.specs.declared.fault.ReopenFault.{ReopenFault}
-use Rattle.hail_client.specs.Client.{is_open, client_next_job, next_job_by, uses, uses_by, client_coming, coming_by, IsSame, IsSameVault}
-use Rattle.hail_client.specs.Stands.{ClientStands, MakesEvent, IsStanding, IsReached, RunsJobOn, OpensOver}
-use Rattle.vault_core.specs.Coming.{IsNoJob}
-use Rattle.hail_replay.specs.Performed.{StandsWhereOpen, NoCountFell, KeepsStanding}
 use Rattle.hail_replay.proofs.Same.{Same, OneMore, steps, both, going, step_of}
 use Rattle.hail_replay.proofs.Counts.{none-fell, fell, onward-over}
 use Rattle.hail_replay.proofs.Behind.{open-same}
 use Rattle.hail_replay.proofs.Standing.{standing-closed}
-use Rattle.hail_client.proofs.Standing.{devices-of, next-of, enough-of}
 
 -- client and devices stand for a state, here or, where no vault is open, elsewhere
 record Somewhere (c : Client) (d : Devices) : Type 0 where

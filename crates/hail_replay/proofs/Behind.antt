@@ -1,28 +1,10 @@
 -- One event more behind a run.
-use Rattle.std.proofs.Common.{◌≡◌, ℕ, ◌<◌, ◌^◌, false, List, [], ◌∷◌, ◌++◌, length, Option, Some, None, refl, ap₂, sym, subst, ◌∙◌}
-use Rattle.std.specs.Prelude.{IfSome}
-use Rattle.std.proofs.lemmas.List.{append-nil}
-use Rattle.machine_defs.specs.Events.{Event, Step, Outcome, More, Closed}
-use Rattle.machine_defs.specs.Heard.{Entry, heard_by, heard_at, heard_in, reported_after}
-use Rattle.machine_defs.specs.Jobs.{job_of}
-use Rattle.machine_defs.specs.Runs.{Moment, now}
-use Rattle.machine_defs.specs.States.{State}
-use Rattle.machine_defs.specs.Steps.{Steps}
-use Rattle.machine_defs.specs.Transcripts.{Once, RunJob, GoOn}
+use Rattle.hail_replay.proofs.Words.{◌≡◌, ℕ, ◌<◌, ◌^◌, false, List, [], ◌∷◌, ◌++◌, length, Option, Some, None, refl, ap₂, sym, subst, ◌∙◌, IfSome, append-nil, Event, Step, Outcome, More, Closed, Entry, heard_by, heard_at, heard_in, reported_after, job_of, Moment, now, State, Steps, Once, RunJob, GoOn, Devices, Client, ClientTurn, is_open, step_outcome, HeardIs, ClientStands, MakesEvent, IsReached, RunsJobOn, open-of, Came, outcome_in, heard_in_turn, heard_in_came, Performs}
 use Rattle.vault.specs.declared.turn.Turn.TheVariants as turn
-use Rattle.vault_open.specs.Devices.{Devices}
 use Rattle.hail_scrub.specs.declared.turn.ScrubTurn.TheVariants as scrubs
-use Rattle.hail_client.specs.declared.client.Client.{Client}
-use Rattle.hail_client.specs.declared.turn.ClientTurn.{ClientTurn}
 use Rattle.hail_client.specs.declared.turn.ClientTurn.TheVariants as turns
 use Rattle.hail_client.specs.declared.turn.PackStep.TheVariants as packs
-use Rattle.hail_client.specs.Client.{is_open}
-use Rattle.hail_client.specs.Outcomes.{step_outcome, HeardIs}
-use Rattle.hail_client.specs.Stands.{ClientStands, MakesEvent, IsReached, RunsJobOn}
-use Rattle.hail_client.proofs.Standing.{open-of}
-use Rattle.hail_replay.specs.declared.came.Came.{Came}
 use Rattle.hail_replay.specs.declared.came.Came.TheVariants as came
-use Rattle.hail_replay.specs.Performed.{outcome_in, heard_in_turn, heard_in_came, Performs}
 
 -- what is heard after a step is what was heard, and what its job heard
 after-step : (w : State) (es : List Entry) (job : ℕ) (e : Event) (r q : Outcome) → e ≡ Step job → r ≡ q →

@@ -1,13 +1,5 @@
 -- No count of faults falls, and no provider comes or goes.
-use Rattle.std.proofs.Common.{◌≡◌, ℕ, zero, suc, ◌<◌, List, [], ◌∷◌, length, Some, refl, sym, subst, ◌∙◌, arith}
-use Rattle.std.specs.Prelude.{slice_get, unwrap_or}
-use Rattle.device_defs.specs.Providers.{Provider}
-use Rattle.command_defs.specs.Seen.{provider_at, nobody}
-use Rattle.machine_defs.specs.Runs.{Moment, now, IsRun}
-use Rattle.machine_defs.specs.States.{State}
-use Rattle.second_half_laws.proofs.Onward.{Onward, AllOnward, run_onward}
-use Rattle.vault_open.specs.Devices.{Devices, AreDevices}
-use Rattle.hail_replay.specs.Performed.{NoCountFell}
+use Rattle.hail_replay.proofs.Words.{◌≡◌, ℕ, zero, suc, ◌<◌, List, [], ◌∷◌, length, Some, refl, sym, subst, ◌∙◌, arith, slice_get, unwrap_or, Provider, provider_at, nobody, Moment, now, IsRun, State, Onward, AllOnward, run_onward, Devices, AreDevices, NoCountFell}
 
 -- where nothing is done no count fell
 pub none-fell : (d : Devices) → NoCountFell d d

@@ -1,30 +1,10 @@
 -- A replay and a trial, event by event.
-use Rattle.std.proofs.Common.{◌≡◌, ℕ, ◌≤◌, List, [], ◌∷◌, ◌++◌, reverse, Option, Result, Ok, Err, refl, ap, sym, subst, ◌∙◌}
-use Rattle.std.specs.Prelude.{OnOk, OnErr}
-use Rattle.std.proofs.lemmas.List.{append_assoc, reverse-append}
-use Rattle.command_defs.specs.Sinking.{WritesLine}
-use Rattle.headline.proofs.Parts.{headline}
-use Rattle.second_half_laws.proofs.Failed.{failures_rose}
-use Rattle.machine_defs.specs.Heard.{Entry, heard_in}
-use Rattle.machine_defs.specs.Lines.{lines_of}
-use Rattle.machine_defs.specs.Runs.{Moment, now}
-use Rattle.machine_defs.specs.States.{State, continued}
-use Rattle.machine_defs.specs.Transcripts.{Instruction, Once, RunJob, GoOn, CarriesOut}
+use Rattle.hail_replay.proofs.Words.{◌≡◌, ℕ, ◌≤◌, List, [], ◌∷◌, ◌++◌, Option, Result, Ok, Err, refl, ap, sym, subst, ◌∙◌, OnOk, OnErr, reverse-append, WritesLine, headline, failures_rose, Entry, heard_in, lines_of, Moment, now, State, continued, Instruction, Once, RunJob, GoOn, CarriesOut, TrialCounts, table_tolerance, SeesOne, Devices, AreDevices, Client, names_of, ClientStands, IsReached, Came, AreLeft, called_behind, outcome_in, heard_in_came, AreMomentsOf, Performs, CarriesOn, HasCome, HasDone, HasRun, HasCounted, devices-of}
+use Rattle.std.proofs.Common.{reverse}
+use Rattle.std.proofs.lemmas.List.{append_assoc}
 use Rattle.state_laws.specs.Sound.{IsSound}
-use Rattle.hail_replay.specs.Counts.{TrialCounts, table_tolerance}
-use Rattle.hail_replay.specs.Seen.{SeesOne}
-use Rattle.vault_open.specs.Devices.{Devices, AreDevices}
-use Rattle.hail_client.specs.declared.client.Client.{Client}
-use Rattle.hail_client.specs.Client.{names_of}
-use Rattle.hail_client.specs.Stands.{ClientStands, IsReached}
-use Rattle.hail_replay.specs.declared.came.Came.{Came}
-use Rattle.hail_replay.specs.Starts.{AreLeft, called_behind}
-use Rattle.hail_replay.specs.Performed.{outcome_in, heard_in_came, AreMomentsOf, Performs}
-use Rattle.hail_replay.specs.Replayed.{CarriesOn}
-use Rattle.hail_replay.specs.UnderWay.{HasCome, HasDone, HasRun, HasCounted}
 use Rattle.hail_replay.proofs.Judged.{judged}
 use Rattle.hail_replay.proofs.Wrote.{sank, written-on, behind-others}
-use Rattle.hail_client.proofs.Standing.{devices-of}
 
 module _ (start : State) (base : List Moment) where
   -- the moments of one command more carry it out

@@ -1,8 +1,6 @@
 -- Bytes in hexadecimal: the digits of the table are those of the definition.
-use Rattle.std.proofs.Common.{◌≡◌, ℕ, zero, suc, inl, inr, ◌/◌, ◌%◌, ◌<◌, ◌==◌, ◌&&◌, Bool, true, List, [], ◌∷◌, slice_index, refl, arith}
-use Rattle.std.proofs.lemmas.Bool.{and_parts, cases_lt, eqb-true}
+use Rattle.hail_replay.proofs.Words.{◌≡◌, ℕ, zero, suc, inl, inr, ◌/◌, ◌%◌, ◌<◌, ◌==◌, ◌&&◌, Bool, true, List, [], ◌∷◌, slice_index, refl, arith, and_parts, cases_lt, eqb-true, hex_digit, hex}
 use Rattle.hex.specs.Hex.{encode_with, lower_digits}
-use Rattle.machine_defs.specs.Lines.{hex_digit, hex}
 
 -- the digits below a bound are those of the definition
 abbrev same_below : ℕ → Bool

@@ -1,25 +1,10 @@
 -- A replay and a trial end well where nothing is amiss; and instances of both.
-use Rattle.std.proofs.Common.{◌≡◌, ◌⊎◌, ℕ, ◌+◌, ◌≤◌, ◌<◌, List, [], ◌∷◌, ◌++◌, length, Option, Some, None, refl, ap, sym, subst, ◌∙◌, inl, inr, arith}
+use Rattle.hail_replay.proofs.Words.{◌≡◌, ◌⊎◌, ℕ, ◌+◌, ◌≤◌, ◌<◌, List, [], ◌∷◌, ◌++◌, length, Option, Some, None, refl, ap, sym, subst, ◌∙◌, inl, inr, arith, append-nil, length-append, then_told, Seen, Ending, ReadsUpTo, sinking, headline, failures_rose, Step, Names, Closed, lines_of, Moment, now, IsRun, State, continued, Instruction, Once, RunJob, CarriesOut, longest_schedule, trial_providers, devices_of_seen, CarriedOut, AnswersReplay, AnswersTrial, trial_bytes, trial_commands, counts_of, trial_lines, Replays, AreLeft, called_behind}
 use Rattle.std.specs.Prelude.{reverse}
-use Rattle.std.proofs.lemmas.List.{append-nil, length-append}
 use Rattle.device_defs.specs.Faults.{Rose}
-use Rattle.device_defs.specs.Told.{then_told}
-use Rattle.command_defs.specs.Seen.{Seen, Ending, ReadsUpTo, sinking}
-use Rattle.headline.proofs.Parts.{headline}
-use Rattle.second_half_laws.proofs.Failed.{failures_rose}
-use Rattle.machine_defs.specs.Events.{Step, Names, Closed}
-use Rattle.machine_defs.specs.Lines.{lines_of}
-use Rattle.machine_defs.specs.Runs.{Moment, now, IsRun}
-use Rattle.machine_defs.specs.States.{State, continued}
-use Rattle.machine_defs.specs.Transcripts.{Instruction, Once, RunJob, CarriesOut}
 use Rattle.schedule_text.specs.Schedules.{IsSchedule, IsFirstBadLine}
-use Rattle.hail_replay.specs.Answers.{longest_schedule, trial_providers, devices_of_seen, CarriedOut, AnswersReplay, AnswersTrial}
-use Rattle.trial_maker.specs.Trials.{trial_bytes, trial_commands}
-use Rattle.hail_replay.specs.Counts.{counts_of, trial_lines}
 use Rattle.hail_replay.specs.TrialLines.{TellsTrial}
 use Rattle.hail_replay.specs.Examples.{list_text, list_commands, list_written, list_before, list_behind, trial_seen, ended_with, closed_moments}
-use Rattle.hail_replay.specs.Replayed.{Replays}
-use Rattle.hail_replay.specs.Starts.{AreLeft, called_behind}
 use Rattle.hail_replay.proofs.Loops.{continued-devices}
 
 -- ---- what was read

@@ -1,9 +1,7 @@
 -- Flagged providers: one provider more.
-use Rattle.std.proofs.Common.{◌≡◌, ℕ, ◌+◌, ◌<◌, ◌≤◌, List, [], ◌∷◌, ◌++◌, length, take, get_or, refl, sym, ap, ◌∙◌, append_assoc, arith}
-use Rattle.std.proofs.lemmas.List.{take_more, append-nil, length-take-le}
-use Rattle.std.proofs.lemmas.Bool.{lt-ltb}
+use Rattle.hail_replay.proofs.Words.{◌≡◌, ℕ, ◌+◌, ◌<◌, ◌≤◌, List, [], ◌∷◌, ◌++◌, length, take, get_or, refl, sym, ap, ◌∙◌, arith, take_more, append-nil, length-take-le, lt-ltb, flag_of, flagged_from}
+use Rattle.std.proofs.Common.{append_assoc}
 use Rattle.std.proofs.lemmas.Bool.Decides.{nat_tests}
-use Rattle.hail_replay.specs.Counts.{flag_of, flagged_from}
 
 -- one provider more, behind others
 flagged_from-snoc : (t j : ℕ) (counts : List ℕ) (count : ℕ) →

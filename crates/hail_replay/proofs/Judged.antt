@@ -1,32 +1,15 @@
 -- An audit that ended leaves its vault open, and the vault's table has the setup by which it flags.
-use Rattle.std.proofs.Common.{◌≡◌, ℕ, Bool, true, false, List, ◌∷◌, length, Option, Some, None, refl, ap, sym, subst, ◌∙◌}
-use Rattle.std.specs.Prelude.{IsSome, nat_lt}
+use Rattle.hail_replay.proofs.Words.{◌≡◌, ℕ, Bool, true, false, List, ◌∷◌, length, Option, Some, None, refl, ap, sym, subst, ◌∙◌, IsSome, nat_lt, false≢true, Held, without_block, with_symbol, HasPlace, unalone, Event, Init, Begin, BeginAt, BeginScrub, BeginPack, Step, Alter, Lose, Stop, Reopen, Names, Continue, Outcome, Ended, Lists, Happens, ReplacesIf, Moment, now, State, setup_in, Steps, Vault, Devices, Client, names_of, StandsBy, IsReached, flagged_by, table_tolerance, FlagsBy}
 use Rattle.std.specs.Option.{option_map}
-use Rattle.std.proofs.lemmas.Bool.{false≢true}
-use Rattle.device_defs.specs.Providers.{Held, without_block, with_symbol, HasPlace}
 use Rattle.record_defs.specs.Records.{Setup, is_setup}
-use Rattle.machine_defs.specs.Alone.{unalone}
 use Rattle.machine_defs.specs.Answers.{Audited}
-use Rattle.machine_defs.specs.Events.{Event, Init, Begin, BeginAt, BeginScrub, BeginPack, Step, Alter, Lose, Stop, Reopen, Names, Continue, Outcome, Ended}
-use Rattle.machine_defs.specs.Machine.{Lists, Happens}
 use Rattle.machine_defs.specs.Openings.{InitsBy, Inits}
-use Rattle.machine_defs.specs.Replacements.{ReplacesIf}
-use Rattle.machine_defs.specs.Runs.{Moment, now}
 use Rattle.machine_defs.specs.Setups.{setup_or_none}
-use Rattle.machine_defs.specs.States.{State, setup_in}
-use Rattle.machine_defs.specs.Steps.{Steps}
-use Rattle.vault.specs.declared.vault.Vault.{Vault}
 use Rattle.vault.specs.Packing.{plain}
 use Rattle.vault.specs.Seen.{table_of}
 use Rattle.vault_core.proofs.Alike.{table-like}
-use Rattle.vault_open.specs.Devices.{Devices}
-use Rattle.hail_client.specs.declared.client.Client.{Client}
 use Rattle.hail_client.specs.declared.alone.Alone.{Alone}
 use Rattle.hail_client.specs.declared.alone.Alone.TheVariants as alone
-use Rattle.hail_client.specs.Client.{names_of}
-use Rattle.hail_client.specs.Stands.{StandsBy, IsReached}
-use Rattle.hail_replay.specs.Counts.{flagged_by, table_tolerance}
-use Rattle.hail_replay.specs.Seen.{FlagsBy}
 use Rattle.hail_replay.proofs.Same as same
 
 module _ (old new : State) (number undecided : ℕ) (counts : List ℕ) where

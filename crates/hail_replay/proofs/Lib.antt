@@ -1,3 +1,4 @@
+mod Words
 pub mod Digits
 pub mod Numbers
 pub mod Flags

@@ -1,8 +1,6 @@
 -- Lists of what jobs heard, one behind the other.
-use Rattle.std.proofs.Common.{◌≡◌, List, [], ◌∷◌, ◌++◌, ap, sym, ◌∙◌}
-use Rattle.std.proofs.lemmas.List.{append-nil, append_assoc}
-use Rattle.machine_defs.specs.Heard.{Entry}
-use Rattle.hail_replay.specs.Heard.{joined}
+use Rattle.hail_replay.proofs.Words.{◌≡◌, List, [], ◌∷◌, ◌++◌, ap, sym, ◌∙◌, append-nil, Entry, joined}
+use Rattle.std.proofs.lemmas.List.{append_assoc}
 
 joined-push : (lists : List (List Entry)) (list : List Entry) →
     joined (lists ++ list ∷ []) ≡ joined lists ++ list

@@ -1,27 +1,8 @@
 -- The loops over the events of a schedule and of a trial.
-use Rattle.std.proofs.Common.{◌≡◌, ◌≢◌, ℕ, ◌+◌, ◌≤◌, false, List, [], ◌∷◌, ◌++◌, length, reverse, Option, refl, ap, sym, subst, ◌∙◌, arith}
-use Rattle.std.specs.Prelude.{IsSome, is_some}
-use Rattle.std.proofs.lemmas.Bool.{false≢true}
-use Rattle.std.proofs.lemmas.List.{append-nil, reverse-reverse}
-use Rattle.command_defs.specs.Sinking.{Sinking, WritesLine}
-use Rattle.machine_defs.specs.Heard.{Entry}
-use Rattle.machine_defs.specs.Runs.{Moment, now, IsRun}
-use Rattle.machine_defs.specs.States.{State, continued}
-use Rattle.machine_defs.specs.Transcripts.{Instruction}
-use Rattle.headline.proofs.Parts.{headline}
-use Rattle.second_half_laws.proofs.Failed.{failures_rose}
+use Rattle.hail_replay.proofs.Words.{◌≡◌, ◌≢◌, ℕ, ◌+◌, ◌≤◌, false, List, [], ◌∷◌, ◌++◌, length, Option, refl, ap, sym, subst, ◌∙◌, arith, IsSome, is_some, false≢true, append-nil, reverse-reverse, Sinking, WritesLine, Entry, Moment, now, IsRun, State, continued, Instruction, headline, failures_rose, trial_bytes, trial_commands, TrialCounts, counts_of, trial_lines, Devices, AreDevices, Client, is_open, client_next_job, StandsWhereOpen, NoCountFell, KeepsStanding, CarriesOn, Replays, AreLeft, IsNewClient, called_behind, RunsTrial, RunsTo, CountsTo, HasDone, HasRun, HasCounted}
+use Rattle.std.proofs.Common.{reverse}
 use Rattle.state_laws.proofs.Events.{run-sound}
-use Rattle.trial_maker.specs.Trials.{trial_bytes, trial_commands}
-use Rattle.hail_replay.specs.Counts.{TrialCounts, counts_of, trial_lines}
-use Rattle.vault_open.specs.Devices.{Devices, AreDevices}
-use Rattle.hail_client.specs.declared.client.Client.{Client}
-use Rattle.hail_client.specs.Client.{is_open, client_next_job}
 use Rattle.vault_open.proofs.Images.{shown-again}
-use Rattle.hail_replay.specs.Performed.{StandsWhereOpen, NoCountFell, KeepsStanding}
-use Rattle.hail_replay.specs.Replayed.{CarriesOn, Replays}
-use Rattle.hail_replay.specs.Starts.{AreLeft, IsNewClient, called_behind}
-use Rattle.hail_replay.specs.Trials.{RunsTrial, RunsTo, CountsTo}
-use Rattle.hail_replay.specs.UnderWay.{HasDone, HasRun, HasCounted}
 use Rattle.hail_replay.proofs.Counts.{none-fell, then-fell}
 use Rattle.hail_replay.proofs.Course.{come-first, carries-on, next-done}
 use Rattle.hail_replay.proofs.Wrote.{sank, nothing-written, written-out, none-cut, cut-nothing}

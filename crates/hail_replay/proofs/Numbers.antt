@@ -1,8 +1,6 @@
 -- The line of an audit: numbers behind one another, and its pieces.
-use Rattle.std.proofs.Common.{◌≡◌, ℕ, ◌+◌, ◌<◌, List, [], ◌++◌, length, take, get_or, sym, ap, ◌∙◌, append_assoc}
-use Rattle.std.proofs.lemmas.List.{take_more, flat_map_more}
-use Rattle.std.specs.List.{flat_map}
-use Rattle.machine_defs.specs.Lines.{then_number}
+use Rattle.hail_replay.proofs.Words.{◌≡◌, ℕ, ◌+◌, ◌<◌, List, [], ◌++◌, length, take, get_or, sym, ap, ◌∙◌, take_more, flat_map_more, flat_map, then_number}
+use Rattle.std.proofs.Common.{append_assoc}
 
 -- one number more
 pub numbered_more : (numbers start text : List ℕ) (place : ℕ) → place < length numbers

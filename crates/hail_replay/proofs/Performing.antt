@@ -1,30 +1,9 @@
 -- The arms of a call that performs an event.
-use Rattle.std.proofs.Common.{◌≡◌, ℕ, ◌<◌, ◌^◌, Bool, true, false, List, [], ◌++◌, Option, Some, None, Result, inl, inr, refl, ap, sym, subst}
-use Rattle.std.specs.Prelude.{IfSome, is_some}
-use Rattle.std.proofs.lemmas.Bool.{cases_Bool}
-use Rattle.device_defs.specs.Cells.{Cells}
-use Rattle.device_defs.specs.Providers.{Provider}
-use Rattle.machine_defs.specs.Events.{Event, Begin, BeginAt, BeginScrub, BeginPack, put_event, Step, Names}
-use Rattle.machine_defs.specs.Heard.{Entry, heard_by, heard_at, reported_after}
-use Rattle.machine_defs.specs.Jobs.{Kind, PutJob, job_of}
-use Rattle.machine_defs.specs.Machine.{Happens}
-use Rattle.machine_defs.specs.Runs.{Moment}
-use Rattle.machine_defs.specs.States.{State}
-use Rattle.machine_defs.specs.Transcripts.{Once, RunJob}
+use Rattle.hail_replay.proofs.Words.{◌≡◌, ℕ, ◌<◌, ◌^◌, Bool, true, false, List, [], ◌++◌, Option, Some, None, Result, inl, inr, refl, ap, sym, subst, IfSome, is_some, cases_Bool, Cells, Provider, Event, Begin, BeginAt, BeginScrub, BeginPack, put_event, Step, Names, Entry, heard_by, heard_at, reported_after, Kind, PutJob, job_of, Happens, Moment, State, Once, RunJob, event_command, Devices, devices, Client, ClientTurn, is_open, client_coming, IsSame, client_begin_outcome, step_outcome, HeardIs, replace_outcome, ClientStands, MakesEvent, IsReached, RunsJobOn, IsNoJob, Came, StandsWhereOpen, KeepsStanding, IsPerformed}
 use Rattle.schedule_text.specs.declared.event.Event.{Event as Read}
 use Rattle.schedule_text.specs.declared.event.Event.TheVariants as read
-use Rattle.schedule_text.specs.Events.{event_command}
 use Rattle.vault_core.specs.declared.wish.BeginFault.{BeginFault}
-use Rattle.vault_open.specs.Devices.{Devices, devices}
-use Rattle.hail_client.specs.declared.client.Client.{Client}
-use Rattle.hail_client.specs.declared.turn.ClientTurn.{ClientTurn}
-use Rattle.hail_client.specs.Client.{is_open, client_coming, IsSame}
-use Rattle.hail_client.specs.Outcomes.{client_begin_outcome, step_outcome, HeardIs, replace_outcome}
-use Rattle.hail_client.specs.Stands.{ClientStands, MakesEvent, IsReached, RunsJobOn}
-use Rattle.vault_core.specs.Coming.{IsNoJob}
-use Rattle.hail_replay.specs.declared.came.Came.{Came}
 use Rattle.hail_replay.specs.declared.came.Came.TheVariants as came
-use Rattle.hail_replay.specs.Performed.{StandsWhereOpen, KeepsStanding, IsPerformed}
 use Rattle.hail_replay.proofs.Same.{Same, OneMore, begins, begins_alone}
 use Rattle.hail_replay.proofs.Arms.{begun-kept, closed-kept, closed-coming, step-kept, run-kept, replaced-kept, same-kept}
 use Rattle.hail_replay.proofs.Behind.{once, run, not-run, turn-heard}

@@ -1,18 +1,9 @@
 -- What events leave of a state: how many providers are handed in, whether a vault is open, and the number of
 -- the next job.
-use Rattle.std.proofs.Common.{◌≡◌, ℕ, ◌+◌, ◌≤◌, Bool, true, false, List, [], ◌∷◌, ◌++◌, length, Option, refl, ap, ◌∙◌, subst, arith}
-use Rattle.device_defs.specs.Providers.{Held}
-use Rattle.machine_defs.specs.Jobs.{Kind, Job}
+use Rattle.hail_replay.proofs.Words.{◌≡◌, ℕ, ◌+◌, ◌≤◌, Bool, true, false, List, [], ◌∷◌, ◌++◌, length, Option, refl, ap, ◌∙◌, subst, arith, Held, Kind, Job, Event, Step, Outcome, Refused, Begun, Replaced, NothingHeld, Closed, State, Steps, BeginsAlone, ReplacesAt, ReplacesIf, Happens, Moment, now, IsRun, GoOn}
 use Rattle.machine_defs.specs.Refusals.{Refusal}
-use Rattle.machine_defs.specs.Events.{Event, Step, Outcome, Refused, Begun, Replaced, NothingHeld, Closed}
-use Rattle.machine_defs.specs.States.{State, Alone}
+use Rattle.machine_defs.specs.States.{Alone}
 use Rattle.machine_defs.specs.Begins.{BeginsAt}
-use Rattle.machine_defs.specs.Steps.{Steps}
-use Rattle.machine_defs.specs.Alone.{BeginsAlone}
-use Rattle.machine_defs.specs.Replacements.{ReplacesAt, ReplacesIf}
-use Rattle.machine_defs.specs.Machine.{Happens}
-use Rattle.machine_defs.specs.Runs.{Moment, now, IsRun}
-use Rattle.machine_defs.specs.Transcripts.{GoOn}
 use Rattle.machine_defs.proofs.Cases.{Acting, by_action, by_step}
 use Rattle.machine_defs.proofs.Asides.{steps_aside}
 
@@ -57,8 +48,8 @@ module _ (old : State) where
     finishes = λ a next flight mine faults low. stays _ refl refl refl;
     bars = λ action plain next mine faults low rose. stays _ refl refl refl;
     bars_gated = λ a next flight mine faults low rose. stays _ refl refl refl;
-    begins_not = λ next none faults low. stays _ refl refl refl;
-    gates_not = λ a next flight mine faults low. stays _ refl refl refl;
+    begins_not = λ next none. stays _ refl refl refl;
+    gates_not = λ a next flight mine. stays _ refl refl refl;
     stores = λ j o s p next call. stays _ refl refl refl;
     stores_not = λ j o s p how next call. stays _ refl refl refl;
     fetches = λ j o s block p next call. stays _ refl refl refl;

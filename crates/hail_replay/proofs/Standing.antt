@@ -1,16 +1,7 @@
 -- What a client stands for; and a client with no vault open stands for a state over devices of which nothing
 -- is known.
-use Rattle.std.proofs.Common.{◌≡◌, ℕ, false, List, None, refl}
-use Rattle.device_defs.specs.Providers.{Provider}
-use Rattle.machine_defs.specs.Events.{Names}
-use Rattle.machine_defs.specs.States.{State}
-use Rattle.vault_open.specs.Devices.{Devices, devices}
-use Rattle.hail_client.specs.declared.client.Client.{Client}
-use Rattle.hail_client.specs.Client.{is_open, names_of}
-use Rattle.hail_client.specs.Outcomes.{names_outcome}
-use Rattle.hail_client.specs.Stands.{ClientStands, MakesEvent, IsStanding}
+use Rattle.hail_replay.proofs.Words.{◌≡◌, ℕ, false, List, None, refl, Provider, Names, State, Devices, devices, Client, is_open, names_of, names_outcome, ClientStands, MakesEvent, IsStanding, lists-of}
 use Rattle.hail_client.proofs.Anew.{closed-standing}
-use Rattle.hail_client.proofs.Standing.{lists-of}
 
 -- the names in effect are those that the client lists
 pub lists : (w : State) (moment : ℕ) (c : Client) (d : Devices) → ClientStands c d w →

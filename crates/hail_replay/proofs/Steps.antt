@@ -1,12 +1,5 @@
 -- Steps that went on count nothing, so a run's counts grow by those of its last moment.
-use Rattle.std.proofs.Common.{◌≡◌, ℕ, ◌+◌, Bool, false, List, [], ◌∷◌, ◌++◌, length, refl, sym, ap, ◌∙◌, arith}
-use Rattle.std.proofs.lemmas.List.{append-nil}
-use Rattle.machine_defs.specs.Events.{Outcome, More}
-use Rattle.machine_defs.specs.Runs.{Moment}
-use Rattle.machine_defs.specs.States.{setup_in}
-use Rattle.machine_defs.specs.Transcripts.{Instruction, GoOn}
-use Rattle.hail_replay.specs.Counts.{TrialCounts, one_if, how_many, is_got, is_expected, is_audited, is_repaired, is_stopped, flagged_by, flagged_in, counts_of, counts_on}
-use Rattle.hail_replay.specs.Seen.{SeesOne}
+use Rattle.hail_replay.proofs.Words.{◌≡◌, ℕ, ◌+◌, Bool, false, List, [], ◌∷◌, ◌++◌, length, refl, sym, ap, ◌∙◌, arith, append-nil, Outcome, More, Moment, setup_in, Instruction, GoOn, TrialCounts, one_if, how_many, is_got, is_expected, is_audited, is_repaired, is_stopped, flagged_by, flagged_in, counts_of, counts_on, SeesOne}
 
 -- steps that went on are not counted
 how_many-more : (is_one : Outcome → Bool) → is_one More ≡ false → (job : ℕ) (steps ms : List Moment) →

@@ -1,13 +1,5 @@
 -- The lines of several events, one behind the other.
-use Rattle.std.proofs.Common.{◌≡◌, ◌≢◌, inl, inr, ℕ, suc, ◌+◌, ◌≤◌, List, [], ◌∷◌, ◌++◌, length, take, Option, Result, Ok, Err, IfOk, refl, ap, sym, subst, ◌∙◌, arith}
-use Rattle.std.proofs.lemmas.List.{length-append, take_all}
-use Rattle.device_defs.specs.Told.{told_then, TakesFront}
-use Rattle.device_defs.proofs.Lasting.{rose-before, told_then-nothing}
-use Rattle.command_defs.specs.Sinking.{Sinking, WritesLine}
-use Rattle.machine_defs.specs.Runs.{Moment}
-use Rattle.machine_defs.specs.Transcripts.{Instruction}
-use Rattle.hail_replay.specs.Answers.{CarriedOut}
-use Rattle.hail_replay.specs.Replayed.{StopsAtCut}
+use Rattle.hail_replay.proofs.Words.{◌≡◌, ◌≢◌, inl, inr, ℕ, suc, ◌+◌, ◌≤◌, List, [], ◌∷◌, ◌++◌, length, take, Option, Result, Ok, Err, IfOk, refl, ap, sym, subst, ◌∙◌, arith, length-append, take_all, told_then, TakesFront, rose-before, told_then-nothing, Sinking, WritesLine, Moment, Instruction, CarriedOut, StopsAtCut}
 use Rattle.stream_model.proofs.ToldLemmas.{told_then-append}
 
 -- a sink told and counted these

@@ -1,37 +1,10 @@
 -- How a scrub begins.
-use Rattle.std.proofs.Common.{◌≡◌, ℕ, zero, suc, ◌+◌, ◌*◌, ◌≤◌, ◌==◌, ◌^◌, List, [], ◌∷◌, ◌++◌, length, map, Some, None, refl, ap, sym, subst, ◌∙◌, arith}
-use Rattle.std.specs.Prelude.{slice_get, slice_index, sum_by, vec_capacity}
-use Rattle.std.specs.List.{All, flat_map}
+use Rattle.hail_scrub.proofs.Words.{◌≡◌, ℕ, zero, suc, ◌+◌, ◌*◌, ◌≤◌, ◌==◌, ◌^◌, List, [], ◌∷◌, ◌++◌, length, map, Some, None, refl, ap, sym, subst, ◌∙◌, arith, slice_get, slice_index, sum_by, All, flat_map, append-nil, All-push, eq-eqb, ne_eqb, upto, Object, stripes, FileShape, Setup, Action, End, on_each_stripe, open_actions, pinned_profile, Pinned, profiled, object_of, Scrub, cond_true, cond_false, bench_kind, file_kind, Item, opening_of, item_actions, items_on, Cursor, Progress, most_steps, item_object, phase_at, size_in, scrub_view, IsItem, CursorIsAt, IsAtFirst, IsProgress, IsStripeInWork, ScrubIs, fetched_gifts, present_blocks, Given, file_providers, file_actions, IsFileAmong, AreItems, HaveOneCount, AreApart, IsFileOf, AreFilesOf, IsNewScrub}
+use Rattle.std.specs.Prelude.{vec_capacity}
 use Rattle.std.proofs.lemmas.Grind.{flat_map-append}
-use Rattle.std.proofs.lemmas.List.{append-nil}
-use Rattle.std.proofs.lemmas.List.Elements.{All-push}
-use Rattle.std.proofs.lemmas.Bool.{eq-eqb, ne_eqb}
-use Rattle.code_defs.specs.Points.{upto}
-use Rattle.column_defs.specs.Objects.{Object, stripes}
 use Rattle.file_layout.specs.Files.{shaped_object}
-use Rattle.file_layout.specs.declared.file.FileShape.{FileShape}
-use Rattle.record_defs.specs.Records.{Setup}
-use Rattle.machine_defs.specs.Actions.{Action, End, on_each_stripe, open_actions}
-use Rattle.machine_defs.specs.Given.{pinned_profile}
-use Rattle.machine_defs.specs.Jobs.{Pinned}
-use Rattle.machine_defs.specs.Setups.{profiled, object_of}
-use Rattle.machine_defs.specs.States.{Scrub}
-use Rattle.machine_defs.proofs.JobLists.{cond_true, cond_false}
-use Rattle.stripe_bench.specs.Bench.{bench_kind, file_kind}
-use Rattle.hail_scrub.specs.declared.cursor.Item.{Item}
-use Rattle.hail_scrub.specs.Todo.{opening_of, item_actions, items_on}
-use Rattle.hail_scrub.specs.declared.cursor.Cursor.{Cursor}
 use Rattle.hail_scrub.specs.declared.cursor.Cursor.TheVariants as cursor
-use Rattle.hail_scrub.specs.declared.progress.Progress.{Progress}
-use Rattle.hail_scrub.specs.Views.{most_steps}
-use Rattle.hail_scrub.specs.Progress.{item_object, phase_at, size_in, scrub_view, IsItem, CursorIsAt, IsAtFirst, IsProgress}
-use Rattle.hail_scrub.specs.Stands.{IsStripeInWork, ScrubIs}
 use Rattle.hail_scrub.proofs.Lefts.{left-items}
-use Rattle.stripe_bench.specs.Gifts.{fetched_gifts}
-use Rattle.column_codec.specs.PresentBlocks.{present_blocks}
-use Rattle.machine_defs.specs.Jobs.{Given}
-use Rattle.hail_scrub.specs.Begun.{file_providers, file_actions, IsFileAmong, AreItems}
-use Rattle.hail_scrub.specs.Begins.{HaveOneCount, AreApart, IsFileOf, AreFilesOf, IsNewScrub}
 use Rattle.hail_scrub.proofs.Rests.{all_get, all_map}
 
 -- ---- files that are taken in

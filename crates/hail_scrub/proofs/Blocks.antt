@@ -1,8 +1,5 @@
 -- The sizes of blocks that providers gave.
-use Rattle.std.proofs.Common.{◌≡◌, ℕ, zero, suc, ◌+◌, ◌*◌, Bool, true, false, List, [], ◌∷◌, length, take, drop, length-drop, length-take-le, Option, Some, None, Bor, sym, ap, ◌∙◌, arith, IfSome}
-use Rattle.std.specs.Option.{option_copied}
-use Rattle.column_defs.specs.Opened.{block_at}
-use Rattle.column_codec.specs.PresentBlocks.{present_blocks}
+use Rattle.hail_scrub.proofs.Words.{◌≡◌, ℕ, zero, suc, ◌+◌, ◌*◌, Bool, true, false, List, [], ◌∷◌, length, take, drop, length-drop, length-take-le, Option, Some, None, Bor, sym, ap, ◌∙◌, arith, IfSome, option_copied, block_at, present_blocks}
 
 -- a block that is present has its size
 pub present_size : (size : ℕ) (flags : List Bool) (symbols : List ℕ) (k : ℕ) (block : List ℕ) →

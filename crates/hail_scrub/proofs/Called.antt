@@ -1,8 +1,5 @@
 -- Which provider a step calls.
-use Rattle.std.proofs.Common.{◌≡◌, ℕ, List, ◌∷◌, Option, Some, None, ap, sym, ◌∙◌}
-use Rattle.std.specs.Prelude.{slice_get}
-use Rattle.machine_defs.specs.Actions.{Action, Store, Fetch}
-use Rattle.hail_scrub.specs.Views.{ScrubView, next_to_do, called_by}
+use Rattle.hail_scrub.proofs.Words.{◌≡◌, ◌≢◌, ℕ, List, ◌∷◌, Option, Some, None, ap, sym, subst, ◌∙◌, slice_get, Action, Store, Fetch, ScrubView, next_to_do, called_by}
 
 -- a fetch calls its provider
 pub called_fetch : (v : ScrubView) (j o t : ℕ) (rest : List Action) → v.todo ≡ Fetch j o t ∷ rest →
@@ -14,10 +11,16 @@ pub called_store : (v : ScrubView) (j o t : ℕ) (rest : List Action) → v.todo
     called_by (next_to_do v) ≡ Some j
 called_store v j o t rest is = ap (λ (l : List Action). called_by (slice_get l 0)) is
 
--- it is called
-pub not_away : (o : Option ℕ) (j : ℕ) → o ≡ Some j → o ≡ None → ⊥
-not_away o j is none = let e : None ≡ Some j = sym none ∙ is in cc
+-- where this provider is called
+module _ (o : Option ℕ) (j : ℕ) (is : o ≡ Some j) where
+  -- one is called
+  pub not_away : o ≡ None → ⊥
+  not_away none = let e : None ≡ Some j = sym none ∙ is in cc
 
--- and no other
-pub same_called : (o : Option ℕ) (j k : ℕ) → o ≡ Some j → o ≡ Some k → j ≡ k
-same_called o j k is other = let e : Some j ≡ Some k = sym is ∙ other in cc
+  -- and no other
+  pub same_called : (i : ℕ) → o ≡ Some i → j ≡ i
+  same_called i at = let e : Some j ≡ Some i = sym is ∙ at in cc
+
+  -- so one beside the called is one beside it
+  pub other_called : (i k : ℕ) → o ≡ Some i → k ≢ i → k ≢ j
+  other_called i k at other = subst (λ (n : ℕ). k ≢ n) (sym (same_called i at)) other

@@ -1,29 +1,13 @@
 -- A fetch of a scrub.
-use Rattle.std.proofs.Common.{◌≡◌, ℕ, ◌+◌, ◌*◌, ◌<◌, ◌≤◌, Bool, List, [], ◌∷◌, ◌++◌, length, Some, refl, ap, sym, subst, ◌∙◌, arith, length-append, vec_len, vec_capacity}
-use Rattle.std.specs.Prelude.{slice_get, slice_set}
+use Rattle.hail_scrub.proofs.Words.{◌≡◌, ℕ, ◌+◌, ◌-◌, ◌*◌, ◌<◌, ◌≤◌, Bool, List, [], ◌∷◌, ◌++◌, length, Some, refl, ap, sym, subst, ◌∙◌, arith, length-append, vec_len, slice_get, slice_set, SeenBlock, present_blocks, length-present_blocks, Provider, Fetches, IsBlock, Action, Fetch, Work, given_of, Grows, HasRoom, Blocks, present_more, if_given, Spot, Cursor, Progress, most_steps, fetches_from, past_stripe, todo_at, item_object, fetched_at, size_in, phase_at, scrub_view, next_to_do, called_by, IsSpot, IsCursor, IsAmid, IsProgress, MakesNext}
+use Rattle.std.proofs.Common.{vec_capacity}
 use Rattle.std.proofs.Math.Nat.{mul-le-mul_left}
 use Rattle.code_defs.proofs.Profiles.{size-bound, size_is}
 use Rattle.code_points.specs.declared.profile.Profile.{Profile}
-use Rattle.column_defs.specs.Opened.{SeenBlock}
-use Rattle.column_codec.specs.PresentBlocks.{present_blocks}
-use Rattle.column_codec.proofs.PresentLemmas.{length-present_blocks}
-use Rattle.device_defs.specs.Providers.{Provider}
-use Rattle.device_defs.specs.ProviderCalls.{Fetches, IsBlock}
-use Rattle.machine_defs.specs.Actions.{Action, Fetch, Work}
-use Rattle.stripe_bench.specs.Blocks.{given_of, Grows, HasRoom}
-use Rattle.stripe_bench.specs.declared.blocks.Blocks.{Blocks}
-use Rattle.stripe_bench.proofs.Gifts.{present_more}
-use Rattle.stripe_bench.proofs.Sights.{if_given}
-use Rattle.hail_scrub.specs.declared.cursor.Spot.{Spot}
-use Rattle.hail_scrub.specs.declared.cursor.Cursor.{Cursor}
 use Rattle.hail_scrub.specs.declared.cursor.Cursor.TheVariants as cursor
-use Rattle.hail_scrub.specs.declared.progress.Progress.{Progress}
 use Rattle.hail_scrub.specs.declared.turn.ScrubTurn.TheVariants as turn
-use Rattle.hail_scrub.specs.Views.{most_steps}
 use Rattle.hail_scrub.specs.Views as views
-use Rattle.hail_scrub.specs.Todo.{fetches_from, past_stripe, todo_at}
-use Rattle.hail_scrub.specs.Progress.{item_object, fetched_at, size_in, phase_at, scrub_view, IsSpot, IsCursor, IsAmid, IsProgress}
-use Rattle.hail_scrub.specs.Steps.{MakesNext}
+use Rattle.hail_scrub.proofs.Called.{called_fetch}
 use Rattle.hail_scrub.proofs.Lefts.{left-cons}
 use Rattle.hail_scrub.proofs.Rests.{fetches_here}
 use Rattle.hail_scrub.proofs.Placed.{one_is, phase_amid, size_amid}
@@ -62,6 +46,10 @@ module _ (p : Progress) (W : IsProgress p) (spot : Spot) (j : ℕ) (here : p.cur
       spot))
       (fetches_here p.providers j spot.item.file.id spot.stripe fetch_within)
 
+  -- it calls this provider
+  pub called : called_by (next_to_do (scrub_view p)) ≡ Some j
+  called = called_fetch (scrub_view p) j spot.item.file.id spot.stripe rest todo_is
+
   left_is : p.left ≡ 1 + most_steps p.providers rest
   left_is = W.left ∙ ap (most_steps p.providers) todo_is
       ∙ left-cons p.providers (Fetch j spot.item.file.id spot.stripe) rest refl
@@ -88,14 +76,17 @@ module _ (p : Progress) (W : IsProgress p) (spot : Spot) (j : ℕ) (here : p.cur
 
   -- ---- after it
 
-  module _ (b b' : Blocks) (c : Cursor) (left : ℕ) (found : Bool) (block : List ℕ)
+  module _ (b b' : Blocks) (c : Cursor) (found : Bool) (block : List ℕ)
       (present : b.present ≡ p.blocks.present) (symbols : b.symbols ≡ p.blocks.symbols)
       (size : b.size ≡ spot.item.file.profile.size) (grows : Grows b b' found block)
       (todo : todo_at p.providers p.items.items p.off c ≡ rest)
       (placed : IsCursor p.providers p.items.items p.off c)
-      (count : fetched_at p.providers c ≡ j + 1) (amid : IsAmid spot c) (falls : left + 1 ≡ p.left) where
+      (count : fetched_at p.providers c ≡ j + 1) (amid : IsAmid spot c) where
     abbrev new : Progress
-    new = record p { blocks = b'; cursor = c; left = left }
+    new = record p { blocks = b'; cursor = c; left = p.left - 1 }
+
+    falls : p.left - 1 + 1 ≡ p.left
+    falls = omega (arith, fetch_some)
 
     -- the scrub is whole
     pub fetch_whole : IsProgress new
@@ -116,7 +107,7 @@ module _ (p : Progress) (W : IsProgress p) (spot : Spot) (j : ℕ) (here : p.cur
           symbols = longer ∙ (λ i. (sym count) i * (sym each) i);
           room_present = omega (arith, W.room_present, grows.present_room, ap vec_capacity present);
           room_symbols = omega (arith, W.room_symbols, grows.symbols_room, ap vec_capacity symbols);
-          left = (let e : left ≡ most_steps p.providers rest = omega (arith, left_is, falls) in
+          left = (let e : p.left - 1 ≡ most_steps p.providers rest = omega (arith, left_is) in
               e ∙ ap (most_steps p.providers) (sym todo));
           long_symbols = W.long_symbols;
           long_blocks = W.long_blocks;

@@ -1,20 +1,7 @@
 -- What the machine was given of a stripe, and what a scrub has of it.
-use Rattle.std.proofs.Common.{◌≡◌, ℕ, zero, suc, ◌+◌, ◌<◌, ◌≤◌, List, [], ◌∷◌, ◌++◌, length, take, drop, map, get_or, refl, sym, ap, ◌∙◌, arith, zero-add}
-use Rattle.std.specs.Prelude.{slice_index, option_and_then}
-use Rattle.std.specs.List.{flat_map, range_with_len}
-use Rattle.std.proofs.lemmas.List.{drop_more}
-use Rattle.algebra_laws.proofs.Lists.{get-map_range}
-use Rattle.code_defs.specs.Points.{upto}
-use Rattle.column_defs.specs.Opened.{SeenBlock, block_at}
-use Rattle.machine_defs.specs.Jobs.{Given}
+use Rattle.hail_scrub.proofs.Words.{◌≡◌, ℕ, zero, suc, ◌+◌, ◌<◌, ◌≤◌, List, [], ◌∷◌, ◌++◌, length, take, drop, map, get_or, refl, sym, ap, ◌∙◌, arith, zero-add, slice_index, option_and_then, flat_map, range_with_len, drop_more, get-map_range, upto, SeenBlock, block_at, Given, block_given, blocks_given, symbols_given, fetched_gifts, gifts_give, gifts_more, Stage, GoesPast, IsStripeInWork}
 use Rattle.machine_defs.specs.Jobs as jobs
-use Rattle.machine_defs.specs.Given.{block_given, blocks_given, symbols_given}
-use Rattle.stripe_bench.specs.Gifts.{fetched_gifts}
-use Rattle.stripe_bench.proofs.Gifts.{gifts_give, gifts_more}
-use Rattle.hail_scrub.specs.Views.{Stage}
 use Rattle.hail_scrub.specs.Views as views
-use Rattle.hail_scrub.specs.Steps.{GoesPast}
-use Rattle.hail_scrub.specs.Stands.{IsStripeInWork}
 
 -- lists that functions make which are the same below a number
 pub flat_map-below : {B : Type 0} (f g : ℕ → List B) (a n : ℕ) → ((k : ℕ) → k < a + n → f k ≡ g k) →

@@ -1,16 +1,7 @@
 -- How many steps actions may come to.
-use Rattle.std.proofs.Common.{◌≡◌, ℕ, zero, suc, ◌+◌, ◌*◌, ◌==◌, Bool, false, cond, List, [], ◌∷◌, ◌++◌, length, map, inl, inr, refl, ap, ◌∙◌, arith, length-append}
-use Rattle.std.specs.Prelude.{sum_by, slice_index, if◌then◌else◌}
-use Rattle.std.specs.List.{flat_map, range_with_len}
-use Rattle.std.proofs.lemmas.Bool.{cases_Bool}
-use Rattle.std.proofs.lemmas.List.{length-map}
+use Rattle.hail_scrub.proofs.Words.{◌≡◌, ℕ, zero, suc, ◌+◌, ◌*◌, ◌==◌, Bool, false, cond, List, [], ◌∷◌, ◌++◌, length, map, inl, inr, refl, ap, ◌∙◌, arith, length-append, sum_by, slice_index, if◌then◌else◌, flat_map, range_with_len, cases_Bool, length-map, upto, Action, Store, Fetch, Work, End, Item, is_opening, works_in, most_steps, numbers_between, store_of, stores_from, opening_of, item_actions, items_on}
 use Rattle.std.proofs.lemmas.List.Sums.{sum_by-cons, sum_by-append}
 use Rattle.std.proofs.lemmas.List.FromFn.{length-range_with_len}
-use Rattle.code_defs.specs.Points.{upto}
-use Rattle.machine_defs.specs.Actions.{Action, Store, Fetch, Work, End}
-use Rattle.hail_scrub.specs.declared.cursor.Item.{Item}
-use Rattle.hail_scrub.specs.Views.{is_opening, works_in, most_steps}
-use Rattle.hail_scrub.specs.Todo.{numbers_between, store_of, stores_from, opening_of, item_actions, items_on}
 
 works-append : (xs ys : List Action) → works_in (xs ++ ys) ≡ works_in xs + works_in ys
 works-append xs ys = sum_by-append (λ (x : Action). cond (is_opening x) 1 0) xs ys

@@ -1,3 +1,4 @@
+mod Words
 pub mod Given
 pub mod Machine
 pub mod Rests

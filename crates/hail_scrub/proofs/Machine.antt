@@ -1,37 +1,11 @@
 -- A step of a scrub is one of the machine's scrub.
-use Rattle.std.proofs.Common.{◌≡◌, ℕ, ◌+◌, ◌<◌, ◌≤◌, ◌==◌, Bool, true, false, List, [], ◌∷◌, ◌++◌, length, take, Option, Some, None, refl, sym, ap, subst, ◌∙◌, arith, inl, inr, length-set}
-use Rattle.std.specs.Prelude.{slice_get, slice_set, if◌then◌else◌}
-use Rattle.std.proofs.lemmas.Bool.{eq-eqb, ne_eqb, cases_eq}
-use Rattle.std.proofs.lemmas.Option.{slice_get_within}
-use Rattle.algebra_laws.proofs.Lists.{get-set_same, get-set_other}
-use Rattle.column_defs.specs.Objects.{Object}
-use Rattle.column_defs.specs.Columns.{column_of_symbols}
-use Rattle.column_defs.specs.Opened.{SeenBlock, GivesSymbols, LosesRow}
-use Rattle.device_defs.specs.Providers.{Provider}
-use Rattle.device_defs.specs.ProviderCalls.{Stores, FailsToStore, FindsNoMemory, Fetches}
-use Rattle.record_defs.specs.Records.{Setup, Record}
-use Rattle.record_defs.specs.Table.{setup_of}
-use Rattle.machine_defs.specs.Actions.{Action, Store, Fetch, Work, End}
-use Rattle.machine_defs.specs.Alone.{differs, scrubbed_object, off_by, scrub_stores, opened_scrub, block_to_scrub, Scrubs, StepsScrub}
-use Rattle.machine_defs.specs.Events.{Outcome, Step, More, Ended}
-use Rattle.machine_defs.specs.Given.{blocks_given}
-use Rattle.machine_defs.specs.Jobs.{Worked}
+use Rattle.hail_scrub.proofs.Words.{◌≡◌, ℕ, ◌+◌, ◌<◌, ◌≤◌, ◌==◌, Bool, true, false, List, [], ◌∷◌, ◌++◌, length, take, Option, Some, None, refl, sym, ap, subst, ◌∙◌, arith, inl, inr, length-set, slice_get, slice_set, if◌then◌else◌, eq-eqb, ne_eqb, cases_eq, slice_get_within, get-set_same, get-set_other, Object, column_of_symbols, SeenBlock, GivesSymbols, LosesRow, Provider, Stores, FailsToStore, FindsNoMemory, Fetches, Setup, Record, setup_of, Action, Store, Fetch, Work, End, differs, scrubbed_object, off_by, scrub_stores, opened_scrub, block_to_scrub, Scrubs, StepsScrub, Outcome, Step, More, Ended, blocks_given, Worked, Happens, setup_or_none, State, Scrub, Alone, Scrubbing, setup_in, with_provider, cond_true, cond_false, AreHanded, worked_is, ScrubTurn, Stage, ScrubView, CallsAt, IsOne, off_in, stores_in, FetchesOne, OpensOne, LosesOne, StoresOne, ComesTo, MakesNext, scrub_answer, IsStripeInWork, ScrubIs, ScrubStands, MakesScrubStep}
 use Rattle.machine_defs.specs.Jobs as jobs
-use Rattle.machine_defs.specs.Machine.{Happens}
-use Rattle.machine_defs.specs.Setups.{setup_or_none}
-use Rattle.machine_defs.specs.States.{State, Scrub, Alone, Scrubbing, setup_in, with_provider}
 use Rattle.machine_defs.specs.Steps.{Steps, StepsOpen, StepsOne, StepsMine}
-use Rattle.machine_defs.proofs.JobLists.{cond_true, cond_false}
-use Rattle.opening_defs.specs.Opened.{AreHanded}
-use Rattle.stripe_bench.proofs.Gifts.{worked_is}
 use Rattle.hail_scrub.specs.declared.turn.ScrubAnswer.{ScrubAnswer}
 use Rattle.hail_scrub.specs.declared.turn.ScrubAnswer.TheVariants as answer
-use Rattle.hail_scrub.specs.declared.turn.ScrubTurn.{ScrubTurn}
 use Rattle.hail_scrub.specs.declared.turn.ScrubTurn.TheVariants as turn
-use Rattle.hail_scrub.specs.Views.{Stage, ScrubView}
 use Rattle.hail_scrub.specs.Views as views
-use Rattle.hail_scrub.specs.Steps.{CallsAt, IsOne, off_in, stores_in, FetchesOne, OpensOne, LosesOne, StoresOne, ComesTo, MakesNext}
-use Rattle.hail_scrub.specs.Stands.{scrub_answer, IsStripeInWork, ScrubIs, ScrubStands, MakesScrubStep}
 use Rattle.hail_scrub.proofs.Given.{flat_map-below, take-map, blocks_are, block_is, fetched_more, behind_work}
 
 -- ---- states

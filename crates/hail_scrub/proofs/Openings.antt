@@ -1,36 +1,15 @@
 -- An opening of a scrub.
-use Rattle.std.proofs.Common.{◌≡◌, ℕ, ◌+◌, ◌*◌, ◌<◌, ◌≤◌, ◌==◌, ◌^◌, Bool, true, false, List, [], ◌∷◌, ◌++◌, length, map, Vec, Global, Some, refl, ap, sym, subst, ◌∙◌, arith, vec_capacity}
-use Rattle.std.proofs.lemmas.Option.{slice_get_within}
-use Rattle.std.specs.Prelude.{slice_get, slice_set, slice_index, if◌then◌else◌}
-use Rattle.std.specs.List.{All, flat_map}
-use Rattle.algebra_laws.proofs.Lists.{get-set_same}
-use Rattle.column_defs.specs.Objects.{Object}
-use Rattle.column_defs.specs.Opened.{SeenBlock, GivesSymbols, LosesRow}
-use Rattle.column_codec.specs.PresentBlocks.{present_blocks}
-use Rattle.column_codec.proofs.PresentLemmas.{length-present_blocks}
-use Rattle.device_defs.specs.Providers.{Provider}
-use Rattle.machine_defs.specs.Actions.{Action, Store, Work}
-use Rattle.column_codec.specs.Bench.{bench_object, turned}
-use Rattle.stripe_bench.specs.Bench.{bench_kind, file_kind}
-use Rattle.stripe_bench.specs.Blocks.{blocks_in, HasEmptied}
-use Rattle.column_codec.specs.declared.bench.Bench.{Bench}
-use Rattle.stripe_bench.specs.declared.blocks.Blocks.{Blocks}
+use Rattle.hail_scrub.proofs.Words.{◌≡◌, ℕ, ◌+◌, ◌*◌, ◌<◌, ◌≤◌, ◌==◌, ◌^◌, Bool, true, false, List, [], ◌∷◌, ◌++◌, length, map, Vec, Global, Some, refl, ap, sym, subst, ◌∙◌, arith, slice_get_within, slice_get, get_or, slice_index, with_item, if◌then◌else◌, All, flat_map, get-set_same, Object, SeenBlock, GivesSymbols, LosesRow, present_blocks, length-present_blocks, Provider, Action, Store, Work, bench_object, turned, bench_kind, file_kind, blocks_in, HasEmptied, Bench, Blocks, Spot, Cursor, Progress, ScrubView, most_steps, store_of, stores_from, past_stripe, todo_at, item_object, rows_of, fetched_at, size_in, phase_at, scrub_view, IsItem, IsSpot, IsCursor, CursorIsAt, StoresOnlyAt, HasAdded, IsProgress, off_in, stores_in, MakesNext}
+use Rattle.std.proofs.Common.{vec_capacity}
 use Rattle.column_codec.specs.declared.codec.Codec.{Codec}
-use Rattle.hail_scrub.specs.declared.cursor.Spot.{Spot}
-use Rattle.hail_scrub.specs.declared.cursor.Cursor.{Cursor}
 use Rattle.hail_scrub.specs.declared.cursor.Cursor.TheVariants as cursor
-use Rattle.hail_scrub.specs.declared.progress.Progress.{Progress}
 use Rattle.hail_scrub.specs.declared.turn.ScrubAnswer.TheVariants as answer
 use Rattle.hail_scrub.specs.declared.turn.ScrubTurn.TheVariants as turn
-use Rattle.hail_scrub.specs.Views.{ScrubView, most_steps}
-use Rattle.hail_scrub.specs.Todo.{store_of, stores_from, past_stripe, todo_at}
 use Rattle.hail_scrub.specs.Compared.{HasBlocks, IsSurveyed}
-use Rattle.hail_scrub.specs.Progress.{item_object, rows_of, fetched_at, size_in, phase_at, scrub_view, IsItem, IsSpot, IsCursor, CursorIsAt, StoresOnlyAt, HasAdded, IsProgress}
-use Rattle.hail_scrub.specs.Steps.{off_in, stores_in, MakesNext}
 use Rattle.hail_scrub.proofs.Given.{flat_map-below}
 use Rattle.hail_scrub.proofs.Lefts.{left-append, left-work, left-stores}
 use Rattle.hail_scrub.proofs.Rests.{numbers_all}
-use Rattle.hail_scrub.proofs.Placed.{kinds_stay, turned_is, item_is, one_is, bench_serves, phase_behind}
+use Rattle.hail_scrub.proofs.Placed.{kinds_stay, turned_is, item_is, one_is, bench_read, bench_serves, phase_behind}
 
 -- the stores are those of the blocks that are off
 stores_are : (n : ℕ) (x : Object) (t : ℕ) (seen : List SeenBlock) (rows off : List ℕ) →
@@ -91,7 +70,10 @@ module _ (p : Progress) (W : IsProgress p) (spot : Spot) (here : p.cursor ≡ cu
 
   module _ (b : Blocks) (b0 : Bench) (present : b.present ≡ p.blocks.present)
       (symbols : b.symbols ≡ p.blocks.symbols) (size : b.size ≡ spot.item.file.profile.size)
-      (there : slice_get p.benches.items spot.item.bench ≡ Some b0) where
+      (is : b0 ≡ get_or p.benches.items spot.item.bench b0) where
+    there : slice_get p.benches.items spot.item.bench ≡ Some b0
+    there = bench_read p W spot open_spot b0 is
+
     serves : bench_kind b0 ≡ file_kind p.master.0 spot.item.file
     serves = bench_serves p W spot open_spot b0 there
 
@@ -139,54 +121,54 @@ module _ (p : Progress) (W : IsProgress p) (spot : Spot) (here : p.cursor ≡ cu
       over = over;
     }
 
-    -- the scrub before it is known what came of it
-    pub open_stays : (b1 : Bench) → bench_object b1 ≡ turned b0 spot.item.file.id → (bs : Vec Bench Global) →
-        (cd : Codec) → bs.items ≡ slice_set p.benches.items spot.item.bench b1 →
-        IsProgress (record p { blocks = b; benches = bs; codec = cd })
-    open_stays b1 object bs cd benches =
-        let kinds : map bench_kind bs.items ≡ map bench_kind p.benches.items =
-        ap (map bench_kind) benches
-        ∙ kinds_stay p.benches.items spot.item.bench b0 b1 there
-        (ap (λ (o : Object). record o { id = 0 }) object) in
-        record {
-          few = W.few;
-          few_items = W.few_items;
-          items = subst (λ (l : List Object). All (IsItem p.providers p.master.0 l) p.items.items) (sym kinds)
-              W.items;
-          placed = W.placed;
-          present = ap (λ v. length v.items) present ∙ W.present;
-          symbols = ap (λ v. length v.items) symbols ∙ W.symbols;
-          room_present = omega (arith, W.room_present, ap vec_capacity present);
-          room_symbols = omega (arith, W.room_symbols, ap vec_capacity symbols);
-          left = W.left;
-          long_symbols = W.long_symbols;
-          long_blocks = W.long_blocks;
-          few_stripes = W.few_stripes;
-          few_symbols = W.few_symbols;
-          few_blocks = W.few_blocks;
-        }
+    module _ (b1 : Bench) (object : bench_object b1 ≡ turned b0 spot.item.file.id) (cd : Codec) where
+      abbrev bs : Vec Bench Global
+      bs = with_item p.benches spot.item.bench b1
 
-    -- ---- after it
+      items_stay : All (IsItem p.providers p.master.0 (map bench_kind bs.items)) p.items.items
+      items_stay = subst (λ (l : List Object). All (IsItem p.providers p.master.0 l) p.items.items)
+          (sym (kinds_stay p.benches.items spot.item.bench b0 b1 there
+          (ap (λ (o : Object). record o { id = 0 }) object))) W.items
 
-    module _ (b1 : Bench) (object : bench_object b1 ≡ turned b0 spot.item.file.id) (off : List ℕ)
-        (found : IsSurveyed (turned b0 spot.item.file.id) spot.stripe (blocks_in b) b1.rows.items off)
-        (bs : Vec Bench Global) (cd : Codec) (q : Progress) (same : q ≡ record p {
-          blocks = q.blocks;
-          benches = bs;
-          codec = cd;
-          off = off;
-          found = q.found;
-          left = q.left;
-          cursor = q.cursor;
-        }) (benches : bs.items ≡ slice_set p.benches.items spot.item.bench b1)
-        (at : CursorIsAt p.providers p.items.items off q.cursor
-        (stores_from p.providers 0 off spot.item.file.id spot.stripe
-        ++ past_stripe p.providers p.items.items spot))
-        (behind : StoresOnlyAt spot q.cursor)
-        (left : q.left + (p.providers + 1)
-        ≡ p.left + length (stores_from p.providers 0 off spot.item.file.id spot.stripe))
-        (falls : q.left < p.left) (emptied : HasEmptied b q.blocks) (added : HasAdded p.found off q.found)
-      where
+      -- the scrub before it is known what came of it
+      pub open_stays : IsProgress (record p { blocks = b; benches = bs; codec = cd })
+      open_stays = record {
+        few = W.few;
+        few_items = W.few_items;
+        items = items_stay;
+        placed = W.placed;
+        present = ap (λ v. length v.items) present ∙ W.present;
+        symbols = ap (λ v. length v.items) symbols ∙ W.symbols;
+        room_present = omega (arith, W.room_present, ap vec_capacity present);
+        room_symbols = omega (arith, W.room_symbols, ap vec_capacity symbols);
+        left = W.left;
+        long_symbols = W.long_symbols;
+        long_blocks = W.long_blocks;
+        few_stripes = W.few_stripes;
+        few_symbols = W.few_symbols;
+        few_blocks = W.few_blocks;
+      }
+
+      -- ---- after it
+
+      module _ (off : List ℕ)
+          (found : IsSurveyed (turned b0 spot.item.file.id) spot.stripe (blocks_in b) b1.rows.items off)
+          (q : Progress) (same : q ≡ record p {
+            blocks = q.blocks;
+            benches = bs;
+            codec = cd;
+            off = off;
+            found = q.found;
+            left = q.left;
+            cursor = q.cursor;
+          })
+          (at : CursorIsAt p.providers p.items.items off q.cursor
+          (stores_from p.providers 0 off spot.item.file.id spot.stripe
+          ++ past_stripe p.providers p.items.items spot))
+          (behind : StoresOnlyAt spot q.cursor)
+          (left : q.left + (p.providers + 1)
+          ≡ p.left + length (stores_from p.providers 0 off spot.item.file.id spot.stripe))
+          (falls : q.left < p.left) (emptied : HasEmptied b q.blocks) (added : HasAdded p.found off q.found) where
         abbrev after : Progress
         after = record p {
           blocks = q.blocks;
@@ -197,11 +179,6 @@ module _ (p : Progress) (W : IsProgress p) (spot : Spot) (here : p.cursor ≡ cu
           left = q.left;
           cursor = q.cursor;
         }
-
-        kinds : map bench_kind bs.items ≡ map bench_kind p.benches.items
-        kinds = ap (map bench_kind) benches
-            ∙ kinds_stay p.benches.items spot.item.bench b0 b1 there
-            (ap (λ (o : Object). record o { id = 0 }) object)
 
         abbrev stores : List Action
         stores = stores_from p.providers 0 off spot.item.file.id spot.stripe
@@ -219,8 +196,7 @@ module _ (p : Progress) (W : IsProgress p) (spot : Spot) (here : p.cursor ≡ cu
         whole_after = record {
           few = W.few;
           few_items = W.few_items;
-          items = subst (λ (l : List Object). All (IsItem p.providers p.master.0 l) p.items.items) (sym kinds)
-              W.items;
+          items = items_stay;
           placed = at.placed;
           present = none_left ∙ sym at.fresh;
           symbols = ap length emptied.symbols
@@ -282,8 +258,7 @@ module _ (p : Progress) (W : IsProgress p) (spot : Spot) (here : p.cursor ≡ cu
                   providers_stay = refl;
                   objects_stay = refl;
                   behind = phase_behind after spot q.cursor b1.rows.items behind none_left
-                      (ap rows_of (ap (λ (l : List Bench). slice_get l spot.item.bench) benches
-                      ∙ get-set_same p.benches.items spot.item.bench b1
+                      (ap rows_of (get-set_same p.benches.items spot.item.bench b1
                       (slice_get_within p.benches.items spot.item.bench b0 there)));
                   stripes_are = added.stripes_are;
                   symbols_are = λ j below. added.symbols_are j

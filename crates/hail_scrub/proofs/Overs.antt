@@ -1,18 +1,7 @@
 -- A scrub that goes on has a step left.
-use Rattle.std.proofs.Common.{◌≡◌, ℕ, ◌+◌, ◌*◌, ◌<◌, ◌≤◌, Bool, true, false, List, [], ◌∷◌, ◌++◌, length, drop, ◌⊎◌, inl, inr, refl, ap, sym, ◌∙◌, arith, append_assoc, length-append}
-use Rattle.std.specs.List.{flat_map}
-use Rattle.device_defs.specs.Providers.{Provider}
-use Rattle.machine_defs.specs.Actions.{Action, Store, Fetch, Work, End}
-use Rattle.hail_scrub.specs.declared.cursor.Item.{Item}
-use Rattle.hail_scrub.specs.declared.cursor.Spot.{Spot}
-use Rattle.hail_scrub.specs.declared.cursor.Cursor.{Cursor}
+use Rattle.hail_scrub.proofs.Words.{◌≡◌, ℕ, ◌+◌, ◌*◌, ◌<◌, ◌≤◌, Bool, true, false, List, [], ◌∷◌, ◌++◌, length, drop, ◌⊎◌, inl, inr, refl, ap, sym, ◌∙◌, arith, append_assoc, length-append, flat_map, Provider, Action, Store, Fetch, Work, End, Item, Spot, Cursor, ScrubTurn, ScrubView, scrub_left, most_steps, fetches_from, stores_from, stripes_from, item_actions, past_stripe, todo_at, IsOver, stores_in, ComesTo, MakesNext}
 use Rattle.hail_scrub.specs.declared.cursor.Cursor.TheVariants as cursor
-use Rattle.hail_scrub.specs.declared.turn.ScrubTurn.{ScrubTurn}
 use Rattle.hail_scrub.specs.declared.turn.ScrubTurn.TheVariants as turn
-use Rattle.hail_scrub.specs.Views.{ScrubView, scrub_left, most_steps}
-use Rattle.hail_scrub.specs.Todo.{fetches_from, stores_from, stripes_from, item_actions, past_stripe, todo_at}
-use Rattle.hail_scrub.specs.Stands.{IsOver}
-use Rattle.hail_scrub.specs.Steps.{stores_in, ComesTo, MakesNext}
 
 -- actions end with the end, or there are none
 abbrev pub Ends : List Action → Type 0

@@ -1,24 +1,13 @@
 -- The file that a scrub works on.
-use Rattle.std.proofs.Common.{◌≡◌, ℕ, zero, suc, ◌<◌, Bool, List, [], ◌∷◌, length, map, Some, refl, ap, sym, subst, ◌∙◌, arith}
-use Rattle.std.specs.Prelude.{slice_get, slice_set}
-use Rattle.std.specs.Option.{option_map}
-use Rattle.std.proofs.lemmas.List.{length-map}
-use Rattle.std.proofs.lemmas.Option.{slice_get-map, slice_get_within}
-use Rattle.column_defs.specs.Objects.{Object}
-use Rattle.column_codec.specs.PresentBlocks.{present_blocks}
-use Rattle.column_codec.specs.Bench.{turned}
-use Rattle.stripe_bench.specs.Bench.{bench_kind, file_kind}
-use Rattle.column_codec.specs.declared.bench.Bench.{Bench}
-use Rattle.hail_scrub.specs.declared.cursor.Item.{Item}
-use Rattle.hail_scrub.specs.declared.cursor.Spot.{Spot}
-use Rattle.hail_scrub.specs.declared.cursor.Cursor.{Cursor}
+use Rattle.hail_scrub.proofs.Words.{◌≡◌, ℕ, zero, suc, ◌<◌, Bool, List, [], ◌∷◌, length, map, Some, refl, ap, sym, subst, ◌∙◌, arith, slice_get, slice_set, get_or, option_map, length-map, slice_get-map, slice_get-get_or, slice_get_read, slice_get_within, Object, present_blocks, turned, bench_kind, file_kind, Bench, Item, Spot, Cursor, Progress, scrub_left, item_object, bench_rows, size_in, phase_at, scrub_view, IsItem, IsSpot, StoresOnlyAt, IsAmid, IsProgress, IsOne, GoesPast}
 use Rattle.hail_scrub.specs.declared.cursor.Cursor.TheVariants as cursor
-use Rattle.hail_scrub.specs.declared.progress.Progress.{Progress}
-use Rattle.hail_scrub.specs.Views.{scrub_left}
 use Rattle.hail_scrub.specs.Views as views
-use Rattle.hail_scrub.specs.Progress.{item_object, bench_rows, size_in, phase_at, scrub_view, IsItem, IsSpot, StoresOnlyAt, IsAmid, IsProgress}
-use Rattle.hail_scrub.specs.Steps.{IsOne, GoesPast}
 use Rattle.hail_scrub.proofs.Rests.{all_get}
+
+-- what is read at a place of a list stands there, as it is seen
+pub seen_there : {X Y : Type 0} (see : X → Y) (xs : List X) (k : ℕ) (x : X) → k < length xs →
+    slice_get (map see xs) k ≡ Some (see (get_or xs k x))
+seen_there see xs k x within = slice_get-map see xs k ∙ ap (option_map see) (slice_get-get_or xs k x within)
 
 -- ---- benches
 
@@ -66,6 +55,11 @@ module _ (p : Progress) (W : IsProgress p) (spot : Spot) (is : IsSpot p.items.it
       (file_kind p.master.0 spot.item.file)
       item_is.bench in
       omega (arith, l, length-map p.benches.items bench_kind)
+
+  -- the bench that is read there
+  pub bench_read : (b : Bench) → b ≡ get_or p.benches.items spot.item.bench b →
+      slice_get p.benches.items spot.item.bench ≡ Some b
+  bench_read b is = slice_get_read p.benches.items _ spot.item.bench b refl bench_there is
 
   -- and serves it
   pub bench_serves : (b : Bench) → slice_get p.benches.items spot.item.bench ≡ Some b →

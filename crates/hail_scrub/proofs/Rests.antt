@@ -1,18 +1,6 @@
 -- How the actions that a scrub has still to do follow one another.
-use Rattle.std.proofs.Common.{◌≡◌, ℕ, zero, suc, ◌+◌, ◌-◌, ◌<◌, ◌≤◌, ◌==◌, Bool, true, false, List, [], ◌∷◌, ◌++◌, Some, None, length, map, drop, get_or, refl, ap, sym, subst, ◌∙◌, append_assoc, arith}
-use Rattle.std.specs.Prelude.{slice_get, slice_index, if◌then◌else◌}
-use Rattle.std.specs.List.{All, flat_map, range_with_len}
-use Rattle.std.proofs.lemmas.List.Elements.{All-head, All-tail}
-use Rattle.std.proofs.lemmas.List.{drop_all}
-use Rattle.algebra_laws.proofs.Lists.{drop-get}
-use Rattle.code_defs.specs.Points.{upto}
-use Rattle.machine_defs.specs.Actions.{Action, Store, Fetch, Work, End}
-use Rattle.hail_scrub.specs.declared.cursor.Item.{Item}
-use Rattle.hail_scrub.specs.declared.cursor.Spot.{Spot}
-use Rattle.hail_scrub.specs.declared.cursor.Cursor.{Cursor}
+use Rattle.hail_scrub.proofs.Words.{◌≡◌, ℕ, zero, suc, ◌+◌, ◌-◌, ◌<◌, ◌≤◌, ◌==◌, Bool, true, false, List, [], ◌∷◌, ◌++◌, Some, None, length, map, drop, get_or, refl, ap, sym, subst, ◌∙◌, append_assoc, arith, slice_get, slice_index, if◌then◌else◌, All, flat_map, range_with_len, All-head, All-tail, drop_all, drop-get, upto, Action, Store, Fetch, Work, End, Item, Spot, Cursor, CanRun, IsSpot, CursorIsAt, numbers_between, fetches_from, store_of, stores_from, opening_of, stripes_from, item_actions, items_on, past_stripe, todo_at}
 use Rattle.hail_scrub.specs.declared.cursor.Cursor.TheVariants as cursor
-use Rattle.hail_scrub.specs.Progress.{CanRun, IsSpot, CursorIsAt}
-use Rattle.hail_scrub.specs.Todo.{numbers_between, fetches_from, store_of, stores_from, opening_of, stripes_from, item_actions, items_on, past_stripe, todo_at}
 
 -- numbers from a on start with a
 pub numbers_here : (a b : ℕ) → a < b → numbers_between a b ≡ a ∷ numbers_between (a + 1) b

@@ -1,19 +1,7 @@
 -- What a step of a scrub shows of providers holds of the same providers with no content told.
-use Rattle.std.proofs.Common.{◌≡◌, ℕ, Bool, List, [], ◌∷◌, map, refl, ap, ◌∙◌}
-use Rattle.std.specs.Option.{option_map}
-use Rattle.std.proofs.lemmas.List.{map-set}
-use Rattle.std.proofs.lemmas.Option.{slice_get-map}
-use Rattle.column_defs.specs.Columns.{column_of_symbols}
-use Rattle.device_defs.specs.Providers.{Provider}
-use Rattle.device_defs.specs.ProviderCalls.{Stores, FindsNoMemory, FailsToStore, Fetches}
-use Rattle.machine_defs.specs.Actions.{Action, Store, Fetch, Work, End}
+use Rattle.hail_scrub.proofs.Words.{◌≡◌, ℕ, Bool, List, [], ◌∷◌, map, refl, ap, ◌∙◌, option_map, map-set, slice_get-map, column_of_symbols, Provider, Stores, FindsNoMemory, FailsToStore, Fetches, Action, Store, Fetch, Work, End, ScrubTurn, ScrubView, provider_by, stores_by, no_memory_by, fails_by, fetches_by, CallsAt, ComesTo, MakesNext}
 use Rattle.hail_scrub.specs.declared.turn.ScrubAnswer.TheVariants as answer
-use Rattle.hail_scrub.specs.declared.turn.ScrubTurn.{ScrubTurn}
 use Rattle.hail_scrub.specs.declared.turn.ScrubTurn.TheVariants as turn
-use Rattle.hail_scrub.specs.Views.{ScrubView}
-use Rattle.stripe_bench.specs.Calls.{provider_by}
-use Rattle.stripe_bench.proofs.Sights.{stores_by, no_memory_by, fails_by, fetches_by}
-use Rattle.hail_scrub.specs.Steps.{CallsAt, ComesTo, MakesNext}
 
 -- one function after another goes as both at once
 pub map_twice : {X Y Z : Type 0} (f : Y → Z) (g : X → Y) (xs : List X) → map f (map g xs) ≡ map

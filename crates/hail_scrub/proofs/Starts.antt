@@ -1,19 +1,6 @@
 -- How a scrub begins in the machine: what the vault's `hold` and `Scrub::new` come to together.
-use Rattle.std.proofs.Common.{◌≡◌, ℕ, ◌+◌, ◌≤◌, true, [], List, None, refl, ap, sym, subst}
-use Rattle.device_defs.specs.Providers.{Provider}
-use Rattle.file_layout.specs.declared.file.FileShape.{FileShape}
-use Rattle.record_defs.specs.Records.{Setup}
-use Rattle.record_defs.specs.Table.{files_of}
-use Rattle.machine_defs.specs.Alone.{new_scrub, alone_refusal, unalone}
+use Rattle.hail_scrub.proofs.Words.{◌≡◌, ℕ, ◌+◌, ◌≤◌, true, [], List, None, refl, ap, sym, subst, Provider, FileShape, Setup, files_of, new_scrub, alone_refusal, unalone, BeginScrub, Begun, Happens, State, Scrub, setup_in, AreHanded, ScrubTurn, ScrubView, AreFilesOf, IsNewScrub, held, ScrubIs, ScrubStands, MakesScrubStep}
 use Rattle.machine_defs.specs.Begins.{pin_all}
-use Rattle.machine_defs.specs.Events.{BeginScrub, Begun}
-use Rattle.machine_defs.specs.Machine.{Happens}
-use Rattle.machine_defs.specs.States.{State, Scrub, setup_in}
-use Rattle.opening_defs.specs.Opened.{AreHanded}
-use Rattle.hail_scrub.specs.declared.turn.ScrubTurn.{ScrubTurn}
-use Rattle.hail_scrub.specs.Views.{ScrubView}
-use Rattle.hail_scrub.specs.Begins.{AreFilesOf, IsNewScrub, held}
-use Rattle.hail_scrub.specs.Stands.{ScrubIs, ScrubStands, MakesScrubStep}
 use Rattle.hail_scrub.proofs.Machine.{setup_same, handed_same}
 
 module _ (w : State) (moment : ℕ) where

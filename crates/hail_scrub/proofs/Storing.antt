@@ -1,31 +1,13 @@
 -- A store of a scrub.
-use Rattle.std.proofs.Common.{◌≡◌, ℕ, ◌+◌, ◌*◌, ◌<◌, List, [], ◌∷◌, ◌++◌, length, map, Vec, Global, Some, refl, ap, sym, subst, ◌∙◌, arith}
-use Rattle.std.proofs.lemmas.Option.{slice_get_within}
-use Rattle.std.specs.Prelude.{slice_get, slice_set}
-use Rattle.std.specs.List.{All}
-use Rattle.algebra_laws.proofs.Lists.{get-set_same}
-use Rattle.column_defs.specs.Objects.{Object}
-use Rattle.column_defs.specs.Columns.{column_of_symbols}
-use Rattle.device_defs.specs.Providers.{Provider}
-use Rattle.device_defs.specs.ProviderCalls.{Stores, FailsToStore, FindsNoMemory}
-use Rattle.machine_defs.specs.Actions.{Action, Store}
-use Rattle.column_codec.specs.Bench.{bench_object, turned}
-use Rattle.stripe_bench.specs.Bench.{bench_kind, file_kind}
-use Rattle.column_codec.specs.declared.bench.Bench.{Bench}
-use Rattle.hail_scrub.specs.declared.cursor.Spot.{Spot}
-use Rattle.hail_scrub.specs.declared.cursor.Cursor.{Cursor}
+use Rattle.hail_scrub.proofs.Words.{◌≡◌, ℕ, ◌+◌, ◌-◌, ◌*◌, ◌<◌, List, [], ◌∷◌, ◌++◌, length, map, Vec, Global, Some, refl, ap, sym, subst, ◌∙◌, arith, slice_get_within, slice_get, slice_set, get_or, with_item, All, get-set_same, Object, column_of_symbols, Provider, Stores, FailsToStore, FindsNoMemory, Action, Store, bench_object, turned, bench_kind, file_kind, Bench, Spot, Cursor, Progress, ScrubView, most_steps, stores_from, past_stripe, todo_at, item_object, rows_of, fetched_at, size_in, phase_at, scrub_view, next_to_do, called_by, IsItem, IsSpot, IsCursor, CursorIsAt, StoresOnlyAt, IsProgress, MakesNext}
 use Rattle.hail_scrub.specs.declared.cursor.Cursor.TheVariants as cursor
-use Rattle.hail_scrub.specs.declared.progress.Progress.{Progress}
 use Rattle.hail_scrub.specs.declared.turn.ScrubAnswer.TheVariants as answer
 use Rattle.hail_scrub.specs.declared.turn.ScrubTurn.TheVariants as turn
-use Rattle.hail_scrub.specs.Views.{ScrubView, most_steps}
 use Rattle.hail_scrub.specs.Views as views
-use Rattle.hail_scrub.specs.Todo.{stores_from, past_stripe, todo_at}
-use Rattle.hail_scrub.specs.Progress.{item_object, rows_of, fetched_at, size_in, phase_at, scrub_view, IsItem, IsSpot, IsCursor, CursorIsAt, StoresOnlyAt, IsProgress}
-use Rattle.hail_scrub.specs.Steps.{MakesNext}
+use Rattle.hail_scrub.proofs.Called.{called_store}
 use Rattle.hail_scrub.proofs.Lefts.{left-cons}
 use Rattle.hail_scrub.proofs.Rests.{stores_take}
-use Rattle.hail_scrub.proofs.Placed.{kinds_stay, turned_is, item_is, one_is, bench_serves, phase_behind}
+use Rattle.hail_scrub.proofs.Placed.{kinds_stay, turned_is, item_is, one_is, bench_read, bench_serves, phase_behind}
 
 module _ (p : Progress) (W : IsProgress p) (spot : Spot) (j : ℕ) (here : p.cursor ≡ cursor.Storing spot j) where
   at_place : IsCursor p.providers p.items.items p.off (cursor.Storing spot j)
@@ -56,6 +38,10 @@ module _ (p : Progress) (W : IsProgress p) (spot : Spot) (j : ℕ) (here : p.cur
       ∙ ap (λ (l : List Action). l ++ past_stripe p.providers p.items.items spot)
       (stores_take p.providers j p.off spot.item.file.id spot.stripe store_within at_place.2)
 
+  -- it calls this provider
+  pub called : called_by (next_to_do (scrub_view p)) ≡ Some j
+  called = called_store (scrub_view p) j spot.item.file.id spot.stripe rest todo_is
+
   left_is : p.left ≡ 1 + most_steps p.providers rest
   left_is = W.left ∙ ap (most_steps p.providers) todo_is
       ∙ left-cons p.providers (Store j spot.item.file.id spot.stripe) rest refl
@@ -64,7 +50,10 @@ module _ (p : Progress) (W : IsProgress p) (spot : Spot) (j : ℕ) (here : p.cur
   pub store_some : 0 < p.left
   store_some = omega (arith, left_is)
 
-  module _ (b0 : Bench) (there : slice_get p.benches.items spot.item.bench ≡ Some b0) where
+  module _ (b0 : Bench) (is : b0 ≡ get_or p.benches.items spot.item.bench b0) where
+    there : slice_get p.benches.items spot.item.bench ≡ Some b0
+    there = bench_read p W spot store_spot b0 is
+
     serves : bench_kind b0 ≡ file_kind p.master.0 spot.item.file
     serves = bench_serves p W spot store_spot b0 there
 
@@ -80,11 +69,12 @@ module _ (p : Progress) (W : IsProgress p) (spot : Spot) (j : ℕ) (here : p.cur
 
     -- ---- after it
 
-    module _ (b1 : Bench) (object : bench_object b1 ≡ turned b0 spot.item.file.id) (bs : Vec Bench Global)
-        (benches : bs.items ≡ slice_set p.benches.items spot.item.bench b1) where
+    module _ (b1 : Bench) (object : bench_object b1 ≡ turned b0 spot.item.file.id) where
+      abbrev bs : Vec Bench Global
+      bs = with_item p.benches spot.item.bench b1
+
       kinds : map bench_kind bs.items ≡ map bench_kind p.benches.items
-      kinds = ap (map bench_kind) benches
-          ∙ kinds_stay p.benches.items spot.item.bench b0 b1 there
+      kinds = kinds_stay p.benches.items spot.item.bench b0 b1 there
           (ap (λ (o : Object). record o { id = 0 }) object)
 
       -- before it is known what came of it
@@ -107,10 +97,13 @@ module _ (p : Progress) (W : IsProgress p) (spot : Spot) (j : ℕ) (here : p.cur
         few_blocks = W.few_blocks;
       }
 
-      module _ (c : Cursor) (left : ℕ) (at : CursorIsAt p.providers p.items.items p.off c rest)
-          (behind : StoresOnlyAt spot c) (falls : left + 1 ≡ p.left) where
+      module _ (c : Cursor) (at : CursorIsAt p.providers p.items.items p.off c rest)
+          (behind : StoresOnlyAt spot c) where
         abbrev after : Progress
-        after = record p { benches = bs; cursor = c; left = left }
+        after = record p { benches = bs; cursor = c; left = p.left - 1 }
+
+        falls : p.left - 1 + 1 ≡ p.left
+        falls = omega (arith, store_some)
 
         -- the scrub is whole
         pub store_done_whole : IsProgress after
@@ -126,7 +119,7 @@ module _ (p : Progress) (W : IsProgress p) (spot : Spot) (j : ℕ) (here : p.cur
               ∙ ap (λ (k : ℕ). k * size_in c) (sym at.fresh);
           room_present = W.room_present;
           room_symbols = W.room_symbols;
-          left = (let e : left ≡ most_steps p.providers rest = omega (arith, left_is, falls) in
+          left = (let e : p.left - 1 ≡ most_steps p.providers rest = omega (arith, left_is) in
               e ∙ ap (most_steps p.providers) (sym at.todo_is));
           long_symbols = W.long_symbols;
           long_blocks = W.long_blocks;
@@ -165,8 +158,7 @@ module _ (p : Progress) (W : IsProgress p) (spot : Spot) (j : ℕ) (here : p.cur
               at = phase_at after c;
             });
             behind = phase_behind after spot c b0.rows.items behind none_present
-                (ap rows_of (ap (λ (l : List Bench). slice_get l spot.item.bench) benches
-                ∙ get-set_same p.benches.items spot.item.bench b1
+                (ap rows_of (get-set_same p.benches.items spot.item.bench b1
                 (slice_get_within p.benches.items spot.item.bench b0 there))
                 ∙ ap (λ v. v.items) rows);
           };

@@ -1,7 +1,6 @@
 //! How what was fetched of a stripe differs from what its opening gives.
-ghost use Rattle.std.specs.Prelude.{◌≡◌, ◌+◌, ◌<◌, ◌≤◌, ◌==◌, ℕ, length, slice_index, IfOk, IfErr, IfSome, if◌then◌else◌};
+ghost use Rattle.std.specs.Prelude.{◌≡◌, ◌+◌, ◌<◌, ◌≤◌, ℕ, length, slice_index, IfOk, IfErr, IfSome};
 ghost use Rattle.std.specs.Option.{option_copied};
-ghost use Rattle.code_defs.specs.ServerCode.{differences};
 ghost use Rattle.column_defs.specs.Opened.{block_at, LosesRow};
 ghost use Rattle.machine_defs.specs.Alone.{differs};
 ghost use Rattle.column_codec.specs.Bench.{bench_object, turned};
@@ -12,28 +11,8 @@ ghost use Rattle.hail_scrub.specs.Compared.{HasBlocks, IsSurveyed};
 
 use column_codec::{Bench, Codec, RowLost};
 use hail_field::Symbol;
+use server_code::count_differences;
 use stripe_bench::Blocks;
-
-/// 1 where two symbols differ, else 0.
-fn difference(a: Symbol, b: Symbol) -> u64
-    ensures { result ≡ (if a == b then 0 else 1) }
-{
-    if a == b { 0 } else { 1 }
-}
-
-/// At how many places two blocks differ.
-fn count_differences(a: &[Symbol], b: &[Symbol]) -> u64
-    requires even { length a.now ≡ length b.now }
-    requires few { length b.now ≤ 128 }
-    ensures value { result ≡ differences a.now b.now }
-    ensures few { result ≤ 128 }
-{
-    let mut count = 0;
-    for k in 0..a.len() {
-        count += difference(a[k], b[k]);
-    }
-    count
-}
 
 /// How many symbols of a block are not those that it should hold; all of them where there is none.
 fn off_by(seen: Option<&[Symbol]>, right: &[Symbol]) -> u64
@@ -43,7 +22,7 @@ fn off_by(seen: Option<&[Symbol]>, right: &[Symbol]) -> u64
     ensures few { result ≤ 128 }
 {
     match seen {
-        Some(block) => count_differences(block, right),
+        Some(block) => u64::from(count_differences(block, right)),
         None => right.len() as u64,
     }
 }

@@ -1,21 +1,11 @@
 -- What the decoder concludes of the first short row on the key equation.
-use Rattle.std.proofs.Common.{◌≡◌, ◌≤◌, ◌<◌, ◌+◌, ◌-◌, ◌*◌, ℕ, List, [], ◌∷◌, length, map, take, reverse, Some, sym, ◌∙◌, ap, arith}
-use Rattle.std.proofs.lemmas.List.{length-take, length-reverse, take-take}
-use Rattle.std.proofs.lemmas.List.FromFn.{length-map-range_with_len}
-use Rattle.algebra_laws.specs.Field.{Apart}
-use Rattle.hail_field.specs.Nim.{nim, nim_add, nim_mul}
-use Rattle.hail_field.proofs.AllNumbers.{nim_laws, nim_endless}
-use Rattle.algebra_laws.specs.Poly.{FirstRow, Decodes}
+use Rattle.hail_syndrome.proofs.Words.{◌≡◌, ◌≤◌, ◌<◌, ◌+◌, ◌-◌, ◌*◌, ℕ, List, [], ◌∷◌, length, map, take, reverse, Some, sym, ◌∙◌, ap, arith, length-take, length-reverse, take-take, length-map-range_with_len, Apart, nim, nim_add, nim_mul, nim_laws, nim_endless, FirstRow, Decodes, interpolate_takes, length-interpolate, TakesSymbols, power, key, sound_points, sound_values, syndrome, syndromes_of}
 use Rattle.algebra_laws.proofs.Agree.{agree_same}
 use Rattle.algebra_laws.proofs.Trim.{value-trim, length-trim}
-use Rattle.algebra_laws.proofs.Interpolate.{interpolate_takes, length-interpolate}
 use Rattle.algebra_laws.proofs.Headlines.{one_takes}
-use Rattle.code_defs.specs.Polynomials.{value, vanish, interpolate, trim, TakesSymbols}
+use Rattle.code_defs.specs.Polynomials.{value, vanish, interpolate, trim}
 use Rattle.hail_poly.specs.Decoding.{matches, IsDecoded, NoneDecodes}
-use Rattle.hail_poly.specs.Key.{power, key}
 use Rattle.hail_poly.specs.Quotient.{IsCombination}
-use Rattle.hail_syndrome.specs.Sound.{sound_points, sound_values}
-use Rattle.hail_syndrome.specs.Syndromes.{syndrome, syndromes_of}
 use Rattle.hail_syndrome.proofs.KeyEquation.{tail, length-tail, key_equation}
 use Rattle.hail_syndrome.proofs.KeyRow.{factor_short, factor_some, takes_where}
 use Rattle.hail_syndrome.proofs.SoundPlaces.{many_sound, takes_sound, length-sound_values, Apart-sound, Apart-front, Takes-front}

@@ -1,9 +1,6 @@
 -- The steps of `gather`.
-use Rattle.std.proofs.Common.{◌≡◌, ◌≢◌, ◌≤◌, ◌<◌, ◌+◌, ◌++◌, ℕ, zero, suc, List, [], ◌∷◌, length, set, take, drop, get_or, add-one, Bool, true, false, nat_eq, eqb-true, sym, ◌∙◌, ap, refl, arith}
-use Rattle.std.proofs.lemmas.List.{take_more_set, append_assoc, drop_all}
-use Rattle.hail_field.specs.Nim.{nim}
+use Rattle.hail_syndrome.proofs.Words.{◌≡◌, ◌≢◌, ◌≤◌, ◌<◌, ◌+◌, ◌++◌, ℕ, zero, suc, List, [], ◌∷◌, length, set, take, drop, get_or, add-one, Bool, true, false, nat_eq, eqb-true, sym, ◌∙◌, ap, refl, arith, take_more_set, append_assoc, drop_all, nim, sound_points, sound_values}
 use Rattle.code_defs.specs.Polynomials.{value}
-use Rattle.hail_syndrome.specs.Sound.{sound_points, sound_values}
 
 -- what the test says of 0
 is_zero : (a : ℕ) → a ≡ 0 → nat_eq a 0 ≡ true

@@ -1,24 +1,9 @@
 -- The syndromes and the interpolating polynomial: x^m times it is the polynomial of the syndromes times the
 -- product of all x + point,
 -- plus the polynomial that takes each value times the m-th power of its point.
-use Rattle.std.proofs.Common.{◌≡◌, ◌≢◌, ◌++◌, ◌⊎◌, inl, inr, ℕ, zero, suc, sym, ◌∙◌, ap, refl, arith, List, [], ◌∷◌, length, map, reverse, Bool, true, false, nat_eq, eqb-true, add-one, zero-add}
-use Rattle.std.proofs.lemmas.List.{reverse-append}
-use Rattle.std.proofs.lemmas.List.FromFn.{map-range_with_len_more}
+use Rattle.hail_syndrome.proofs.Words.{◌≡◌, ◌≢◌, ◌++◌, ◌⊎◌, inl, inr, ℕ, zero, suc, sym, ◌∙◌, ap, refl, arith, List, [], ◌∷◌, length, map, reverse, Bool, true, false, nat_eq, eqb-true, add-one, zero-add, reverse-append, map-range_with_len_more, Each, Apart, zero_mul, one_mul, v, o, i, ◌⊞◌, ◌⊡◌, solve, nim, nim_add, nim_mul, nim_inv, nim_pow, nim_laws, nim_ring, nim_mul_inv, value_over, interpolate_takes, vanish_roots, length-interpolate, TakesSymbols, multiplier, dot, part, gap_not_zero, value-interpolate, power, syndrome, syndromes_of}
 use Rattle.std.specs.List.{range_with_len}
-use Rattle.algebra_laws.specs.Lists.{Each}
-use Rattle.algebra_laws.specs.Field.{Apart}
-use Rattle.algebra_laws.proofs.Ring.{zero_mul, one_mul}
-use Rattle.algebra_laws.proofs.Solve.{v, o, i, ◌⊞◌, ◌⊡◌, solve}
-use Rattle.hail_field.specs.Nim.{nim, nim_add, nim_mul, nim_inv, nim_pow}
-use Rattle.hail_field.proofs.AllNumbers.{nim_laws, nim_ring, nim_mul_inv}
-use Rattle.algebra_laws.specs.Poly.{value as value_over}
-use Rattle.algebra_laws.proofs.Interpolate.{interpolate_takes, vanish_roots, length-interpolate}
-use Rattle.code_defs.specs.Polynomials.{value, vanish, interpolate, TakesSymbols}
-use Rattle.code_defs.specs.Points.{multiplier}
-use Rattle.code_defs.specs.Sums.{dot}
-use Rattle.code_defs.proofs.Lagrange.{part, gap_not_zero, value-interpolate}
-use Rattle.hail_poly.specs.Key.{power}
-use Rattle.hail_syndrome.specs.Syndromes.{syndrome, syndromes_of}
+use Rattle.code_defs.specs.Polynomials.{value, vanish, interpolate}
 
 -- each value times the m-th power of its point
 pub weighted : ℕ → List ℕ → List ℕ → List ℕ

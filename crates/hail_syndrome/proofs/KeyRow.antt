@@ -1,18 +1,9 @@
 -- The first short row of Euclid's algorithm on a power of x and the polynomial of the syndromes.
-use Rattle.std.proofs.Common.{◌≡◌, ◌≢◌, ◌≤◌, ◌<◌, ◌+◌, ◌-◌, ◌*◌, ℕ, zero, suc, sym, ◌∙◌, ap, subst, refl, arith, List, [], ◌∷◌, length, take, replicate}
-use Rattle.std.proofs.lemmas.List.{length-take, length-replicate}
-use Rattle.algebra_laws.specs.Lists.{Each}
-use Rattle.algebra_laws.specs.Field.{FieldOf, IsField, IsEndless, Apart}
-use Rattle.algebra_laws.proofs.Ring.{zero_mul, zero_add, sum_zero}
+use Rattle.hail_syndrome.proofs.Words.{◌≡◌, ◌≢◌, ◌≤◌, ◌<◌, ◌+◌, ◌-◌, ◌*◌, ℕ, zero, suc, sym, ◌∙◌, ap, subst, refl, arith, List, [], ◌∷◌, length, take, replicate, length-take, length-replicate, Each, FieldOf, IsField, IsEndless, Apart, zero_mul, zero_add, sum_zero, v, o, i, ◌⊞◌, ◌⊡◌, solve, times, Takes, Decodes, FirstRow, value-plus, value-times, length-plus, same_values, value-zero, length-times, length-vanish, vanish_roots, interpolate_takes, AreRows, IsKeyRow, key_row}
 use Rattle.algebra_laws.proofs.Inverse.{factor_zero}
-use Rattle.algebra_laws.proofs.Solve.{v, o, i, ◌⊞◌, ◌⊡◌, solve}
-use Rattle.algebra_laws.specs.Poly.{value, plus, times, vanish, interpolate, Takes, Decodes, FirstRow}
+use Rattle.algebra_laws.specs.Poly.{value, plus, vanish, interpolate}
 use Rattle.algebra_laws.specs.Rows.{Solves}
-use Rattle.algebra_laws.proofs.Values.{value-plus, value-times}
-use Rattle.algebra_laws.proofs.Roots.{length-plus, same_values, value-zero}
-use Rattle.algebra_laws.proofs.Interpolate.{length-times, length-vanish, vanish_roots, interpolate_takes}
 use Rattle.algebra_laws.proofs.Gao.{row_is_product}
-use Rattle.algebra_laws.proofs.Euclid.{AreRows, IsKeyRow, key_row}
 use Rattle.hail_syndrome.proofs.Shift.{power_over, value-nothing, power-at_one, vanish-zeros, short_factor}
 
 -- wherever f is not 0, p takes the value

@@ -1,3 +1,4 @@
+mod Words
 pub mod Shift
 pub mod KeyRow
 pub mod SoundPlaces

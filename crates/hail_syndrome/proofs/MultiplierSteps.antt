@@ -1,9 +1,5 @@
 -- The steps of the multipliers.
-use Rattle.std.proofs.Common.{◌≡◌, ◌≤◌, ◌<◌, ◌+◌, ℕ, List, [], ◌∷◌, length, drop, map, get_or, slice_index, zero-add, cond, nat_eq, ap, ◌∙◌, refl, arith}
-use Rattle.std.proofs.lemmas.List.{at_drop_more, at_drop_all}
-use Rattle.std.proofs.lemmas.List.FromFn.{fill_by_all, length-range_with_len, get_or-range_with_len}
-use Rattle.hail_field.specs.Nim.{nim_add, nim_mul}
-use Rattle.code_defs.specs.Points.{upto, others_product, multiplier}
+use Rattle.hail_syndrome.proofs.Words.{◌≡◌, ◌≤◌, ◌<◌, ◌+◌, ℕ, List, [], ◌∷◌, length, drop, map, get_or, slice_index, zero-add, cond, nat_eq, ap, ◌∙◌, refl, arith, at_drop_more, at_drop_all, fill_by_all, length-range_with_len, get_or-range_with_len, nim_add, nim_mul, upto, others_product, multiplier}
 
 -- one point more
 pub others_step : (x : ℕ) (points : List ℕ) (k : ℕ) → k < length points →

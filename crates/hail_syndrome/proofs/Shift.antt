@@ -1,13 +1,8 @@
 -- Multiples of a power of x.
-use Rattle.std.proofs.Common.{◌≡◌, ◌≤◌, ◌+◌, ◌++◌, ℕ, zero, suc, sym, ◌∙◌, ap, refl, arith, List, [], ◌∷◌, length, take, replicate, get_or, zero-add, suc-add}
-use Rattle.std.proofs.lemmas.List.{get_or_past}
-use Rattle.algebra_laws.specs.Field.{FieldOf, IsField, IsEndless}
-use Rattle.algebra_laws.proofs.Ring.{zero_add}
-use Rattle.algebra_laws.proofs.Solve.{v, o, i, ◌⊞◌, ◌⊡◌, solve}
-use Rattle.algebra_laws.specs.Poly.{value, trim, vanish, root_times}
+use Rattle.hail_syndrome.proofs.Words.{◌≡◌, ◌≤◌, ◌+◌, ◌++◌, ℕ, zero, suc, sym, ◌∙◌, ap, refl, arith, List, [], ◌∷◌, length, take, replicate, get_or, zero-add, suc-add, get_or_past, FieldOf, IsField, IsEndless, zero_add, v, o, i, ◌⊞◌, ◌⊡◌, solve, root_times, same_from_values}
+use Rattle.algebra_laws.specs.Poly.{value, trim, vanish}
 use Rattle.algebra_laws.proofs.Degree.{get_or-trim}
 use Rattle.algebra_laws.proofs.Loading.{vanish_step}
-use Rattle.algebra_laws.proofs.Everywhere.{same_from_values}
 
 -- x to the power m
 abbrev pub power_over : {A : Type 0} → FieldOf A → ℕ → List A

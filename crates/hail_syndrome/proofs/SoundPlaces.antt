@@ -1,11 +1,7 @@
 -- The places at which a polynomial is not 0.
-use Rattle.std.proofs.Common.{◌≡◌, ◌≢◌, ◌≤◌, ◌<◌, ◌+◌, ℕ, zero, ◌⊎◌, inl, inr, refl, arith, List, [], ◌∷◌, length, take, Bool, true, false, cond, suc}
-use Rattle.algebra_laws.specs.Lists.{Each}
+use Rattle.hail_syndrome.proofs.Words.{◌≡◌, ◌≢◌, ◌≤◌, ◌<◌, ◌+◌, ℕ, zero, ◌⊎◌, inl, inr, refl, arith, List, [], ◌∷◌, length, take, Bool, true, false, cond, suc, Each, FieldOf, IsField, Apart, Takes, zero_from_roots, sound_points, sound_values}
 use Rattle.algebra_laws.proofs.Each.{each_take}
-use Rattle.algebra_laws.specs.Field.{FieldOf, IsField, Apart}
-use Rattle.algebra_laws.specs.Poly.{value, Takes}
-use Rattle.algebra_laws.proofs.Roots.{zero_from_roots}
-use Rattle.hail_syndrome.specs.Sound.{sound_points, sound_values}
+use Rattle.algebra_laws.specs.Poly.{value}
 use Rattle.hail_syndrome.proofs.KeyRow.{TakesWhere}
 
 -- the points at which f is 0

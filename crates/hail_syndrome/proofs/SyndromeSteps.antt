@@ -1,15 +1,5 @@
 -- The steps of `add_powers` and `syndromes`.
-use Rattle.std.proofs.Common.{◌≡◌, ◌≢◌, ◌≤◌, ◌<◌, ◌+◌, ◌⊎◌, inl, inr, ◌↔◌, ℕ, zero, suc, List, [], ◌∷◌, length, map, set, drop, get_or, add-one, sym, ◌∙◌, ap, subst, refl, arith}
-use Rattle.std.proofs.lemmas.List.{get_or-set_same, get_or-set_other, drop_all}
-use Rattle.std.proofs.lemmas.List.FromFn.{fill_by_all}
-use Rattle.algebra_laws.specs.Lists.{Each}
-use Rattle.algebra_laws.specs.Field.{Apart}
-use Rattle.algebra_laws.proofs.Solve.{v, ◌⊞◌, ◌⊡◌, solve}
-use Rattle.hail_field.specs.Nim.{nim_add, nim_mul, nim_pow}
-use Rattle.hail_field.proofs.AllNumbers.{nim_ring}
-use Rattle.code_defs.specs.Points.{multiplier}
-use Rattle.code_defs.specs.Sums.{dot}
-use Rattle.hail_syndrome.specs.Syndromes.{syndromes_of, AreValues}
+use Rattle.hail_syndrome.proofs.Words.{◌≡◌, ◌≢◌, ◌≤◌, ◌<◌, ◌+◌, ◌⊎◌, inl, inr, ◌↔◌, ℕ, zero, suc, List, [], ◌∷◌, length, map, set, drop, get_or, add-one, sym, ◌∙◌, ap, subst, refl, arith, get_or-set_same, get_or-set_other, drop_all, fill_by_all, Each, Apart, v, ◌⊞◌, ◌⊡◌, solve, nim_add, nim_mul, nim_pow, nim_ring, multiplier, dot, syndromes_of, AreValues}
 use Rattle.hail_syndrome.proofs.ZeroLaw.{values_from_zero, zero_from_values}
 
 -- the first power

@@ -1,11 +1,5 @@
 -- Syndromes worked out.
-use Rattle.std.proofs.Common.{◌≡◌, refl, arith, ℕ, List, [], ◌∷◌}
-use Rattle.algebra_laws.specs.Lists.{Each}
-use Rattle.algebra_laws.specs.Field.{Apart}
-use Rattle.hail_field.specs.Nim.{product, nim_mul, nim_add}
-use Rattle.algebra_laws.specs.Poly.{value as value_over}
-use Rattle.code_defs.specs.Points.{values_at}
-use Rattle.hail_syndrome.specs.Syndromes.{syndromes_of, AreValues}
+use Rattle.hail_syndrome.proofs.Words.{◌≡◌, refl, arith, ℕ, List, [], ◌∷◌, Each, Apart, product, nim_mul, nim_add, value_over, values_at, syndromes_of, AreValues}
 use Rattle.hail_syndrome.proofs.ZeroLaw.{zero_from_values}
 
 -- six points

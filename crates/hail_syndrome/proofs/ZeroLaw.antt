@@ -1,19 +1,6 @@
 -- The syndromes are all 0 exactly where the values are those of a polynomial of low degree.
-use Rattle.std.proofs.Common.{◌≡◌, ◌+◌, ◌++◌, ℕ, zero, suc, sym, ◌∙◌, ap, subst, refl, arith, List, [], ◌∷◌, length, take, reverse, replicate}
-use Rattle.std.proofs.lemmas.List.{length-take, length-append, length-replicate}
-use Rattle.algebra_laws.specs.Lists.{Each}
-use Rattle.algebra_laws.specs.Field.{Apart}
-use Rattle.hail_field.specs.Nim.{nim, nim_add, nim_mul}
-use Rattle.hail_field.proofs.AllNumbers.{nim_laws, nim_ring, nim_endless}
-use Rattle.algebra_laws.proofs.Values.{value-plus}
-use Rattle.algebra_laws.proofs.Roots.{zero_from_roots, plus_zero, same_values, length-plus, value-zero}
-use Rattle.algebra_laws.proofs.Interpolate.{interpolate_takes, vanish_roots, length-interpolate}
-use Rattle.algebra_laws.proofs.Euclid.{vanish-monic}
-use Rattle.algebra_laws.proofs.Everywhere.{cancel}
-use Rattle.code_defs.specs.Polynomials.{value, plus, vanish, interpolate, TakesSymbols}
-use Rattle.code_defs.specs.Points.{values_at}
-use Rattle.hail_poly.specs.Key.{power}
-use Rattle.hail_syndrome.specs.Syndromes.{syndrome, syndromes_of, AreValues}
+use Rattle.hail_syndrome.proofs.Words.{◌≡◌, ◌+◌, ◌++◌, ℕ, zero, suc, sym, ◌∙◌, ap, subst, refl, arith, List, [], ◌∷◌, length, take, reverse, replicate, length-take, length-append, length-replicate, Each, Apart, nim, nim_add, nim_mul, nim_laws, nim_ring, nim_endless, value-plus, zero_from_roots, plus_zero, same_values, length-plus, value-zero, interpolate_takes, vanish_roots, length-interpolate, vanish-monic, cancel, TakesSymbols, values_at, power, syndrome, syndromes_of, AreValues}
+use Rattle.code_defs.specs.Polynomials.{value, plus, vanish, interpolate}
 use Rattle.hail_syndrome.proofs.Shift.{value-shift, short_factor}
 use Rattle.hail_syndrome.proofs.KeyEquation.{tail, length-tail, key_equation, syndromes_more, reversed_more}
 

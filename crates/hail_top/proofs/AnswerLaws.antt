@@ -1,11 +1,6 @@
 -- What an answer to a row leaves open.
-use Rattle.std.proofs.Common.{◌≡◌, ℕ, ◌<◌, List, Option, inl, inr, ◌⊎◌, arith}
-use Rattle.hail_field.specs.Shape.{IsShape}
-use Rattle.device_defs.specs.Faults.{last_count}
-use Rattle.code_defs.specs.Points.{upto}
-use Rattle.code_defs.specs.DispersalCode.{Accepts}
-use Rattle.command_defs.specs.Sinking.{Sinking, WritesLine}
-use Rattle.command_defs.specs.Row.{AnswersRow}
+use Rattle.hail_top.proofs.Words.{◌≡◌, ℕ, ◌<◌, List, inl, inr, ◌⊎◌, arith, IsShape, last_count, upto, Accepts, Sinking, WritesLine, AnswersRow}
+use Rattle.std.proofs.Common.{Option}
 
 -- without a fault nothing but memory cuts a line off
 Writes-complete : (line : List ℕ) (status : ℕ) (sink : Sinking) → WritesLine line status sink →

@@ -1,15 +1,6 @@
 -- What a job's answer tells, by its kind.
-use Rattle.std.proofs.Common.{◌≡◌, ℕ, List, take, Option, None, Some, refl, ap, sym, ◌∙◌, inl, inr, subst, arith, append-nil}
-use Rattle.device_defs.specs.Told.{told_then, TakesFront}
-use Rattle.machine_defs.specs.Jobs.{Kind, PutJob, GetJob, DropJob, AuditJob, RepairJob, UpgradeJob}
-use Rattle.machine_defs.specs.Answers.{Answer, Put, Got, Dropped, Audited, Repaired, Upgraded, Scrubbed, Packed, Lost, ProviderFault, DiskFault, Memory}
-use Rattle.command_defs.specs.Sinking.{WritesLine}
-use Rattle.command_defs.specs.Seen.{Seen, Ending, sinking}
-use Rattle.command_defs.specs.Lines.{text_of, stored_line, dropped_line, audit_lines}
-use Rattle.command_defs.specs.Ran.{Ran}
-use Rattle.command_defs.specs.Jobs.{LeavesBy, EndsByAnswer}
-use Rattle.hail_top.specs.declared.tell.Subject.{Subject}
-use Rattle.hail_top.specs.Telling.{TellsOf, IsTextOf, IsFaultEnd, TellsAnswer}
+use Rattle.hail_top.proofs.Words.{◌≡◌, ℕ, List, take, None, Some, refl, ap, sym, ◌∙◌, inl, inr, subst, arith, told_then, TakesFront, Kind, PutJob, GetJob, DropJob, AuditJob, RepairJob, UpgradeJob, Answer, Put, Got, Dropped, Audited, Repaired, Upgraded, Scrubbed, Packed, Lost, ProviderFault, DiskFault, Memory, WritesLine, Seen, Ending, sinking, text_of, stored_line, dropped_line, audit_lines, Ran, LeavesBy, EndsByAnswer, Subject, TellsOf, IsTextOf, IsFaultEnd, TellsAnswer}
+use Rattle.std.proofs.Common.{Option, append-nil}
 
 -- the text that was told is that of the kind of job, since its answer is one of this kind
 text-by_kind : (x : Ran) (s : Subject) (tolerance : ℕ) (answer : Answer) (kind : Kind) (own : Option ℕ)

@@ -1,25 +1,12 @@
 -- A command was answered.
-use Rattle.std.proofs.Common.{◌≡◌, ℕ, List, Option, Some, None, refl, sym, subst, inr}
-use Rattle.device_defs.specs.Told.{TakesFront}
-use Rattle.code_defs.specs.Points.{upto, values_at}
-use Rattle.opening_defs.proofs.Resyncs.{resynced-same}
-use Rattle.command_defs.specs.Forms.{Command as Spelled}
-use Rattle.command_defs.specs.Forms.{RowOf, InitWith, PutUnder, PutAt, GetOf, DropOf, ListAll, AuditAll, RepairAll, UpgradeJournal, ScrubAll, PackJournal}
-use Rattle.command_defs.specs.Keys.{longest_key}
-use Rattle.command_defs.specs.Seen.{Seen, Ending, IsRefused, sinking}
-use Rattle.command_defs.specs.Line.{values_line, no_row_line}
-use Rattle.command_defs.specs.Row.{AnswersRow}
+use Rattle.hail_top.proofs.Words.{◌≡◌, ℕ, List, Some, None, refl, sym, subst, inr, TakesFront, upto, values_at, resynced-same, Spelled, RowOf, InitWith, PutUnder, PutAt, GetOf, DropOf, ListAll, AuditAll, RepairAll, UpgradeJournal, ScrubAll, PackJournal, longest_key, Seen, Ending, IsRefused, sinking, values_line, no_row_line, AnswersRow, Answers, AnswersPut, command_of, ending_with, InitsOn, none-taken}
+use Rattle.std.proofs.Common.{Option}
 use Rattle.command_defs.specs.Opens as opens
 use Rattle.command_defs.specs.Inits as inits
 use Rattle.command_defs.specs.Scrubs as scrubs
 use Rattle.command_defs.specs.Packs as packs
 use Rattle.command_defs.specs.Commands as commands
-use Rattle.command_defs.specs.Commands.{Answers, AnswersPut}
 use Rattle.command_words.specs.declared.command.Command.{Command}
-use Rattle.command_words.specs.Commands.{command_of}
-use Rattle.hail_top.specs.Endings.{ending_with}
-use Rattle.hail_top.specs.InitRuns.{InitsOn}
-use Rattle.command_jobs.proofs.ReadBytes.{none-taken}
 use Rattle.hail_top.proofs.Refused.{refused-told}
 use Rattle.hail_top.proofs.AnswerTexts.{front-none}
 

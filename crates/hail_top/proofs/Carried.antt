@@ -1,24 +1,12 @@
 -- A schedule or a trial, carried out or not.
-use Rattle.std.proofs.Common.{◌≡◌, ◌≢◌, ◌⊎◌, ◌<◌, inl, inr, ℕ, ◌+◌, List, [], reverse, refl, ap, sym, subst, ◌∙◌, arith}
-use Rattle.std.proofs.lemmas.List.{append-nil, reverse-reverse}
-use Rattle.command_defs.specs.Seen.{Seen, Ending, sinking}
-use Rattle.device_defs.specs.Faults.{Rose}
-use Rattle.command_defs.specs.Sinking.{Sinking}
-use Rattle.machine_defs.specs.Heard.{Entry}
-use Rattle.machine_defs.specs.Runs.{Moment}
-use Rattle.machine_defs.specs.States.{State}
+use Rattle.hail_top.proofs.Words.{◌≡◌, ◌≢◌, ◌⊎◌, ◌<◌, inl, inr, ℕ, ◌+◌, List, [], reverse, refl, ap, sym, subst, ◌∙◌, arith, reverse-reverse, Seen, Ending, sinking, Rose, Sinking, Entry, Moment, State, Devices, IsUndone, devices_of_seen, longest_schedule, AnswersReplay, AnswersTrial, Form, AnswersForm, FormGoesOn, KeepsTheHeadline, none-taken, ending_with}
+use Rattle.std.proofs.lemmas.List.{append-nil}
 use Rattle.machine_defs.specs.Transcripts.{Instruction}
-use Rattle.vault_open.specs.Devices.{Devices}
 use Rattle.hail_replay.specs.Replayed.{Replays}
 use Rattle.hail_replay.specs.Trials.{RunsTrial, RunsTo}
 use Rattle.hail_replay.specs.Answers as answers
-use Rattle.hail_replay.specs.Answers.{IsUndone, devices_of_seen, longest_schedule, AnswersReplay, AnswersTrial}
-use Rattle.hail_replay.specs.declared.forms.Form.{Form}
 use Rattle.hail_replay.specs.declared.forms.Form.TheVariants as forms
 use Rattle.trial_maker.specs.Trials.{trial_commands}
-use Rattle.hail_top.specs.Carried.{AnswersForm, FormGoesOn, KeepsTheHeadline}
-use Rattle.command_jobs.proofs.ReadBytes.{none-taken}
-use Rattle.hail_top.specs.Endings.{ending_with}
 
 -- no event was done
 pub undone : (status at : ℕ) (old new : Seen) (end : Ending) → end ≡ ending_with status at →

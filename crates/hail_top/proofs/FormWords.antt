@@ -1,18 +1,10 @@
 -- The forms of the two commands that carry events out: words spell one of them at most, and then no other
 -- command.
-use Rattle.std.proofs.Common.{◌≡◌, ℕ, true, false, List, [], ◌∷◌, String, refl, ap, sym, subst, ◌∙◌}
-use Rattle.std.specs.Prelude.{Option, codes}
-use Rattle.std.specs.Str.{bytes_eq}
+use Rattle.hail_top.proofs.Words.{◌≡◌, ℕ, true, false, List, [], ◌∷◌, refl, ap, sym, subst, ◌∙◌, codes, bytes_eq, Global, false≢true, Seen, Ending, IsRowForm, Numbers, Spelled, RowOf, InitWith, PutUnder, PutAt, GetOf, DropOf, ListAll, AuditAll, RepairAll, UpgradeJournal, ScrubAll, PackJournal, IsForm, IsInitForm, IsNamedForm, IsPutAtForm, IsBareForm, IsReplayForm, IsTrialForm, IsFormOf, Form, AnswersForm}
+use Rattle.std.proofs.Common.{String}
+use Rattle.std.specs.Prelude.{Option}
 use Rattle.std.specs.String.{string_bytes}
-use Rattle.std.specs.declared.alloc.Global.{Global}
-use Rattle.std.proofs.lemmas.Bool.{false≢true}
-use Rattle.command_defs.specs.Seen.{Seen, Ending}
-use Rattle.command_defs.specs.Row.{IsRowForm}
-use Rattle.command_defs.specs.Forms.{Numbers, Command as Spelled, RowOf, InitWith, PutUnder, PutAt, GetOf, DropOf, ListAll, AuditAll, RepairAll, UpgradeJournal, ScrubAll, PackJournal, IsForm, IsInitForm, IsNamedForm, IsPutAtForm, IsBareForm}
-use Rattle.hail_replay.specs.Forms.{IsReplayForm, IsTrialForm, IsFormOf}
-use Rattle.hail_replay.specs.declared.forms.Form.{Form}
 use Rattle.hail_replay.specs.declared.forms.Form.TheVariants as forms
-use Rattle.hail_top.specs.Carried.{AnswersForm}
 
 -- one word is not two
 replay-alone : (words : List (String Global)) (number : ℕ) → IsReplayForm words → IsTrialForm words number → ⊥

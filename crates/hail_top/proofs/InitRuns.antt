@@ -1,27 +1,12 @@
 -- An `init` goes on with the run that left its devices.
-use Rattle.std.proofs.Common.{◌≡◌, ◌⊎◌, ℕ, List, [], ◌∷◌, length, Result, Ok, Err, refl, sym, subst, inl, inr, arith}
-use Rattle.record_defs.specs.Records.{Setup as SetupData}
+use Rattle.hail_top.proofs.Words.{◌≡◌, ◌⊎◌, ℕ, List, [], ◌∷◌, length, Result, Ok, Err, refl, sym, subst, inl, inr, arith, SetupData, now, IsRun, State, continued, Numbers, RowOf, InitWith, PutUnder, PutAt, GetOf, DropOf, ListAll, AuditAll, RepairAll, UpgradeJournal, ScrubAll, PackJournal, IsKeyForm, longest_key, Seen, Ending, ReadsUpTo, Sinking, WritesLine, Read, command_of, with_master, InitFault, Devices, AreDevices, devices_of_seen, ending_with, TellsInit, InitGoesOn, InitsDevices, InitsOn, untouched, made, IsSetupFor, init_ending}
 use Rattle.machine_defs.specs.Events.{Init, IsSpelled}
-use Rattle.machine_defs.specs.Runs.{now, IsRun}
-use Rattle.machine_defs.specs.States.{State, continued}
 use Rattle.state_laws.proofs.Events.{run-sound}
-use Rattle.command_defs.specs.Forms.{Command, Numbers, RowOf, InitWith, PutUnder, PutAt, GetOf, DropOf, ListAll, AuditAll, RepairAll, UpgradeJournal, ScrubAll, PackJournal}
-use Rattle.command_defs.specs.Keys.{IsKeyForm, longest_key}
-use Rattle.command_defs.specs.Seen.{Seen, Ending, ReadsUpTo}
-use Rattle.command_defs.specs.Sinking.{Sinking, WritesLine}
-use Rattle.command_words.specs.declared.command.Command.{Command as Read}
-use Rattle.command_words.specs.Commands.{command_of}
+use Rattle.command_defs.specs.Forms.{Command}
 use Rattle.record_codec.specs.declared.setup.Setup.{Setup}
-use Rattle.record_codec.specs.Entries.{with_master}
-use Rattle.vault_open.specs.declared.fault.InitFault.{InitFault}
-use Rattle.vault_open.specs.Devices.{Devices, AreDevices}
 use Rattle.vault_open.specs.Inits.{MayInit, MakesInit, init_outcome}
-use Rattle.hail_replay.specs.Answers.{devices_of_seen}
 use Rattle.hail_replay.specs.Starts.{call_from, called_behind}
 use Rattle.hail_replay.proofs.Loops.{continued-devices}
-use Rattle.hail_top.specs.Endings.{ending_with}
-use Rattle.hail_top.specs.InitRuns.{TellsInit, InitGoesOn, InitsDevices, InitsOn, untouched, made}
-use Rattle.hail_top.specs.SetUps.{IsSetupFor, init_ending}
 
 -- an init that is an event of the machine goes on with each run that has left the devices
 pub init-on : (s : SetupData) (d e : Devices) (end : Ending) (result : Result Unit InitFault) →

@@ -1,30 +1,9 @@
 -- How a command ends that runs a job over a vault just opened.
-use Rattle.std.proofs.Common.{◌≡◌, ℕ, List, length, Option, ap, sym, ◌∙◌, inl, inr, subst, arith}
-use Rattle.std.specs.Option.{option_map}
-use Rattle.device_defs.specs.Disks.{synced}
+use Rattle.hail_top.proofs.Words.{◌≡◌, ℕ, List, length, ap, sym, ◌∙◌, inl, inr, subst, arith, option_map, synced, Record, Area, Kind, Entry, Seen, Ending, KeepsDisk, IsSynced, provider_at, sinking, setup_in_effect, status_of, ran_alone, RunsAlone, LeftAlone, AnswersJob, BeginFault, refusal_of, Devices, machine_answer, Ended, IsSeenBefore, IsRefusedOver, NoFaultUndone, EndsOver, Subject, ending_with, TellsOf, TellsAnswer, AnswersOver, resynced}
+use Rattle.std.proofs.Common.{Option}
 use Rattle.device_defs.specs.Providers.{Provider}
-use Rattle.record_defs.specs.Records.{Record}
-use Rattle.record_defs.specs.Areas.{Area}
-use Rattle.machine_defs.specs.Jobs.{Kind}
-use Rattle.machine_defs.specs.Heard.{Entry}
-use Rattle.command_defs.specs.Seen.{Seen, Ending, KeepsDisk, IsSynced, provider_at, sinking}
-use Rattle.command_defs.specs.Opens.{setup_in_effect}
-use Rattle.command_defs.specs.Refusals.{status_of}
-use Rattle.command_defs.specs.Ran.{ran_alone}
 use Rattle.command_defs.specs.Jobs as jobs
-use Rattle.command_defs.specs.Jobs.{RunsAlone, LeftAlone, AnswersJob}
-use Rattle.vault_core.specs.declared.wish.BeginFault.{BeginFault}
-use Rattle.vault_core.specs.Carried.{refusal_of}
-use Rattle.vault_open.specs.Devices.{Devices}
-use Rattle.vault.specs.Outcomes.{machine_answer}
-use Rattle.vault.specs.declared.turn.Ended.{Ended}
-use Rattle.command_jobs.specs.Ends.{IsSeenBefore, IsRefusedOver, NoFaultUndone, EndsOver}
-use Rattle.hail_top.specs.declared.tell.Subject.{Subject}
-use Rattle.hail_top.specs.Endings.{ending_with}
-use Rattle.hail_top.specs.Telling.{TellsOf, TellsAnswer}
-use Rattle.hail_top.specs.Jobs.{AnswersOver}
 use Rattle.hail_top.proofs.Refused.{refused-told}
-use Rattle.opening_defs.proofs.Resyncs.{resynced}
 use Rattle.hail_top.proofs.AnswerTexts.{answer-ends}
 
 -- the job ran to its end, and that was told

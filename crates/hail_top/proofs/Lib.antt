@@ -1,3 +1,4 @@
+mod Words
 mod RowWords
 mod RowAnswers
 mod AnswerLaws
@@ -19,4 +20,4 @@ mod Taken
 mod Carried
 pub mod FormWords
 mod ServeWords
-pub mod Words
+pub mod Spelled

@@ -1,13 +1,5 @@
 -- How a list ends whose vault was opened.
-use Rattle.std.proofs.Common.{◌≡◌, ℕ, List, refl, sym, subst}
-use Rattle.record_defs.specs.Records.{Record}
-use Rattle.record_defs.specs.Table.{files_of}
-use Rattle.command_defs.specs.Lines.{list_lines}
-use Rattle.command_defs.specs.Seen.{Seen, Ending, IsSynced, sinking}
-use Rattle.command_defs.specs.Sinking.{WritesLine}
-use Rattle.command_defs.specs.Opens.{IsOpened}
-use Rattle.command_defs.specs.Commands.{AnswersList, listed}
-use Rattle.hail_top.specs.Endings.{ending_with}
+use Rattle.hail_top.proofs.Words.{◌≡◌, ℕ, List, refl, sym, subst, Record, files_of, list_lines, Seen, Ending, IsSynced, sinking, WritesLine, IsOpened, AnswersList, listed, ending_with}
 
 -- the files were written, or cut off
 pub listed-told : (records : List Record) (old new : Seen) (end : Ending) (status : ℕ) →

@@ -1,11 +1,5 @@
 -- A vault was opened for a command.
-use Rattle.std.proofs.Common.{◌≡◌, ℕ, ◌≤◌, List, length, subst, arith}
-use Rattle.record_defs.specs.Records.{Record}
-use Rattle.record_defs.specs.Areas.{Area}
-use Rattle.command_defs.specs.Seen.{Seen, NoCountFalls}
-use Rattle.command_defs.specs.Opens.{setup_in_effect, IsOpened}
-use Rattle.command_jobs.specs.Opened.{IsReadFor}
-use Rattle.command_jobs.specs.Ends.{NoFaultUndone}
+use Rattle.hail_top.proofs.Words.{◌≡◌, ℕ, ◌≤◌, List, length, subst, arith, Record, Area, Seen, NoCountFalls, setup_in_effect, IsOpened, IsReadFor, NoFaultUndone}
 
 -- the records are read, and enough providers are handed in
 abbrev pub opened-read : (old : Seen) (area : Area) (records : List Record) (handed : ℕ) →

@@ -1,30 +1,11 @@
 -- How a pack ends over a vault just opened.
-use Rattle.std.proofs.Common.{◌≡◌, ℕ, List, [], Option, ap, sym, inl, inr, subst, ◌∙◌}
-use Rattle.std.specs.Option.{option_map}
-use Rattle.device_defs.specs.Disks.{synced}
-use Rattle.record_defs.specs.Records.{Record}
-use Rattle.machine_defs.specs.Answers.{Answer, Put, Got, Dropped, Audited, Repaired, Upgraded, Scrubbed, Packed, Lost, ProviderFault, DiskFault, Memory}
-use Rattle.command_defs.specs.Lines.{pack_text}
-use Rattle.command_defs.specs.Opens.{IsOpened}
-use Rattle.command_defs.specs.Jobs.{EndsByAnswer}
+use Rattle.hail_top.proofs.Words.{◌≡◌, ℕ, List, [], ap, sym, inl, inr, subst, ◌∙◌, option_map, synced, Record, Answer, Put, Got, Dropped, Audited, Repaired, Upgraded, Scrubbed, Packed, Lost, ProviderFault, DiskFault, Memory, pack_text, IsOpened, EndsByAnswer, status_of, Seen, Ending, KeepsDisk, IsSynced, sinking, PackAnswer, pack_answer, BeginFault, refusal_of, Devices, IsSeenBefore, PackEndsOver, IsPackRefused, ending_with, PacksOver, TellsPack, resynced}
+use Rattle.std.proofs.Common.{Option}
 use Rattle.command_defs.specs.Packs as packs
 use Rattle.command_defs.specs.Packs.{AnswersPack}
-use Rattle.command_defs.specs.Refusals.{status_of}
-use Rattle.command_defs.specs.Seen.{Seen, Ending, KeepsDisk, IsSynced, sinking}
-use Rattle.vault.specs.declared.packing.PackAnswer.{PackAnswer}
-use Rattle.vault.specs.Packing.{pack_answer}
-use Rattle.vault_core.specs.declared.wish.BeginFault.{BeginFault}
-use Rattle.vault_core.specs.Carried.{refusal_of}
-use Rattle.vault_open.specs.Devices.{Devices}
-use Rattle.command_jobs.specs.Ends.{IsSeenBefore}
-use Rattle.command_jobs.specs.Packs.{PackEndsOver, IsPackRefused}
-use Rattle.hail_top.specs.Endings.{ending_with}
-use Rattle.hail_top.specs.Jobs.{PacksOver}
-use Rattle.hail_top.specs.Telling.{TellsPack}
 use Rattle.hail_top.proofs.AnswerTexts.{fault-ends}
 use Rattle.hail_top.proofs.JobEnds.{untouched}
 use Rattle.hail_top.proofs.Refused.{refused-told}
-use Rattle.opening_defs.proofs.Resyncs.{resynced}
 
 -- how the command ends whose pack's answer was told
 pack-ends : (answer : Answer) (old new : Seen) (end : Ending) →

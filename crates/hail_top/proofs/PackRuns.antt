@@ -1,24 +1,11 @@
 -- What a pack leaves of a disk around its text, by what was told of it.
-use Rattle.std.proofs.Common.{◌≡◌, ◌≢◌, ℕ, List, Option, Some, None, sym, subst}
+use Rattle.hail_top.proofs.Words.{◌≡◌, ◌≢◌, ℕ, List, Some, None, sym, subst, Global, Goes, Record, Area, resynced-same, IsForm, RowOf, InitWith, PutUnder, PutAt, GetOf, DropOf, ListAll, AuditAll, RepairAll, UpgradeJournal, ScrubAll, PackJournal, Seen, Ending, Sinking, Read, command_of, pack_answer, PackAnswer, FillsGap, KeepsAround, ZerosUnlessFault, PacksOn, unopened, TellsPack}
+use Rattle.std.proofs.Common.{Option}
 use Rattle.std.specs.Prelude.{String}
 use Rattle.std.specs.List.{All}
-use Rattle.std.specs.declared.alloc.Global.{Global}
 use Rattle.device_defs.specs.Cells.{Cells}
-use Rattle.device_defs.specs.Told.{Goes}
-use Rattle.record_defs.specs.Records.{Record}
-use Rattle.record_defs.specs.Areas.{Area}
-use Rattle.opening_defs.proofs.Resyncs.{resynced-same}
-use Rattle.command_defs.specs.Forms.{Command, IsForm, RowOf, InitWith, PutUnder, PutAt, GetOf, DropOf, ListAll, AuditAll, RepairAll, UpgradeJournal, ScrubAll, PackJournal}
-use Rattle.command_defs.specs.Seen.{Seen, Ending}
-use Rattle.command_defs.specs.Sinking.{Sinking}
-use Rattle.command_words.specs.declared.command.Command.{Command as Read}
-use Rattle.command_words.specs.Commands.{command_of}
-use Rattle.vault.specs.Packing.{pack_answer}
-use Rattle.vault.specs.declared.packing.PackAnswer.{PackAnswer}
+use Rattle.command_defs.specs.Forms.{Command}
 use Rattle.vault.specs.declared.packing.PackAnswer.TheVariants as answer
-use Rattle.command_jobs.specs.Packs.{FillsGap, KeepsAround}
-use Rattle.hail_top.specs.PackRuns.{ZerosUnlessFault, PacksOn, unopened}
-use Rattle.hail_top.specs.Telling.{TellsPack}
 
 -- the status tells whether the disk failed
 pub told-zeros : (how : PackAnswer) (status at : ℕ) (sink : Sinking) → TellsPack (pack_answer how) status at sink →

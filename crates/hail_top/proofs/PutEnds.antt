@@ -1,40 +1,16 @@
 -- How a put ends whose vault was opened.
-use Rattle.std.proofs.Common.{◌≡◌, ℕ, true, false, List, [], length, Option, refl, ap, sym, ◌∙◌, subst, inl, inr}
-use Rattle.std.specs.Prelude.{IfSome}
-use Rattle.std.specs.Option.{option_map}
-use Rattle.device_defs.specs.Disks.{synced}
-use Rattle.device_defs.specs.Faults.{Rose}
-use Rattle.record_defs.specs.Records.{Record}
-use Rattle.record_defs.specs.Areas.{Area}
-use Rattle.machine_defs.specs.Answers.{Answer}
-use Rattle.machine_defs.specs.Heard.{Entry}
-use Rattle.machine_defs.specs.Jobs.{PutJob}
-use Rattle.command_defs.specs.Seen.{Seen, Ending, KeepsDisk, IsSynced, sinking}
-use Rattle.command_defs.specs.Opens.{setup_in_effect, IsOpened}
-use Rattle.command_defs.specs.Ran.{ran_alone}
-use Rattle.command_defs.specs.Refusals.{is_unknown, status_of}
+use Rattle.hail_top.proofs.Words.{◌≡◌, ℕ, true, false, List, [], length, refl, ap, sym, ◌∙◌, subst, inl, inr, IfSome, option_map, synced, Rose, Record, Area, Answer, Entry, PutJob, Seen, Ending, KeepsDisk, IsSynced, sinking, setup_in_effect, IsOpened, ran_alone, is_unknown, status_of, RunsAlone, LeftAlone, AnswersPut, begun, bad_profile, given_up, BeginFault, refusal_of, Devices, Ended, machine_answer, Unbegun, IsSeenBefore, IsRefusedOver, ending_with, unbegun_ending, TellsPut, TellsStreamed, PutsOver, resynced}
+use Rattle.std.proofs.Common.{Option}
 use Rattle.command_defs.specs.Puts.{MayHaveEnd}
 use Rattle.command_defs.specs.Jobs as jobs
-use Rattle.command_defs.specs.Jobs.{RunsAlone, LeftAlone}
 use Rattle.command_defs.specs.GivenUp.{put_stripe, StopsFor, StopsReading}
-use Rattle.command_defs.specs.Commands.{AnswersPut, begun, bad_profile, source_fault, no_memory, given_up}
-use Rattle.vault_core.specs.declared.wish.BeginFault.{BeginFault}
-use Rattle.vault_core.specs.Carried.{refusal_of}
-use Rattle.vault_open.specs.Devices.{Devices}
-use Rattle.vault.specs.declared.turn.Ended.{Ended}
-use Rattle.vault.specs.Outcomes.{machine_answer}
+use Rattle.command_defs.specs.Commands.{source_fault, no_memory}
 use Rattle.command_jobs.specs.declared.stream.Streamed.{Streamed}
 use Rattle.command_jobs.specs.declared.stream.Streamed.TheVariants as streamed
-use Rattle.command_jobs.specs.declared.stream.Unbegun.{Unbegun}
 use Rattle.command_jobs.specs.declared.stream.Unbegun.TheVariants as unbegun
-use Rattle.command_jobs.specs.Ends.{IsSeenBefore, IsRefusedOver}
 use Rattle.command_jobs.specs.Streams.{PutEnds, PutStops, StreamsOver, IsRefusedRead, IsUnbegunOver}
-use Rattle.hail_top.specs.Endings.{ending_with}
-use Rattle.hail_top.specs.Telling.{unbegun_ending, TellsPut, TellsStreamed}
-use Rattle.hail_top.specs.Jobs.{PutsOver}
 use Rattle.hail_top.proofs.AnswerTexts.{answer-ends}
 use Rattle.hail_top.proofs.Refused.{refused-told}
-use Rattle.opening_defs.proofs.Resyncs.{resynced}
 use Rattle.hail_top.proofs.JobEnds.{untouched}
 
 -- there is no profile of the number that the put names

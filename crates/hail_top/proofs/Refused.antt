@@ -1,7 +1,5 @@
 -- A command that ended without a word.
-use Rattle.std.proofs.Common.{◌≡◌, ℕ, refl, sym, subst}
-use Rattle.command_defs.specs.Seen.{Seen, Ending, KeepsDisk, IsRefused}
-use Rattle.hail_top.specs.Endings.{ending_with}
+use Rattle.hail_top.proofs.Words.{◌≡◌, ℕ, refl, sym, subst, Seen, Ending, KeepsDisk, IsRefused, ending_with}
 
 -- the disk was at most synced, the providers are as before, and nothing was written
 pub refused-told : (status at : ℕ) (old new : Seen) (end : Ending) → end ≡ ending_with status at →

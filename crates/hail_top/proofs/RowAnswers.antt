@@ -1,13 +1,7 @@
 -- The answer to a row follows from what was found in it.
-use Rattle.std.proofs.Common.{◌≡◌, ℕ, List, Option, ap, ◌∙◌, subst}
-use Rattle.hail_field.specs.Shape.{IsShape}
+use Rattle.hail_top.proofs.Words.{◌≡◌, ℕ, List, ap, ◌∙◌, subst, IsShape, upto, Accepts, values_at-same, values_line, Sinking, WritesLine, OpensRow, AnswersRow}
+use Rattle.std.proofs.Common.{Option}
 use Rattle.code_defs.specs.Polynomials.{value}
-use Rattle.code_defs.specs.Points.{upto}
-use Rattle.code_defs.specs.DispersalCode.{Accepts}
-use Rattle.code_defs.proofs.Values.{values_at-same}
-use Rattle.command_defs.specs.Line.{values_line}
-use Rattle.command_defs.specs.Sinking.{Sinking, WritesLine}
-use Rattle.command_defs.specs.Row.{OpensRow, AnswersRow}
 
 -- the line of the values that were found answers the row
 pub answers_held : (n l b : ℕ) (seen : List (Option ℕ)) (values shown : List ℕ) (status : ℕ)

@@ -1,9 +1,8 @@
 -- The words of a row are as many as its first number says.
-use Rattle.std.proofs.Common.{◌≡◌, ℕ, List, [], ◌∷◌, length, Option, String, arith, refl, ◌∙◌}
-use Rattle.std.specs.declared.alloc.Global.{Global}
+use Rattle.hail_top.proofs.Words.{◌≡◌, ℕ, List, [], ◌∷◌, length, arith, refl, ◌∙◌, Global, IsRowForm, RowOf, InitWith, PutUnder, PutAt, GetOf, DropOf, ListAll, AuditAll, RepairAll, UpgradeJournal, ScrubAll, PackJournal, IsForm}
+use Rattle.std.proofs.Common.{Option, String}
 use Rattle.command_defs.specs.Words.{AreSymbolWords}
-use Rattle.command_defs.specs.Row.{IsRowForm}
-use Rattle.command_defs.specs.Forms.{Command, RowOf, InitWith, PutUnder, PutAt, GetOf, DropOf, ListAll, AuditAll, RepairAll, UpgradeJournal, ScrubAll, PackJournal, IsForm}
+use Rattle.command_defs.specs.Forms.{Command}
 use Rattle.hail_top.specs.Rows.{HasItsSymbols}
 
 length-AreSymbolWords : (words : List (String Global)) (symbols : List (Option ℕ)) →

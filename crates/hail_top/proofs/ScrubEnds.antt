@@ -1,24 +1,13 @@
 -- How a scrub ends over a vault just opened.
-use Rattle.std.proofs.Common.{◌≡◌, ℕ, List, [], Option, sym, subst, ◌∙◌}
-use Rattle.record_defs.specs.Records.{Record}
-use Rattle.machine_defs.specs.Answers.{Answer, Put, Got, Dropped, Audited, Repaired, Upgraded, Scrubbed, Packed, Lost, ProviderFault, DiskFault, Memory}
-use Rattle.command_defs.specs.Lines.{scrub_text}
-use Rattle.command_defs.specs.Opens.{setup_in_effect, IsOpened}
-use Rattle.command_defs.specs.Jobs.{EndsByAnswer}
+use Rattle.hail_top.proofs.Words.{◌≡◌, ℕ, List, [], sym, subst, ◌∙◌, Record, Answer, Put, Got, Dropped, Audited, Repaired, Upgraded, Scrubbed, Packed, Lost, ProviderFault, DiskFault, Memory, scrub_text, setup_in_effect, IsOpened, EndsByAnswer, Seen, Ending, IsSynced, sinking, Devices, IsSeenBefore, ending_with, ScrubsOver, TellsScrub, resynced}
+use Rattle.std.proofs.Common.{Option}
 use Rattle.command_defs.specs.Scrubs as scrubs
-use Rattle.command_defs.specs.Seen.{Seen, Ending, IsSynced, sinking}
 use Rattle.hail_scrub.specs.declared.turn.ScrubAnswer.{ScrubAnswer}
 use Rattle.hail_scrub.specs.Stands.{scrub_answer}
-use Rattle.vault_open.specs.Devices.{Devices}
-use Rattle.command_jobs.specs.Ends.{IsSeenBefore}
 use Rattle.command_jobs.specs.Scrubs.{ScrubEndsOver}
-use Rattle.hail_top.specs.Endings.{ending_with}
-use Rattle.hail_top.specs.Jobs.{ScrubsOver}
-use Rattle.hail_top.specs.Telling.{TellsScrub}
 use Rattle.hail_top.proofs.AnswerTexts.{fault-ends}
 use Rattle.hail_top.proofs.JobEnds.{untouched}
 use Rattle.hail_top.proofs.Refused.{refused-told}
-use Rattle.opening_defs.proofs.Resyncs.{resynced}
 
 -- how the command ends whose scrub's answer was told
 scrub-ends : (answer : Answer) (old new : Seen) (end : Ending) →

@@ -1,18 +1,8 @@
 -- The words that ask to serve a provider: one number at most, and no other command.
-use Rattle.std.proofs.Common.{◌≡◌, ℕ, true, false, List, [], ◌∷◌, String, refl, ap, sym, subst, ◌∙◌}
-use Rattle.std.specs.Prelude.{codes}
-use Rattle.std.specs.Str.{bytes_eq}
-use Rattle.std.specs.declared.alloc.Global.{Global}
-use Rattle.std.proofs.lemmas.Bool.{false≢true}
-use Rattle.command_defs.specs.Seen.{Seen, Ending}
-use Rattle.command_defs.specs.Forms.{Command as Spelled, RowOf, InitWith, PutUnder, PutAt, GetOf, DropOf, ListAll, AuditAll, RepairAll, UpgradeJournal, ScrubAll, PackJournal, IsForm}
-use Rattle.hail_replay.specs.Forms.{IsFormOf}
-use Rattle.hail_replay.specs.declared.forms.Form.{Form}
+use Rattle.hail_top.proofs.Words.{◌≡◌, ℕ, true, false, List, [], ◌∷◌, refl, ap, sym, subst, ◌∙◌, codes, bytes_eq, Global, false≢true, Seen, Ending, Spelled, RowOf, InitWith, PutUnder, PutAt, GetOf, DropOf, ListAll, AuditAll, RepairAll, UpgradeJournal, ScrubAll, PackJournal, IsForm, IsFormOf, Form, IsServeForm, AnswersServe, ending_with}
+use Rattle.std.proofs.Common.{String}
 use Rattle.hail_replay.specs.declared.forms.Form.TheVariants as forms
-use Rattle.provider_server.specs.Words.{IsServeForm}
 use Rattle.provider_server.specs.Answers as answers
-use Rattle.provider_server.specs.Answers.{AnswersServe}
-use Rattle.hail_top.specs.Endings.{ending_with}
 use Rattle.hail_top.proofs.FormWords.{first-word, command-word, form-word, command-first, form-first}
 
 -- the number is told by its word

@@ -1,21 +1,11 @@
 -- How an `init` ends that has come to the disk.
-use Rattle.std.proofs.Common.{◌≡◌, ℕ, List, refl, sym, subst}
-use Rattle.std.specs.Prelude.{IfSome}
-use Rattle.device_defs.specs.Faults.{Rose}
+use Rattle.hail_top.proofs.Words.{◌≡◌, ℕ, List, refl, sym, subst, IfSome, Rose, Goes, Seen, Ending, IsRefused, sinking, WritesLine, ready_line, InitsDisk, FailsToInit, InitFault, ending_with, init_ending}
 use Rattle.device_defs.specs.Images.{EachImage}
-use Rattle.device_defs.specs.Told.{Goes}
 use Rattle.record_defs.specs.Records.{Setup}
-use Rattle.command_defs.specs.Seen.{Seen, Ending, IsRefused, sinking}
-use Rattle.command_defs.specs.Sinking.{WritesLine}
-use Rattle.command_defs.specs.Lines.{ready_line}
-use Rattle.command_defs.specs.Inits.{InitsDisk, FailsToInit}
 use Rattle.command_defs.specs.Inits as inits
 use Rattle.opening_defs.specs.Journals.{IsSetUpOn, IsResynced, MayBeLeft, journal_read}
 use Rattle.vault_open.specs.Causes.{IsInitFault, IsNoWrite}
-use Rattle.vault_open.specs.declared.fault.InitFault.{InitFault}
 use Rattle.vault_open.specs.declared.fault.InitFault.TheVariants as init_fault
-use Rattle.hail_top.specs.Endings.{ending_with}
-use Rattle.hail_top.specs.SetUps.{init_ending}
 
 -- a store is ready, and that was told
 pub ready-told : (s : Setup) (old new : Seen) (end : Ending) (line : List ℕ) (status : ℕ) →

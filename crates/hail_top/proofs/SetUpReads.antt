@@ -1,20 +1,8 @@
 -- How an `init` ends before it comes to the disk, or with the disk's end.
-use Rattle.std.proofs.Common.{◌≡◌, ℕ, ◌<◌, true, List, [], length, refl, subst}
-use Rattle.device_defs.specs.Faults.{Rose}
-use Rattle.record_defs.specs.Records.{is_setup}
-use Rattle.record_defs.specs.Records.{Setup as SetupData}
-use Rattle.command_defs.specs.Forms.{Numbers}
-use Rattle.command_defs.specs.Keys.{IsKeyForm, longest_key}
-use Rattle.command_defs.specs.Seen.{Seen, Ending, ReadsAtMost, ReadsUpTo, SameSource}
-use Rattle.command_defs.specs.Inits.{setup_with, InitsDisk, AnswersInit, too_few_providers, source_fault, bad_key, keyed, no_memory}
+use Rattle.hail_top.proofs.Words.{◌≡◌, ℕ, ◌<◌, true, List, [], length, refl, subst, Rose, is_setup, SetupData, Numbers, IsKeyForm, longest_key, Seen, Ending, ReadsAtMost, ReadsUpTo, SameSource, setup_with, InitsDisk, AnswersInit, bad_key, keyed, with_master, resynced-equal, ReadFault, ending_with, unread_ending, IsSetupFor}
+use Rattle.command_defs.specs.Inits.{too_few_providers, source_fault, no_memory}
 use Rattle.record_codec.specs.declared.setup.Setup.{Setup}
-use Rattle.record_codec.specs.Entries.{with_master}
-use Rattle.opening_defs.proofs.Resyncs.{resynced-equal}
-use Rattle.hail_top.specs.declared.reading.ReadFault.{ReadFault}
 use Rattle.hail_top.specs.declared.reading.ReadFault.TheVariants as read_fault
-use Rattle.hail_top.specs.Endings.{ending_with}
-use Rattle.hail_top.specs.Telling.{unread_ending}
-use Rattle.hail_top.specs.SetUps.{IsSetupFor}
 use Rattle.hail_top.proofs.Refused.{refused-told}
 
 -- the source gave a key

@@ -1,9 +1,7 @@
 -- How much of a source was taken, also where no more came.
-use Rattle.std.proofs.Common.{◌≡◌, ℕ, ◌+◌, ◌≤◌, List, ◌++◌, length, take, Option, arith, length-append, length-take}
+use Rattle.hail_top.proofs.Words.{◌≡◌, ℕ, ◌+◌, ◌≤◌, List, ◌++◌, length, take, arith, length-append, length-take, then_told, ReadsAtMost, told-on}
+use Rattle.std.proofs.Common.{Option}
 use Rattle.std.proofs.Math.Nat.{min-le_left}
-use Rattle.device_defs.specs.Told.{then_told}
-use Rattle.command_defs.specs.Seen.{ReadsAtMost}
-use Rattle.command_jobs.proofs.ReadBytes.{told-on}
 
 -- these bytes were taken before, and so many came now
 pub more-taken : (most count : ℕ) (old mid new : Option (List ℕ)) (bytes out : List ℕ) →

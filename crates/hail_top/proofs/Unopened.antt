@@ -1,12 +1,7 @@
 -- How a command ends for which no vault was opened.
-use Rattle.std.proofs.Common.{◌≡◌, ℕ, ◌<◌, length, refl, subst}
-use Rattle.device_defs.specs.Faults.{Rose}
-use Rattle.command_defs.specs.Seen.{Seen, Ending, KeepsDisk, IsSynced}
-use Rattle.command_defs.specs.Opens.{setup_in_effect, Unstarted, disk_fault, not_set_up, bad_journal, too_few_providers, no_memory}
-use Rattle.command_jobs.specs.declared.open.Unopened.{Unopened}
+use Rattle.hail_top.proofs.Words.{◌≡◌, ℕ, ◌<◌, length, refl, subst, Rose, Seen, Ending, KeepsDisk, IsSynced, setup_in_effect, Unstarted, disk_fault, not_set_up, bad_journal, Unopened, IsUnopened, LiesInStore, unopened_ending}
+use Rattle.command_defs.specs.Opens.{too_few_providers, no_memory}
 use Rattle.command_jobs.specs.declared.open.Unopened.TheVariants as unopened
-use Rattle.command_jobs.specs.Opened.{IsUnopened, LiesInStore}
-use Rattle.hail_top.specs.Telling.{unopened_ending}
 use Rattle.hail_top.proofs.Refused.{refused-told}
 
 -- why no vault was opened was told

@@ -1,99 +1,73 @@
--- What words come to, by what they spell: one command, one form or one number of a server, or nothing.
-use Rattle.std.proofs.Common.{◌≡◌, ℕ, List, String, refl, ap, subst, inr, arith}
-use Rattle.std.specs.declared.alloc.Global.{Global}
-use Rattle.command_defs.specs.Seen.{Seen, Ending, NoCountFalls}
-use Rattle.command_defs.specs.Forms.{Command, IsForm}
-use Rattle.command_defs.specs.Commands.{Answers, IsUsage}
-use Rattle.hail_replay.specs.Forms.{IsFormOf}
-use Rattle.hail_replay.specs.declared.forms.Form.{Form}
-use Rattle.provider_server.specs.Words.{IsServeForm}
-use Rattle.provider_server.specs.Answers.{AnswersServe}
-use Rattle.hail_top.specs.Answered.{AnswersWords}
-use Rattle.hail_top.specs.Carried.{AnswersForm}
-use Rattle.hail_top.specs.Endings.{ending_with}
-use Rattle.hail_top.specs.InitRuns.{InitsOn}
-use Rattle.hail_top.proofs.Answered.{no_memory-told}
-use Rattle.hail_top.proofs.InitRuns.{inits-same}
-use Rattle.hail_top.proofs.Carried.{form-keeps, unstarted-form}
-use Rattle.hail_top.proofs.FormWords.{answered-form, no-form}
-use Rattle.hail_top.proofs.ServeWords.{form-serves-none, no-serve, unstarted-serve}
-
--- words that spell one command are answered as it is
-pub command-words : (words : List (String Global)) (command : Command) (old new : Seen) (end : Ending) →
-    IsForm words command → ((other : Command) → IsForm words other → command ≡ other)
-    → Answers command old new end → InitsOn command old new end → NoCountFalls old new →
-    AnswersWords words old new end
-command-words words command old new end is once a inits counts = record {
-  usage = λ none no_form no_serve. absurd (none command is);
-  answers = λ other spelled. subst (λ (c : Command). Answers c old new end) (once other spelled) a;
-  inits = λ other spelled. subst (λ (c : Command). InitsOn c old new end) (once other spelled) inits;
-  carries = λ form spelled. absurd (no-form words command form is spelled);
-  serves = λ number spelled. absurd (no-serve words command number is spelled);
-  headline = λ form spelled. absurd (no-form words command form is spelled);
-  counts = counts;
-}
-
--- words that spell a form are answered as it is
-pub form-words : (words : List (String Global)) (form : Form) (old new : Seen) (end : Ending) →
-    ((command : Command) → IsForm words command → ⊥) → IsFormOf words form
-    → AnswersForm form old new end → NoCountFalls old new → AnswersWords words old new end
-form-words words form old new end none is a counts = record {
-  usage = λ no_command no_form no_serve. absurd (no_form form is);
-  answers = λ command spelled. absurd (none command spelled);
-  inits = λ command spelled. absurd (none command spelled);
-  carries = λ other spelled. answered-form words form other old new end is a spelled;
-  serves = λ number spelled. absurd (form-serves-none words form number is spelled);
-  headline = λ other spelled.
-      form-keeps other old new end (answered-form words form other old new end is a spelled);
-  counts = counts;
-}
-
--- words that spell neither are answered as a server, or as a usage
-pub other-words : (words : List (String Global)) (old new : Seen) (end : Ending) →
-    ((command : Command) → IsForm words command → ⊥) → ((form : Form) → IsFormOf words form → ⊥)
-    → (((number : ℕ) → IsServeForm words number → ⊥) → IsUsage old new end)
-    → ((number : ℕ) → IsServeForm words number → AnswersServe number old new end)
-    → NoCountFalls old new → AnswersWords words old new end
-other-words words old new end none no_form usage serves counts = record {
-  usage = λ no_command no_other no_serve. usage no_serve;
-  answers = λ command spelled. absurd (none command spelled);
-  inits = λ command spelled. absurd (none command spelled);
-  carries = λ form spelled. absurd (no_form form spelled);
-  serves = serves;
-  headline = λ form spelled. absurd (no_form form spelled);
-  counts = counts;
-}
-
--- no count of a fault falls where nothing changes
-none-falls : (same : Seen) → NoCountFalls same same
-none-falls same = record {
-  disk = omega arith;
-  handed = refl;
-  stores = λ j. omega arith;
-  others = λ j. omega arith;
-  source = omega arith;
-  sink = omega arith;
-}
-
--- any words, where there was no memory to read them and no device was called
-pub unread-words : (words : List (String Global)) (same : Seen) (end : Ending) → end ≡ ending_with 70 0 →
-    AnswersWords words same same end
-unread-words words same end is = record {
-  usage = λ no_command no_form no_serve. record {
-    refused = (inr (ap (λ (e : Ending). e.status) is), refl);
-    touches = record {
-      disk = refl;
-      disk_faults = refl;
-      providers = refl;
-      source = (refl, refl);
-      place = ap (λ (e : Ending). e.at) is;
-      heard = ap (λ (e : Ending). e.heard) is;
-    };
-  };
-  answers = λ command spelled. no_memory-told command same end is;
-  inits = λ command spelled. inits-same command same end;
-  carries = λ form spelled. unstarted-form form same end is;
-  serves = λ number spelled. unstarted-serve number same end is;
-  headline = λ form spelled. form-keeps form same same end (unstarted-form form same end is);
-  counts = none-falls same;
-}
+-- The words in which this crate is proved, passed on from one place. Declares nothing.
+pub use Rattle.std.proofs.Common.{ap, arith, Err, false, inl, inr, length, length-append, length-take, List, map, min, None, Ok, refl, Result, reverse, Some, subst, sym, take, true, vec_len, ℕ, [], ◌++◌, ◌+◌, ◌-◌, ◌<◌, ◌∙◌, ◌∷◌, ◌≡◌, ◌≢◌, ◌≤◌, ◌⊎◌}
+pub use Rattle.std.proofs.lemmas.Bool.{false≢true}
+pub use Rattle.std.proofs.lemmas.List.{length-map, reverse-reverse, take_at}
+pub use Rattle.std.proofs.lemmas.List.FromFn.{length-range_with_len}
+pub use Rattle.std.specs.Option.{option_map}
+pub use Rattle.std.specs.Prelude.{codes, IfSome}
+pub use Rattle.std.specs.Str.{bytes_eq}
+pub use Rattle.std.specs.declared.alloc.Global.{Global}
+pub use Rattle.code_defs.proofs.Points.{Apart-range, upto_more}
+pub use Rattle.code_defs.proofs.Values.{values_at-same}
+pub use Rattle.code_defs.specs.DispersalCode.{Accepts}
+pub use Rattle.code_defs.specs.Points.{upto, values_at}
+pub use Rattle.command_defs.specs.Commands.{Answers, AnswersList, AnswersPut, bad_profile, begun, given_up, IsUsage, listed}
+pub use Rattle.command_defs.specs.Forms.{AuditAll, Command as Spelled, DropOf, GetOf, InitWith, IsBareForm, IsForm, IsInitForm, IsNamedForm, IsPutAtForm, ListAll, Numbers, PackJournal, PutAt, PutUnder, RepairAll, RowOf, ScrubAll, UpgradeJournal}
+pub use Rattle.command_defs.specs.Inits.{AnswersInit, bad_key, FailsToInit, InitsDisk, keyed, setup_with}
+pub use Rattle.command_defs.specs.Jobs.{AnswersJob, EndsByAnswer, LeavesBy, LeftAlone, RunsAlone}
+pub use Rattle.command_defs.specs.Keys.{IsKeyForm, longest_key}
+pub use Rattle.command_defs.specs.Line.{no_row_line, values_line}
+pub use Rattle.command_defs.specs.Lines.{audit_lines, dropped_line, list_lines, pack_text, packed_line, ready_line, scrub_lines, scrub_text, stored_line, text_of}
+pub use Rattle.command_defs.specs.Opens.{bad_journal, disk_fault, IsOpened, not_set_up, setup_in_effect, Unstarted}
+pub use Rattle.command_defs.specs.Ran.{Ran, ran_alone}
+pub use Rattle.code_defs.specs.Profiles.{is_unknown}
+pub use Rattle.command_defs.specs.Refusals.{status_of}
+pub use Rattle.command_defs.specs.Row.{AnswersRow, IsRowForm, OpensRow}
+pub use Rattle.command_defs.specs.Seen.{Ending, IsRefused, IsSynced, KeepsDisk, NoCountFalls, provider_at, ReadsAtMost, ReadsUpTo, SameSource, Seen, seen, sinking}
+pub use Rattle.command_defs.specs.Sinking.{Sinking, WritesLine}
+pub use Rattle.command_jobs.proofs.ReadBytes.{none-taken, told-on}
+pub use Rattle.command_jobs.specs.Ends.{EndsOver, IsRefusedOver, IsSeenBefore, NoFaultUndone}
+pub use Rattle.command_jobs.specs.Opened.{IsReadFor, IsUnopened, LiesInStore}
+pub use Rattle.command_jobs.specs.Packs.{FillsGap, IsPackRefused, KeepsAround, PackEndsOver}
+pub use Rattle.command_jobs.specs.declared.open.Unopened.{Unopened}
+pub use Rattle.command_jobs.specs.declared.stream.Unbegun.{Unbegun}
+pub use Rattle.command_words.specs.Commands.{command_of}
+pub use Rattle.command_words.specs.declared.command.Command.{Command as Read}
+pub use Rattle.device_defs.specs.Disks.{synced}
+pub use Rattle.device_defs.specs.Faults.{last_count, Rose}
+pub use Rattle.device_defs.specs.Told.{Goes, TakesFront, then_told, told_then}
+pub use Rattle.hail_field.specs.Shape.{IsShape}
+pub use Rattle.hail_replay.specs.Answers.{AnswersReplay, AnswersTrial, devices_of_seen, IsUndone, longest_schedule}
+pub use Rattle.hail_replay.specs.Forms.{IsFormOf, IsReplayForm, IsTrialForm}
+pub use Rattle.hail_replay.specs.declared.forms.Form.{Form}
+pub use Rattle.machine_defs.specs.Answers.{Answer, Audited, DiskFault, Dropped, Got, Lost, Memory, Packed, ProviderFault, Put, Repaired, Scrubbed, Upgraded}
+pub use Rattle.machine_defs.specs.Heard.{Entry}
+pub use Rattle.machine_defs.specs.Jobs.{AuditJob, DropJob, GetJob, Kind, PutJob, RepairJob, UpgradeJob}
+pub use Rattle.machine_defs.specs.Runs.{IsRun, Moment, now}
+pub use Rattle.machine_defs.specs.States.{continued, State}
+pub use Rattle.opening_defs.proofs.Resyncs.{resynced, resynced-equal, resynced-same}
+pub use Rattle.provider_model.specs.Seen.{provider_seen}
+pub use Rattle.provider_server.specs.Answers.{AnswersServe}
+pub use Rattle.provider_server.specs.Words.{IsServeForm}
+pub use Rattle.record_codec.specs.Entries.{with_master}
+pub use Rattle.record_defs.specs.Areas.{Area, other_area}
+pub use Rattle.record_defs.specs.Records.{is_setup, Record, Setup as SetupData}
+pub use Rattle.record_defs.specs.Table.{files_of}
+pub use Rattle.vault.specs.Outcomes.{machine_answer}
+pub use Rattle.vault.specs.Packing.{pack_answer}
+pub use Rattle.vault.specs.declared.packing.PackAnswer.{PackAnswer}
+pub use Rattle.vault.specs.declared.turn.Ended.{Ended}
+pub use Rattle.vault_core.specs.Carried.{refusal_of}
+pub use Rattle.vault_core.specs.declared.wish.BeginFault.{BeginFault}
+pub use Rattle.vault_open.specs.Devices.{AreDevices, Devices}
+pub use Rattle.vault_open.specs.declared.fault.InitFault.{InitFault}
+pub use Rattle.hail_top.specs.Answered.{AnswersWords}
+pub use Rattle.hail_top.specs.Carried.{AnswersForm, FormGoesOn, KeepsTheHeadline}
+pub use Rattle.hail_top.specs.Endings.{ending_of, ending_with, seen_of}
+pub use Rattle.hail_top.specs.InitRuns.{InitGoesOn, InitsDevices, InitsOn, made, TellsInit, untouched}
+pub use Rattle.hail_top.specs.Jobs.{AnswersOver, PacksOver, PutsOver, ScrubsOver}
+pub use Rattle.hail_top.specs.PackRuns.{kept, PacksOn, unopened, written, ZerosUnlessFault}
+pub use Rattle.hail_top.specs.SetUps.{init_ending, IsSetupFor}
+pub use Rattle.hail_top.specs.Telling.{IsFaultEnd, IsTextOf, TellsAnswer, TellsOf, TellsPack, TellsPut, TellsScrub, TellsStreamed, unbegun_ending, unopened_ending, unread_ending}
+pub use Rattle.hail_top.specs.declared.reading.ReadFault.{ReadFault}
+pub use Rattle.hail_top.specs.declared.tell.Subject.{Subject}

@@ -5,7 +5,6 @@ ghost use Rattle.device_defs.specs.Disks.{synced};
 ghost use Rattle.record_defs.specs.Records.{Record};
 ghost use Rattle.command_defs.specs.Seen.{Seen, NoCountFalls};
 ghost use Rattle.command_defs.specs.Opens.{IsOpened};
-ghost use Rattle.command_defs.specs.Refusals as commands;
 ghost use Rattle.command_defs.specs.Commands.{AnswersPut};
 ghost use Rattle.vault.specs.Devices.{devices_seen};
 ghost use Rattle.command_jobs.specs.Opened.{IsFreshOver, IsFreshFor};
@@ -17,6 +16,7 @@ ghost use Rattle.hail_top.specs.Telling.{TellsStreamed};
 use crate::refusals::{unbegun, unopened};
 use crate::report::Report;
 use crate::tell::{Subject, ended};
+use code_points::is_unknown;
 use command_jobs::{Streamed, open_vault, run_stream};
 use disk_model::Disk;
 use exit_statuses::{BAD_SETUP, SOURCE_FAULT, TOO_LONG};
@@ -24,19 +24,6 @@ use provider_model::Provider;
 use std::alloc::Global;
 use stream_model::{Sink, Source};
 use vault::Vault;
-
-/// How many profiles there are.
-const PROFILES: u8 = 5;
-
-/// Whether a put names a profile that there is none of.
-fn is_unknown(profile: Option<u8>) -> bool
-    ensures { result ≡ commands.is_unknown profile }
-{
-    match profile {
-        Some(number) => number >= PROFILES,
-        None => false,
-    }
-}
 
 /// Tells how a put under a name ended, or why it was given up.
 fn streamed<K: Sink>(alloc: Global, name: &[u8], how: Streamed, sink: &mut K) -> Report

@@ -4,56 +4,12 @@
 --   plain u                   == the state with its journal for its history
 --   Carried u v Happened      == what happened in `plain u` and left v happens in u, and leaves a state that is
 --                                v but for its history
-use Rattle.std.proofs.Common.{◌≡◌, ℕ, suc, ◌+◌, ◌==◌, ◌&&◌, Bool, true, false, cond, List, [], ◌∷◌, ◌++◌, length, Option, Some, None, refl, ap, sym, subst, ◌∙◌, ◌⊎◌, inl, inr, arith}
-use Rattle.std.specs.Prelude.{is_some, not, slice_get, map, sum_by}
-use Rattle.std.specs.List.{flat_map}
-use Rattle.std.specs.Option.{option_map}
-use Rattle.std.proofs.lemmas.Bool.{cases_Bool}
-use Rattle.column_defs.specs.Challenges.{honest_answer}
-use Rattle.column_defs.specs.Columns.{columns, column_of_symbols}
-use Rattle.column_defs.specs.Objects.{Object}
-use Rattle.column_defs.specs.Opened.{GivesSymbols, LosesRow}
-use Rattle.column_defs.specs.Verdicts.{Sums}
-use Rattle.code_defs.specs.Points.{upto}
+use Rattle.job_laws.proofs.Words.{◌≡◌, ℕ, suc, ◌+◌, ◌==◌, ◌&&◌, Bool, true, false, cond, List, [], ◌∷◌, ◌++◌, length, Option, Some, None, refl, ap, sym, subst, ◌∙◌, ◌⊎◌, inl, inr, arith, is_some, slice_get, flat_map, option_map, cases_Bool, honest_answer, columns, column_of_symbols, Object, GivesSymbols, LosesRow, Sums, upto, Stores, Fetches, Asks, Provider, Record, Setup, PutStart, AuditStart, AuditDone, next_id, next_audit, version_of, Area, AreAlike, Action, WriteBody, SyncBody, WriteGate, SyncGate, Store, Fetch, Ask, Work, Remove, End, actions_of, Scrubs, StepsScrub, StepsAlone, scrubbing, unalone, opened_scrub, found_more, differs, scrub_actions, new_scrub, number_alone, Answer, Put, Got, Dropped, Audited, Repaired, Upgraded, Scrubbed, Lost, ProviderFault, DiskFault, Memory, Moves, Writes, is_first_append, done_record, subject_drawn, bytes_drawn, audits_drawn, removable, taken_out, begun_append, moved, doubted, done_append, barred, unappended, HasSums, asked_challenge, pinned_file, pins_by, due_number, due_flags, subject_at_begin, chosen, beginning, BeginsAt, pin_all, machine_pins, Step, BeginScrub, Outcome, Refused, More, Waiting, Begun, Ended, Closed, IsSpelledKind, block_given, blocks_given, symbols_given, file_given, pinned_profile, Entry, heard_by, Kind, PutJob, GetJob, DropJob, AuditJob, RepairJob, UpgradeJob, aim_of, Pinned, Fetched, Answered, Worked, Job, job_of, advanced, advanced_with, Happens, MustReopen, NoSuchJob, first_refusal, Moment, now, profiled, object_of, setup_or_none, sight_of, aims_of, causes, reserved, StandsPlain, StandsWithDoubt, StandsSwitched, StandsForState, State, Append, Alone, Scrubbing, Packing, Scrub, setup_in, file_in, object_among, worked_object, going_on, ended, with_provider, journal_end, block_to_store, GotBytes, Ends, Acts, is_idle_drop, next_action, holder_of, ActsOrWaits, StepsOn, StepsJob, StepsMine, StepsOne, StepsOpen, Steps, PartRan, AreSteps, GoesOnTo, outside, SameOutside, RanAlone, Seen, AreHanded, IsOpenAtRest, IsSound, events-sound, MayName, walk-begin}
+use Rattle.std.specs.Prelude.{not, map, sum_by}
 use Rattle.device_defs.specs.Cells.{Cells}
-use Rattle.device_defs.specs.ProviderCalls.{Stores, Fetches, Asks}
-use Rattle.device_defs.specs.Providers.{Provider}
-use Rattle.record_defs.specs.Records.{Record, Setup, PutStart, AuditStart, AuditDone}
-use Rattle.record_defs.specs.Table.{next_id, next_audit, version_of}
-use Rattle.record_defs.specs.Areas.{Area}
-use Rattle.record_defs.specs.Packed.{AreAlike}
-use Rattle.machine_defs.specs.Actions.{Action, WriteBody, SyncBody, WriteGate, SyncGate, Store, Fetch, Ask, Work, Remove, End, actions_of}
-use Rattle.machine_defs.specs.Alone.{Scrubs, StepsScrub, StepsAlone, scrubbing, unalone, opened_scrub, found_more, differs, scrub_actions, new_scrub, number_alone}
-use Rattle.machine_defs.specs.Answers.{Answer, Put, Got, Dropped, Audited, Repaired, Upgraded, Scrubbed, Lost, ProviderFault, DiskFault, Memory}
-use Rattle.machine_defs.specs.Appends.{Moves, Writes, is_first_append, done_record, subject_drawn, bytes_drawn, audits_drawn, removable, taken_out, begun_append, moved, doubted, done_append, barred, unappended}
-use Rattle.machine_defs.specs.Audits.{HasSums, asked_challenge}
-use Rattle.machine_defs.specs.Begins.{pinned_file, pins_by, due_number, due_flags, subject_at_begin, chosen, beginning, BeginsAt, pin_all}
-use Rattle.machine_defs.specs.Actions.{machine_pins}
-use Rattle.machine_defs.specs.Events.{Step, BeginScrub, Outcome, Refused, More, Waiting, Begun, Ended, Closed, IsSpelledKind}
-use Rattle.machine_defs.specs.Given.{block_given, blocks_given, symbols_given, file_given, pinned_profile}
-use Rattle.machine_defs.specs.Heard.{Entry, heard_by}
-use Rattle.machine_defs.specs.Jobs.{Kind, PutJob, GetJob, DropJob, AuditJob, RepairJob, UpgradeJob, aim_of, Pinned, Fetched, Answered, Worked, Job, job_of, advanced, advanced_with}
-use Rattle.machine_defs.specs.Machine.{Happens}
-use Rattle.machine_defs.specs.Refusals.{MustReopen, NoSuchJob, first_refusal}
-use Rattle.machine_defs.specs.Runs.{Moment, now}
-use Rattle.machine_defs.specs.Setups.{profiled, object_of, setup_or_none}
-use Rattle.machine_defs.specs.Sights.{sight_of, aims_of, causes}
-use Rattle.machine_defs.specs.Space.{reserved}
-use Rattle.machine_defs.specs.Stands.{StandsPlain, StandsWithDoubt, StandsSwitched, StandsForState}
-use Rattle.machine_defs.specs.States.{State, Append, Alone, Scrubbing, Packing, Scrub, setup_in, file_in, object_among, worked_object, going_on, ended, with_provider, journal_end}
-use Rattle.machine_defs.specs.Steps.{block_to_store, GotBytes, Ends, Acts, is_idle_drop, next_action, holder_of, ActsOrWaits, StepsOn, StepsJob, StepsMine, StepsOne, StepsOpen, Steps}
-use Rattle.command_defs.specs.GivenUp.{PartRan}
-use Rattle.command_defs.specs.JobRuns.{AreSteps, GoesOnTo}
-use Rattle.command_defs.specs.Jobs.{outside, SameOutside, RanAlone}
 use Rattle.command_defs.specs.Scrubs.{RanScrub}
-use Rattle.command_defs.specs.Seen.{Seen}
-use Rattle.opening_defs.specs.Opened.{AreHanded, IsOpenAtRest}
-use Rattle.state_laws.specs.Sound.{IsSound}
-use Rattle.state_laws.proofs.Events.{events-sound}
 use Rattle.state_laws.proofs.Packs.{file-alike}
 use Rattle.state_laws.proofs.Resting.{rest-sound}
-use Rattle.lone_laws.specs.Walked.{MayName}
-use Rattle.lone_laws.proofs.Walk.{walk-begin}
 
 -- the state with its journal for its history
 abbrev pub plain : State → State
@@ -61,9 +17,8 @@ plain u = record u { records = u.journal }
 
 -- no pack runs
 abbrev pub IsUnpacking : Option Alone → Type 0
-IsUnpacking None = Unit {0}
-IsUnpacking (Some (Scrubbing scrub)) = Unit {0}
 IsUnpacking (Some (Packing pack)) = ⊥
+IsUnpacking h = Unit {0}
 
 -- so it happens in the state too, and leaves one that is this one but for its history
 pub record Carried (v : State) (Happened : State → Type 0) : Type 0 where
@@ -71,6 +26,12 @@ pub record Carried (v : State) (Happened : State → Type 0) : Type 0 where
   pub happens : Happened new
   pub same : v ≡ plain new
   pub none_packs : IsUnpacking new.alone
+
+-- a state that is so left
+carry : {v : State} {P : State → Type 0} (new : State) → IsUnpacking new.alone → P new → v ≡ plain new →
+    Carried v P
+carry new none_packs happens same =
+    record { new = new; happens = happens; same = same; none_packs = none_packs }
 
 module _ (u : State) (E : AreAlike u.journal u.records) (none_packs : IsUnpacking u.alone) where
   -- ---- what a state sees of its history
@@ -118,8 +79,7 @@ module _ (u : State) (E : AreAlike u.journal u.records) (none_packs : IsUnpackin
   its_audits job kind number = refl
 
   taken : (job : Job) (kind : Kind) → taken_out (plain u) job kind ≡ taken_out u job kind
-  taken job (PutJob name bytes) =
-      ap (λ o. cond (is_first_append job) [] (removable u o)) (sym (found name))
+  taken job (PutJob name bytes) = ap (λ o. cond (is_first_append job) [] (removable u o)) (sym (found name))
   taken job (DropJob name) = ap (λ o. removable u o) (sym (found name))
   taken job kind = refl
 
@@ -131,15 +91,13 @@ module _ (u : State) (E : AreAlike u.journal u.records) (none_packs : IsUnpackin
       ∙ ap (λ v. cond (is_first_append job) (PutStart (next_id u.records) name)
       (done_record v job.subject (length bytes) job.profile)) E.version)
   writes job (GetJob name) entry h = absurd h
-  writes job (DropJob name) entry h = h
   writes job AuditJob entry h = elim (cases_Bool (is_first_append job)) [
     | inl t ↦ rw t (let g : entry ≡ AuditStart (next_audit u.journal) = rw t at h in g ∙ ap AuditStart E.audit)
     | inr f ↦ rw f (let g : (sums : Sums) × HasSums (setup_in (plain u)) job sums
         × (entry ≡ AuditDone job.subject sums.undecided sums.counts) = rw f at h in
         (g.0, subst (λ s. HasSums s job g.0) (sym set_up) g.1, g.2))
   ]
-  writes job RepairJob entry h = h
-  writes job UpgradeJob entry h = h
+  writes job kind entry h = h
 
   got : (job : Job) (files : List Pinned) (bytes : List ℕ) → GotBytes (plain u) job files bytes →
       GotBytes u job files bytes
@@ -171,48 +129,22 @@ module _ (u : State) (E : AreAlike u.journal u.records) (none_packs : IsUnpackin
     });
     none_packs = none_packs;
   }
-  moves job WriteBody flight (Ended DiskFault) v (faults, le, rose, e) = record {
-    new = record (barred (ended u job)) { disk_faults = faults };
-    happens = (faults, le, rose, refl);
-    same = e;
-    none_packs = none_packs;
-  }
-  moves job WriteBody flight (Ended Memory) v (faults, le, e) = record {
-    new = record (ended u job) { disk_faults = faults };
-    happens = (faults, le, refl);
-    same = e;
-    none_packs = none_packs;
-  }
-  moves job SyncBody (Some a) More v (at, (faults, le, e)) = record {
-    new = record (moved (going_on u (advanced job)) a) { disk_faults = faults };
-    happens = (at, (faults, le, refl));
-    same = e;
-    none_packs = none_packs;
-  }
-  moves job SyncBody (Some a) (Ended DiskFault) v (at, (faults, le, rose, e)) = record {
-    new = record (barred (ended u job)) { disk_faults = faults };
-    happens = (at, (faults, le, rose, refl));
-    same = e;
-    none_packs = none_packs;
-  }
-  moves job WriteGate (Some a) More v (at, (faults, le, e)) = record {
-    new = record (doubted (moved (going_on u (advanced job)) a) a job) { disk_faults = faults };
-    happens = (at, (faults, le, refl));
-    same = e;
-    none_packs = none_packs;
-  }
-  moves job WriteGate (Some a) (Ended DiskFault) v (at, (faults, le, rose, e)) = record {
-    new = record (doubted (barred (ended u job)) a job) { disk_faults = faults };
-    happens = (at, (faults, le, rose, refl));
-    same = e;
-    none_packs = none_packs;
-  }
-  moves job WriteGate (Some a) (Ended Memory) v (at, (faults, le, e)) = record {
-    new = record (unappended (ended u job)) { disk_faults = faults };
-    happens = (at, (faults, le, refl));
-    same = e;
-    none_packs = none_packs;
-  }
+  moves job WriteBody flight (Ended DiskFault) v (faults, le, rose, e) =
+      carry (record (barred (ended u job)) { disk_faults = faults }) none_packs (faults, le, rose, refl) e
+  moves job WriteBody flight (Ended Memory) v e = carry (ended u job) none_packs refl e
+  moves job SyncBody (Some a) More v (at, (faults, le, e)) =
+      carry (record (moved (going_on u (advanced job)) a) { disk_faults = faults }) none_packs
+      (at, (faults, le, refl)) e
+  moves job SyncBody (Some a) (Ended DiskFault) v (at, (faults, le, rose, e)) =
+      carry (record (barred (ended u job)) { disk_faults = faults }) none_packs (at, (faults, le, rose, refl))
+      e
+  moves job WriteGate (Some a) More v (at, (faults, le, e)) =
+      carry (record (doubted (moved (going_on u (advanced job)) a) a job) { disk_faults = faults }) none_packs
+      (at, (faults, le, refl)) e
+  moves job WriteGate (Some a) (Ended DiskFault) v (at, (faults, le, rose, e)) =
+      carry (record (doubted (barred (ended u job)) a job) { disk_faults = faults }) none_packs
+      (at, (faults, le, rose, refl)) e
+  moves job WriteGate (Some a) (Ended Memory) v (at, e) = carry (unappended (ended u job)) none_packs (at, refl) e
   moves job SyncGate (Some a) More v (at, (faults, le, e)) = record {
     new = record (done_append u job a) { disk_faults = faults };
     happens = (at, (faults, le, refl));
@@ -225,12 +157,9 @@ module _ (u : State) (E : AreAlike u.journal u.records) (none_packs : IsUnpackin
     });
     none_packs = none_packs;
   }
-  moves job SyncGate (Some a) (Ended DiskFault) v (at, (faults, le, rose, e)) = record {
-    new = record (barred (ended u job)) { disk_faults = faults };
-    happens = (at, (faults, le, rose, refl));
-    same = e;
-    none_packs = none_packs;
-  }
+  moves job SyncGate (Some a) (Ended DiskFault) v (at, (faults, le, rose, e)) =
+      carry (record (barred (ended u job)) { disk_faults = faults }) none_packs (at, (faults, le, rose, refl))
+      e
   moves job action flight outcome v h = absurd h
 
   -- ---- an action
@@ -247,18 +176,11 @@ module _ (u : State) (E : AreAlike u.journal u.records) (none_packs : IsUnpackin
     same = e;
     none_packs = none_packs;
   }
-  acts job (Store j object stripe) (Ended (ProviderFault k)) v (is, (p, call, e)) = record {
-    new = record (ended u job) { providers = with_provider u.providers j p };
-    happens = (is, (p, call, refl));
-    same = e;
-    none_packs = none_packs;
-  }
-  acts job (Store j object stripe) (Ended Memory) v (p, call, e) = record {
-    new = record (ended u job) { providers = with_provider u.providers j p };
-    happens = (p, call, refl);
-    same = e;
-    none_packs = none_packs;
-  }
+  acts job (Store j object stripe) (Ended (ProviderFault k)) v (is, (p, call, e)) =
+      carry (record (ended u job) { providers = with_provider u.providers j p }) none_packs
+      (is, (p, call, refl)) e
+  acts job (Store j object stripe) (Ended Memory) v (p, call, e) =
+      carry (record (ended u job) { providers = with_provider u.providers j p }) none_packs (p, call, refl) e
   acts job (Fetch j object stripe) More v (block, (p, call, e)) = record {
     new = record (going_on u (advanced_with job (Fetched j object stripe block))) {
       providers = with_provider u.providers j p;
@@ -315,18 +237,10 @@ module _ (u : State) (E : AreAlike u.journal u.records) (none_packs : IsUnpackin
     same = e;
     none_packs = none_packs;
   }
-  acts job (Remove j object) More v (p, call, e) = record {
-    new = record (going_on u (advanced job)) { providers = with_provider u.providers j p };
-    happens = (p, call, refl);
-    same = e;
-    none_packs = none_packs;
-  }
-  acts job End (Ended answer) v (is, e) = record {
-    new = ended u job;
-    happens = (ends job job.kind answer is, refl);
-    same = e;
-    none_packs = none_packs;
-  }
+  acts job (Remove j object) More v (p, call, e) =
+      carry (record (going_on u (advanced job)) { providers = with_provider u.providers j p }) none_packs
+      (p, call, refl) e
+  acts job End (Ended answer) v (is, e) = carry (ended u job) none_packs (ends job job.kind answer is, refl) e
   acts job action outcome v h = moves job action u.append outcome v h
 
   -- ---- a step of a job
@@ -349,8 +263,7 @@ module _ (u : State) (E : AreAlike u.journal u.records) (none_packs : IsUnpackin
       record { new = u; happens = refl; same = e; none_packs = none_packs }
   of_job None outcome v h = absurd h
   of_job (Some job) outcome v h =
-      on job (next_action u job) outcome v
-      (subst (λ a. StepsOn (plain u) job a outcome v) (sym (next job)) h)
+      on job (next_action u job) outcome v (subst (λ a. StepsOn (plain u) job a outcome v) (sym (next job)) h)
 
   -- ---- a step of a scrub
 
@@ -428,18 +341,10 @@ module _ (u : State) (E : AreAlike u.journal u.records) (none_packs : IsUnpackin
     same = e;
     none_packs = tt;
   }
-  scrubs scrub (Store j object stripe) rest (Ended (ProviderFault k)) v (is, (p, call, e)) = record {
-    new = record (unalone u) { providers = with_provider u.providers j p };
-    happens = (is, (p, call, refl));
-    same = e;
-    none_packs = tt;
-  }
-  scrubs scrub (Store j object stripe) rest (Ended Memory) v (p, call, e) = record {
-    new = record (unalone u) { providers = with_provider u.providers j p };
-    happens = (p, call, refl);
-    same = e;
-    none_packs = tt;
-  }
+  scrubs scrub (Store j object stripe) rest (Ended (ProviderFault k)) v (is, (p, call, e)) =
+      carry (record (unalone u) { providers = with_provider u.providers j p }) tt (is, (p, call, refl)) e
+  scrubs scrub (Store j object stripe) rest (Ended Memory) v (p, call, e) =
+      carry (record (unalone u) { providers = with_provider u.providers j p }) tt (p, call, refl) e
   scrubs scrub End rest (Ended (Scrubbed stripes symbols blocks)) v (a, b, c, e) = record {
     new = unalone u;
     happens = (
@@ -474,8 +379,7 @@ module _ (u : State) (E : AreAlike u.journal u.records) (none_packs : IsUnpackin
   one : (number : ℕ) (alone : Option Alone) (outcome : Outcome) (v : State) → IsUnpacking alone →
       StepsOne (plain u) number alone outcome v → Carried v (StepsOne u number alone outcome)
   one number None outcome v none h = of_job (job_of u.jobs number) outcome v h
-  one number (Some alone) outcome v none h =
-      mine number alone (number_alone alone == number) outcome v none h
+  one number (Some alone) outcome v none h = mine number alone (number_alone alone == number) outcome v none h
 
   open_one : (number : ℕ) (is_barred : Bool) (outcome : Outcome) (v : State) →
       StepsOpen (plain u) number is_barred outcome v → Carried v (StepsOpen u number is_barred outcome)
@@ -557,8 +461,7 @@ module _ (u : State) (E : AreAlike u.journal u.records) (none_packs : IsUnpackin
     found = record { stripes = 0; symbols = λ j. 0; blocks = λ j. 0 };
   }
 
-  scrub-carried : (moment number : ℕ) (v : State) →
-      Happens 8 moment (plain u) BeginScrub (Begun number) v →
+  scrub-carried : (moment number : ℕ) (v : State) → Happens 8 moment (plain u) BeginScrub (Begun number) v →
       Carried v (Happens 8 moment u BeginScrub (Begun number))
   scrub-carried moment number v (opened, none, is, e) = record {
     new = record u { alone = Some (Scrubbing (new_scrub u moment)); next_job = u.next_job + 1 };
@@ -605,8 +508,7 @@ module _ (u : State) (S : IsSound 8 u) (none : IsUnpacking u.alone) (moment numb
 
   -- so do all up to an end
   goes-carried : (answer : Answer) (heard : List Entry) (v : State) →
-      GoesOnTo (plain u) moment number answer heard v →
-      Carried v (GoesOnTo u moment number answer heard)
+      GoesOnTo (plain u) moment number answer heard v → Carried v (GoesOnTo u moment number answer heard)
   goes-carried answer heard v G =
       (let C = steps-carried G.steps G.are_steps in
       let h : Happens 8 (moment + length C.steps) (plain (now u C.steps)) (Step number) (Ended answer) v =
@@ -637,8 +539,7 @@ images-plain (Some cells) w h = λ image is. by image (h image is)
         StandsPlain (plain w) image ⊎ (StandsWithDoubt (plain w) image ⊎ StandsSwitched (plain w) image) →
         StandsPlain w image ⊎ (StandsWithDoubt w image ⊎ StandsSwitched w image)
     by image (inl p) = inl p
-    by image (inr (inl D)) =
-        inr (inl (record { doubt = D.doubt; in_doubt = D.in_doubt; stands = D.stands }))
+    by image (inr (inl D)) = inr (inl (record { doubt = D.doubt; in_doubt = D.in_doubt; stands = D.stands }))
     by image (inr (inr X)) = inr (inr (record { switching = X.switching; stands = X.stands }))
 
 -- nor do the providers

@@ -1,23 +1,6 @@
 -- The asks of an audit, question by question.
-use Rattle.std.proofs.Common.{◌≡◌, ℕ, ◌+◌, ◌<◌, ◌≤◌, ◌==◌, Bool, true, false, cond, List, [], ◌∷◌, ◌++◌, length, map, refl, ap, sym, subst, ◌∙◌, inl, inr, arith}
-use Rattle.std.specs.Prelude.{nat_lt}
-use Rattle.std.specs.List.{flat_map}
-use Rattle.std.proofs.lemmas.Bool.{cases_Bool}
-use Rattle.std.proofs.lemmas.Grind.{flat_map-append}
-use Rattle.algebra_laws.specs.Lists.{Each}
-use Rattle.algebra_laws.proofs.Each.{each_append, each_map, each_flat}
-use Rattle.code_defs.specs.Points.{upto}
-use Rattle.record_defs.specs.Records.{Setup}
-use Rattle.record_defs.specs.Table.{File}
-use Rattle.machine_defs.specs.Jobs.{Pinned, Given, Answered, Job}
-use Rattle.machine_defs.specs.Setups.{profiled, stripes_of}
-use Rattle.machine_defs.specs.Actions.{Action, Ask, machine_pins, rounds_of, ask_actions}
-use Rattle.machine_defs.specs.Begins.{pinned_file, pin_by, pin_all}
-use Rattle.machine_defs.specs.Given.{answer_given}
-use Rattle.machine_defs.specs.States.{State}
-use Rattle.machine_defs.proofs.JobLists.{cond_true, cond_false}
-use Rattle.command_defs.specs.Audits.{with_number, files_by_number, Question, questions}
-use Rattle.state_laws.specs.Orders.{AreAscending}
+use Rattle.job_laws.proofs.Words.{◌≡◌, ℕ, ◌+◌, ◌<◌, ◌≤◌, ◌==◌, Bool, true, false, cond, List, [], ◌∷◌, ◌++◌, length, refl, ap, sym, subst, ◌∙◌, inl, inr, arith, nat_lt, flat_map, cases_Bool, flat_map-append, Each, each_append, each_map, each_flat, upto, Setup, File, Pinned, Given, Answered, Job, profiled, stripes_of, Action, Ask, machine_pins, rounds_of, ask_actions, pinned_file, pin_by, pin_all, answer_given, State, cond_true, cond_false, with_number, files_by_number, Question, questions, AreAscending}
+use Rattle.std.proofs.Common.{map}
 use Rattle.job_laws.proofs.Heard.{AreDistinct, distinct-append, distinct-range, distinct-map, apart-by, entry_for}
 
 -- ---- files by number, as they are pinned

@@ -1,42 +1,7 @@
 -- What an audit leaves whose job was the only one.
-use Rattle.std.proofs.Common.{◌≡◌, ℕ, ◌<◌, ◌≤◌, ◌⊎◌, List, [], ◌∷◌, ◌++◌, length, map, take, Option, None, Some, refl, ap, sym, subst, ◌∙◌, inl, inr, arith}
-use Rattle.std.specs.Prelude.{slice_get, IfSome}
-use Rattle.std.specs.Option.{option_map}
-use Rattle.std.specs.List.{flat_map}
-use Rattle.std.proofs.lemmas.Bool.{cases_lt}
-use Rattle.algebra_laws.specs.Lists.{Each}
-use Rattle.algebra_laws.proofs.Each.{each_get, each_append, each_map, each_flat, each_take}
-use Rattle.code_defs.specs.Points.{upto}
-use Rattle.column_defs.specs.Challenges.{challenge_of, honest_answer}
-use Rattle.column_defs.specs.Verdicts.{Sums, Judges}
-use Rattle.device_defs.specs.Providers.{Held, Provider}
-use Rattle.device_defs.proofs.Lasting.{rose-before}
-use Rattle.record_defs.specs.Records.{Setup, Record, AuditStart, AuditDone}
-use Rattle.record_defs.specs.Table.{File, next_audit, files_of}
-use Rattle.machine_defs.specs.Jobs.{AuditJob, Pinned, Given, Answered, Job}
-use Rattle.machine_defs.specs.Setups.{profiled, object_of}
-use Rattle.machine_defs.specs.Actions.{Action, WriteBody, SyncBody, WriteGate, SyncGate, Store, Fetch, Ask, Work, Remove, End, append_actions, ask_actions, rounds_of, actions_of, appends_left}
+use Rattle.job_laws.proofs.Words.{◌≡◌, ℕ, ◌<◌, ◌≤◌, ◌⊎◌, List, [], ◌∷◌, ◌++◌, length, take, Option, None, Some, refl, ap, sym, subst, ◌∙◌, inl, inr, arith, slice_get, IfSome, option_map, flat_map, cases_lt, Each, each_get, each_append, each_map, each_flat, each_take, upto, challenge_of, honest_answer, Sums, Judges, Held, Provider, rose-before, Setup, Record, AuditStart, AuditDone, File, next_audit, files_of, AuditJob, Pinned, Given, Answered, Job, profiled, object_of, Action, WriteBody, SyncBody, WriteGate, SyncGate, Store, Fetch, Ask, Work, Remove, End, append_actions, ask_actions, rounds_of, actions_of, appends_left, Answer, challenge_in, HasSums, JudgesFiles, answer_given, answers_given, pinned_size, Entry, entries_of, heard_by_kind, State, Doubt, setup_in, ended, next_action, EndsAs, next_stands, Question, files_by_number, questions, challenge_at, answer_heard, answer_entries, HearsRounds, JudgesOne, no_sums, CountsHeard, audit_records, AuditIsCut, AuditGives, AuditLeaves, RunsJob, Leaves, Ran, ran_from, object_at_begin, IsWhole, IsTruthful, valid-shape, audit_rest, audit-list, audit-first, audit-later, setup-valid, With, Made, object_made, IsOpenAtRest, MayName, RecordsAre, with_job_of, Walked, made-split, Wrote, wrote, runs, opened-sound, first-body, Object}
+use Rattle.std.proofs.Common.{map}
 use Rattle.machine_defs.specs.Answers as answer
-use Rattle.machine_defs.specs.Answers.{Answer}
-use Rattle.machine_defs.specs.Audits.{challenge_in, HasSums, JudgesFiles}
-use Rattle.machine_defs.specs.Given.{answer_given, answers_given, pinned_size}
-use Rattle.machine_defs.specs.Heard.{Entry, entries_of, heard_by_kind}
-use Rattle.machine_defs.specs.States.{State, Doubt, setup_in, ended}
-use Rattle.machine_defs.specs.Steps.{next_action, Ends as EndsAs}
-use Rattle.machine_defs.proofs.NextActions.{next_stands}
-use Rattle.command_defs.specs.Audits.{Question, files_by_number, questions, challenge_at, answer_heard, answer_entries, HearsRounds, JudgesOne, no_sums, CountsHeard, audit_records, AuditIsCut, AuditGives, AuditLeaves}
-use Rattle.command_defs.specs.JobRuns.{RunsJob}
-use Rattle.command_defs.specs.Jobs.{Leaves}
-use Rattle.command_defs.specs.Ran.{Ran, ran_from, object_at_begin, IsWhole}
-use Rattle.command_defs.specs.Truthful.{IsTruthful}
-use Rattle.state_laws.proofs.Given.{valid-shape}
-use Rattle.state_laws.proofs.Orders.{audit_rest, audit-list, audit-first, audit-later}
-use Rattle.state_laws.proofs.Written.{setup-valid}
-use Rattle.lone_laws.specs.Made.{With, Made, object_made}
-use Rattle.opening_defs.specs.Opened.{IsOpenAtRest}
-use Rattle.lone_laws.specs.Walked.{MayName, RecordsAre, with_job_of, Walked}
-use Rattle.lone_laws.proofs.Lists.{made-split}
-use Rattle.lone_laws.proofs.Walk.{Wrote, wrote, runs, opened-sound, first-body}
 use Rattle.job_laws.proofs.Runs.{Ends, job-ends}
 use Rattle.job_laws.proofs.Given.{answer-heard}
 use Rattle.job_laws.proofs.Providers.{Called, each-upto, made-keeps}
@@ -51,7 +16,6 @@ use Rattle.run_laws.proofs.Sums.{sums-one}
 use Rattle.job_laws.proofs.Judged.{files-questions}
 use Rattle.job_laws.proofs.Truth.{IsQuiet, asks-told}
 use Rattle.job_laws.proofs.Questions.{each-in, held-sizes, each-both, all-each, each-question, sizes-pinned, Fits, told-questions, lacks-questions}
-use Rattle.column_defs.specs.Objects.{Object}
 
 -- ---- the actions of an audit
 
@@ -131,11 +95,7 @@ module _ (start : State) (O : IsOpenAtRest start 1) (w : State) (job : Job)
       step (Fetch j o t) given now p q u c = absurd u
       step (Work o t) given now p q u c = absurd u
       step (Remove j o) given now p q u c = absurd u
-      step WriteBody given now p q u c = absurd c
-      step SyncBody given now p q u c = absurd c
-      step WriteGate given now p q u c = absurd c
-      step SyncGate given now p q u c = absurd c
-      step End given now p q u c = absurd c
+      step a given now p q u c = absurd c
 
   fetches-kept : (i : ℕ) → (w.providers i).fetches ≡ (start.providers i).fetches
   fetches-kept i = made-keeps x i (λ p q. q.fetches ≡ p.fetches) (IsAuditing s.n) (λ p. refl)
@@ -149,11 +109,7 @@ module _ (start : State) (O : IsOpenAtRest start 1) (w : State) (job : Job)
       step (Fetch j o t) given now p q u c = absurd u
       step (Work o t) given now p q u c = absurd u
       step (Remove j o) given now p q u c = absurd u
-      step WriteBody given now p q u c = absurd c
-      step SyncBody given now p q u c = absurd c
-      step WriteGate given now p q u c = absurd c
-      step SyncGate given now p q u c = absurd c
-      step End given now p q u c = absurd c
+      step a given now p q u c = absurd c
 
   -- ---- an audit that a fault or want of memory ended
 
@@ -252,16 +208,11 @@ module _ (start : State) (O : IsOpenAtRest start 1) (w : State) (job : Job)
         quiet (y ∷ xs) h = (one y h.0, quiet xs h.1)
           where
             one : (y : Action) → IsAuditing s.n y → IsQuiet y
-            one (Ask j o r) u = tt
             one (Store j o t) u = absurd u
             one (Fetch j o t) u = absurd u
             one (Work o t) u = absurd u
             one (Remove j o) u = absurd u
-            one WriteBody u = tt
-            one SyncBody u = tt
-            one WriteGate u = tt
-            one SyncGate u = tt
-            one End u = tt
+            one y u = tt
 
     -- what it heard is an entry for each question and provider
     heard-entries : entries_of 1 job.given ≡ flat_map

@@ -1,20 +1,8 @@
 -- Where nothing runs, a begin of the machine is refused as that of a command over the journal that the disk
 -- holds.
-use Rattle.std.proofs.Common.{◌≡◌, ℕ, ◌+◌, ◌==◌, ◌^◌, ◌||◌, Option, None, ◌∙◌, Bool, false, List, [], ◌∷◌, ap, refl, sym, length, add-zero}
-use Rattle.std.specs.Prelude.{is_some, nat_lt, sum_by}
-use Rattle.record_defs.specs.Records.{Record}
-use Rattle.record_defs.specs.Table.{version_of}
-use Rattle.record_defs.specs.Areas.{Area, A, B, end_in}
-use Rattle.machine_defs.specs.Alone.{is_too_long, pack_refusal}
-use Rattle.machine_defs.specs.Jobs.{Kind, PutJob, GetJob, DropJob, AuditJob, RepairJob, UpgradeJob, aim_of, Job}
+use Rattle.job_laws.proofs.Words.{◌≡◌, ℕ, ◌+◌, ◌==◌, ◌^◌, ◌||◌, Option, None, ◌∙◌, Bool, false, List, [], ◌∷◌, ap, refl, sym, length, add-zero, is_some, nat_lt, Record, version_of, Area, A, B, end_in, is_too_long, pack_refusal, Kind, PutJob, GetJob, DropJob, AuditJob, RepairJob, UpgradeJob, aim_of, Job, Refusal, first_refusal, setup_or_none, State, Alone, setup_in, reserved, Sight, aims_of, sight_of, causes, refusal_of_begin, IsOpenAtRest}
+use Rattle.std.specs.Prelude.{sum_by}
 use Rattle.machine_defs.specs.Refusals as refusal
-use Rattle.machine_defs.specs.Refusals.{Refusal, first_refusal}
-use Rattle.machine_defs.specs.Setups.{setup_or_none}
-use Rattle.machine_defs.specs.States.{State, Alone, setup_in}
-use Rattle.machine_defs.specs.Space.{reserved}
-use Rattle.machine_defs.specs.Sights.{Sight, aims_of, sight_of, causes}
-use Rattle.machine_defs.specs.Begins.{refusal_of_begin}
-use Rattle.opening_defs.specs.Opened.{IsOpenAtRest}
 use Rattle.command_defs.specs.Refusals as commands
 use Rattle.command_defs.specs.Refusals.{sight_over}
 
@@ -23,11 +11,7 @@ any-limit : (area : Area) (records : List Record) (kind : Kind) (own : Option �
     first_refusal (causes 8 (sight_over area records) (aim_of kind) own)
     ≡ commands.refusal_over area records kind own
 any-limit area records (PutJob name bytes) own = refl
-any-limit area records (GetJob name) own = refl
-any-limit area records (DropJob name) own = refl
-any-limit area records AuditJob own = refl
-any-limit area records RepairJob own = refl
-any-limit area records UpgradeJob own = refl
+any-limit area records kind own = refl
 
 module _ (w : State) where
   -- the state in which nothing runs and jobs go on, with the journal for its history

@@ -1,43 +1,10 @@
 -- Few providers that are wrong or fail do no harm to a get.
-use Rattle.std.proofs.Common.{◌≡◌, ℕ, zero, suc, ◌+◌, ◌<◌, ◌≤◌, ◌==◌, ◌&&◌, ◌||◌, ◌⊎◌, Bool, true, false, cond, not, List, length, map, get_or, Option, None, Some, refl, ap, sym, subst, ◌∙◌, inl, inr, arith}
-use Rattle.std.specs.Prelude.{IfSome, nat_lt, nat_le, is_some, is_none}
-use Rattle.std.specs.List.{range_with_len, list_any}
-use Rattle.std.proofs.lemmas.Bool.{cases_Bool, cases_eq, and_parts, false≢true, or_parts}
+use Rattle.job_laws.proofs.Words.{◌≡◌, ℕ, zero, suc, ◌+◌, ◌<◌, ◌≤◌, ◌==◌, ◌&&◌, ◌||◌, ◌⊎◌, Bool, true, false, cond, List, length, get_or, Option, None, Some, refl, ap, sym, subst, ◌∙◌, inl, inr, arith, IfSome, nat_lt, nat_le, is_some, is_none, range_with_len, list_any, cases_Bool, cases_eq, and_parts, false≢true, or_parts, get-map_range, IsShape, upto, Object, stripes, symbols_in, columns, is_wrong_block, is_wrong, row_polynomial, SeenBlock, OpensFile, block_at, is_agreeing, IsForgery, count_of-within, row-right, profile-room, Rose, last_count, Held, sized, File, file_of, profiled, stripes_of, Answer, AreBytes, Entry, HoldsForgery, State, setup_in, cond_true, cond_false, same_value, block_heard, blocks_heard, HearsStripes, GetGives, GetLeaves, PutLeaves, DropLeaves, UpgradeLeaves, AuditGives, Ran, ran_from, setup_at_begin, object_at_begin, stripes_at_begin, job_number, missing, IsTruthful, valid-shape, setup-valid, IsOpenAtRest, opened-sound, has_risen, is_bad_with, is_bad, bad_count}
+use Rattle.std.proofs.Common.{not, map}
 use Rattle.std.proofs.lemmas.Bool.Decides.{nat_tests}
-use Rattle.algebra_laws.proofs.Lists.{get-map_range}
-use Rattle.hail_field.specs.Shape.{IsShape}
-use Rattle.code_defs.specs.Points.{upto}
 use Rattle.code_defs.specs.ServerCode.{differences}
-use Rattle.column_defs.specs.Objects.{Object, stripes, symbols_in}
-use Rattle.column_defs.specs.Columns.{columns, is_wrong_block, is_wrong, row_polynomial}
-use Rattle.column_defs.specs.Opened.{SeenBlock, OpensFile, block_at}
-use Rattle.column_defs.specs.Forgeries.{is_agreeing, IsForgery}
-use Rattle.column_laws.proofs.Counts.{count_of-within}
-use Rattle.column_laws.proofs.RightRows.{row-right}
-use Rattle.column_laws.proofs.UniqueLaws.{profile-room}
-use Rattle.device_defs.specs.Faults.{Rose, last_count}
-use Rattle.device_defs.specs.Providers.{Held, sized}
-use Rattle.record_defs.specs.Table.{File, file_of}
-use Rattle.machine_defs.specs.Setups.{profiled, stripes_of}
 use Rattle.machine_defs.specs.Answers as answer
-use Rattle.machine_defs.specs.Answers.{Answer}
-use Rattle.machine_defs.specs.Events.{AreBytes}
-use Rattle.machine_defs.specs.Heard.{Entry, HoldsForgery}
-use Rattle.machine_defs.specs.States.{State, setup_in}
-use Rattle.machine_defs.proofs.JobLists.{cond_true, cond_false, same_value}
 use Rattle.run_laws.proofs.Files.{file_or_forged}
-use Rattle.command_defs.specs.Gets.{block_heard, blocks_heard, HearsStripes, GetGives, GetLeaves}
-use Rattle.command_defs.specs.Puts.{PutLeaves}
-use Rattle.command_defs.specs.Drops.{DropLeaves}
-use Rattle.command_defs.specs.Upgrades.{UpgradeLeaves}
-use Rattle.command_defs.specs.Audits.{AuditGives}
-use Rattle.command_defs.specs.Ran.{Ran, ran_from, setup_at_begin, object_at_begin, stripes_at_begin, job_number}
-use Rattle.command_defs.specs.Truthful.{missing, IsTruthful}
-use Rattle.state_laws.proofs.Given.{valid-shape}
-use Rattle.state_laws.proofs.Written.{setup-valid}
-use Rattle.opening_defs.specs.Opened.{IsOpenAtRest}
-use Rattle.lone_laws.proofs.Walk.{opened-sound}
-use Rattle.job_laws.specs.Failing.{has_risen, is_bad_with, is_bad, bad_count}
 
 -- ---- ranges
 
@@ -241,8 +208,7 @@ module _ (x : Ran) (file : File) (bytes : List ℕ) where
         (bad-block (stripe + 1) stripe L.hears (omega arith) k) in
         L.loses.lost (row_polynomial o (symbols_in o bytes stripe) L.loses.place)
         (row-right o bytes file.profile stripe L.loses.place
-        (blocks_heard x file.id stripe) L.loses.opened refl shape
-        (omega (arith, within, few)) L.loses.opens
+        (blocks_heard x file.id stripe) L.loses.opened refl shape (omega (arith, within, few)) L.loses.opens
         (let a = L.loses.kept in let b = profile-room o file.profile refl in omega (arith, a, b))))
 
 -- ---- the same of a run
@@ -290,8 +256,7 @@ module _ (x : Ran) (name bytes : List ℕ) (file : File)
 -- a put that ended otherwise than for want of memory stored the file, unless a count of the disk or of a
 -- store rose
 pub put-end : (x : Ran) (own : Option ℕ) (name bytes : List ℕ) (how : Answer) →
-    PutLeaves x own name bytes how →
-    (Rose x.disk_before x.disk_after → ⊥) →
+    PutLeaves x own name bytes how → (Rose x.disk_before x.disk_after → ⊥) →
     ((j : ℕ) → j < (setup_at_begin x).n → Rose (x.old j).store_faults (x.new j).store_faults → ⊥) →
     (how ≡ answer.Put) ⊎ (how ≡ answer.Memory)
 put-end x own name bytes answer.Put L disk stores = inl refl

@@ -1,38 +1,9 @@
 -- What a drop leaves whose job was the only one.
-use Rattle.std.proofs.Common.{◌≡◌, ℕ, ◌-◌, ◌<◌, ◌==◌, true, false, List, [], ◌∷◌, ◌++◌, length, take, Option, None, Some, refl, ap, sym, subst, ◌∙◌, inl, inr, arith, not}
-use Rattle.std.specs.Prelude.{slice_get, is_some}
-use Rattle.std.proofs.lemmas.Bool.{cases_Bool, and_parts, eqb-true, false≢true}
-use Rattle.algebra_laws.specs.Lists.{Each}
-use Rattle.algebra_laws.proofs.Each.{each_get, each_append, each_map, each_flat, each_take}
-use Rattle.code_defs.specs.Points.{upto}
-use Rattle.device_defs.specs.Faults.{Rose}
-use Rattle.device_defs.specs.Told.{Goes}
-use Rattle.device_defs.specs.Providers.{Provider}
-use Rattle.device_defs.proofs.Lasting.{rose-before}
-use Rattle.record_defs.specs.Records.{Setup}
-use Rattle.record_defs.specs.Table.{File, file_of}
-use Rattle.machine_defs.specs.Jobs.{DropJob, Given, Job}
-use Rattle.machine_defs.specs.Actions.{Action, WriteBody, SyncBody, WriteGate, SyncGate, Store, Fetch, Ask, Work, Remove, End, append_actions, on_each_provider, remove_actions, actions_of}
+use Rattle.job_laws.proofs.Words.{◌≡◌, ℕ, ◌-◌, ◌<◌, ◌==◌, true, false, List, [], ◌∷◌, ◌++◌, length, take, Option, None, Some, refl, ap, sym, subst, ◌∙◌, inl, inr, arith, slice_get, is_some, cases_Bool, and_parts, eqb-true, false≢true, Each, each_get, each_append, each_map, each_flat, each_take, upto, Rose, Goes, Provider, rose-before, Setup, File, file_of, DropJob, Given, Job, Action, WriteBody, SyncBody, WriteGate, SyncGate, Store, Fetch, Ask, Work, Remove, End, append_actions, on_each_provider, remove_actions, actions_of, Answer, Ended, Entry, heard_by_kind, State, setup_in, file_in, ended, Moves, removable, is_idle_drop, next_action, split_get, DroppedFrom, DropsFile, DropLeaves, Leaves, Ran, ran_from, SameHeld, NoFetches, drop_rest, With, Made, IsOpenAtRest, with_job_of, appends-whole, made-split}
+use Rattle.std.proofs.Common.{not}
 use Rattle.machine_defs.specs.Answers as answer
-use Rattle.machine_defs.specs.Answers.{Answer}
-use Rattle.machine_defs.specs.Events.{Ended}
-use Rattle.machine_defs.specs.Heard.{Entry, heard_by_kind}
-use Rattle.machine_defs.specs.States.{State, setup_in, file_in, ended}
-use Rattle.machine_defs.specs.Appends.{Moves, removable}
 use Rattle.machine_defs.specs.Steps as step
-use Rattle.machine_defs.specs.Steps.{is_idle_drop, next_action}
-use Rattle.machine_defs.proofs.ActionLists.{split_get}
-use Rattle.command_defs.specs.Blocks.{DroppedFrom}
-use Rattle.command_defs.specs.Drops.{DropsFile, DropLeaves}
-use Rattle.command_defs.specs.Jobs.{Leaves}
-use Rattle.command_defs.specs.Ran.{Ran, ran_from, SameHeld, NoFetches}
-use Rattle.state_laws.proofs.Orders.{drop_rest}
 use Rattle.state_laws.proofs.Gates.{drop-list}
-use Rattle.lone_laws.specs.Made.{With, Made}
-use Rattle.opening_defs.specs.Opened.{IsOpenAtRest}
-use Rattle.lone_laws.specs.Walked.{with_job_of}
-use Rattle.lone_laws.proofs.Prefixes.{appends-whole}
-use Rattle.lone_laws.proofs.Lists.{made-split}
 use Rattle.job_laws.proofs.Runs.{Ends}
 use Rattle.job_laws.proofs.Providers.{Called, made-keeps}
 use Rattle.job_laws.proofs.Moving.{IsMove}
@@ -117,12 +88,7 @@ module _ (start new : State) (name : List ℕ) (how : Answer) (heard : List Entr
       one SyncBody given now p q u c = absurd c
       one WriteGate given now p q u c = absurd c
       one SyncGate given now p q u c = absurd c
-      one (Store k o t) given now p q u c = absurd u
-      one (Fetch k o t) given now p q u c = absurd u
-      one (Ask k o r) given now p q u c = absurd u
-      one (Work o t) given now p q u c = absurd u
-      one (Remove k o) given now p q u c = absurd u
-      one End given now p q u c = absurd u
+      one a given now p q u c = absurd u
 
   abbrev Gives : Answer → Type 0
   Gives a = DropLeaves ran name a

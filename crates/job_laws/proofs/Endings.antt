@@ -1,31 +1,8 @@
 -- What the ends of all jobs have in common: where a job stood at its last step, what a failed move leaves,
 -- and what had come about where it came to its end.
-use Rattle.std.proofs.Common.{◌≡◌, ℕ, ◌+◌, ◌<◌, ◌⊎◌, false, List, [], ◌∷◌, ◌++◌, take, drop, Option, None, Some, refl, ap, sym, subst, ◌∙◌, inl, inr, arith}
-use Rattle.std.specs.Prelude.{slice_get}
-use Rattle.std.specs.Option.{option_map}
-use Rattle.std.proofs.lemmas.List.{take-append-drop}
-use Rattle.algebra_laws.proofs.Lists.{drop-get}
-use Rattle.record_defs.specs.Records.{Setup, Record}
-use Rattle.machine_defs.specs.Jobs.{Kind, Job}
-use Rattle.machine_defs.specs.Actions.{Action, WriteBody, SyncBody, WriteGate, SyncGate, Store, Fetch, Ask, Work, Remove, End, actions_of, actions_left, appends_left}
+use Rattle.job_laws.proofs.Words.{◌≡◌, ℕ, ◌+◌, ◌<◌, ◌⊎◌, false, List, [], ◌∷◌, ◌++◌, take, drop, Option, None, Some, refl, ap, sym, subst, ◌∙◌, inl, inr, arith, slice_get, option_map, take-append-drop, drop-get, Setup, Record, Kind, Job, Action, WriteBody, SyncBody, WriteGate, SyncGate, Store, Fetch, Ask, Work, Remove, End, actions_of, actions_left, appends_left, Answer, Ended, Entry, State, Append, Doubt, setup_in, ended, Moves, is_idle_drop, next_action, holder_of, Acts, cond_false, next_stands, ran_from, IsWhole, IsCut, IsCutInDoubt, moves_made, IsInOrder, appends_in, appends-cons, IsOpenAtRest, Made, appends_of, first_record, RecordsAre, with_job_at, WalkedAt, made-append, made-one, Wrote, wrote, runs, left-start}
 use Rattle.machine_defs.specs.Answers as answer
-use Rattle.machine_defs.specs.Answers.{Answer}
-use Rattle.machine_defs.specs.Events.{Ended}
-use Rattle.machine_defs.specs.Heard.{Entry}
-use Rattle.machine_defs.specs.States.{State, Append, Doubt, setup_in, ended}
-use Rattle.machine_defs.specs.Appends.{Moves}
 use Rattle.machine_defs.specs.Steps as step
-use Rattle.machine_defs.specs.Steps.{is_idle_drop, next_action, holder_of, Acts}
-use Rattle.machine_defs.proofs.JobLists.{cond_false}
-use Rattle.machine_defs.proofs.NextActions.{next_stands}
-use Rattle.command_defs.specs.Ran.{ran_from, IsWhole, IsCut, IsCutInDoubt}
-use Rattle.state_laws.specs.Orders.{moves_made, IsInOrder}
-use Rattle.state_laws.proofs.Orders.{appends_in, appends-cons}
-use Rattle.opening_defs.specs.Opened.{IsOpenAtRest}
-use Rattle.lone_laws.specs.Made.{Made}
-use Rattle.lone_laws.specs.Walked.{appends_of, first_record, RecordsAre, with_job_at, WalkedAt}
-use Rattle.lone_laws.proofs.Lists.{made-append, made-one}
-use Rattle.lone_laws.proofs.Walk.{Wrote, wrote, runs, left-start}
 use Rattle.job_laws.proofs.Runs.{Ends}
 use Rattle.job_laws.proofs.Lasts.{Faults, move-faults, NoRoom, move-memory, none-moving}
 use Rattle.job_laws.proofs.Moving.{IsMove}
@@ -92,15 +69,12 @@ act-ends {start} {new} {kind} {own} {how} {heard} E Gives ends moved stores work
   where
     by : (action : Action) → E.action ≡ action → Acts E.before E.job action (Ended how) new → Gives how
     by End at (so, is) = ends at (subst (λ kd. step.Ends E.before E.job kd how) E.walked.kind_is so) is
-    by WriteBody at h = moved WriteBody at tt (λ u. u) h
-    by SyncBody at h = moved SyncBody at tt (λ u. u) h
-    by WriteGate at h = moved WriteGate at tt (λ u. u) h
-    by SyncGate at h = moved SyncGate at tt (λ u. u) h
     by (Store j o t) at h = stores j o t at h
     by (Work o t) at h = works o t at h
     by (Fetch j o t) at h = absurd h
     by (Ask j o r) at h = absurd h
     by (Remove j o) at h = absurd h
+    by action at h = moved action at tt (λ u. u) h
 
 -- by the setup of its begin a job has as many appends left as by that of now
 pub left-same : {start w : State} {kind : Kind} {profile : ℕ} {job : Job} (O : IsOpenAtRest start 1)

@@ -1,48 +1,9 @@
 -- What a get leaves whose job was the only one.
-use Rattle.std.proofs.Common.{◌≡◌, ℕ, zero, suc, ◌+◌, ◌-◌, ◌<◌, ◌≤◌, ◌==◌, ◌⊎◌, cond, List, [], ◌∷◌, ◌++◌, length, map, take, Option, None, Some, refl, ap, sym, subst, ◌∙◌, inl, inr, arith, sum_by}
-use Rattle.std.specs.Prelude.{slice_get, IfSome}
-use Rattle.std.specs.Option.{option_map}
-use Rattle.std.specs.List.{flat_map, range_with_len}
-use Rattle.std.proofs.lemmas.Bool.{cases_eq, eq-eqb, ne_eqb}
-use Rattle.std.proofs.lemmas.List.{append_assoc, append-nil}
-use Rattle.std.proofs.lemmas.List.Sums.{sum_by-cons, sum_by-append}
-use Rattle.algebra_laws.specs.Lists.{Each}
-use Rattle.algebra_laws.proofs.Each.{each_get, each_append, each_map}
-use Rattle.code_defs.specs.Points.{upto}
-use Rattle.column_defs.specs.Objects.{Object}
-use Rattle.column_defs.specs.Opened.{GivesSymbols, LosesRow, OpensFile}
-use Rattle.device_defs.specs.Faults.{last_count}
-use Rattle.device_defs.specs.Providers.{Held, Provider, sized}
-use Rattle.device_defs.specs.ProviderCalls.{Fetches, FetchGives, FailsToGive}
-use Rattle.record_defs.specs.Records.{Setup, Record}
-use Rattle.record_defs.specs.Table.{File}
-use Rattle.machine_defs.specs.Jobs.{GetJob, Given, Fetched, Worked, Job}
-use Rattle.machine_defs.specs.Setups.{profiled, object_of, stripes_of}
-use Rattle.machine_defs.specs.Actions.{Action, WriteBody, SyncBody, WriteGate, SyncGate, Store, Fetch, Ask, Work, Remove, End, on_each_provider, open_actions, read_actions, actions_by, actions_of, actions_left}
+use Rattle.job_laws.proofs.Words.{◌≡◌, ℕ, zero, suc, ◌+◌, ◌-◌, ◌<◌, ◌≤◌, ◌==◌, ◌⊎◌, cond, List, [], ◌∷◌, ◌++◌, length, take, Option, None, Some, refl, ap, sym, subst, ◌∙◌, inl, inr, arith, slice_get, IfSome, option_map, flat_map, range_with_len, cases_eq, eq-eqb, ne_eqb, append_assoc, append-nil, sum_by-cons, sum_by-append, Each, each_get, each_append, each_map, upto, Object, GivesSymbols, LosesRow, OpensFile, last_count, Held, Provider, sized, Fetches, FetchGives, FailsToGive, Setup, Record, File, GetJob, Given, Fetched, Worked, Job, profiled, object_of, stripes_of, Action, WriteBody, SyncBody, WriteGate, SyncGate, Store, Fetch, Ask, Work, Remove, End, on_each_provider, open_actions, read_actions, actions_by, actions_of, actions_left, Answer, pinned_file, pin_found, Ended, block_given, blocks_given, symbols_given, file_given, Entry, entries_of, given_to, heard_by_kind, State, Doubt, setup_in, file_in, worked_object, Acts, GotBytes, cond_true, cond_false, split_get, symbols_given-newest, block_heard, blocks_heard, HearsStripes, GetGives, GetLeaves, Leaves, Ran, ran_from, object_at_begin, stripes_at_begin, missing, IsTruthful, moves_made, appends-order, get-none, With, Did, Made, object_made, IsOpenAtRest, RecordsAre, with_job_of, Walked, made-split, take-append-add, runs}
+use Rattle.std.proofs.Common.{map, sum_by}
 use Rattle.machine_defs.specs.Answers as answer
-use Rattle.machine_defs.specs.Answers.{Answer}
-use Rattle.machine_defs.specs.Begins.{pinned_file, pin_found}
-use Rattle.machine_defs.specs.Events.{Ended}
-use Rattle.machine_defs.specs.Given.{block_given, blocks_given, symbols_given, file_given}
-use Rattle.machine_defs.specs.Heard.{Entry, entries_of, given_to, heard_by_kind}
-use Rattle.machine_defs.specs.States.{State, Doubt, setup_in, file_in, worked_object}
 use Rattle.machine_defs.specs.Steps as step
-use Rattle.machine_defs.specs.Steps.{Acts, GotBytes}
-use Rattle.machine_defs.proofs.JobLists.{cond_true, cond_false}
-use Rattle.machine_defs.proofs.ActionLists.{split_get}
 use Rattle.machine_defs.proofs.Numbers.{next_by, next_is_by}
-use Rattle.machine_defs.proofs.Given.{symbols_given-newest}
-use Rattle.command_defs.specs.Gets.{block_heard, blocks_heard, HearsStripes, GetGives, GetLeaves}
-use Rattle.command_defs.specs.Jobs.{Leaves}
-use Rattle.command_defs.specs.Ran.{Ran, ran_from, object_at_begin, stripes_at_begin}
-use Rattle.command_defs.specs.Truthful.{missing, IsTruthful}
-use Rattle.state_laws.specs.Orders.{moves_made}
-use Rattle.state_laws.proofs.Orders.{appends-order, get-none}
-use Rattle.lone_laws.specs.Made.{With, Did, Made, object_made}
-use Rattle.opening_defs.specs.Opened.{IsOpenAtRest}
-use Rattle.lone_laws.specs.Walked.{RecordsAre, with_job_of, Walked}
-use Rattle.lone_laws.proofs.Lists.{made-split, take-append-add}
-use Rattle.lone_laws.proofs.Walk.{runs}
 use Rattle.job_laws.proofs.Runs.{Ends}
 use Rattle.job_laws.proofs.Given.{block-heard}
 use Rattle.job_laws.proofs.Providers.{Called, made-keeps}
@@ -57,10 +18,9 @@ use Rattle.job_laws.proofs.Leaving.{counts-rise, others-stay}
 
 -- the first elements of two lists, where the first list has as many, are of the first list
 pub take-within : {X : Type 0} (xs ys : List X) (p : ℕ) → p ≤ length xs → take p (xs ++ ys) ≡ take p xs
-take-within [] ys zero l = refl
 take-within [] ys (suc p) l = absurd (omega (arith, l))
-take-within (x ∷ xs) ys zero l = refl
 take-within (x ∷ xs) ys (suc p) l = ap (λ zs. x ∷ zs) (take-within xs ys p (omega (arith, l)))
+take-within xs ys zero l = refl
 
 take-beyond : {X : Type 0} (xs ys : List X) (p : ℕ) → length xs ≤ p →
     take p (xs ++ ys) ≡ xs ++ take (p - length xs) ys
@@ -182,13 +142,7 @@ module _ (s : Setup) (id : ℕ) where
       over-left (Fetch j o t) h = each-front (IsNot (Fetch j o t)) xs ys h
       over-left (Ask j o r) h = each-front (IsNot (Ask j o r)) xs ys h
       over-left (Work o t) h = each-front (IsNot (Work o t)) xs ys h
-      over-left (Store j o t) h = tt
-      over-left (Remove j o) h = tt
-      over-left WriteBody h = tt
-      over-left SyncBody h = tt
-      over-left WriteGate h = tt
-      over-left SyncGate h = tt
-      over-left End h = tt
+      over-left x h = tt
 
   distinct-cut : (a k : ℕ) → AreDistinct (reads a k ++ fetches (a + k))
   distinct-cut a k = distinct-left (reads a k ++ fetches (a + k)) (Work id (a + k) ∷ [])
@@ -285,8 +239,7 @@ module _ (x : With) (j : ℕ) (held : Held) (now : List Given) where
 
   read-step : (a : Action) (actions : List Action) (old mid new : ℕ → Provider) (given so_far : List Given) →
       IsReading a → IsOver a actions → Did x a old mid given so_far → Made x actions mid new so_far now →
-      (old j).held ≡ Some held →
-      ReadStep a (old j) (mid j)
+      (old j).held ≡ Some held → ReadStep a (old j) (mid j)
   read-step (Fetch k o t) actions old mid new given so_far reading over (block, called, is) rest h =
       elim (cases_eq k j) [
         | inl hit ↦ fetch-step k o t block (old j) (mid j) hit
@@ -301,14 +254,7 @@ module _ (x : With) (j : ℕ) (held : Held) (now : List Given) where
       ]
   read-step (Work o t) actions old mid new given so_far reading over (symbols, gives, still, is) rest h =
       still-step (Work o t) (old j) (mid j) tt refl (ap (λ f. f j) still) h
-  read-step (Ask k o r) actions old mid new given so_far reading over did rest h = absurd reading
-  read-step (Store k o t) actions old mid new given so_far reading over did rest h = absurd reading
-  read-step (Remove k o) actions old mid new given so_far reading over did rest h = absurd reading
-  read-step WriteBody actions old mid new given so_far reading over did rest h = absurd reading
-  read-step SyncBody actions old mid new given so_far reading over did rest h = absurd reading
-  read-step WriteGate actions old mid new given so_far reading over did rest h = absurd reading
-  read-step SyncGate actions old mid new given so_far reading over did rest h = absurd reading
-  read-step End actions old mid new given so_far reading over did rest h = absurd reading
+  read-step a actions old mid new given so_far reading over did rest h = absurd reading
 
   -- all of them
   blocks-told : (actions : List Action) (old new : ℕ → Provider) (given : List Given) →
@@ -334,15 +280,7 @@ module _ (x : With) (j : ℕ) (held : Held) (now : List Given) where
   works-told (Work o t ∷ ws) w =
       (let r = works-told ws w.1 in
       ((tt, r.0), (let f = sum_by-cons lack_block (Work o t) ws in let e = r.1 in omega (arith, f, e))))
-  works-told (Fetch k o t ∷ ws) w = absurd w.0
-  works-told (Ask k o r ∷ ws) w = absurd w.0
-  works-told (Store k o t ∷ ws) w = absurd w.0
-  works-told (Remove k o ∷ ws) w = absurd w.0
-  works-told (WriteBody ∷ ws) w = absurd w.0
-  works-told (SyncBody ∷ ws) w = absurd w.0
-  works-told (WriteGate ∷ ws) w = absurd w.0
-  works-told (SyncGate ∷ ws) w = absurd w.0
-  works-told (End ∷ ws) w = absurd w.0
+  works-told ws w = absurd w.0
 
   -- stripe by stripe
   module _ (s : Setup) (id : ℕ) (below : j < s.n) (gave : ℕ → Option (List ℕ))
@@ -425,8 +363,7 @@ module _ (x : With) (id : ℕ) (now : List Given) where
 
   reads-give : (rest : List Action) (n a : ℕ) (old new : ℕ → Provider) (given : List Given) →
       Each (IsFrom (a + n)) rest → Made x (reads x.setup id a n ++ rest) old new given now → (t : ℕ) → a ≤ t →
-      t < a + n →
-      GivesSymbols (object_made x id) t (blocks_given now x.setup.n id t) (symbols_given now id t)
+      t < a + n → GivesSymbols (object_made x id) t (blocks_given now x.setup.n id t) (symbols_given now id t)
   reads-give rest zero a old new given from m t l u = absurd (omega (arith, l, u))
   reads-give rest (suc n) a old new given from m t l u =
       (let list = append_assoc (open_actions x.setup id a) (reads x.setup id (a + 1) n) rest in
@@ -448,14 +385,7 @@ module _ (x : With) (id : ℕ) (now : List Given) where
       one : (y : Action) → IsFrom (a + 1 + n) y → IsFrom (a + 1) y
       one (Fetch k o t) h = omega (arith, h)
       one (Work o t) h = omega (arith, h)
-      one (Ask k o r) h = tt
-      one (Store k o t) h = tt
-      one (Remove k o) h = tt
-      one WriteBody h = tt
-      one SyncBody h = tt
-      one WriteGate h = tt
-      one SyncGate h = tt
-      one End h = tt
+      one y h = tt
 
       lower : (xs : List Action) → Each (IsFrom (a + 1 + n)) xs → Each (IsFrom (a + 1)) xs
       lower [] h = tt
@@ -576,15 +506,7 @@ module _ (start new : State) (name : List ℕ) (how : Answer) (heard : List Entr
           silent : (ys : List Action) → Each IsWork ys → flat_map (entry_for 1 E.job.given) ys ≡ []
           silent [] h = refl
           silent (Work i t ∷ ys) h = silent ys h.1
-          silent (Fetch k i t ∷ ys) h = absurd h.0
-          silent (Ask k i r ∷ ys) h = absurd h.0
-          silent (Store k i t ∷ ys) h = absurd h.0
-          silent (Remove k i ∷ ys) h = absurd h.0
-          silent (WriteBody ∷ ys) h = absurd h.0
-          silent (SyncBody ∷ ys) h = absurd h.0
-          silent (WriteGate ∷ ys) h = absurd h.0
-          silent (SyncGate ∷ ys) h = absurd h.0
-          silent (End ∷ ys) h = absurd h.0
+          silent ys h = absurd h.0
 
       truth : (j : ℕ) → j < (setup_in start).n → IfSome (start.providers j).held (λ held.
           IsTruthful (λ t. block_heard ran file.id t j) (λ t. sized o.profile.size (held file.id t)) (upto m)
@@ -795,14 +717,7 @@ module _ (start new : State) (name : List ℕ) (how : Answer) (heard : List Entr
             Called x a given now i p q → q.held ≡ p.held
         one (Fetch j z t) given now p q u (e, (block, c, is)) = c.held
         one (Work z t) given now p q u c = absurd c
-        one (Ask j z r) given now p q u c = absurd u
-        one (Store j z t) given now p q u c = absurd u
-        one (Remove j z) given now p q u c = absurd u
-        one WriteBody given now p q u c = absurd u
-        one SyncBody given now p q u c = absurd u
-        one WriteGate given now p q u c = absurd u
-        one SyncGate given now p q u c = absurd u
-        one End given now p q u c = absurd u
+        one a given now p q u c = absurd u
 
     leaves-file : GetLeaves ran name how
     unfolding setup_in

@@ -1,9 +1,5 @@
 -- What a job heard, and what it was given.
-use Rattle.std.proofs.Common.{◌≡◌, ℕ, ◌==◌, ◌&&◌, cond, List, [], ◌∷◌, refl, ap, ◌∙◌}
-use Rattle.machine_defs.specs.Jobs.{Given, Fetched, Answered, Worked}
-use Rattle.machine_defs.specs.Given.{block_given, answer_given}
-use Rattle.machine_defs.specs.Heard.{entries_of, given_to}
-use Rattle.machine_defs.proofs.Given.{given_to-more}
+use Rattle.job_laws.proofs.Words.{◌≡◌, ℕ, ◌==◌, ◌&&◌, cond, List, [], ◌∷◌, refl, ap, ◌∙◌, Given, Fetched, Answered, Worked, block_given, answer_given, entries_of, given_to, given_to-more}
 
 -- what a job was given by what it heard gives the same blocks and answers
 pub block-heard : (n : ℕ) (given : List Given) (object stripe j : ℕ) →

@@ -1,17 +1,6 @@
 -- What a job heard is an entry for each of its fetches and asks, in the order in which it made them.
-use Rattle.std.proofs.Common.{◌≡◌, ℕ, zero, suc, ◌+◌, ◌<◌, ◌≤◌, ◌==◌, ◌&&◌, true, List, [], ◌∷◌, ◌++◌, map, Option, refl, ap, sym, ◌∙◌, inl, inr, arith}
-use Rattle.std.specs.List.{flat_map, range_with_len}
-use Rattle.std.proofs.lemmas.Bool.{cases_Bool, eqb-true, eq-eqb, and_parts, and_from}
-use Rattle.std.proofs.lemmas.List.{append_assoc, append-nil}
-use Rattle.algebra_laws.specs.Lists.{Each}
-use Rattle.algebra_laws.proofs.Each.{each_append, each_mono}
-use Rattle.device_defs.specs.Providers.{Provider}
-use Rattle.machine_defs.specs.Jobs.{Given, Fetched, Answered}
-use Rattle.machine_defs.specs.Actions.{Action, WriteBody, SyncBody, WriteGate, SyncGate, Store, Fetch, Ask, Work, Remove, End}
-use Rattle.machine_defs.specs.Given.{block_given, answer_given, symbols_given}
-use Rattle.machine_defs.specs.Heard.{Entry, entries_of}
-use Rattle.machine_defs.proofs.JobLists.{cond_true, cond_false}
-use Rattle.lone_laws.specs.Made.{With, Did, Made}
+use Rattle.job_laws.proofs.Words.{◌≡◌, ℕ, zero, suc, ◌+◌, ◌<◌, ◌≤◌, ◌==◌, ◌&&◌, true, List, [], ◌∷◌, ◌++◌, Option, refl, ap, sym, ◌∙◌, inl, inr, arith, flat_map, range_with_len, cases_Bool, eqb-true, eq-eqb, and_parts, and_from, append_assoc, append-nil, Each, each_append, each_mono, Provider, Given, Fetched, Answered, Action, WriteBody, SyncBody, WriteGate, SyncGate, Store, Fetch, Ask, Work, Remove, End, block_given, answer_given, symbols_given, Entry, entries_of, cond_true, cond_false, With, Did, Made}
+use Rattle.std.proofs.Common.{map}
 
 -- ---- actions of which no two are the same
 
@@ -33,25 +22,13 @@ over-all : (x : Action) (xs : List Action) → Each (IsNot x) xs → IsOver x xs
 over-all (Fetch j o s) xs h = h
 over-all (Ask j o r) xs h = h
 over-all (Work o s) xs h = h
-over-all (Store j o s) xs h = tt
-over-all (Remove j o) xs h = tt
-over-all WriteBody xs h = tt
-over-all SyncBody xs h = tt
-over-all WriteGate xs h = tt
-over-all SyncGate xs h = tt
-over-all End xs h = tt
+over-all x xs h = tt
 
 over-append : (x : Action) (xs ys : List Action) → IsOver x xs → IsOver x ys → IsOver x (xs ++ ys)
 over-append (Fetch j o s) xs ys a b = each_append (IsNot (Fetch j o s)) xs ys a b
 over-append (Ask j o r) xs ys a b = each_append (IsNot (Ask j o r)) xs ys a b
 over-append (Work o s) xs ys a b = each_append (IsNot (Work o s)) xs ys a b
-over-append (Store j o s) xs ys a b = tt
-over-append (Remove j o) xs ys a b = tt
-over-append WriteBody xs ys a b = tt
-over-append SyncBody xs ys a b = tt
-over-append WriteGate xs ys a b = tt
-over-append SyncGate xs ys a b = tt
-over-append End xs ys a b = tt
+over-append x xs ys a b = tt
 
 -- two lists of distinct actions are distinct together, where the first ones do not come again
 pub distinct-append : (xs ys : List Action) → AreDistinct xs → AreDistinct ys → Each (λ x. IsOver x ys) xs →
@@ -127,14 +104,8 @@ answer-later x (a ∷ actions) old new given now j object round (mid, so_far, di
         same p = (let q = and_parts (k == j) (o == object) p.0 in let a = eqb-true k j q.0 in
             let b = eqb-true o object q.1 in let c = eqb-true r round p.1 in cc)
     one (Fetch k o s) (block, called, is) m = ap (λ g. answer_given g object round j) is
-    one (Store k o s) (called, is) m = ap (λ g. answer_given g object round j) is
     one (Work o s) (symbols, gives, still, is) m = ap (λ g. answer_given g object round j) is
-    one (Remove k o) (called, is) m = ap (λ g. answer_given g object round j) is
-    one WriteBody (still, is) m = ap (λ g. answer_given g object round j) is
-    one SyncBody (still, is) m = ap (λ g. answer_given g object round j) is
-    one WriteGate (still, is) m = ap (λ g. answer_given g object round j) is
-    one SyncGate (still, is) m = ap (λ g. answer_given g object round j) is
-    one End (still, is) m = ap (λ g. answer_given g object round j) is
+    one a h m = ap (λ g. answer_given g object round j) h.1
 
 -- a block stays what it was where it is fetched no more
 pub block-later : (x : With) (actions : List Action) (old new : ℕ → Provider) (given now : List Given)
@@ -158,14 +129,8 @@ block-later x (a ∷ actions) old new given now j object stripe (mid, so_far, di
         same p = (let q = and_parts (k == j) (o == object) p.0 in let a = eqb-true k j q.0 in
             let b = eqb-true o object q.1 in let c = eqb-true s stripe p.1 in cc)
     one (Ask k o r) (symbol, called, is) m = ap (λ g. block_given g object stripe j) is
-    one (Store k o s) (called, is) m = ap (λ g. block_given g object stripe j) is
     one (Work o s) (symbols, gives, still, is) m = ap (λ g. block_given g object stripe j) is
-    one (Remove k o) (called, is) m = ap (λ g. block_given g object stripe j) is
-    one WriteBody (still, is) m = ap (λ g. block_given g object stripe j) is
-    one SyncBody (still, is) m = ap (λ g. block_given g object stripe j) is
-    one WriteGate (still, is) m = ap (λ g. block_given g object stripe j) is
-    one SyncGate (still, is) m = ap (λ g. block_given g object stripe j) is
-    one End (still, is) m = ap (λ g. block_given g object stripe j) is
+    one a h m = ap (λ g. block_given g object stripe j) h.1
 
 -- symbols stay what they were where the stripe is worked on no more
 pub symbols-later : (x : With) (actions : List Action) (old new : ℕ → Provider) (given now : List Given)
@@ -187,13 +152,7 @@ symbols-later x (a ∷ actions) old new given now object stripe (mid, so_far, di
         same p = (let b = eqb-true o object p.0 in let c = eqb-true s stripe p.1 in cc)
     one (Fetch k o s) (block, called, is) m = ap (λ g. symbols_given g object stripe) is
     one (Ask k o r) (symbol, called, is) m = ap (λ g. symbols_given g object stripe) is
-    one (Store k o s) (called, is) m = ap (λ g. symbols_given g object stripe) is
-    one (Remove k o) (called, is) m = ap (λ g. symbols_given g object stripe) is
-    one WriteBody (still, is) m = ap (λ g. symbols_given g object stripe) is
-    one SyncBody (still, is) m = ap (λ g. symbols_given g object stripe) is
-    one WriteGate (still, is) m = ap (λ g. symbols_given g object stripe) is
-    one SyncGate (still, is) m = ap (λ g. symbols_given g object stripe) is
-    one End (still, is) m = ap (λ g. symbols_given g object stripe) is
+    one a h m = ap (λ g. symbols_given g object stripe) h.1
 
 -- the three look up what is newest
 pub answer-newest : (j object round : ℕ) (symbol : Option ℕ) (given : List Given) →
@@ -247,10 +206,4 @@ entries-made n x (a ∷ actions) old new given now d (mid, so_far, did, rest) =
         (sym (answer-later x actions mid new so_far now k o r rest m
         ∙ (ap (λ g. answer_given g o r k) is ∙ answer-newest k o r symbol given)))
     one (Work o s) (symbols, gives, still, is) m = ap (entries_of n) is ∙ nothing given refl
-    one (Store k o s) (called, is) m = nothing so_far is
-    one (Remove k o) (called, is) m = nothing so_far is
-    one WriteBody (still, is) m = nothing so_far is
-    one SyncBody (still, is) m = nothing so_far is
-    one WriteGate (still, is) m = nothing so_far is
-    one SyncGate (still, is) m = nothing so_far is
-    one End (still, is) m = nothing so_far is
+    one a h m = nothing so_far h.1

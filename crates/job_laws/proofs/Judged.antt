@@ -1,18 +1,6 @@
 -- The verdict of an audit is that over its questions.
-use Rattle.std.proofs.Common.{◌≡◌, ℕ, List, [], ◌∷◌, ◌++◌, length, map, subst}
-use Rattle.algebra_laws.specs.Lists.{Each}
-use Rattle.column_defs.specs.Verdicts.{Sums, Judges}
-use Rattle.record_defs.specs.Records.{Setup}
-use Rattle.record_defs.specs.Table.{File}
-use Rattle.machine_defs.specs.Jobs.{Job}
-use Rattle.machine_defs.specs.Setups.{profiled, object_of}
-use Rattle.machine_defs.specs.Actions.{rounds_of}
-use Rattle.machine_defs.specs.Audits.{challenge_in, JudgesRounds, JudgesFiles}
-use Rattle.machine_defs.specs.Begins.{pinned_file}
-use Rattle.machine_defs.specs.Given.{answers_given}
-use Rattle.machine_defs.specs.States.{State}
-use Rattle.command_defs.specs.Ran.{Ran}
-use Rattle.command_defs.specs.Audits.{Question, JudgesOne, JudgesAll}
+use Rattle.job_laws.proofs.Words.{◌≡◌, ℕ, List, [], ◌∷◌, ◌++◌, length, subst, Each, Sums, Judges, Setup, File, Job, profiled, object_of, rounds_of, challenge_in, JudgesRounds, JudgesFiles, pinned_file, answers_given, State, Ran, Question, JudgesOne, JudgesAll}
+use Rattle.std.proofs.Common.{map}
 use Rattle.job_laws.proofs.Asked.{questions_in}
 
 judges-append : (x : Ran) (number : ℕ) (qs more : List Question) (old mid new : Sums) →

@@ -1,22 +1,6 @@
 -- A job that runs alone keeps the area, and puts the same records on top of the journal and of the history.
-use Rattle.std.proofs.Common.{◌≡◌, ℕ, ◌+◌, List, [], ◌∷◌, ◌++◌, Option, Some, refl, ap, sym, subst, ◌∙◌}
-use Rattle.std.proofs.lemmas.List.{append_assoc}
-use Rattle.record_defs.specs.Records.{Record}
-use Rattle.machine_defs.specs.Jobs.{Kind, Job}
-use Rattle.machine_defs.specs.Actions.{Action, WriteBody, SyncBody, WriteGate, SyncGate, Store, Fetch, Ask, Work, Remove, End}
+use Rattle.job_laws.proofs.Words.{◌≡◌, ℕ, ◌+◌, List, [], ◌∷◌, ◌++◌, Option, Some, refl, ap, sym, subst, ◌∙◌, append_assoc, Record, Kind, Job, Action, WriteBody, SyncBody, WriteGate, SyncGate, Store, Fetch, Ask, Work, Remove, End, Answer, IsSpelledKind, Outcome, Begun, More, Ended, Waiting, Entry, State, Append, setup_in, BeginsAt, chosen, beginning, Moves, Acts, Moment, now, IsOpenAtRest, AreSteps, GoesOnTo, RunsJob, MayName, WalkedAt, walk-begin, step-acts}
 use Rattle.machine_defs.specs.Answers as answer
-use Rattle.machine_defs.specs.Answers.{Answer}
-use Rattle.machine_defs.specs.Events.{IsSpelledKind, Outcome, Begun, More, Ended, Waiting}
-use Rattle.machine_defs.specs.Heard.{Entry}
-use Rattle.machine_defs.specs.States.{State, Append, setup_in}
-use Rattle.machine_defs.specs.Begins.{BeginsAt, chosen, beginning}
-use Rattle.machine_defs.specs.Appends.{Moves}
-use Rattle.machine_defs.specs.Steps.{Acts}
-use Rattle.machine_defs.specs.Runs.{Moment, now}
-use Rattle.opening_defs.specs.Opened.{IsOpenAtRest}
-use Rattle.command_defs.specs.JobRuns.{AreSteps, GoesOnTo, RunsJob}
-use Rattle.lone_laws.specs.Walked.{MayName, WalkedAt}
-use Rattle.lone_laws.proofs.Walk.{walk-begin, step-acts}
 use Rattle.job_laws.proofs.Runs.{walk-steps}
 
 -- the area stays, and the same records come on top of the journal and of the history
@@ -60,16 +44,15 @@ module _ (old : State) (job : Job) (new : State) where
   moves-keep : (action : Action) (flight : Option Append) (r : Outcome) → Moves old job action flight r new →
       Keeps old new
   moves-keep WriteBody flight More (entry, writes, (faults, low, is)) = none _ is refl refl refl refl
-  moves-keep WriteBody flight (Ended answer.DiskFault) (faults, low, rose, is) =
-      none _ is refl refl refl refl
-  moves-keep WriteBody flight (Ended answer.Memory) (faults, low, is) = none _ is refl refl refl refl
+  moves-keep WriteBody flight (Ended answer.DiskFault) (faults, low, rose, is) = none _ is refl refl refl refl
+  moves-keep WriteBody flight (Ended answer.Memory) is = none _ is refl refl refl refl
   moves-keep SyncBody (Some a) More (at, (faults, low, is)) = none _ is refl refl refl refl
   moves-keep SyncBody (Some a) (Ended answer.DiskFault) (at, (faults, low, rose, is)) =
       none _ is refl refl refl refl
   moves-keep WriteGate (Some a) More (at, (faults, low, is)) = none _ is refl refl refl refl
   moves-keep WriteGate (Some a) (Ended answer.DiskFault) (at, (faults, low, rose, is)) =
       none _ is refl refl refl refl
-  moves-keep WriteGate (Some a) (Ended answer.Memory) (at, (faults, low, is)) = none _ is refl refl refl refl
+  moves-keep WriteGate (Some a) (Ended answer.Memory) (at, is) = none _ is refl refl refl refl
   moves-keep SyncGate (Some a) More (at, (faults, low, is)) = record {
     area = ap (λ (v : State). v.area) is;
     switch = ap (λ (v : State). v.is_switching) is;
@@ -96,8 +79,7 @@ module _ (old : State) (job : Job) (new : State) where
 module _ (start : State) (O : IsOpenAtRest start 1) (kind : Kind) (own : Option ℕ) where
   -- steps that all go on keep the area, and add the same records
   steps-keep : (w : State) (job : Job) (moment : ℕ) (ms : List Moment) →
-      WalkedAt start kind (chosen (setup_in start) own) w job →
-      AreSteps w moment 1 ms → Keeps w (now w ms)
+      WalkedAt start kind (chosen (setup_in start) own) w job → AreSteps w moment 1 ms → Keeps w (now w ms)
   steps-keep w job moment [] W h = same w
   steps-keep w job moment (m ∷ ms) W (event, outcome, happens, rest) =
       (let r = walk-steps start w kind (chosen (setup_in start) own) job moment ms O W rest in

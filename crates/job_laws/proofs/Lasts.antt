@@ -1,23 +1,8 @@
 -- The last step of a job: what it does to the records, to what is in doubt and to the disk's count.
-use Rattle.std.proofs.Common.{◌≡◌, ℕ, ◌<◌, ◌≤◌, ◌==◌, ◌⊎◌, Bool, true, false, cond, [], ◌∷◌, Option, Some, None, refl, ap, sym, subst, ◌∙◌, inl, inr, arith}
+use Rattle.job_laws.proofs.Words.{barred, ended, ◌≡◌, ℕ, ◌<◌, ◌≤◌, ◌==◌, ◌⊎◌, Bool, true, false, cond, [], ◌∷◌, Option, Some, None, refl, ap, sym, subst, ◌∙◌, inl, inr, arith, Rose, Kind, Job, job_of, advanced, Action, WriteBody, SyncBody, WriteGate, SyncGate, actions_left, appends_left, Ended, State, Append, Doubt, setup_in, Writes, Moves, next_action, holder_of, number_of, moves_made, IsGatedDoubt, IsDoubtOf, appends-order, body-left, IsOpenAtRest, WalkedAt, runs}
 use Rattle.algebra_laws.proofs.Options.{some-not-none}
-use Rattle.device_defs.specs.Faults.{Rose}
-use Rattle.machine_defs.specs.Jobs.{Kind, Job, job_of, advanced}
-use Rattle.machine_defs.specs.Actions.{Action, WriteBody, SyncBody, WriteGate, SyncGate, actions_left, appends_left}
 use Rattle.machine_defs.specs.Answers as answer
-use Rattle.machine_defs.specs.Events.{Ended}
-use Rattle.machine_defs.specs.States.{State, Append, Doubt, setup_in}
-use Rattle.machine_defs.specs.Appends.{Writes, Moves}
-use Rattle.machine_defs.specs.Steps.{next_action, holder_of}
-use Rattle.machine_defs.proofs.JobLists.{number_of}
-use Rattle.state_laws.specs.Orders.{moves_made}
-use Rattle.state_laws.specs.Sound.{IsGatedDoubt, IsDoubtOf}
-use Rattle.state_laws.proofs.Orders.{appends-order}
 use Rattle.state_laws.proofs.JobLists.{mine}
-use Rattle.state_laws.proofs.Written.{body-left}
-use Rattle.opening_defs.specs.Opened.{IsOpenAtRest}
-use Rattle.lone_laws.specs.Walked.{WalkedAt}
-use Rattle.lone_laws.proofs.Walk.{runs}
 
 module _ (start : State) (O : IsOpenAtRest start 1) (kind : Kind) {profile : ℕ} (w : State) (job : Job)
     (W : WalkedAt start kind profile w job) where
@@ -76,29 +61,25 @@ module _ (start : State) (O : IsOpenAtRest start 1) (kind : Kind) {profile : ℕ
     pub doubt : InDoubt new.doubt
     pub left : 0 < appends_left (setup_in w) job
 
+  -- what was in doubt before stays so
+  stopped : (faults : ℕ) → w.disk_faults ≤ faults → Rose w.disk_faults faults →
+      0 < appends_left (setup_in w) job → Faults (record (barred (ended w job)) { disk_faults = faults })
+  stopped faults low rose left = record {
+    rose = rose;
+    low = low;
+    records = refl;
+    providers = refl;
+    doubt = doubt-before;
+    left = left;
+  }
+
   -- a move that a fault of the disk ended leaves records and providers, and at most its record in doubt
   pub move-faults : (action : Action) (flight : Option Append) (new : State) → w.append ≡ flight →
       next_action w job ≡ Some action → Moves w job action flight (Ended answer.DiskFault) new → Faults new
-  move-faults WriteBody flight new e next (faults, low, rose, is) =
-      subst Faults (sym is)
-      (record {
-        rose = rose;
-        low = low;
-        records = refl;
-        providers = refl;
-        doubt = doubt-before;
-        left = body-left 8 w W.sound job.number job (runs start O kind w job W) next;
-      })
+  move-faults WriteBody flight new e next (faults, low, rose, is) = subst Faults (sym is)
+      (stopped faults low rose (body-left 8 w W.sound job.number job (runs start O kind w job W) next))
   move-faults SyncBody (Some a) new e next (at, (faults, low, rose, is)) =
-      subst Faults (sym is)
-      (record {
-        rose = rose;
-        low = low;
-        records = refl;
-        providers = refl;
-        doubt = doubt-before;
-        left = mid-left a e;
-      })
+      subst Faults (sym is) (stopped faults low rose (mid-left a e))
   move-faults WriteGate (Some a) new e next (at, (faults, low, rose, is)) =
       subst Faults (sym is)
       (record {
@@ -110,15 +91,7 @@ module _ (start : State) (O : IsOpenAtRest start 1) (kind : Kind) {profile : ℕ
         left = mid-left a e;
       })
   move-faults SyncGate (Some a) new e next (at, (faults, low, rose, is)) =
-      subst Faults (sym is)
-      (record {
-        rose = rose;
-        low = low;
-        records = refl;
-        providers = refl;
-        doubt = doubt-before;
-        left = mid-left a e;
-      })
+      subst Faults (sym is) (stopped faults low rose (mid-left a e))
   move-faults action flight new e next h = absurd h
 
   -- a write that found no memory
@@ -144,18 +117,18 @@ module _ (start : State) (O : IsOpenAtRest start 1) (kind : Kind) {profile : ℕ
   pub move-memory : (action : Action) (flight : Option Append) (new : State) → w.append ≡ flight →
       holder_of flight action ≡ None → next_action w job ≡ Some action →
       Moves w job action flight (Ended answer.Memory) new → NoRoom new
-  move-memory WriteBody None new e free next (faults, low, is) =
+  move-memory WriteBody None new e free next is =
       subst NoRoom (sym is)
       (record {
-        low = low;
+        low = omega arith;
         records = refl;
         providers = refl;
         doubt = none-doubted None e (λ a h. absurd (let f : None ≡ Some a = h in cc));
         left = body-left 8 w W.sound job.number job (runs start O kind w job W) next;
       })
   move-memory WriteBody (Some a) new e free next h = absurd (some-not-none (Some a.job) a.job refl free)
-  move-memory WriteGate (Some a) new e free next (at, (faults, low, is)) = subst NoRoom (sym is) (record {
-    low = low;
+  move-memory WriteGate (Some a) new e free next (at, is) = subst NoRoom (sym is) (record {
+    low = omega arith;
     records = refl;
     providers = refl;
     doubt = none-doubted (Some a) e

@@ -1,29 +1,6 @@
 -- What every job leaves: no count of faults falls, and providers beyond the setup's stay as they are.
-use Rattle.std.proofs.Common.{◌≡◌, ℕ, zero, suc, ◌+◌, ◌<◌, ◌≤◌, Bool, true, false, cond, List, [], ◌∷◌, ◌++◌, length, take, Option, Some, refl, ap, sym, subst, ◌∙◌, inl, inr, arith}
-use Rattle.std.specs.Prelude.{slice_get}
-use Rattle.std.specs.List.{flat_map, range_with_len}
-use Rattle.algebra_laws.specs.Lists.{Each}
-use Rattle.algebra_laws.proofs.Each.{each_get, each_append, each_flat, each_take}
-use Rattle.code_defs.specs.Points.{upto}
-use Rattle.device_defs.specs.Providers.{Provider}
-use Rattle.device_defs.specs.ProviderCalls.{StoreCounts}
-use Rattle.record_defs.specs.Records.{Setup}
-use Rattle.machine_defs.specs.Jobs.{Kind, PutJob, GetJob, DropJob, AuditJob, RepairJob, UpgradeJob, Pinned, Job}
-use Rattle.machine_defs.specs.Setups.{profiled, stripes_of}
-use Rattle.machine_defs.specs.Actions.{Action, WriteBody, SyncBody, WriteGate, SyncGate, Store, Fetch, Ask, Work, Remove, End, append_actions, on_each_provider, on_each_stripe, open_actions, store_actions, read_actions, rewrite_actions, repair_actions, rounds_of, ask_actions, remove_actions, actions_by, actions_of}
+use Rattle.job_laws.proofs.Words.{◌≡◌, ℕ, zero, suc, ◌+◌, ◌<◌, ◌≤◌, Bool, true, false, cond, List, [], ◌∷◌, ◌++◌, length, take, Option, Some, refl, ap, sym, subst, ◌∙◌, inl, inr, arith, slice_get, flat_map, range_with_len, Each, each_get, each_append, each_flat, each_take, upto, Provider, StoreCounts, Setup, Kind, PutJob, GetJob, DropJob, AuditJob, RepairJob, UpgradeJob, Pinned, Job, profiled, stripes_of, Action, WriteBody, SyncBody, WriteGate, SyncGate, Store, Fetch, Ask, Work, Remove, End, append_actions, on_each_provider, on_each_stripe, open_actions, store_actions, read_actions, rewrite_actions, repair_actions, rounds_of, ask_actions, remove_actions, actions_by, actions_of, Answer, Ended, State, Append, setup_in, Entry, chosen, Moves, Acts, next_stands, ran_from, CountsRise, With, CallsOne, Made, IsOpenAtRest, with_job_at}
 use Rattle.machine_defs.specs.Answers as answer
-use Rattle.machine_defs.specs.Answers.{Answer}
-use Rattle.machine_defs.specs.Events.{Ended}
-use Rattle.machine_defs.specs.States.{State, Append, setup_in}
-use Rattle.machine_defs.specs.Heard.{Entry}
-use Rattle.machine_defs.specs.Begins.{chosen}
-use Rattle.machine_defs.specs.Appends.{Moves}
-use Rattle.machine_defs.specs.Steps.{Acts}
-use Rattle.machine_defs.proofs.NextActions.{next_stands}
-use Rattle.command_defs.specs.Ran.{ran_from, CountsRise}
-use Rattle.lone_laws.specs.Made.{With, CallsOne, Made}
-use Rattle.opening_defs.specs.Opened.{IsOpenAtRest}
-use Rattle.lone_laws.specs.Walked.{with_job_at}
 use Rattle.job_laws.proofs.Runs.{Ends}
 use Rattle.job_laws.proofs.Providers.{calls-at, Rises, rises-same, rises-more, IsBelow, called-below, each-upto, made-keeps}
 use Rattle.job_laws.proofs.Truth.{made-rises}
@@ -55,37 +32,19 @@ below-rewrites s job object stripe = range 0 s.n (omega arith)
         one true = (omega (arith, l), tt)
         one false = tt
 
+below-append : (n : ℕ) → Each (IsBelow n) append_actions
+below-append n = (tt, (tt, (tt, (tt, tt))))
+
 below-by : (s : Setup) (job : Job) (kind : Kind) → Each (IsBelow s.n) (actions_by s job kind)
-below-by s job (PutJob name bytes) = (
-  tt,
-  (
-    tt,
-    (
-      tt,
-      (
-        tt,
-        each_append (IsBelow s.n) (store_actions s job bytes) _
-            (each_flat (IsBelow s.n) (λ stripe. on_each_provider s (λ j. Store j job.subject stripe))
-            (upto (stripes_of (profiled s job.profile) (length bytes)))
-            (λ stripe. each-upto (IsBelow s.n) (λ j. Store j job.subject stripe) 0 s.n
-            (λ k l. omega (arith, l)))) (
-              tt,
-              (
-                tt,
-                (
-                  tt,
-                  (
-                    tt,
-                    each_append (IsBelow s.n) (remove_actions s job) (End ∷ [])
-                        (below-removals s job) (tt, tt),
-                  ),
-                ),
-              ),
-            ),
-      ),
-    ),
-  ),
-)
+below-by s job (PutJob name bytes) = each_append (IsBelow s.n) append_actions
+    (store_actions s job bytes ++ (append_actions ++ (remove_actions s job ++ End ∷ []))) (below-append s.n)
+    (each_append (IsBelow s.n) (store_actions s job bytes)
+    (append_actions ++ (remove_actions s job ++ End ∷ []))
+    (each_flat (IsBelow s.n) (λ stripe. on_each_provider s (λ j. Store j job.subject stripe))
+    (upto (stripes_of (profiled s job.profile) (length bytes)))
+    (λ stripe. each-upto (IsBelow s.n) (λ j. Store j job.subject stripe) 0 s.n (λ k l. omega (arith, l))))
+    (each_append (IsBelow s.n) append_actions (remove_actions s job ++ End ∷ []) (below-append s.n)
+    (each_append (IsBelow s.n) (remove_actions s job) (End ∷ []) (below-removals s job) (tt, tt))))
 below-by s job (GetJob name) = each_append (IsBelow s.n) (read_actions s job.pinned) (End ∷ [])
     (each_flat (IsBelow s.n)
     (λ (f : Pinned). on_each_stripe (profiled s f.profile) (length f.bytes) (open_actions s f.id))
@@ -93,40 +52,18 @@ below-by s job (GetJob name) = each_append (IsBelow s.n) (read_actions s job.pin
     (λ f. each_flat (IsBelow s.n) (open_actions s f.id)
     (upto (stripes_of (profiled s f.profile) (length f.bytes))) (λ stripe. below-open s f.id stripe)))
     (tt, tt)
-below-by s job (DropJob name) = (
-  tt,
-  (
-    tt,
-    (
-      tt,
-      (
-        tt,
-        each_append (IsBelow s.n) (remove_actions s job) (End ∷ []) (below-removals s job)
-            (tt, tt),
-      ),
-    ),
-  ),
-)
-below-by s job AuditJob = (
-  tt,
-  (
-    tt,
-    (
-      tt,
-      (
-        tt,
-        each_append (IsBelow s.n) (ask_actions s job) (append_actions ++ End ∷ [])
-            (each_flat (IsBelow s.n)
-            (λ (f : Pinned). flat_map (λ round. on_each_provider s (λ j. Ask j f.id round))
-            (rounds_of (profiled s f.profile) (length f.bytes))) job.pinned
-            (λ f. each_flat (IsBelow s.n) (λ round. on_each_provider s (λ j. Ask j f.id round))
-            (rounds_of (profiled s f.profile) (length f.bytes))
-            (λ round. each-upto (IsBelow s.n) (λ j. Ask j f.id round) 0 s.n (λ k l. omega (arith, l)))))
-            (tt, (tt, (tt, (tt, (tt, tt))))),
-      ),
-    ),
-  ),
-)
+below-by s job (DropJob name) =
+    each_append (IsBelow s.n) append_actions (remove_actions s job ++ End ∷ []) (below-append s.n)
+    (each_append (IsBelow s.n) (remove_actions s job) (End ∷ []) (below-removals s job) (tt, tt))
+below-by s job AuditJob = each_append (IsBelow s.n) append_actions
+    (ask_actions s job ++ (append_actions ++ End ∷ [])) (below-append s.n)
+    (each_append (IsBelow s.n) (ask_actions s job) (append_actions ++ End ∷ [])
+    (each_flat (IsBelow s.n) (λ (f : Pinned). flat_map (λ round. on_each_provider s (λ j. Ask j f.id round))
+    (rounds_of (profiled s f.profile) (length f.bytes))) job.pinned
+    (λ f. each_flat (IsBelow s.n) (λ round. on_each_provider s (λ j. Ask j f.id round))
+    (rounds_of (profiled s f.profile) (length f.bytes))
+    (λ round. each-upto (IsBelow s.n) (λ j. Ask j f.id round) 0 s.n (λ k l. omega (arith, l)))))
+    (tt, (tt, (tt, (tt, (tt, tt))))))
 below-by s job RepairJob = each_append (IsBelow s.n) (repair_actions s job) (append_actions ++ End ∷ [])
     (each_flat (IsBelow s.n)
     (λ (f : Pinned). on_each_stripe (profiled s f.profile) (length f.bytes)
@@ -161,9 +98,9 @@ module _ (w : State) (job : Job) (new : State) where
     ap (λ (v : State). v.providers) is,
     (let e = ap (λ (v : State). v.disk_faults) is in omega (arith, low, e)),
   )
-  moves-last WriteBody flight answer.Memory (faults, low, is) = (
+  moves-last WriteBody flight answer.Memory is = (
     ap (λ (v : State). v.providers) is,
-    (let e = ap (λ (v : State). v.disk_faults) is in omega (arith, low, e)),
+    (let e = ap (λ (v : State). v.disk_faults) is in omega (arith, e)),
   )
   moves-last SyncBody (Some a) answer.DiskFault (at, (faults, low, rose, is)) = (
     ap (λ (v : State). v.providers) is,
@@ -173,9 +110,9 @@ module _ (w : State) (job : Job) (new : State) where
     ap (λ (v : State). v.providers) is,
     (let e = ap (λ (v : State). v.disk_faults) is in omega (arith, low, e)),
   )
-  moves-last WriteGate (Some a) answer.Memory (at, (faults, low, is)) = (
+  moves-last WriteGate (Some a) answer.Memory (at, is) = (
     ap (λ (v : State). v.providers) is,
-    (let e = ap (λ (v : State). v.disk_faults) is in omega (arith, low, e)),
+    (let e = ap (λ (v : State). v.disk_faults) is in omega (arith, e)),
   )
   moves-last SyncGate (Some a) answer.DiskFault (at, (faults, low, rose, is)) = (
     ap (λ (v : State). v.providers) is,
@@ -264,8 +201,7 @@ module _ (start new : State) (kind : Kind) (own : Option ℕ) (how : Answer) (he
         | inl e ↦ e
         | inr c ↦ absurd (let b : k < (setup_in start).n =
             each_get (IsBelow (setup_in start).n) (actions_of (setup_in start) E.job) E.job.place
-            (Store k o s)
-            (below (setup_in start) E.job)
+            (Store k o s) (below (setup_in start) E.job)
             (subst (λ (t : Setup). slice_get (actions_of t E.job) E.job.place ≡ Some (Store k o s))
             E.walked.setup
             (next_stands E.before E.job (Store k o s) (E.next ∙ ap Some at) (λ e. cc))) in

@@ -1,3 +1,4 @@
+mod Words
 pub mod Tails
 pub mod Runs
 pub mod Given

@@ -1,34 +1,7 @@
 -- Few providers that are wrong or fail lose a repair no row.
-use Rattle.std.proofs.Common.{◌≡◌, ℕ, zero, suc, ◌+◌, ◌<◌, ◌≤◌, ◌&&◌, ◌⊎◌, Bool, true, false, cond, List, [], ◌∷◌, ◌++◌, length, map, get_or, Option, None, Some, refl, ap, sym, subst, ◌∙◌, inl, inr, arith}
-use Rattle.std.specs.Prelude.{IfSome, is_some, is_none}
-use Rattle.std.specs.List.{flat_map, range_with_len}
-use Rattle.std.proofs.lemmas.Bool.{cases_Bool, false≢true, or_parts}
-use Rattle.algebra_laws.specs.Lists.{Each}
-use Rattle.algebra_laws.proofs.Each.{each_append, each_middle}
-use Rattle.hail_field.specs.Shape.{IsShape}
-use Rattle.code_defs.specs.Points.{upto}
-use Rattle.column_defs.specs.Objects.{Object, stripes, symbols_in}
-use Rattle.column_defs.specs.Columns.{is_wrong_block, is_wrong, row_polynomial}
-use Rattle.column_defs.specs.Opened.{LosesRow, block_at}
-use Rattle.column_defs.specs.Forgeries.{count_of}
-use Rattle.column_laws.proofs.Counts.{count_of-within}
-use Rattle.column_laws.proofs.RightRows.{row-right}
-use Rattle.column_laws.proofs.UniqueLaws.{profile-room}
-use Rattle.device_defs.specs.Faults.{Rose}
-use Rattle.device_defs.specs.Providers.{Held}
-use Rattle.record_defs.specs.Records.{Setup}
-use Rattle.record_defs.specs.Table.{File, file_of, files_of}
-use Rattle.record_defs.specs.Acceptance.{AreAccepted}
-use Rattle.machine_defs.specs.Setups.{profiled, stripes_of}
+use Rattle.job_laws.proofs.Words.{◌≡◌, ℕ, zero, suc, ◌+◌, ◌<◌, ◌≤◌, ◌&&◌, ◌⊎◌, Bool, true, false, cond, List, [], ◌∷◌, ◌++◌, length, get_or, Option, None, Some, refl, ap, sym, subst, ◌∙◌, inl, inr, arith, IfSome, is_some, is_none, flat_map, range_with_len, cases_Bool, false≢true, or_parts, Each, each_append, each_middle, IsShape, upto, Object, stripes, symbols_in, is_wrong_block, is_wrong, row_polynomial, LosesRow, block_at, count_of, count_of-within, row-right, profile-room, Rose, Held, Setup, File, file_of, files_of, AreAccepted, profiled, stripes_of, Answer, cond_true, listed_file, files_by_number, Ran, setup_at_begin, object_at_begin, object_numbered, profile_among, Place, blocks_at, held_at, flags, LosesAtPlace, RepairLeaves, missing, IsTruthful, has_risen, is_bad_with, is_bad_for, bad_count}
+use Rattle.std.proofs.Common.{map}
 use Rattle.machine_defs.specs.Answers as answer
-use Rattle.machine_defs.specs.Answers.{Answer}
-use Rattle.machine_defs.proofs.JobLists.{cond_true}
-use Rattle.machine_defs.proofs.RecordFacts.{listed_file}
-use Rattle.command_defs.specs.Audits.{files_by_number}
-use Rattle.command_defs.specs.Ran.{Ran, setup_at_begin, object_at_begin, object_numbered, profile_among}
-use Rattle.command_defs.specs.Repairs.{Place, blocks_at, held_at, flags, LosesAtPlace, RepairLeaves}
-use Rattle.command_defs.specs.Truthful.{missing, IsTruthful}
-use Rattle.job_laws.specs.Failing.{has_risen, is_bad_with, is_bad_for, bad_count}
 use Rattle.job_laws.proofs.Asked.{each-by_number}
 use Rattle.job_laws.proofs.Questions.{each-in}
 use Rattle.job_laws.proofs.Profiles.{numbered-file}

@@ -1,16 +1,7 @@
 -- A put or an audit at a move of one of its two appends: at its first one it has done nothing else, and at
 -- its second one all that stands
 -- between them.
-use Rattle.std.proofs.Common.{◌≡◌, ℕ, zero, suc, ◌+◌, ◌-◌, ◌<◌, ◌≤◌, List, [], ◌∷◌, ◌++◌, length, take, Some, ap, sym, subst, ◌∙◌, inl, inr, arith}
-use Rattle.std.specs.Prelude.{slice_get}
-use Rattle.algebra_laws.specs.Lists.{Each}
-use Rattle.algebra_laws.proofs.Each.{each_get}
-use Rattle.device_defs.specs.Providers.{Provider}
-use Rattle.machine_defs.specs.Jobs.{Given}
-use Rattle.machine_defs.specs.Actions.{Action, WriteBody, SyncBody, WriteGate, SyncGate, Store, Fetch, Ask, Work, Remove, End, append_actions}
-use Rattle.machine_defs.proofs.ActionLists.{split_get}
-use Rattle.lone_laws.specs.Made.{With, Did, Made}
-use Rattle.lone_laws.proofs.Lists.{take-append-add, made-split}
+use Rattle.job_laws.proofs.Words.{◌≡◌, ℕ, zero, suc, ◌+◌, ◌-◌, ◌<◌, ◌≤◌, List, [], ◌∷◌, ◌++◌, length, take, Some, ap, sym, subst, ◌∙◌, inl, inr, arith, slice_get, Each, each_get, Provider, Given, Action, WriteBody, SyncBody, WriteGate, SyncGate, Store, Fetch, Ask, Work, Remove, End, append_actions, split_get, With, Did, Made, take-append-add, made-split}
 
 -- a move of an append
 abbrev pub IsMove : Action → Type 0
@@ -31,12 +22,7 @@ did-move x WriteBody old new given now m d = d
 did-move x SyncBody old new given now m d = d
 did-move x WriteGate old new given now m d = d
 did-move x SyncGate old new given now m d = d
-did-move x (Store j o t) old new given now m d = absurd m
-did-move x (Fetch j o t) old new given now m d = absurd m
-did-move x (Ask j o t) old new given now m d = absurd m
-did-move x (Work o t) old new given now m d = absurd m
-did-move x (Remove j o) old new given now m d = absurd m
-did-move x End old new given now m d = absurd m
+did-move x action old new given now m d = absurd m
 
 made-moves : (x : With) (actions : List Action) (old new : ℕ → Provider) (given now : List Given) →
     Each IsMove actions → Made x actions old new given now → (new ≡ old) × (now ≡ given)

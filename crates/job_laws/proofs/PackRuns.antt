@@ -4,24 +4,8 @@
 --                           == the state, but that the disk holds this journal in this area; a job number is
 --                              used, and nothing runs
 --   PackEnds w answer new   == a pack that began in the state ended with this answer and left the new one
-use Rattle.std.proofs.Common.{◌≡◌, ℕ, zero, suc, ◌+◌, ◌≤◌, Bool, true, false, List, [], ◌∷◌, length, None, Some, refl, ap, sym, subst, ◌∙◌, arith}
-use Rattle.std.proofs.lemmas.Bool.{eq-eqb}
-use Rattle.device_defs.specs.Faults.{Rose}
-use Rattle.device_defs.proofs.Lasting.{rose-before}
-use Rattle.record_defs.specs.Records.{Record}
-use Rattle.record_defs.specs.Areas.{Area, other_area, text_length}
-use Rattle.record_defs.specs.Packed.{packed}
-use Rattle.machine_defs.specs.Alone.{Packs}
+use Rattle.job_laws.proofs.Words.{◌≡◌, ℕ, zero, suc, ◌+◌, ◌≤◌, Bool, true, false, List, [], ◌∷◌, length, None, Some, refl, ap, sym, subst, ◌∙◌, arith, eq-eqb, Rose, rose-before, Record, Area, other_area, text_length, packed, Packs, Answer, Step, More, Ended, Outcome, Happens, Moment, now, State, Pack, Packing, StepsMine, StepsOpen, Steps, IsOpenAtRest, AreSteps, GoesOnTo, RunsPack}
 use Rattle.machine_defs.specs.Answers as answer
-use Rattle.machine_defs.specs.Answers.{Answer}
-use Rattle.machine_defs.specs.Events.{Step, More, Ended, Outcome}
-use Rattle.machine_defs.specs.Machine.{Happens}
-use Rattle.machine_defs.specs.Runs.{Moment, now}
-use Rattle.machine_defs.specs.States.{State, Pack, Packing}
-use Rattle.machine_defs.specs.Steps.{StepsMine, StepsOpen, Steps}
-use Rattle.opening_defs.specs.Opened.{IsOpenAtRest}
-use Rattle.command_defs.specs.JobRuns.{AreSteps, GoesOnTo}
-use Rattle.command_defs.specs.Packs.{RunsPack}
 
 -- the state, but that the disk holds this journal in this area
 abbrev pub packed_over : State → List Record → Area → Bool → Bool → ℕ → State
@@ -46,8 +30,7 @@ PackEnds w answer.DiskFault new =
     Rose w.disk_faults new.disk_faults × (w.disk_faults ≤ new.disk_faults)
     × (switching : Bool) × (new ≡ packed_over w w.journal w.area switching true new.disk_faults)
 PackEnds w answer.Memory new =
-    (w.disk_faults ≤ new.disk_faults)
-    × (new ≡ packed_over w w.journal w.area false false new.disk_faults)
+    (w.disk_faults ≤ new.disk_faults) × (new ≡ packed_over w w.journal w.area false false new.disk_faults)
 PackEnds w how new = ⊥
 
 module _ (w : State) {first : ℕ} (O : IsOpenAtRest w first) where
@@ -57,26 +40,18 @@ module _ (w : State) {first : ℕ} (O : IsOpenAtRest w first) where
 
   -- the journal that the disk holds after so many moves, and its area
   abbrev journal_at : ℕ → List Record
-  journal_at zero = w.journal
-  journal_at (suc zero) = w.journal
-  journal_at (suc (suc zero)) = w.journal
-  journal_at (suc (suc (suc zero))) = w.journal
   journal_at (suc (suc (suc (suc more)))) = packed w.journal
+  journal_at h = w.journal
 
   abbrev area_at : ℕ → Area
-  area_at zero = w.area
-  area_at (suc zero) = w.area
-  area_at (suc (suc zero)) = w.area
-  area_at (suc (suc (suc zero))) = w.area
   area_at (suc (suc (suc (suc more)))) = other_area w.area
+  area_at h = w.area
 
   -- the switch is under way between the third move and the fourth
   abbrev switching_at : ℕ → Bool
-  switching_at zero = w.is_switching
-  switching_at (suc zero) = w.is_switching
-  switching_at (suc (suc zero)) = w.is_switching
   switching_at (suc (suc (suc zero))) = true
   switching_at (suc (suc (suc (suc more)))) = false
+  switching_at h = w.is_switching
 
   -- the state in which so many moves are made
   abbrev at : ℕ → ℕ → State
@@ -139,11 +114,11 @@ module _ (w : State) {first : ℕ} (O : IsOpenAtRest w first) where
       ))
 
   -- or there was no memory
-  unmade : (old f : ℕ) (new : State) → w.disk_faults ≤ old → old ≤ f →
+  unmade : (f : ℕ) (new : State) → w.disk_faults ≤ f →
       new ≡ packed_over w w.journal w.area w.is_switching w.is_barred f → PackEnds w answer.Memory new
-  unmade old f new low l is =
+  unmade f new low is =
       (let e = ap (λ (v : State). v.disk_faults) is in (
-        omega (arith, low, l, e),
+        omega (arith, low, e),
         past w.journal w.area w.is_switching false w.is_barred false f new is O.rest.unswitched O.rest.idle.2,
       ))
 
@@ -152,18 +127,14 @@ module _ (w : State) {first : ℕ} (O : IsOpenAtRest w first) where
       Packs (at moves faults) (pack_at moves) moves (Ended how) new → PackEnds w how new
   ends zero faults answer.DiskFault new low (f, l, rose, is) =
       failed faults f w.is_switching new low l rose is
-  ends zero faults answer.Memory new low (f, l, is) = unmade faults f new low l is
-  ends zero faults how new low h = absurd h
+  ends zero faults answer.Memory new low is = unmade faults new low is
   ends (suc zero) faults answer.DiskFault new low (f, l, rose, is) =
       failed faults f w.is_switching new low l rose is
-  ends (suc zero) faults how new low h = absurd h
   ends (suc (suc zero)) faults answer.DiskFault new low (f, l, rose, is) =
       failed faults f true new low l rose is
-  ends (suc (suc zero)) faults answer.Memory new low (f, l, is) = unmade faults f new low l is
-  ends (suc (suc zero)) faults how new low h = absurd h
+  ends (suc (suc zero)) faults answer.Memory new low is = unmade faults new low is
   ends (suc (suc (suc zero))) faults answer.DiskFault new low (f, l, rose, is) =
       failed faults f true new low l rose is
-  ends (suc (suc (suc zero))) faults how new low h = absurd h
   ends (suc (suc (suc (suc zero)))) faults (answer.Packed before after) new low (b, a, is) = (
     b,
     a,
@@ -171,8 +142,7 @@ module _ (w : State) {first : ℕ} (O : IsOpenAtRest w first) where
     past (packed w.journal) (other_area w.area) false false w.is_barred false faults new is refl
         O.rest.idle.2,
   )
-  ends (suc (suc (suc (suc zero)))) faults how new low h = absurd h
-  ends (suc (suc (suc (suc (suc more))))) faults how new low h = absurd h
+  ends moves faults how new low h = absurd h
 
   -- steps that all go on
   steps : (v : State) (moment : ℕ) (ms : List Moment) → Stage v → AreSteps v moment w.next_job ms →

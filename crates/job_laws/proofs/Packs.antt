@@ -1,22 +1,7 @@
 -- From the run of a pack, as its command tells it, to what it leaves.
-use Rattle.std.proofs.Common.{◌≡◌, ◌≢◌, ℕ, zero, suc, ◌⊎◌, Bool, false, true, List, [], ◌∷◌, length, Option, None, Some, refl, ap, sym, subst, ◌∙◌, inl, inr, arith}
-use Rattle.std.proofs.lemmas.Bool.{false≢true}
-use Rattle.device_defs.specs.Faults.{Rose}
-use Rattle.device_defs.specs.Providers.{Provider}
-use Rattle.device_defs.proofs.Lasting.{rose-before, each_image-mono}
-use Rattle.record_defs.specs.Records.{Record}
-use Rattle.record_defs.specs.Table.{File, Due, files_of, due_of}
-use Rattle.record_defs.specs.Areas.{Area, other_area, StandsActive}
-use Rattle.record_defs.specs.Packed.{as_record, with_files, with_due, packed}
+use Rattle.job_laws.proofs.Words.{◌≡◌, ◌≢◌, ℕ, zero, suc, ◌⊎◌, Bool, false, true, List, [], ◌∷◌, length, Option, None, Some, refl, ap, sym, subst, ◌∙◌, inl, inr, arith, false≢true, Rose, Provider, rose-before, each_image-mono, Record, File, Due, files_of, due_of, Area, other_area, StandsActive, as_record, with_files, with_due, packed, Answer, State, StandsPlain, StandsWithDoubt, StandsSwitched, StandsForState, Seen, provider_at, setup_in_effect, RanPack, PacksAlone, PackLeaves, PackedAlone, IsJustOpened}
 use Rattle.machine_defs.specs.Answers as answer
-use Rattle.machine_defs.specs.Answers.{Answer}
-use Rattle.machine_defs.specs.States.{State}
-use Rattle.machine_defs.specs.Stands.{StandsPlain, StandsWithDoubt, StandsSwitched, StandsForState}
-use Rattle.command_defs.specs.Seen.{Seen, provider_at}
 use Rattle.command_defs.specs.Opens as opens
-use Rattle.command_defs.specs.Opens.{setup_in_effect}
-use Rattle.command_defs.specs.Packs.{RanPack, PacksAlone, PackLeaves, PackedAlone}
-use Rattle.opening_defs.specs.Opened.{IsJustOpened}
 use Rattle.job_laws.proofs.PackRuns.{packed_over, PackEnds, pack-ends}
 use Rattle.job_laws.proofs.Telling.{opened_state, state-over, providers-seen}
 
@@ -38,10 +23,9 @@ packed-some rs = due-some (due_of rs) _ (files-some (files_of rs) _ (λ e. cc))
 same-providers : (ps qs : List Provider) → length ps ≡ length qs →
     ((j : ℕ) → provider_at ps j ≡ provider_at qs j) → ps ≡ qs
 same-providers [] [] e f = refl
-same-providers [] (q ∷ qs) e f = absurd (omega (arith, e))
-same-providers (p ∷ ps) [] e f = absurd (omega (arith, e))
 same-providers (p ∷ ps) (q ∷ qs) e f =
     (let rest = same-providers ps qs (omega (arith, e)) (λ j. f (suc j)) in λ i. f zero i ∷ rest i)
+same-providers ps qs e f = absurd (omega (arith, e))
 
 -- ---- the disk
 

@@ -1,38 +1,7 @@
 -- What a put leaves that stops before its last append.
-use Rattle.std.proofs.Common.{◌≡◌, ℕ, zero, suc, ◌+◌, ◌*◌, ◌<◌, ◌≤◌, ◌⊎◌, List, [], ◌∷◌, ◌++◌, length, take, drop, Option, None, refl, ap, sym, subst, ◌∙◌, inl, inr, length-append, arith}
-use Rattle.std.specs.Prelude.{IsSomeAnd}
-use Rattle.std.specs.Option.{option_map}
-use Rattle.std.specs.List.{flat_map, range_with_len}
+use Rattle.job_laws.proofs.Words.{◌≡◌, ℕ, zero, suc, ◌+◌, ◌*◌, ◌<◌, ◌≤◌, ◌⊎◌, List, [], ◌∷◌, ◌++◌, length, take, drop, Option, None, refl, ap, sym, subst, ◌∙◌, inl, inr, length-append, arith, IsSomeAnd, option_map, flat_map, range_with_len, each_take, each_image-mono, Goes, Provider, Setup, Record, PutStart, next_id, StandsActive, PutJob, Job, profiled, object_of, stripes_of, Action, WriteBody, SyncBody, WriteGate, SyncGate, Store, End, append_actions, on_each_provider, store_actions, remove_actions, actions_of, appends_left, IsSpelledKind, State, Doubt, setup_in, StandsPlain, StandsWithDoubt, StandsSwitched, chosen, beginning, now, Seen, provider_at, setup_in_effect, StoredOn, outside, AreSteps, after_begin, PartRan, PartRuns, PartLeft, IsOpenAtRest, IsJustOpened, moves_made, IsInOrder, put-list, put-later, appends_in, appends-move, moves-first, Made, MayName, RecordsAre, WalkedAt, with_job_at, take-append-add, made-split, walk-begin, runs}
 use Rattle.std.proofs.lemmas.List.FromFn.{length-map-range_with_len}
-use Rattle.algebra_laws.proofs.Each.{each_take}
-use Rattle.device_defs.proofs.Lasting.{each_image-mono}
-use Rattle.device_defs.specs.Told.{Goes}
-use Rattle.device_defs.specs.Providers.{Provider}
-use Rattle.record_defs.specs.Records.{Setup, Record, PutStart}
-use Rattle.record_defs.specs.Table.{next_id}
-use Rattle.record_defs.specs.Areas.{StandsActive}
-use Rattle.machine_defs.specs.Jobs.{PutJob, Job}
-use Rattle.machine_defs.specs.Setups.{profiled, object_of, stripes_of}
-use Rattle.machine_defs.specs.Actions.{Action, WriteBody, SyncBody, WriteGate, SyncGate, Store, End, append_actions, on_each_provider, store_actions, remove_actions, actions_of, appends_left}
-use Rattle.machine_defs.specs.Events.{IsSpelledKind}
-use Rattle.machine_defs.specs.States.{State, Doubt, setup_in}
-use Rattle.machine_defs.specs.Stands.{StandsPlain, StandsWithDoubt, StandsSwitched}
-use Rattle.machine_defs.specs.Begins.{chosen, beginning}
-use Rattle.machine_defs.specs.Runs.{now}
-use Rattle.command_defs.specs.Seen.{Seen, provider_at}
 use Rattle.command_defs.specs.Opens as opens
-use Rattle.command_defs.specs.Opens.{setup_in_effect}
-use Rattle.command_defs.specs.Blocks.{StoredOn}
-use Rattle.command_defs.specs.Jobs.{outside}
-use Rattle.command_defs.specs.JobRuns.{AreSteps}
-use Rattle.command_defs.specs.GivenUp.{after_begin, PartRan, PartRuns, PartLeft}
-use Rattle.opening_defs.specs.Opened.{IsOpenAtRest, IsJustOpened}
-use Rattle.state_laws.specs.Orders.{moves_made, IsInOrder}
-use Rattle.state_laws.proofs.Orders.{put-list, put-later, appends_in, appends-move, moves-first}
-use Rattle.lone_laws.specs.Made.{Made}
-use Rattle.lone_laws.specs.Walked.{MayName, RecordsAre, WalkedAt, with_job_at}
-use Rattle.lone_laws.proofs.Lists.{take-append-add, made-split}
-use Rattle.lone_laws.proofs.Walk.{walk-begin, runs}
 use Rattle.job_laws.proofs.Runs.{WalkedOn, walk-on}
 use Rattle.job_laws.proofs.Providers.{IsBelow, called-below, made-keeps}
 use Rattle.job_laws.proofs.Truth.{made-rises}

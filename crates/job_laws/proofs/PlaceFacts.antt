@@ -1,25 +1,6 @@
 -- What the places of a repair gave and were given.
-use Rattle.std.proofs.Common.{◌≡◌, ℕ, zero, suc, ◌+◌, ◌-◌, ◌<◌, ◌≤◌, ◌==◌, ◌⊎◌, Bool, true, false, cond, List, [], ◌∷◌, ◌++◌, length, take, None, Some, refl, ap, sym, subst, ◌∙◌, inl, inr, arith, sum_by}
-use Rattle.std.specs.Prelude.{slice_get}
-use Rattle.std.specs.List.{flat_map, range_with_len}
-use Rattle.std.proofs.lemmas.Bool.{cases_eq, eq-eqb, ne_eqb}
-use Rattle.std.proofs.lemmas.List.{append_assoc, append-nil}
-use Rattle.std.proofs.lemmas.List.Sums.{sum_by-append}
-use Rattle.algebra_laws.specs.Lists.{Each, In}
-use Rattle.algebra_laws.proofs.Each.{each_get, each_append, each_map, each_mono, in_left, in_right}
-use Rattle.code_defs.specs.Points.{upto}
-use Rattle.column_defs.specs.Opened.{SeenBlock, GivesSymbols}
-use Rattle.device_defs.specs.Providers.{Held, sized}
-use Rattle.record_defs.specs.Records.{Setup}
-use Rattle.machine_defs.specs.Jobs.{RepairJob, Given, Job}
-use Rattle.machine_defs.specs.Actions.{Action, WriteBody, SyncBody, WriteGate, SyncGate, Store, Fetch, Ask, Work, Remove, End, open_actions, rewrite_actions}
-use Rattle.machine_defs.specs.Given.{block_given, blocks_given, symbols_given}
-use Rattle.machine_defs.proofs.JobLists.{cond_true, cond_false}
-use Rattle.machine_defs.proofs.ActionLists.{split_get}
-use Rattle.command_defs.specs.Repairs.{Place}
-use Rattle.command_defs.specs.Truthful.{missing}
-use Rattle.lone_laws.specs.Made.{With, object_made}
-use Rattle.lone_laws.proofs.Lists.{take-append-add}
+use Rattle.job_laws.proofs.Words.{◌≡◌, ℕ, zero, suc, ◌+◌, ◌-◌, ◌<◌, ◌≤◌, ◌==◌, ◌⊎◌, Bool, true, false, cond, List, [], ◌∷◌, ◌++◌, length, take, None, Some, refl, ap, sym, subst, ◌∙◌, inl, inr, arith, slice_get, flat_map, range_with_len, cases_eq, eq-eqb, ne_eqb, append_assoc, append-nil, sum_by-append, Each, In, each_get, each_append, each_map, each_mono, in_left, in_right, upto, SeenBlock, GivesSymbols, Held, sized, Setup, RepairJob, Given, Job, Action, WriteBody, SyncBody, WriteGate, SyncGate, Store, Fetch, Ask, Work, Remove, End, open_actions, rewrite_actions, block_given, blocks_given, symbols_given, cond_true, cond_false, split_get, Place, missing, With, object_made, take-append-add}
+use Rattle.std.proofs.Common.{sum_by}
 use Rattle.job_laws.proofs.Heard.{IsNot}
 use Rattle.job_laws.proofs.Truth.{lacks, range-hit}
 use Rattle.job_laws.proofs.Questions.{each-at, each-parts}
@@ -215,15 +196,7 @@ IsStoreOf job n ps action = Unit {0}
 store-wider : (job : Job) (n : ℕ) (ps qs : List Place) → ((p : Place) → In p ps → In p qs) → (a : Action) →
     IsStoreOf job n ps a → IsStoreOf job n qs a
 store-wider job n ps qs f (Store j o t) h = (h.0, h.1, f (record { object = o; stripe = t }) h.2)
-store-wider job n ps qs f (Fetch j o t) h = tt
-store-wider job n ps qs f (Work o t) h = tt
-store-wider job n ps qs f (Ask j o r) h = tt
-store-wider job n ps qs f (Remove j o) h = tt
-store-wider job n ps qs f WriteBody h = tt
-store-wider job n ps qs f SyncBody h = tt
-store-wider job n ps qs f WriteGate h = tt
-store-wider job n ps qs f SyncGate h = tt
-store-wider job n ps qs f End h = tt
+store-wider job n ps qs f a h = tt
 
 stores-range : (job : Job) (n : ℕ) (p : Place) (a m : ℕ) → a + m ≤ n →
     Each (IsStoreOf job n (p ∷ []))
@@ -306,15 +279,7 @@ no-store job n ps j o t none (Store k p u) h e = none
       subst (λ (z : Place). In z ps)
           (λ i. record { object = sym b i; stripe = sym c i }) h.2,
     ))
-no-store job n ps j o t none (Fetch k p u) h e = cc
-no-store job n ps j o t none (Work p u) h e = cc
-no-store job n ps j o t none (Ask k p u) h e = cc
-no-store job n ps j o t none (Remove k p) h e = cc
-no-store job n ps j o t none WriteBody h e = cc
-no-store job n ps j o t none SyncBody h e = cc
-no-store job n ps j o t none WriteGate h e = cc
-no-store job n ps j o t none SyncGate h e = cc
-no-store job n ps j o t none End h e = cc
+no-store job n ps j o t none a h e = cc
 
 -- a provider that is not flagged, or a place that is none of these, has no store among theirs
 pub no-stores : (job : Job) (n : ℕ) (ps : List Place) (j o t : ℕ) (acts : List Action) →

@@ -1,24 +1,6 @@
 -- The places of a repair, and the actions of each.
-use Rattle.std.proofs.Common.{◌≡◌, ℕ, zero, suc, ◌+◌, ◌-◌, ◌<◌, ◌≤◌, Bool, true, false, cond, List, [], ◌∷◌, ◌++◌, length, map, take, Some, refl, ap, sym, subst, ◌∙◌, inl, inr, arith}
-use Rattle.std.specs.Prelude.{slice_get}
-use Rattle.std.specs.List.{flat_map, range_with_len}
-use Rattle.std.proofs.lemmas.Grind.{flat_map-append}
-use Rattle.std.proofs.lemmas.List.{append_assoc, take-append-le}
-use Rattle.algebra_laws.specs.Lists.{Each}
-use Rattle.algebra_laws.proofs.Each.{each_append, each_map, each_flat, each_mono}
-use Rattle.code_defs.specs.Points.{upto}
-use Rattle.record_defs.specs.Records.{Setup}
-use Rattle.record_defs.specs.Table.{File}
-use Rattle.machine_defs.specs.Jobs.{Pinned, Job}
-use Rattle.machine_defs.specs.Setups.{profiled, stripes_of}
-use Rattle.machine_defs.specs.Actions.{Action, WriteBody, SyncBody, WriteGate, SyncGate, Store, Fetch, Ask, Work, Remove, End, on_each_stripe, open_actions, rewrite_actions, repair_actions}
-use Rattle.machine_defs.specs.Begins.{pinned_file, pin_all}
-use Rattle.machine_defs.specs.States.{State}
-use Rattle.machine_defs.proofs.ActionLists.{split_get}
-use Rattle.command_defs.specs.Audits.{files_by_number}
-use Rattle.command_defs.specs.Repairs.{Place, places}
-use Rattle.state_laws.specs.Orders.{AreAscending}
-use Rattle.lone_laws.proofs.Lists.{take-append-add}
+use Rattle.job_laws.proofs.Words.{◌≡◌, ℕ, zero, suc, ◌+◌, ◌-◌, ◌<◌, ◌≤◌, Bool, true, false, cond, List, [], ◌∷◌, ◌++◌, length, take, Some, refl, ap, sym, subst, ◌∙◌, inl, inr, arith, slice_get, flat_map, range_with_len, flat_map-append, append_assoc, take-append-le, Each, each_append, each_map, each_flat, each_mono, upto, Setup, File, Pinned, Job, profiled, stripes_of, Action, WriteBody, SyncBody, WriteGate, SyncGate, Store, Fetch, Ask, Work, Remove, End, on_each_stripe, open_actions, rewrite_actions, repair_actions, pinned_file, pin_all, State, split_get, files_by_number, Place, places, AreAscending, take-append-add}
+use Rattle.std.proofs.Common.{map}
 use Rattle.job_laws.proofs.Asked.{pinned-by_number, each-by_number}
 use Rattle.job_laws.proofs.Heard.{IsNot}
 use Rattle.job_laws.proofs.Rewritten.{IsNoneOf, IsBefore, AreOrdered, none-fetch}
@@ -53,8 +35,7 @@ files-places : (s : Setup) (w : State) (job : Job) (fs : List File) →
 files-places s w job [] h = refl
 files-places s w job (f ∷ fs) h =
     (let one : flat_map (λ stripe. open_actions s f.id stripe ++ rewrite_actions s job f.id stripe)
-    (upto (stripes_of (profiled s f.profile) (length (w.bytes f.id))))
-    ≡ flat_map (actions_at s job)
+    (upto (stripes_of (profiled s f.profile) (length (w.bytes f.id)))) ≡ flat_map (actions_at s job)
     (map (λ stripe. record { object = f.id; stripe = stripe })
     (upto (stripes_of (profiled s f.profile) f.size))) =
     ap (λ n. flat_map (λ stripe. open_actions s f.id stripe ++ rewrite_actions s job f.id stripe)
@@ -72,8 +53,7 @@ pub repairs-places : (s : Setup) (w : State) (job : Job) (files : List File) →
 repairs-places s w job files pinned h =
     ap (λ ps. flat_map (λ (f : Pinned). on_each_stripe (profiled s f.profile) (length f.bytes)
     (λ stripe. open_actions s f.id stripe ++ rewrite_actions s job f.id stripe)) ps)
-    (pinned ∙ pinned-by_number w files)
-    ∙ files-places s w job (files_by_number files)
+    (pinned ∙ pinned-by_number w files) ∙ files-places s w job (files_by_number files)
     (each-by_number (λ (f : File). length (w.bytes f.id) ≡ f.size) files h)
 
 -- ---- no place comes twice
@@ -118,8 +98,7 @@ places-apart s w low [] h = tt
 places-apart s w low (f ∷ fs) h =
     apart-append (map (λ stripe. record { object = f.id; stripe = stripe })
     (upto (stripes_of (profiled s f.profile) f.size))) (places_in s fs)
-    (apart-stripes f.id 0 (stripes_of (profiled s f.profile) f.size))
-    (places-apart s w (f.id + 1) fs h.1)
+    (apart-stripes f.id 0 (stripes_of (profiled s f.profile) f.size)) (places-apart s w (f.id + 1) fs h.1)
     (each_map (λ p. Each (IsElse p) (places_in s fs)) (λ stripe. record { object = f.id; stripe = stripe })
     (upto (stripes_of (profiled s f.profile) f.size))
     (λ t. each_mono (λ (p : Place). f.id + 1 ≤ p.object) (IsElse (record { object = f.id; stripe = t }))
@@ -159,14 +138,7 @@ at-place s job p = each_append (IsAt p) (open_actions s p.object p.stripe)
 else-none : (p q : Place) (y : Action) → IsElse p q → IsAt q y → IsNoneOf p.object p.stripe y
 else-none p q (Fetch j o s) n a = λ e. n (sym a.0 ∙ e.0, sym a.1 ∙ e.1)
 else-none p q (Work o s) n a = λ e. n (sym a.0 ∙ e.0, sym a.1 ∙ e.1)
-else-none p q (Store j o s) n a = tt
-else-none p q (Ask j o r) n a = tt
-else-none p q (Remove j o) n a = tt
-else-none p q WriteBody n a = tt
-else-none p q SyncBody n a = tt
-else-none p q WriteGate n a = tt
-else-none p q SyncGate n a = tt
-else-none p q End n a = tt
+else-none p q y n a = tt
 
 else-all : (s : Setup) (job : Job) (p : Place) (qs : List Place) → Each (IsElse p) qs →
     Each (IsNoneOf p.object p.stripe) (flat_map (actions_at s job) qs)
@@ -185,25 +157,13 @@ before-none p (Work o s) ys a h =
     subst (λ n. Each (IsNoneOf n s) ys) (sym a.0) (subst (λ n. Each (IsNoneOf p.object n) ys) (sym a.1) h)
 before-none p (Store j o s) ys a h =
     subst (λ n. Each (IsNoneOf n s) ys) (sym a.0) (subst (λ n. Each (IsNoneOf p.object n) ys) (sym a.1) h)
-before-none p (Ask j o r) ys a h = tt
-before-none p (Remove j o) ys a h = tt
-before-none p WriteBody ys a h = tt
-before-none p SyncBody ys a h = tt
-before-none p WriteGate ys a h = tt
-before-none p SyncGate ys a h = tt
-before-none p End ys a h = tt
+before-none p x ys a h = tt
 
 before-append : (x : Action) (xs ys : List Action) → IsBefore x xs → IsBefore x ys → IsBefore x (xs ++ ys)
 before-append (Fetch j o s) xs ys a b = each_append (IsNot (Fetch j o s)) xs ys a b
 before-append (Work o s) xs ys a b = each_append (IsNoneOf o s) xs ys a b
 before-append (Store j o s) xs ys a b = each_append (IsNoneOf o s) xs ys a b
-before-append (Ask j o r) xs ys a b = tt
-before-append (Remove j o) xs ys a b = tt
-before-append WriteBody xs ys a b = tt
-before-append SyncBody xs ys a b = tt
-before-append WriteGate xs ys a b = tt
-before-append SyncGate xs ys a b = tt
-before-append End xs ys a b = tt
+before-append x xs ys a b = tt
 
 ordered-append : (xs ys : List Action) → AreOrdered xs → AreOrdered ys → Each (λ x. IsBefore x ys) xs →
     AreOrdered (xs ++ ys)
@@ -225,30 +185,15 @@ stores-only s job o t = each_flat IsStoreAt (λ j. cond (job.flagged j) (Store j
     (λ j. stores-cond j o t (job.flagged j))
 
 stores-none : (o s : ℕ) (y : Action) → IsStoreAt y → IsNoneOf o s y
-stores-none o s (Store j p t) u = tt
 stores-none o s (Fetch j p t) u = absurd u
 stores-none o s (Work p t) u = absurd u
-stores-none o s (Ask j p r) u = tt
-stores-none o s (Remove j p) u = tt
-stores-none o s WriteBody u = tt
-stores-none o s SyncBody u = tt
-stores-none o s WriteGate u = tt
-stores-none o s SyncGate u = tt
-stores-none o s End u = tt
+stores-none o s y u = tt
 
 ordered-stores : (xs : List Action) → Each IsStoreAt xs → AreOrdered xs
 ordered-stores [] h = tt
 ordered-stores (Store j o s ∷ xs) h =
     (each_mono IsStoreAt (IsNoneOf o s) xs (λ y u. stores-none o s y u) h.1, ordered-stores xs h.1)
-ordered-stores (Fetch j o s ∷ xs) h = absurd h.0
-ordered-stores (Work o s ∷ xs) h = absurd h.0
-ordered-stores (Ask j o r ∷ xs) h = absurd h.0
-ordered-stores (Remove j o ∷ xs) h = absurd h.0
-ordered-stores (WriteBody ∷ xs) h = absurd h.0
-ordered-stores (SyncBody ∷ xs) h = absurd h.0
-ordered-stores (WriteGate ∷ xs) h = absurd h.0
-ordered-stores (SyncGate ∷ xs) h = absurd h.0
-ordered-stores (End ∷ xs) h = absurd h.0
+ordered-stores xs h = absurd h.0
 
 ordered-fetches : (o s a n : ℕ) → AreOrdered (map (λ j. Fetch j o s) (range_with_len a n))
 ordered-fetches o s a zero = tt

@@ -1,24 +1,6 @@
 -- The object of a number among the files that a job works on, or among those in effect, is that of its file.
-use Rattle.std.proofs.Common.{◌≡◌, ℕ, ◌==◌, true, false, cond, List, [], ◌∷◌, map, Option, Some, refl, ap, sym, ◌∙◌, inl, inr}
-use Rattle.std.specs.Prelude.{nat_lt}
-use Rattle.std.proofs.lemmas.Bool.{cases_Bool, eqb-true, eq-eqb}
-use Rattle.algebra_laws.specs.Lists.{Each, In}
-use Rattle.record_defs.specs.Records.{Setup, Record}
-use Rattle.record_defs.specs.Table.{File, files_of, file_of}
-use Rattle.record_defs.specs.Acceptance.{AreAccepted}
-use Rattle.machine_defs.specs.Jobs.{Kind, GetJob, Job}
-use Rattle.machine_defs.specs.Setups.{profiled, object_of}
-use Rattle.machine_defs.specs.Begins.{pinned_file, pin_found, pin_all, pinned_for}
-use Rattle.machine_defs.specs.Given.{pinned_profile}
-use Rattle.machine_defs.specs.States.{State, setup_in, file_in, worked_object}
-use Rattle.machine_defs.proofs.JobLists.{cond_true, cond_false, same_value}
-use Rattle.machine_defs.proofs.RecordFacts.{listed_file}
-use Rattle.command_defs.specs.Ran.{Ran, setup_at_begin, object_at_begin, object_numbered, profile_among}
-use Rattle.command_defs.specs.Audits.{with_number, files_by_number}
-use Rattle.state_laws.proofs.Records.{sound-accepted}
-use Rattle.opening_defs.specs.Opened.{IsOpenAtRest}
-use Rattle.lone_laws.specs.Made.{object_made}
-use Rattle.lone_laws.specs.Walked.{with_job_of, Walked}
+use Rattle.job_laws.proofs.Words.{◌≡◌, ℕ, ◌==◌, true, false, cond, List, [], ◌∷◌, Option, Some, refl, ap, sym, ◌∙◌, inl, inr, nat_lt, cases_Bool, eqb-true, eq-eqb, Each, In, Setup, Record, File, files_of, file_of, AreAccepted, Kind, GetJob, Job, profiled, object_of, pinned_file, pin_found, pin_all, pinned_for, pinned_profile, State, setup_in, file_in, worked_object, cond_true, cond_false, same_value, listed_file, Ran, setup_at_begin, object_at_begin, object_numbered, profile_among, with_number, files_by_number, sound-accepted, IsOpenAtRest, object_made, with_job_of, Walked}
+use Rattle.std.proofs.Common.{map}
 use Rattle.job_laws.proofs.Asked.{pinned-by_number, each-by_number}
 use Rattle.job_laws.proofs.Questions.{each-in}
 

@@ -1,15 +1,6 @@
 -- What actions that were made did to one provider.
-use Rattle.std.proofs.Common.{◌≡◌, ℕ, zero, suc, ◌+◌, ◌<◌, ◌≤◌, ◌==◌, ◌⊎◌, List, [], ◌∷◌, map, Option, ap, sym, subst, ◌∙◌, inl, inr, arith}
-use Rattle.std.specs.List.{range_with_len}
-use Rattle.std.proofs.lemmas.Bool.{cases_Bool, eqb-true}
-use Rattle.algebra_laws.specs.Lists.{Each}
-use Rattle.column_defs.specs.Challenges.{honest_answer}
-use Rattle.device_defs.specs.Providers.{Provider}
-use Rattle.device_defs.specs.ProviderCalls.{Stores, Fetches, Asks, Removes}
-use Rattle.machine_defs.specs.Jobs.{Given, Fetched, Answered}
-use Rattle.machine_defs.specs.Actions.{Action, WriteBody, SyncBody, WriteGate, SyncGate, Store, Fetch, Ask, Work, Remove, End}
-use Rattle.machine_defs.proofs.JobLists.{cond_true, cond_false}
-use Rattle.lone_laws.specs.Made.{With, block_stored, challenge_made, CallsOne, Did, Made, object_made}
+use Rattle.job_laws.proofs.Words.{◌≡◌, ℕ, zero, suc, ◌+◌, ◌<◌, ◌≤◌, ◌==◌, ◌⊎◌, List, [], ◌∷◌, Option, ap, sym, subst, ◌∙◌, inl, inr, arith, range_with_len, cases_Bool, eqb-true, Each, honest_answer, Provider, Stores, Fetches, Asks, Removes, Given, Fetched, Answered, Action, WriteBody, SyncBody, WriteGate, SyncGate, Store, Fetch, Ask, Work, Remove, End, cond_true, cond_false, With, block_stored, challenge_made, CallsOne, Did, Made, object_made}
+use Rattle.std.proofs.Common.{map}
 
 -- what an action did to the provider that it called, if that is the one of this number
 abbrev pub Called : With → Action → List Given → List Given → ℕ → Provider → Provider → Type 0
@@ -49,11 +40,7 @@ did-at x (Ask j o r) old new given now i (symbol, called, is) =
 did-at x (Work o s) old new given now i (symbols, gives, still, is) = inl (ap (λ f. f i) still)
 did-at x (Remove j o) old new given now i (called, is) =
     elim (calls-at old j (Removes o) new i called) [ inl e ↦ inl e | inr c ↦ inr (c.0, c.1, is) ]
-did-at x WriteBody old new given now i (still, is) = inl (ap (λ f. f i) still)
-did-at x SyncBody old new given now i (still, is) = inl (ap (λ f. f i) still)
-did-at x WriteGate old new given now i (still, is) = inl (ap (λ f. f i) still)
-did-at x SyncGate old new given now i (still, is) = inl (ap (λ f. f i) still)
-did-at x End old new given now i (still, is) = inl (ap (λ f. f i) still)
+did-at x a old new given now i h = inl (ap (λ f. f i) h.0)
 
 -- what each of these calls keeps, all of them keep
 pub made-keeps : (x : With) (i : ℕ) (R : Provider → Provider → Type 0) (P : Action → Type 0) →
@@ -100,12 +87,7 @@ called-rises x (Remove j o) given now i p q (e, inl c, is) =
     ((let f = c.counts.store_faults in omega (arith, f)), c.counts.other_faults)
 called-rises x (Remove j o) given now i p q (e, inr c, is) =
     ((let f = c.counts.store_faults in omega (arith, f)), c.counts.other_faults)
-called-rises x (Work o s) given now i p q h = absurd h
-called-rises x WriteBody given now i p q h = absurd h
-called-rises x SyncBody given now i p q h = absurd h
-called-rises x WriteGate given now i p q h = absurd h
-called-rises x SyncGate given now i p q h = absurd h
-called-rises x End given now i p q h = absurd h
+called-rises x a given now i p q h = absurd h
 
 -- an action that calls no provider from this number on
 abbrev pub IsBelow : ℕ → Action → Type 0
@@ -122,12 +104,7 @@ called-below x n (Store j o s) given now i p q b l (e, c, is) = omega (arith, b,
 called-below x n (Fetch j o s) given now i p q b l (e, c) = omega (arith, b, l, e)
 called-below x n (Ask j o r) given now i p q b l (e, c) = omega (arith, b, l, e)
 called-below x n (Remove j o) given now i p q b l (e, c, is) = omega (arith, b, l, e)
-called-below x n (Work o s) given now i p q b l h = h
-called-below x n WriteBody given now i p q b l h = h
-called-below x n SyncBody given now i p q b l h = h
-called-below x n WriteGate given now i p q b l h = h
-called-below x n SyncGate given now i p q b l h = h
-called-below x n End given now i p q b l h = h
+called-below x n a given now i p q b l h = h
 
 -- ---- parts of lists
 

@@ -1,50 +1,7 @@
 -- What a put leaves whose job was the only one.
-use Rattle.std.proofs.Common.{◌≡◌, ℕ, zero, suc, ◌+◌, ◌-◌, ◌<◌, ◌≤◌, ◌==◌, ◌&&◌, ◌⊎◌, List, [], ◌∷◌, ◌++◌, length, take, drop, Option, None, Some, refl, ap, sym, subst, ◌∙◌, inl, inr, arith}
-use Rattle.std.specs.Prelude.{slice_get}
-use Rattle.std.specs.Option.{option_map}
-use Rattle.std.specs.List.{flat_map, range_with_len}
-use Rattle.std.proofs.lemmas.Bool.{cases_Bool, cases_eq, cases_lt, eq-eqb, eqb-true, and_parts, and_from}
-use Rattle.std.proofs.lemmas.List.{append_assoc}
-use Rattle.algebra_laws.specs.Lists.{Each}
-use Rattle.algebra_laws.proofs.Each.{each_get, each_append, each_map, each_flat, each_take}
-use Rattle.algebra_laws.proofs.Lists.{drop-get}
-use Rattle.code_defs.specs.Points.{upto}
-use Rattle.column_defs.specs.Columns.{columns}
-use Rattle.column_defs.specs.Objects.{Object, stripes}
-use Rattle.device_defs.specs.Faults.{Rose}
-use Rattle.device_defs.specs.Told.{Goes}
-use Rattle.device_defs.specs.Providers.{Held, Provider, with_block}
-use Rattle.device_defs.specs.ProviderCalls.{Stores}
-use Rattle.device_defs.proofs.Lasting.{rose-before}
-use Rattle.record_defs.specs.Records.{Setup, Record, PutStart}
-use Rattle.record_defs.specs.Table.{File, version_of, file_of, next_id}
-use Rattle.machine_defs.specs.Jobs.{PutJob, Pinned, Given, Job}
-use Rattle.machine_defs.specs.Setups.{profiled, object_of, stripes_of}
-use Rattle.machine_defs.specs.Actions.{Action, WriteBody, SyncBody, WriteGate, SyncGate, Store, Fetch, Ask, Work, Remove, End, append_actions, on_each_provider, store_actions, remove_actions, actions_of, appends_left}
+use Rattle.job_laws.proofs.Words.{◌≡◌, ℕ, zero, suc, ◌+◌, ◌-◌, ◌<◌, ◌≤◌, ◌==◌, ◌&&◌, ◌⊎◌, List, [], ◌∷◌, ◌++◌, length, take, drop, Option, None, Some, refl, ap, sym, subst, ◌∙◌, inl, inr, arith, slice_get, option_map, flat_map, range_with_len, cases_Bool, cases_eq, cases_lt, eq-eqb, eqb-true, and_parts, and_from, append_assoc, Each, each_get, each_append, each_map, each_flat, each_take, drop-get, upto, columns, Object, stripes, Rose, Goes, Held, Provider, with_block, Stores, rose-before, Setup, Record, PutStart, File, version_of, file_of, next_id, PutJob, Pinned, Given, Job, profiled, object_of, stripes_of, Action, WriteBody, SyncBody, WriteGate, SyncGate, Store, Fetch, Ask, Work, Remove, End, append_actions, on_each_provider, store_actions, remove_actions, actions_of, appends_left, Answer, Ended, Entry, heard_by_kind, State, Doubt, setup_in, ended, chosen, done_record, next_action, Acts, cond_true, cond_false, split_get, next_stands, StoredOn, PartlyStored, DroppedFrom, put_done, StoresFile, StoresAll, PutIsCut, StoresPart, PutLeaves, Leaves, Ran, ran_from, NoFetches, moves_made, IsInOrder, put_rest, put-list, put-first, put-later, appends_in, appends-append, moves-first, sound-accepted, With, Made, IsOpenAtRest, RecordsAre, with_job_at, made-split, Wrote, wrote, runs, first-body}
 use Rattle.machine_defs.specs.Answers as answer
-use Rattle.machine_defs.specs.Answers.{Answer}
-use Rattle.machine_defs.specs.Events.{Ended}
-use Rattle.machine_defs.specs.Heard.{Entry, heard_by_kind}
-use Rattle.machine_defs.specs.States.{State, Doubt, setup_in, ended}
-use Rattle.machine_defs.specs.Begins.{chosen}
-use Rattle.machine_defs.specs.Appends.{done_record}
 use Rattle.machine_defs.specs.Steps as step
-use Rattle.machine_defs.specs.Steps.{next_action, Acts}
-use Rattle.machine_defs.proofs.JobLists.{cond_true, cond_false}
-use Rattle.machine_defs.proofs.ActionLists.{split_get}
-use Rattle.machine_defs.proofs.NextActions.{next_stands}
-use Rattle.command_defs.specs.Blocks.{StoredOn, PartlyStored, DroppedFrom}
-use Rattle.command_defs.specs.Puts.{put_done, StoresFile, StoresAll, PutIsCut, StoresPart, PutLeaves}
-use Rattle.command_defs.specs.Jobs.{Leaves}
-use Rattle.command_defs.specs.Ran.{Ran, ran_from, NoFetches}
-use Rattle.state_laws.specs.Orders.{moves_made, IsInOrder}
-use Rattle.state_laws.proofs.Orders.{put_rest, put-list, put-first, put-later, appends_in, appends-append, moves-first}
-use Rattle.state_laws.proofs.Records.{sound-accepted}
-use Rattle.lone_laws.specs.Made.{With, Made}
-use Rattle.opening_defs.specs.Opened.{IsOpenAtRest}
-use Rattle.lone_laws.specs.Walked.{RecordsAre, with_job_at}
-use Rattle.lone_laws.proofs.Lists.{made-split}
-use Rattle.lone_laws.proofs.Walk.{Wrote, wrote, runs, first-body}
 use Rattle.job_laws.proofs.Runs.{Ends}
 use Rattle.job_laws.proofs.Providers.{Called, IsBelow, made-keeps}
 use Rattle.job_laws.proofs.Truth.{made-rises}
@@ -188,15 +145,11 @@ module _ (s : Setup) (profile : ℕ) (name bytes : List ℕ) (subject id : ℕ) 
       one : (a : Action) (given now : List Given) (p q : Provider) → IsStoring a →
           Called x a given now j p q → Goes Partly p.held q.held
       one (Store k o t) given now p q u (e, c, is) = stored k o t p q e u c
-      one (Remove k o) given now p q u c = absurd u
-      one (Fetch k o t) given now p q u c = absurd u
-      one (Ask k o r) given now p q u c = absurd u
-      one (Work o t) given now p q u c = absurd u
       one WriteBody given now p q u c = absurd c
       one SyncBody given now p q u c = absurd c
       one WriteGate given now p q u c = absurd c
       one SyncGate given now p q u c = absurd c
-      one End given now p q u c = absurd u
+      one a given now p q u c = absurd u
 
 -- ---- a file that is stored whole, and an older one taken away
 
@@ -217,8 +170,7 @@ module _ (s : Setup) (profile : ℕ) (name bytes : List ℕ) (subject id count :
 
   whole-some : (rose : Type 0) (f : File) (p q r : Held) → count ≡ stripes whole_made (length bytes) →
       (f.id ≡ id → ⊥) → StoresRange s profile name bytes subject id pinned j 0 count p q →
-      DroppedFrom f.id rose q r →
-      StoredOn whole_made bytes (Some f) rose j p r
+      DroppedFrom f.id rose q r → StoredOn whole_made bytes (Some f) rose j p r
   whole-some rose f p q r size apart R D = record {
     stored = λ t l. D.others id t (λ e. apart (sym e)) ∙ R.stored t (omega arith) (omega (arith, l, size));
     removed = λ t. elim (D.gone t)
@@ -500,8 +452,7 @@ module _ (start new : State) (name bytes : List ℕ) (own : Option ℕ) (how : A
         unmoved-tail start.providers E.before.providers E.job.given here made-so-far l
 
     all-goes : 4 ≤ E.job.place → (j : ℕ) → j < (setup_in start).n →
-        Goes (StoredOn stored_as bytes None ⊥ j)
-        (start.providers j).held (E.before.providers j).held
+        Goes (StoredOn stored_as bytes None ⊥ j) (start.providers j).held (E.before.providers j).held
     all-goes l j below = all-stored (setup_in start) its name bytes E.job (next_id start.records)
         [] start.providers E.before.providers [] E.job.given j E.walked.profile_is
         (subject-is (omega (arith, l))) below (stores-made l)
@@ -690,8 +641,7 @@ module _ (start new : State) (name bytes : List ℕ) (own : Option ℕ) (how : A
     stored-on (Some f) j p q apart rose up range older =
         goes-more
         (StoresRange (setup_in start) its name bytes E.job.subject (next_id start.records) [] j 0 count)
-        (DroppedFrom f.id (Rose p.other_faults q.other_faults))
-        (StoredOn stored_as bytes (Some f) rose j)
+        (DroppedFrom f.id (Rose p.other_faults q.other_faults)) (StoredOn stored_as bytes (Some f) rose j)
         (λ h k r R D. whole-some (setup_in start) its name bytes E.job.subject (next_id start.records) count
         [] j rose f h k r count-same (apart f refl) R
         (dropped-over f.id (Rose p.other_faults q.other_faults) rose k r up D))

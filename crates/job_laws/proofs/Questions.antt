@@ -1,27 +1,7 @@
 -- What the asks of an audit gave, question by question.
-use Rattle.std.proofs.Common.{◌≡◌, ℕ, zero, suc, ◌+◌, ◌<◌, ◌≤◌, ◌==◌, ◌⊎◌, true, false, List, [], ◌∷◌, ◌++◌, length, map, Option, None, refl, ap, sym, subst, ◌∙◌, inl, inr, arith, sum_by, All}
-use Rattle.std.specs.List.{range_with_len}
-use Rattle.std.proofs.lemmas.Bool.{cases_eq, cases_Bool, eqb-true, eq-eqb, ne_eqb}
-use Rattle.std.proofs.lemmas.List.Sums.{sum_by-append}
+use Rattle.job_laws.proofs.Words.{◌≡◌, ℕ, zero, suc, ◌+◌, ◌<◌, ◌≤◌, ◌==◌, ◌⊎◌, true, false, List, [], ◌∷◌, ◌++◌, length, Option, None, refl, ap, sym, subst, ◌∙◌, inl, inr, arith, All, range_with_len, cases_eq, cases_Bool, eqb-true, eq-eqb, ne_eqb, sum_by-append, Each, In, each_append, each_map, honest_answer, Held, Setup, File, files_of, Given, profiled, Action, Ask, rounds_of, pinned_file, answer_given, pinned_size, State, cond_true, cond_false, listed_file, Question, missing, With, challenge_made, IsOpenAtRest}
+use Rattle.std.proofs.Common.{map, sum_by}
 use Rattle.std.proofs.lemmas.List.Elements.{All-cons}
-use Rattle.algebra_laws.specs.Lists.{Each, In}
-use Rattle.algebra_laws.proofs.Each.{each_append, each_map}
-use Rattle.column_defs.specs.Challenges.{honest_answer}
-use Rattle.device_defs.specs.Providers.{Held}
-use Rattle.record_defs.specs.Records.{Setup}
-use Rattle.record_defs.specs.Table.{File, files_of}
-use Rattle.machine_defs.specs.Jobs.{Given}
-use Rattle.machine_defs.specs.Setups.{profiled}
-use Rattle.machine_defs.specs.Actions.{Action, Ask, rounds_of}
-use Rattle.machine_defs.specs.Begins.{pinned_file}
-use Rattle.machine_defs.specs.Given.{answer_given, pinned_size}
-use Rattle.machine_defs.specs.States.{State}
-use Rattle.machine_defs.proofs.JobLists.{cond_true, cond_false}
-use Rattle.machine_defs.proofs.RecordFacts.{listed_file}
-use Rattle.command_defs.specs.Audits.{Question}
-use Rattle.command_defs.specs.Truthful.{missing}
-use Rattle.lone_laws.specs.Made.{With, challenge_made}
-use Rattle.opening_defs.specs.Opened.{IsOpenAtRest}
 use Rattle.job_laws.proofs.Asked.{asks_one, asks_of, questions_in}
 use Rattle.job_laws.proofs.Truth.{lacks, IsTold, lack_at, range-hit}
 

@@ -1,14 +1,7 @@
 -- Why a begin is refused that finds no other job.
-use Rattle.std.proofs.Common.{◌≡◌, ℕ, true, false, List, Option, None, Some, refl, ap, sym, ◌∙◌, not}
-use Rattle.std.specs.Prelude.{is_some}
-use Rattle.std.proofs.lemmas.Bool.{false≢true}
-use Rattle.record_defs.specs.Table.{File}
-use Rattle.machine_defs.specs.Jobs.{DropJob, aim_of}
-use Rattle.machine_defs.specs.States.{State, file_in}
-use Rattle.machine_defs.specs.Begins.{begin_refusal}
-use Rattle.machine_defs.specs.Sights.{sight_of, causes}
+use Rattle.job_laws.proofs.Words.{◌≡◌, ℕ, true, false, List, Option, None, Some, refl, ap, sym, ◌∙◌, is_some, false≢true, File, DropJob, aim_of, State, file_in, begin_refusal, sight_of, causes, none-applies}
+use Rattle.std.proofs.Common.{not}
 use Rattle.machine_defs.proofs.Sights.{stored-file}
-use Rattle.state_laws.proofs.Begun.{none-applies}
 
 -- a drop that begins has a file
 pub drop-has : (limit : ℕ) (w : State) (name : List ℕ) → begin_refusal limit w (DropJob name) ≡ None →

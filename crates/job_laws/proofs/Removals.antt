@@ -1,24 +1,6 @@
 -- Calls of one provider after the other, what removals leave, and what jobs keep that fetch nothing.
-use Rattle.std.proofs.Common.{◌≡◌, ℕ, zero, suc, ◌+◌, ◌<◌, ◌≤◌, ◌==◌, List, [], ◌∷◌, ◌++◌, length, map, drop, Option, None, Some, refl, ap, sym, subst, ◌∙◌, inl, inr, arith}
-use Rattle.std.specs.Option.{option_map}
-use Rattle.std.specs.List.{flat_map, list_any, range_with_len}
-use Rattle.std.proofs.lemmas.Bool.{cases_eq, eq-eqb, ne_eqb}
-use Rattle.std.proofs.lemmas.List.{append-nil}
-use Rattle.algebra_laws.specs.Lists.{Each}
-use Rattle.device_defs.specs.Faults.{Rose}
-use Rattle.device_defs.specs.Told.{Goes}
-use Rattle.device_defs.specs.Providers.{Held, Provider, without_object, LosesPart}
-use Rattle.device_defs.specs.ProviderCalls.{Removes, StoreCounts}
-use Rattle.record_defs.specs.Records.{Setup}
-use Rattle.record_defs.specs.Table.{File}
-use Rattle.machine_defs.specs.Jobs.{Given, Pinned, Job}
-use Rattle.machine_defs.specs.Actions.{Action, WriteBody, SyncBody, WriteGate, SyncGate, Store, Fetch, Ask, Work, Remove, End, on_each_provider, remove_actions}
-use Rattle.machine_defs.specs.Appends.{is_pinned, removable}
-use Rattle.machine_defs.specs.States.{State}
-use Rattle.machine_defs.proofs.JobLists.{cond_true, cond_false}
-use Rattle.command_defs.specs.Blocks.{DroppedFrom}
-use Rattle.state_laws.proofs.Orders.{appends_in, appends-append}
-use Rattle.lone_laws.specs.Made.{With, CallsOne, Did, Made}
+use Rattle.job_laws.proofs.Words.{◌≡◌, ℕ, zero, suc, ◌+◌, ◌<◌, ◌≤◌, ◌==◌, List, [], ◌∷◌, ◌++◌, length, drop, Option, None, Some, refl, ap, sym, subst, ◌∙◌, inl, inr, arith, option_map, flat_map, list_any, range_with_len, cases_eq, eq-eqb, ne_eqb, append-nil, Each, Rose, Goes, Held, Provider, without_object, LosesPart, Removes, StoreCounts, Setup, File, Given, Pinned, Job, Action, WriteBody, SyncBody, WriteGate, SyncGate, Store, Fetch, Ask, Work, Remove, End, on_each_provider, remove_actions, is_pinned, removable, State, cond_true, cond_false, DroppedFrom, appends_in, appends-append, With, CallsOne, Did, Made}
+use Rattle.std.proofs.Common.{map}
 use Rattle.job_laws.proofs.Providers.{Called, calls-at, made-keeps}
 use Rattle.job_laws.proofs.Truth.{call-hit, call-miss}
 use Rattle.job_laws.proofs.Leaving.{LastCall}
@@ -68,11 +50,10 @@ goes-same R same (Some p) = same p
 pub goes-more : (R S T : Held → Held → Type 0) → ((p q r : Held) → R p q → S q r → T p r) →
     (a b c : Option Held) → Goes R a b → Goes S b c → Goes T a c
 goes-more R S T more None None None g h = tt
-goes-more R S T more None None (Some r) g h = absurd h
 goes-more R S T more None (Some q) c g h = absurd g
 goes-more R S T more (Some p) None c g h = absurd g
-goes-more R S T more (Some p) (Some q) None g h = absurd h
 goes-more R S T more (Some p) (Some q) (Some r) g h = more p q r g h
+goes-more R S T more q r a g h = absurd h
 
 -- what is told and is changed by a function goes by a relation of each to what it is changed to
 pub goes-map : (R : Held → Held → Type 0) (f : Held → Held) → ((p : Held) → R p (f p)) →
@@ -84,9 +65,8 @@ goes-map R f h (Some p) new e = subst (Goes R (Some p)) (sym e) (h p)
 pub goes-mono : (R S : Held → Held → Type 0) → ((p q : Held) → R p q → S p q) → (a b : Option Held) →
     Goes R a b → Goes S a b
 goes-mono R S f None None g = tt
-goes-mono R S f None (Some q) g = absurd g
-goes-mono R S f (Some p) None g = absurd g
 goes-mono R S f (Some p) (Some q) g = f p q g
+goes-mono R S f q a g = absurd g
 
 -- ---- a removal
 
@@ -149,12 +129,7 @@ writing-fetches x xs old new given now i e m = made-keeps x i (λ p q. q.fetches
     step (Remove j o) given now p q u (e, inr c, is) = c.counts.fetches
     step (Fetch j o t) given now p q u c = absurd u
     step (Ask j o r) given now p q u c = absurd u
-    step (Work o t) given now p q u c = absurd c
-    step WriteBody given now p q u c = absurd c
-    step SyncBody given now p q u c = absurd c
-    step WriteGate given now p q u c = absurd c
-    step SyncGate given now p q u c = absurd c
-    step End given now p q u c = absurd c
+    step a given now p q u c = absurd c
 
 -- the last step leaves what providers hold, and fetches nothing
 pub last-keeps : (action : Action) (w new : State) (i : ℕ) → LastCall action w new →

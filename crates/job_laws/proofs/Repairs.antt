@@ -1,50 +1,6 @@
 -- What a repair leaves whose job was the only one.
-use Rattle.std.proofs.Common.{◌≡◌, ℕ, zero, suc, ◌-◌, ◌<◌, ◌≤◌, ◌==◌, ◌⊎◌, Bool, true, false, List, [], ◌∷◌, ◌++◌, length, take, drop, Option, None, Some, refl, ap, sym, subst, ◌∙◌, inl, inr, arith, All, Contains}
-use Rattle.std.specs.Prelude.{slice_get, IfSome}
-use Rattle.std.specs.Option.{option_map}
-use Rattle.std.specs.List.{flat_map}
-use Rattle.std.proofs.lemmas.Bool.{eq-eqb, false≢true}
-use Rattle.std.proofs.lemmas.List.{append_assoc, append-nil}
-use Rattle.algebra_laws.specs.Lists.{Each, In}
-use Rattle.algebra_laws.proofs.Each.{each_get, each_append, each_map, each_mono, each_take, in_contains, in_left, in_right}
-use Rattle.code_defs.specs.Points.{upto}
-use Rattle.column_defs.specs.Objects.{Object}
-use Rattle.column_defs.specs.Opened.{GivesSymbols, LosesRow}
-use Rattle.device_defs.specs.Faults.{Rose}
-use Rattle.device_defs.specs.Providers.{Held, Provider, sized}
-use Rattle.device_defs.specs.ProviderCalls.{FailsToStore, FindsNoMemory, StoreCounts}
-use Rattle.device_defs.specs.Told.{Goes}
-use Rattle.device_defs.proofs.Lasting.{rose-before}
-use Rattle.record_defs.specs.Records.{Setup, RepairDone}
-use Rattle.record_defs.specs.Table.{Due, files_of, due_of}
-use Rattle.machine_defs.specs.Jobs.{RepairJob, Given, Job}
-use Rattle.machine_defs.specs.Actions.{Action, WriteBody, SyncBody, WriteGate, SyncGate, Store, Fetch, Ask, Work, Remove, End, append_actions, open_actions, rewrite_actions, repair_actions, actions_of, appends_left}
+use Rattle.job_laws.proofs.Words.{◌≡◌, ℕ, zero, suc, ◌-◌, ◌<◌, ◌≤◌, ◌==◌, ◌⊎◌, Bool, true, false, List, [], ◌∷◌, ◌++◌, length, take, drop, Option, None, Some, refl, ap, sym, subst, ◌∙◌, inl, inr, arith, All, Contains, slice_get, IfSome, option_map, flat_map, eq-eqb, false≢true, append_assoc, append-nil, Each, In, each_get, each_append, each_map, each_mono, each_take, in_contains, in_left, in_right, upto, Object, GivesSymbols, LosesRow, Rose, Held, Provider, sized, FailsToStore, FindsNoMemory, StoreCounts, Goes, rose-before, Setup, RepairDone, Due, files_of, due_of, RepairJob, Given, Job, Action, WriteBody, SyncBody, WriteGate, SyncGate, Store, Fetch, Ask, Work, Remove, End, append_actions, open_actions, rewrite_actions, repair_actions, actions_of, appends_left, Answer, due_number, due_flags, Ended, block_given, blocks_given, symbols_given, Entry, heard_by_kind, State, Doubt, setup_in, worked_object, with_provider, ended, Moves, next_action, Acts, EndsAs, split_get, cond_true, RunsJob, Leaves, Ran, ran_from, object_numbered, EachHeldGoes, IsWhole, IsCut, IsCutInDoubt, Place, places, Gave, blocks_at, held_at, IsTruth, GivesPlace, RewrittenOn, PartlyRewrittenOn, IfFlagged, flags, RewritesAll, RewritesPart, RewritesSome, LosesAtPlace, RepairGives, IsTruthful, moves_made, moves_before, AreAscending, begun-repair, moves-next, appends_in, is_some-at, With, Made, object_made, IsOpenAtRest, MayName, first_record, with_job_of, Walked, repair-list, audit-within, runs}
 use Rattle.machine_defs.specs.Answers as answer
-use Rattle.machine_defs.specs.Answers.{Answer}
-use Rattle.machine_defs.specs.Begins.{due_number, due_flags}
-use Rattle.machine_defs.specs.Events.{Ended}
-use Rattle.machine_defs.specs.Given.{block_given, blocks_given, symbols_given}
-use Rattle.machine_defs.specs.Heard.{Entry, heard_by_kind}
-use Rattle.machine_defs.specs.States.{State, Doubt, setup_in, worked_object, with_provider, ended}
-use Rattle.machine_defs.specs.Appends.{Moves}
-use Rattle.machine_defs.specs.Steps.{next_action, Acts, Ends as EndsAs}
-use Rattle.machine_defs.proofs.ActionLists.{split_get}
-use Rattle.machine_defs.proofs.JobLists.{cond_true}
-use Rattle.command_defs.specs.JobRuns.{RunsJob}
-use Rattle.command_defs.specs.Jobs.{Leaves}
-use Rattle.command_defs.specs.Ran.{Ran, ran_from, object_numbered, EachHeldGoes, IsWhole, IsCut, IsCutInDoubt}
-use Rattle.command_defs.specs.Repairs.{Place, places, Gave, blocks_at, held_at, IsTruth, GivesPlace, RewrittenOn, PartlyRewrittenOn, IfFlagged, flags, RewritesAll, RewritesPart, RewritesSome, LosesAtPlace, RepairGives}
-use Rattle.command_defs.specs.Truthful.{IsTruthful}
-use Rattle.state_laws.specs.Orders.{moves_made, moves_before, AreAscending}
-use Rattle.state_laws.proofs.Begun.{begun-repair}
-use Rattle.state_laws.proofs.Events.{moves-next}
-use Rattle.state_laws.proofs.Orders.{appends_in}
-use Rattle.state_laws.proofs.Records.{is_some-at}
-use Rattle.lone_laws.specs.Made.{With, Made, object_made}
-use Rattle.opening_defs.specs.Opened.{IsOpenAtRest}
-use Rattle.lone_laws.specs.Walked.{MayName, first_record, with_job_of, Walked}
-use Rattle.lone_laws.proofs.Prefixes.{repair-list, audit-within}
-use Rattle.lone_laws.proofs.Walk.{runs}
 use Rattle.job_laws.proofs.Runs.{Ends, job-ends}
 use Rattle.job_laws.proofs.Providers.{Called, calls-at, made-keeps}
 use Rattle.job_laws.proofs.Profiles.{made-numbered, worked-made}
@@ -68,26 +24,14 @@ ordered-take (x ∷ xs) (suc p) o = (before-take x o.0, ordered-take xs p o.1)
     before-take (Fetch j o s) h = each_take (IsNot (Fetch j o s)) xs p h
     before-take (Work o s) h = each_take (IsNoneOf o s) xs p h
     before-take (Store j o s) h = each_take (IsNoneOf o s) xs p h
-    before-take (Ask j o r) h = tt
-    before-take (Remove j o) h = tt
-    before-take WriteBody h = tt
-    before-take SyncBody h = tt
-    before-take WriteGate h = tt
-    before-take SyncGate h = tt
-    before-take End h = tt
+    before-take x h = tt
 
 -- what a repair may do at a place
 at-repairs : (p : Place) (a : Action) → IsAt p a → IsRepairing a
 at-repairs p (Fetch j o s) h = tt
 at-repairs p (Work o s) h = tt
 at-repairs p (Store j o s) h = tt
-at-repairs p (Ask j o r) h = absurd h
-at-repairs p (Remove j o) h = absurd h
-at-repairs p WriteBody h = absurd h
-at-repairs p SyncBody h = absurd h
-at-repairs p WriteGate h = absurd h
-at-repairs p SyncGate h = absurd h
-at-repairs p End h = absurd h
+at-repairs p a h = absurd h
 
 module _ (start : State) (O : IsOpenAtRest start 1) (w : State) (job : Job)
     (W : Walked start RepairJob w job) where
@@ -158,12 +102,7 @@ module _ (start : State) (O : IsOpenAtRest start 1) (w : State) (job : Job)
       step (Store k o t) given now p q u (e, c, is) h = c.held ∙ ap (option_map _) h
       step (Ask k o r) given now p q u c h = absurd u
       step (Remove k o) given now p q u c h = absurd u
-      step (Work o t) given now p q u c h = absurd c
-      step WriteBody given now p q u c h = absurd c
-      step SyncBody given now p q u c h = absurd c
-      step WriteGate given now p q u c h = absurd c
-      step SyncGate given now p q u c h = absurd c
-      step End given now p q u c h = absurd c
+      step a given now p q u c h = absurd c
 
   -- ---- what its actions gave and left, in the words of the command
 

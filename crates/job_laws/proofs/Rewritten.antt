@@ -1,23 +1,7 @@
 -- What the fetches, the works and the stores of a repair gave and left, of one provider, by the list of its
 -- actions alone.
-use Rattle.std.proofs.Common.{◌≡◌, ℕ, ◌+◌, ◌<◌, ◌≤◌, ◌==◌, ◌&&◌, ◌⊎◌, true, cond, List, [], ◌∷◌, map, Option, None, Some, refl, ap, sym, subst, ◌∙◌, inl, inr, arith, sum_by}
-use Rattle.std.specs.Option.{option_map}
-use Rattle.std.proofs.lemmas.Bool.{cases_Bool, cases_eq, eq-eqb, ne_eqb, eqb-true, and_parts, and_from}
-use Rattle.std.proofs.lemmas.List.Sums.{sum_by-cons}
-use Rattle.algebra_laws.specs.Lists.{Each, In}
-use Rattle.algebra_laws.proofs.Each.{each_mono}
-use Rattle.code_defs.specs.Points.{upto}
-use Rattle.column_defs.specs.Columns.{column_of_symbols}
-use Rattle.column_defs.specs.Opened.{GivesSymbols}
-use Rattle.device_defs.specs.Faults.{last_count}
-use Rattle.device_defs.specs.Providers.{Held, Provider, sized, with_block}
-use Rattle.device_defs.specs.ProviderCalls.{Stores, Fetches, FetchGives, FailsToGive}
-use Rattle.machine_defs.specs.Jobs.{RepairJob, Given}
-use Rattle.machine_defs.specs.Actions.{Action, WriteBody, SyncBody, WriteGate, SyncGate, Store, Fetch, Ask, Work, Remove, End}
-use Rattle.machine_defs.specs.Given.{block_given, blocks_given, symbols_given}
-use Rattle.machine_defs.proofs.JobLists.{cond_true, cond_false}
-use Rattle.machine_defs.proofs.Given.{symbols_given-newest}
-use Rattle.lone_laws.specs.Made.{With, block_stored, Did, Made, object_made}
+use Rattle.job_laws.proofs.Words.{◌≡◌, ℕ, ◌+◌, ◌<◌, ◌≤◌, ◌==◌, ◌&&◌, ◌⊎◌, true, cond, List, [], ◌∷◌, Option, None, Some, refl, ap, sym, subst, ◌∙◌, inl, inr, arith, option_map, cases_Bool, cases_eq, eq-eqb, ne_eqb, eqb-true, and_parts, and_from, sum_by-cons, Each, In, each_mono, upto, column_of_symbols, GivesSymbols, last_count, Held, Provider, sized, with_block, Stores, Fetches, FetchGives, FailsToGive, RepairJob, Given, Action, WriteBody, SyncBody, WriteGate, SyncGate, Store, Fetch, Ask, Work, Remove, End, block_given, blocks_given, symbols_given, cond_true, cond_false, symbols_given-newest, With, block_stored, Did, Made, object_made}
+use Rattle.std.proofs.Common.{map, sum_by}
 use Rattle.job_laws.proofs.Heard.{IsNot, block-later, block-newest, symbols-later}
 use Rattle.job_laws.proofs.Truth.{call-hit, call-miss, lacks, lacks-same, lacks-few, made-rises}
 
@@ -49,27 +33,11 @@ IsRepairing action = Unit {0}
 -- an action that is none of a place is no fetch of it
 pub none-fetch : (j o s : ℕ) (y : Action) → IsNoneOf o s y → IsNot (Fetch j o s) y
 none-fetch j o s (Fetch k p t) h e = h ((let f = e in cc), (let f = e in cc))
-none-fetch j o s (Work p t) h e = cc
-none-fetch j o s (Ask k p t) h e = cc
-none-fetch j o s (Store k p t) h e = cc
-none-fetch j o s (Remove k p) h e = cc
-none-fetch j o s WriteBody h e = cc
-none-fetch j o s SyncBody h e = cc
-none-fetch j o s WriteGate h e = cc
-none-fetch j o s SyncGate h e = cc
-none-fetch j o s End h e = cc
+none-fetch j o s y h e = cc
 
 none-work : (o s : ℕ) (y : Action) → IsNoneOf o s y → IsNot (Work o s) y
-none-work o s (Fetch k p t) h e = cc
 none-work o s (Work p t) h e = h ((let f = e in cc), (let f = e in cc))
-none-work o s (Ask k p t) h e = cc
-none-work o s (Store k p t) h e = cc
-none-work o s (Remove k p) h e = cc
-none-work o s WriteBody h e = cc
-none-work o s SyncBody h e = cc
-none-work o s WriteGate h e = cc
-none-work o s SyncGate h e = cc
-none-work o s End h e = cc
+none-work o s y h e = cc
 
 -- ---- what one provider holds after stores
 
@@ -290,16 +258,8 @@ module _ (x : With) (repairs : x.kind ≡ RepairJob) (last : List Given) (j : �
   one-step begin held (Remove k o) actions old mid new given so_far fit order kept did rest h = absurd fit
   one-step begin held (Work o s) actions old mid new given so_far fit order kept (symbols, gives, same, is) rest h =
       still begin held (Work o s) (old j) (mid j) tt refl refl (ap (λ f. f j) same) h
-  one-step begin held WriteBody actions old mid new given so_far fit order kept (same, is) rest h =
-      still begin held WriteBody (old j) (mid j) tt refl refl (ap (λ f. f j) same) h
-  one-step begin held SyncBody actions old mid new given so_far fit order kept (same, is) rest h =
-      still begin held SyncBody (old j) (mid j) tt refl refl (ap (λ f. f j) same) h
-  one-step begin held WriteGate actions old mid new given so_far fit order kept (same, is) rest h =
-      still begin held WriteGate (old j) (mid j) tt refl refl (ap (λ f. f j) same) h
-  one-step begin held SyncGate actions old mid new given so_far fit order kept (same, is) rest h =
-      still begin held SyncGate (old j) (mid j) tt refl refl (ap (λ f. f j) same) h
-  one-step begin held End actions old mid new given so_far fit order kept (same, is) rest h =
-      still begin held End (old j) (mid j) tt refl refl (ap (λ f. f j) same) h
+  one-step begin held a actions old mid new given so_far fit order kept did rest h =
+      still begin held a (old j) (mid j) tt refl refl (ap (λ f. f j) did.0) h
 
   -- what is still to be fetched stays
   kept-on : (begin held : Held) (a : Action) (actions : List Action) → IsBefore a actions →
@@ -320,15 +280,7 @@ module _ (x : With) (repairs : x.kind ≡ RepairJob) (last : List Given) (j : �
               | inr f ↦ f
             ]) ∙ e hit)
       ]
-      one (Store m o s) n e = tt
-      one (Ask m o r) n e = tt
-      one (Work o s) n e = tt
-      one (Remove m o) n e = tt
-      one WriteBody n e = tt
-      one SyncBody n e = tt
-      one WriteGate n e = tt
-      one SyncGate n e = tt
-      one End n e = tt
+      one y n e = tt
 
       all : (xs : List Action) → Each (IsNoneOf p t) xs → Each (IsKeptAt begin held) xs →
           Each (IsKeptAt begin (cond (k == j) (with_block p t (column_at x last j p t) held) held)) xs
@@ -347,15 +299,7 @@ module _ (x : With) (repairs : x.kind ≡ RepairJob) (last : List Given) (j : �
   after-cons : (a : Action) (actions : List Action) (held : Held) →
       after x last j (a ∷ actions) held ≡ after x last j actions (after x last j (a ∷ []) held)
   after-cons (Store k o s) actions held = refl
-  after-cons (Fetch k o s) actions held = refl
-  after-cons (Ask k o r) actions held = refl
-  after-cons (Work o s) actions held = refl
-  after-cons (Remove k o) actions held = refl
-  after-cons WriteBody actions held = refl
-  after-cons SyncBody actions held = refl
-  after-cons WriteGate actions held = refl
-  after-cons SyncGate actions held = refl
-  after-cons End actions held = refl
+  after-cons a actions held = refl
 
   -- all actions of a repair, of a provider that tells
   pub record Told (begin held : Held) (actions : List Action) (p q : Provider) : Type 0 where
@@ -366,8 +310,7 @@ module _ (x : With) (repairs : x.kind ≡ RepairJob) (last : List Given) (j : �
 
   told-on : (begin held : Held) (actions : List Action) (old new : ℕ → Provider) (given : List Given) →
       Each IsRepairing actions → AreOrdered actions → Each (IsKeptAt begin held) actions →
-      Made x actions old new given last → (old j).held ≡ Some held →
-      Told begin held actions (old j) (new j)
+      Made x actions old new given last → (old j).held ≡ Some held → Told begin held actions (old j) (new j)
   told-on begin held [] old new given fit order kept m h = record {
     told = tt;
     held_is = ap (λ (f : ℕ → Provider). (f j).held) m.0 ∙ h;
@@ -394,15 +337,7 @@ module _ (x : With) (repairs : x.kind ≡ RepairJob) (last : List Given) (j : �
     where
       one : (y : Action) → IsKeptAt held held y
       one (Fetch m o s) = λ e. refl
-      one (Store m o s) = tt
-      one (Ask m o r) = tt
-      one (Work o s) = tt
-      one (Remove m o) = tt
-      one WriteBody = tt
-      one SyncBody = tt
-      one WriteGate = tt
-      one SyncGate = tt
-      one End = tt
+      one y = tt
 
       all : (xs : List Action) → Each (IsKeptAt held held) xs
       all [] = tt
@@ -437,12 +372,4 @@ works-opened x (a ∷ actions) old new given last order (mid, so_far, did, rest)
         subst (λ ss. GivesSymbols (object_made x o) s (blocks_given last x.setup.n o s) ss) (sym found)
         (subst (λ bs. GivesSymbols (object_made x o) s bs symbols)
         (λ i. map (λ k. blocks k i) (upto x.setup.n)) gives))
-    one (Fetch k o s) order did = tt
-    one (Store k o s) order did = tt
-    one (Ask k o r) order did = tt
-    one (Remove k o) order did = tt
-    one WriteBody order did = tt
-    one SyncBody order did = tt
-    one WriteGate order did = tt
-    one SyncGate order did = tt
-    one End order did = tt
+    one a order did = tt

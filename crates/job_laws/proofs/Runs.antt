@@ -1,22 +1,5 @@
 -- The job of a command walks to its last step.
-use Rattle.std.proofs.Common.{◌≡◌, ℕ, ◌+◌, ◌==◌, List, [], ◌∷◌, length, Option, Some, None, refl, ap, sym, subst, ◌∙◌, arith}
-use Rattle.std.proofs.lemmas.Bool.{eq-eqb}
-use Rattle.machine_defs.specs.Jobs.{Kind, Job, with_job}
-use Rattle.machine_defs.specs.Actions.{Action, WriteBody, SyncBody, WriteGate, SyncGate, Store, Fetch, Ask, Work, Remove}
-use Rattle.machine_defs.specs.Answers.{Answer}
-use Rattle.machine_defs.specs.Events.{Step, More, Ended, Waiting, IsSpelledKind}
-use Rattle.machine_defs.specs.States.{State, Append, setup_in}
-use Rattle.machine_defs.specs.Begins.{chosen, beginning}
-use Rattle.machine_defs.specs.Appends.{Moves}
-use Rattle.machine_defs.specs.Steps.{next_action, holder_of, Acts}
-use Rattle.machine_defs.specs.Machine.{Happens}
-use Rattle.machine_defs.proofs.JobLists.{cond_true}
-use Rattle.machine_defs.specs.Runs.{Moment, now}
-use Rattle.machine_defs.specs.Heard.{Entry, heard_by}
-use Rattle.opening_defs.specs.Opened.{IsOpenAtRest}
-use Rattle.command_defs.specs.JobRuns.{AreSteps, GoesOnTo, RunsJob}
-use Rattle.lone_laws.specs.Walked.{MayName, WalkedAt}
-use Rattle.lone_laws.proofs.Walk.{walk-begin, walk-step, walk-last, step-acts, found}
+use Rattle.job_laws.proofs.Words.{◌≡◌, ℕ, ◌+◌, ◌==◌, List, [], ◌∷◌, length, Option, Some, None, refl, ap, sym, subst, ◌∙◌, arith, eq-eqb, Kind, Job, with_job, Action, WriteBody, SyncBody, WriteGate, SyncGate, Store, Fetch, Ask, Work, Remove, Answer, Step, More, Ended, Waiting, IsSpelledKind, State, Append, setup_in, chosen, beginning, Moves, next_action, holder_of, Acts, Happens, cond_true, Moment, now, Entry, heard_by, IsOpenAtRest, AreSteps, GoesOnTo, RunsJob, MayName, WalkedAt, walk-begin, walk-step, walk-last, step-acts, found}
 
 -- the last step of a job, and the state and the job before it
 pub record Ends (start : State) (kind : Kind) (own : Option ℕ) (answer : Answer) (heard : List Entry)

@@ -1,11 +1,5 @@
 -- What a job does once its record is written: it takes copies away, and ends.
-use Rattle.std.proofs.Common.{[], ◌∷◌, ◌++◌}
-use Rattle.algebra_laws.specs.Lists.{Each}
-use Rattle.algebra_laws.proofs.Each.{each_append, each_map, each_flat}
-use Rattle.code_defs.specs.Points.{upto}
-use Rattle.record_defs.specs.Records.{Setup}
-use Rattle.machine_defs.specs.Jobs.{Job}
-use Rattle.machine_defs.specs.Actions.{Action, Remove, End, on_each_provider, remove_actions}
+use Rattle.job_laws.proofs.Words.{[], ◌∷◌, ◌++◌, Each, each_append, each_map, each_flat, upto, Setup, Job, Action, Remove, End, on_each_provider, remove_actions}
 
 -- a removal or the end
 abbrev pub IsTail : Action → Type 0

@@ -1,27 +1,7 @@
 -- From the run of a job, as a command tells it, to what it leaves.
-use Rattle.std.proofs.Common.{◌≡◌, ◌≢◌, ℕ, zero, suc, ◌<◌, ◌≤◌, ◌⊎◌, false, List, [], ◌∷◌, ◌++◌, length, Option, None, Some, refl, ap, sym, subst, ◌∙◌, inl, inr, arith}
-use Rattle.std.specs.Prelude.{slice_get, IsSomeAnd}
-use Rattle.std.specs.Option.{option_map}
-use Rattle.std.proofs.lemmas.Bool.{cases_lt, false≢true}
-use Rattle.device_defs.specs.Providers.{Provider}
-use Rattle.device_defs.proofs.Lasting.{each_image-mono}
-use Rattle.record_defs.specs.Records.{Record}
-use Rattle.record_defs.specs.Areas.{Area, StandsActive}
-use Rattle.machine_defs.specs.Jobs.{Kind, PutJob, GetJob, DropJob, AuditJob, RepairJob, UpgradeJob}
-use Rattle.machine_defs.specs.Answers.{Answer}
-use Rattle.machine_defs.specs.Events.{IsSpelledKind}
-use Rattle.machine_defs.specs.Heard.{Entry}
-use Rattle.machine_defs.specs.States.{State, Doubt}
-use Rattle.machine_defs.specs.Stands.{StandsPlain, StandsWithDoubt, StandsSwitched}
-use Rattle.command_defs.specs.Seen.{Seen, nobody, provider_at}
+use Rattle.job_laws.proofs.Words.{◌≡◌, ◌≢◌, ℕ, zero, suc, ◌<◌, ◌≤◌, ◌⊎◌, false, List, [], ◌∷◌, ◌++◌, length, Option, None, Some, refl, ap, sym, subst, ◌∙◌, inl, inr, arith, slice_get, IsSomeAnd, option_map, cases_lt, false≢true, Provider, each_image-mono, Record, Area, StandsActive, Kind, PutJob, GetJob, DropJob, AuditJob, RepairJob, UpgradeJob, Answer, IsSpelledKind, Entry, State, Doubt, StandsPlain, StandsWithDoubt, StandsSwitched, Seen, nobody, provider_at, setup_in_effect, ran_from, ran_alone, AreHanded, IsOpenAtRest, IsJustOpened, RunsJob, Leaves, LeftAlone, RanAlone, RunsAlone, SameOutside, MayName}
 use Rattle.command_defs.specs.Opens as opens
-use Rattle.command_defs.specs.Opens.{setup_in_effect}
-use Rattle.command_defs.specs.Ran.{ran_from, ran_alone}
-use Rattle.opening_defs.specs.Opened.{AreHanded, IsOpenAtRest, IsJustOpened}
 use Rattle.opening_defs.proofs.Opened.{has-setup, state_with, opened-with}
-use Rattle.command_defs.specs.JobRuns.{RunsJob}
-use Rattle.command_defs.specs.Jobs.{Leaves, LeftAlone, RanAlone, RunsAlone, SameOutside}
-use Rattle.lone_laws.specs.Walked.{MayName}
 use Rattle.job_laws.proofs.Runs.{job-ends}
 use Rattle.job_laws.proofs.Keeping.{Keeps, runs-keep, keeps-whole}
 use Rattle.job_laws.proofs.Audits.{audits-leave}
@@ -62,11 +42,10 @@ state-over records faults old R =
 -- ---- what a last state tells
 
 -- each provider is as it is seen, where those beyond the setup's stay
-pub providers-seen : (w last : State) (old new : Seen) (n : ℕ) →
-    w.providers ≡ provider_at old.providers → n ≤ length old.providers →
-    length new.providers ≡ length old.providers → AreHanded new.providers last →
-    ((j : ℕ) → n ≤ j → last.providers j ≡ w.providers j) →
-    (j : ℕ) → last.providers j ≡ provider_at new.providers j
+pub providers-seen : (w last : State) (old new : Seen) (n : ℕ) → w.providers ≡ provider_at old.providers →
+    n ≤ length old.providers → length new.providers ≡ length old.providers → AreHanded new.providers last →
+    ((j : ℕ) → n ≤ j → last.providers j ≡ w.providers j) → (j : ℕ) →
+    last.providers j ≡ provider_at new.providers j
 providers-seen w last old new n first enough same handed others j = elim (cases_lt j (length new.providers)) [
   | inl l ↦ (let e : Some (last.providers j) ≡ Some (provider_at new.providers j) =
       sym (handed.each j l) ∙ get-provider new.providers j l in
@@ -201,13 +180,5 @@ jobs-leave RepairJob None w last moment answer heard spelled named O r =
 jobs-leave UpgradeJob None w last moment answer heard spelled named O r =
     upgrade-leaves w last answer heard O
     (job-ends w last moment UpgradeJob None answer heard O spelled named r)
-jobs-leave (GetJob name) (Some p) w last moment answer heard spelled named O r =
-    absurd (others-name-none (GetJob name) p named (λ n b e. cc))
-jobs-leave (DropJob name) (Some p) w last moment answer heard spelled named O r =
-    absurd (others-name-none (DropJob name) p named (λ n b e. cc))
-jobs-leave AuditJob (Some p) w last moment answer heard spelled named O r =
-    absurd (others-name-none AuditJob p named (λ n b e. cc))
-jobs-leave RepairJob (Some p) w last moment answer heard spelled named O r =
-    absurd (others-name-none RepairJob p named (λ n b e. cc))
-jobs-leave UpgradeJob (Some p) w last moment answer heard spelled named O r =
-    absurd (others-name-none UpgradeJob p named (λ n b e. cc))
+jobs-leave kind (Some p) w last moment answer heard spelled named O r =
+    absurd (others-name-none kind p named (λ n b e. cc))

@@ -1,21 +1,8 @@
 -- What a provider that tells gave a job: what it held, or nothing; and nothing, though something was held, at
 -- most as often as its
 -- count of faults rose.
-use Rattle.std.proofs.Common.{◌≡◌, ℕ, zero, suc, ◌+◌, ◌<◌, ◌≤◌, ◌==◌, ◌&&◌, ◌⊎◌, Bool, true, false, cond, List, [], ◌∷◌, map, Option, None, Some, refl, ap, sym, subst, ◌∙◌, inl, inr, arith, sum_by}
-use Rattle.std.specs.Prelude.{is_some, is_none}
-use Rattle.std.specs.List.{range_with_len}
-use Rattle.std.proofs.lemmas.Bool.{cases_eq, eq-eqb, ne_eqb}
-use Rattle.std.proofs.lemmas.List.Sums.{sum_by-cons}
-use Rattle.algebra_laws.specs.Lists.{Each}
-use Rattle.column_defs.specs.Challenges.{honest_answer}
-use Rattle.device_defs.specs.Faults.{last_count}
-use Rattle.device_defs.specs.Providers.{Held, Provider}
-use Rattle.device_defs.specs.ProviderCalls.{Fetches, Asks, AskGives, FailsToGive}
-use Rattle.machine_defs.specs.Jobs.{Given}
-use Rattle.machine_defs.specs.Actions.{Action, WriteBody, SyncBody, WriteGate, SyncGate, Store, Fetch, Ask, Work, Remove, End}
-use Rattle.machine_defs.specs.Given.{answer_given}
-use Rattle.machine_defs.proofs.JobLists.{cond_true, cond_false}
-use Rattle.lone_laws.specs.Made.{With, challenge_made, CallsOne, Did, Made, object_made}
+use Rattle.job_laws.proofs.Words.{◌≡◌, ℕ, zero, suc, ◌+◌, ◌<◌, ◌≤◌, ◌==◌, ◌&&◌, ◌⊎◌, Bool, true, false, cond, List, [], ◌∷◌, Option, None, Some, refl, ap, sym, subst, ◌∙◌, inl, inr, arith, is_some, is_none, range_with_len, cases_eq, eq-eqb, ne_eqb, sum_by-cons, Each, honest_answer, last_count, Held, Provider, Fetches, Asks, AskGives, FailsToGive, Given, Action, WriteBody, SyncBody, WriteGate, SyncGate, Store, Fetch, Ask, Work, Remove, End, answer_given, cond_true, cond_false, With, challenge_made, CallsOne, Did, Made, object_made}
+use Rattle.std.proofs.Common.{map, sum_by}
 use Rattle.job_laws.proofs.Providers.{Rises, rises-same, rises-more, called-rises, made-keeps}
 use Rattle.job_laws.proofs.Heard.{IsOver, AreDistinct, answer-later, answer-newest}
 
@@ -133,8 +120,7 @@ module _ (x : With) (j : ℕ) (held : Held) (now : List Given) where
 
   one-step : (a : Action) (actions : List Action) (old mid new : ℕ → Provider) (given so_far : List Given) →
       IsQuiet a → IsOver a actions → Did x a old mid given so_far → Made x actions mid new so_far now →
-      (old j).held ≡ Some held →
-      Step x now held j a (old j) (mid j)
+      (old j).held ≡ Some held → Step x now held j a (old j) (mid j)
   one-step (Ask k o r) actions old mid new given so_far quiet over (symbol, called, is) rest h =
       elim (cases_eq k j) [
         | inl hit ↦ ask-step k o r symbol (old j) (mid j) hit
@@ -165,16 +151,8 @@ module _ (x : With) (j : ℕ) (held : Held) (now : List Given) where
   one-step (Remove k o) actions old mid new given so_far quiet over did rest h = absurd quiet
   one-step (Work o s) actions old mid new given so_far quiet over (symbols, gives, still, is) rest h =
       same-step (Work o s) (old j) (mid j) tt refl (ap (λ f. f j) still) h
-  one-step WriteBody actions old mid new given so_far quiet over (still, is) rest h =
-      same-step WriteBody (old j) (mid j) tt refl (ap (λ f. f j) still) h
-  one-step SyncBody actions old mid new given so_far quiet over (still, is) rest h =
-      same-step SyncBody (old j) (mid j) tt refl (ap (λ f. f j) still) h
-  one-step WriteGate actions old mid new given so_far quiet over (still, is) rest h =
-      same-step WriteGate (old j) (mid j) tt refl (ap (λ f. f j) still) h
-  one-step SyncGate actions old mid new given so_far quiet over (still, is) rest h =
-      same-step SyncGate (old j) (mid j) tt refl (ap (λ f. f j) still) h
-  one-step End actions old mid new given so_far quiet over (still, is) rest h =
-      same-step End (old j) (mid j) tt refl (ap (λ f. f j) still) h
+  one-step a actions old mid new given so_far quiet over did rest h =
+      same-step a (old j) (mid j) tt refl (ap (λ f. f j) did.0) h
 
   -- all of them
   pub asks-told : (actions : List Action) (old new : ℕ → Provider) (given : List Given) →

@@ -1,26 +1,7 @@
 -- What an upgrade leaves whose job was the only one.
-use Rattle.std.proofs.Common.{◌≡◌, ℕ, List, [], take, None, Some, refl, ap, sym, subst, ◌∙◌}
-use Rattle.algebra_laws.specs.Lists.{Each}
-use Rattle.algebra_laws.proofs.Each.{each_get, each_take}
-use Rattle.device_defs.specs.Providers.{Provider}
-use Rattle.device_defs.proofs.Lasting.{rose-before}
-use Rattle.machine_defs.specs.Jobs.{UpgradeJob, Given}
-use Rattle.machine_defs.specs.Actions.{Action, WriteBody, SyncBody, WriteGate, SyncGate, Store, Fetch, Ask, Work, Remove, End, actions_of}
+use Rattle.job_laws.proofs.Words.{◌≡◌, ℕ, List, [], take, None, Some, refl, ap, sym, subst, ◌∙◌, Each, each_get, each_take, Provider, rose-before, UpgradeJob, Given, Action, WriteBody, SyncBody, WriteGate, SyncGate, Store, Fetch, Ask, Work, Remove, End, actions_of, Answer, Ended, Entry, heard_by_kind, State, setup_in, ended, Moves, next_action, UpgradeLeaves, Leaves, Ran, ran_from, SameHeld, NoFetches, With, IsOpenAtRest, with_job_of, upgrade-list}
 use Rattle.machine_defs.specs.Answers as answer
-use Rattle.machine_defs.specs.Answers.{Answer}
-use Rattle.machine_defs.specs.Events.{Ended}
-use Rattle.machine_defs.specs.Heard.{Entry, heard_by_kind}
-use Rattle.machine_defs.specs.States.{State, setup_in, ended}
-use Rattle.machine_defs.specs.Appends.{Moves}
 use Rattle.machine_defs.specs.Steps as step
-use Rattle.machine_defs.specs.Steps.{next_action}
-use Rattle.command_defs.specs.Upgrades.{UpgradeLeaves}
-use Rattle.command_defs.specs.Jobs.{Leaves}
-use Rattle.command_defs.specs.Ran.{Ran, ran_from, SameHeld, NoFetches}
-use Rattle.lone_laws.specs.Made.{With}
-use Rattle.opening_defs.specs.Opened.{IsOpenAtRest}
-use Rattle.lone_laws.specs.Walked.{with_job_of}
-use Rattle.lone_laws.proofs.Prefixes.{upgrade-list}
 use Rattle.job_laws.proofs.Runs.{Ends}
 use Rattle.job_laws.proofs.Providers.{Called, made-keeps}
 use Rattle.job_laws.proofs.Leaving.{counts-rise, others-stay}
@@ -58,16 +39,12 @@ module _ (start new : State) (how : Answer) (heard : List Entry) (O : IsOpenAtRe
     where
       one : (a : Action) (given now : List Given) (p q : Provider) → IsStill a →
           Called upgrade_with a given now i p q → q ≡ p
-      one WriteBody given now p q u c = absurd c
-      one SyncBody given now p q u c = absurd c
-      one WriteGate given now p q u c = absurd c
-      one SyncGate given now p q u c = absurd c
-      one End given now p q u c = absurd c
       one (Store k o t) given now p q u c = absurd u
       one (Fetch k o t) given now p q u c = absurd u
       one (Ask k o r) given now p q u c = absurd u
       one (Work o t) given now p q u c = absurd u
       one (Remove k o) given now p q u c = absurd u
+      one a given now p q u c = absurd c
 
   same-held : SameHeld ran
   same-held j l = (last-kept E j).0 ∙ ap (λ (p : Provider). p.held) (kept j)

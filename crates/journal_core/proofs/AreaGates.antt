@@ -1,10 +1,7 @@
 -- One step of reading the text of an area.
-use Rattle.std.proofs.Common.{◌≡◌, ◌≢◌, inl, inr, ℕ, ◌+◌, ◌<◌, ◌≤◌, List, [], ◌∷◌, ◌++◌, length, ◌&&◌, refl, get_or, take, drop, sym, ap, ◌∙◌, arith, append_assoc, take-append-drop, length-take, length-append}
+use Rattle.journal_core.proofs.Words.{◌≢◌, inl, inr, ◌+◌, ◌<◌, ◌≤◌, ◌++◌, length, refl, get_or, take, drop, sym, ap, ◌∙◌, arith, append_assoc, take-append-drop, length-take, length-append, append-nil, drop-drop, drop_at, drop_all, drop_more, take_more, Entry, spelling, Spells, SpellsNone, Area, A, B, base_of, magic_front, area_of, entries, IsSwitched, HoldsIn}
+use Rattle.std.proofs.Common.{◌≡◌, ℕ, List, [], ◌∷◌, ◌&&◌}
 use Rattle.std.proofs.lemmas.Bool.Decides.{nat_tests}
-use Rattle.std.proofs.lemmas.List.{append-nil, drop-drop, drop_at, drop_all, drop_more, take_more}
-use Rattle.record_defs.specs.Records.{Record as Entry}
-use Rattle.record_defs.specs.Spellings.{spelling, Spells, SpellsNone}
-use Rattle.record_defs.specs.Areas.{Area, A, B, base_of, magic_front, area_of, entries, IsSwitched, HoldsIn}
 use Rattle.journal_core.specs.Gates.{IsReadIn, StopsIn}
 
 module _ (bytes : List ℕ) (area : Area) (rs : List Entry) (gate : ℕ) (is : IsReadIn bytes area rs gate) where

@@ -1,12 +1,8 @@
 -- While no byte of the front and of the active text is loose, every image of a disk stands for the records of
 -- that text.
-use Rattle.std.proofs.Common.{◌≡◌, ℕ, zero, suc, List, [], ◌∷◌, length, take, drop, refl, sym, arith}
-use Rattle.device_defs.specs.Cells.{Cells, reads}
-use Rattle.device_defs.specs.Images.{IsImage}
-use Rattle.journal_core.specs.Firm.{AreFirm}
+use Rattle.journal_core.proofs.Words.{length, take, drop, refl, sym, arith, Cells, reads, IsImage, AreFirm, Area, base_of, entries, StandsActive, active_again}
+use Rattle.std.proofs.Common.{◌≡◌, ℕ, zero, suc, List, [], ◌∷◌}
 use Rattle.record_defs.specs.Records.{Record}
-use Rattle.record_defs.specs.Areas.{Area, base_of, entries, StandsActive}
-use Rattle.record_defs.proofs.AreaLaws.{active_again}
 
 -- an image agrees with what is read on the first bytes that are firm
 front_same : (n : ℕ) (cells : Cells) (image : List ℕ) → AreFirm 0 n cells → IsImage cells image →

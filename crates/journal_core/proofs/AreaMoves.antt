@@ -1,22 +1,10 @@
 -- An append in an area: its moves, and what the images of a disk stand for in its course.
-use Rattle.std.proofs.Common.{◌≡◌, ◌≢◌, ◌⊎◌, inl, inr, ℕ, zero, suc, ◌+◌, ◌-◌, ◌≤◌, ◌<◌, min, Bool, true, false, List, [], ◌∷◌, ◌++◌, length, take, drop, replicate, Option, Some, None, Result, Ok, Err, refl, sym, ap, ◌∙◌, subst, arith, length-append, length-take, length-drop}
-use Rattle.std.specs.Prelude.{IsTrue, IfSome, IsErrOf, OnErr}
-use Rattle.std.specs.Option.{option_map}
-use Rattle.std.specs.List.{list_all}
-use Rattle.std.proofs.lemmas.List.{drop-append-le, drop-take, drop-drop}
-use Rattle.stream_model.specs.declared.fault.WriteFault.{WriteFault}
+use Rattle.journal_core.proofs.Words.{◌≢◌, ◌⊎◌, inl, inr, ◌+◌, ◌-◌, ◌≤◌, ◌<◌, min, Bool, true, ◌++◌, length, take, drop, replicate, Option, Some, None, Result, Ok, Err, refl, sym, ap, ◌∙◌, subst, arith, length-append, length-take, length-drop, IsTrue, IfSome, IsErrOf, OnErr, option_map, list_all, drop-append-le, drop-take, drop-drop, WriteFault, Cells, firm, loose, spliced, written, Torn, IsImage, Goes, is_in_grammar, spelling, Area, base_of, entries, HoldsIn, StandsActive, IsClosed, IsAfterMoves, IsGivenUp, IsWrite, cells_after, MayTear, IsNamed, StandsFirm, IsAfterMovesIn, IsGivenUpIn, AllStandIn, MayStandWith}
+use Rattle.std.proofs.Common.{◌≡◌, ℕ, zero, suc, false, List, [], ◌∷◌}
 use Rattle.stream_model.specs.declared.fault.WriteFault.TheVariants as write_fault
-use Rattle.device_defs.specs.Cells.{Cells, firm, loose}
-use Rattle.device_defs.specs.Disks.{spliced, written, Torn}
-use Rattle.device_defs.specs.Images.{IsImage}
-use Rattle.device_defs.specs.Told.{Goes}
-use Rattle.record_defs.specs.Records.{Record, is_in_grammar}
-use Rattle.record_defs.specs.Spellings.{spelling}
-use Rattle.record_defs.specs.Areas.{Area, base_of, entries, HoldsIn, StandsActive}
-use Rattle.journal_core.specs.Moves.{IsAfterMoves, IsGivenUp, IsWrite, cells_after, MayTear}
-use Rattle.journal_core.specs.Texts.{IsNamed, StandsFirm, IsAfterMovesIn, IsGivenUpIn, AllStandIn, MayStandWith}
+use Rattle.record_defs.specs.Records.{Record}
 use Rattle.journal_core.proofs.CellLemmas.{settled}
-use Rattle.journal_core.proofs.MoveLemmas.{IfSome-mapped, IfSome-goes, IfSome-same, body_written, gate_written, body_failed, gate_failed, synced}
+use Rattle.journal_core.proofs.MoveLemmas.{IfSome-mapped, IfSome-goes, IfSome-same, body_written, gate_written, body_torn, gate_torn, synced}
 use Rattle.journal_core.proofs.ImageLemmas.{ended-text, old-text, given-text, either-after, either-given}
 use Rattle.journal_core.proofs.AreaStands.{firm-image}
 use Rattle.journal_core.proofs.Splices.{splice-written, splice-torn, drop-settled}
@@ -147,10 +135,8 @@ module _ (area : Area) (rs : List Record) where
           named = named-below area (base + (length front + 1)) (length body) old new
               (splice-torn (base + (length front + 1)) (length body) old new here)
               (behind-front (length front + 1)) h.named;
-          text = body_failed front body (length body) write_fault.Failed (Some (drop base old))
-              (Some (drop base new))
-              (λ e. torn-drop base (length front + 1) (length body) old new (within 0 old h) here)
-              (λ e. absurd (let x : write_fault.Failed ≡ write_fault.Memory = e in cc)) h.text;
+          text = body_torn front body (length body) (drop base old) (drop base new) h.text
+              (torn-drop base (length front + 1) (length body) old new (within 0 old h) here);
         }
 
     third-torn : (old new : Cells) → IsAfterMovesIn 2 area rs body old → Torn gate 1 old new →
@@ -160,93 +146,61 @@ module _ (area : Area) (rs : List Record) where
         record {
           named = named-below area (base + length front) 1 old new
               (splice-torn (base + length front) 1 old new here) (behind-front (length front)) h.named;
-          text = gate_failed front body write_fault.Failed (Some (drop base old)) (Some (drop base new))
-              (λ e. torn-drop base (length front) 1 old new (within 2 old h) here)
-              (λ e. absurd (let x : write_fault.Failed ≡ write_fault.Memory = e in cc)) h.text;
+          text = inr (gate_torn front body (drop base old) (drop base new) h.text
+              (torn-drop base (length front) 1 old new (within 2 old h) here));
         }
+
+    -- a move is made
+    made-in : (m : ℕ) → m < 4 → (cells : Cells) → IsAfterMovesIn m area rs body cells →
+        IsAfterMovesIn (m + 1) area rs body (cells_after m gate body cells)
+    made-in zero few cells h = in-first cells h
+    made-in (suc zero) few cells h =
+        in-sync 1 (λ e. omega (arith, e)) (λ e. omega (arith, e)) (omega arith) cells h
+    made-in (suc (suc zero)) few cells h = in-third cells h
+    made-in (suc (suc (suc zero))) few cells h =
+        in-sync 3 (λ e. omega (arith, e)) (λ e. omega (arith, e)) (omega arith) cells h
+    made-in (suc (suc (suc (suc n)))) few cells h = absurd (omega (arith, few))
+
+    -- a move failed
+    torn-in : (m : ℕ) → m < 4 → (old new : Cells) → IsAfterMovesIn m area rs body old →
+        MayTear m gate body old new → IsGivenUpIn m area rs body new
+    torn-in zero few old new h torn = first-torn old new h torn
+    torn-in (suc zero) few old new h same = subst (IsGivenUpIn 1 area rs body) (sym same)
+        (record { named = h.named; text = (h.text.0, loose body ++ h.text.1, h.text.2, h.text.3) })
+    torn-in (suc (suc zero)) few old new h torn = third-torn old new h torn
+    torn-in (suc (suc (suc zero))) few old new h same = subst (IsGivenUpIn 3 area rs body) (sym same)
+        (record { named = h.named; text = inr (1, h.text.0, h.text.1) })
+    torn-in (suc (suc (suc (suc n)))) few old new h torn = absurd (omega (arith, few))
+
+    -- in front of a write the gate is closed
+    closed-in : (m : ℕ) → IsWrite m → (cells : Cells) → IsAfterMovesIn m area rs body cells →
+        IsClosed front (drop base cells)
+    closed-in zero w cells h = h.text
+    closed-in (suc zero) w cells h = absurd (elim w [ inl e ↦ omega (arith, e) | inr e ↦ omega (arith, e) ])
+    closed-in (suc (suc zero)) w cells h = (h.text.0, firm body ++ h.text.1, h.text.2, h.text.3)
+    closed-in (suc (suc (suc n))) w cells h =
+        absurd (elim w [ inl e ↦ omega (arith, e) | inr e ↦ omega (arith, e) ])
+
+    closed-given : (m : ℕ) (cells : Cells) → IsClosed front cells → IsGivenUp m front body cells
+    closed-given zero cells shut = shut
+    closed-given (suc zero) cells shut = shut
+    closed-given (suc (suc n)) cells shut = inl shut
 
     -- ---- where the disk tells its cells
 
-    -- a move is made
     pub moved-in : (m : ℕ) → m < 4 → (old new : Option Cells) → new ≡ option_map (cells_after m gate body) old →
         IfSome old (IsAfterMovesIn m area rs body) → IfSome new (IsAfterMovesIn (m + 1) area rs body)
-    moved-in zero few old new is held = IfSome-mapped (IsAfterMovesIn 0 area rs body)
-        (IsAfterMovesIn 1 area rs body) (written (gate + 1) body) in-first old new is held
-    moved-in (suc zero) few old new is held = IfSome-mapped (IsAfterMovesIn 1 area rs body)
-        (IsAfterMovesIn 2 area rs body) settled (in-sync 1 (λ e. omega (arith, e)) (λ e. omega (arith, e))
-        (omega arith)) old new is held
-    moved-in (suc (suc zero)) few old new is held = IfSome-mapped (IsAfterMovesIn 2 area rs body)
-        (IsAfterMovesIn 3 area rs body) (written gate (1 ∷ [])) in-third old new is held
-    moved-in (suc (suc (suc zero))) few old new is held = IfSome-mapped (IsAfterMovesIn 3 area rs body)
-        (IsAfterMovesIn 4 area rs body) settled (in-sync 3 (λ e. omega (arith, e)) (λ e. omega (arith, e))
-        (omega arith)) old new is held
-    moved-in (suc (suc (suc (suc n)))) few old new is held = absurd (omega (arith, few))
-
-    -- a move failed
-    torn-in : (m : ℕ) → m < 4 → (old new : Option Cells) → Goes (MayTear m gate body) old new →
-        IfSome old (IsAfterMovesIn m area rs body) → IfSome new (IsGivenUpIn m area rs body)
-    torn-in zero few old new goes held = IfSome-goes (IsAfterMovesIn 0 area rs body)
-        (IsGivenUpIn 0 area rs body) (Torn (gate + 1) (length body)) first-torn old new goes held
-    torn-in (suc zero) few old new goes held = IfSome-goes (IsAfterMovesIn 1 area rs body)
-        (IsGivenUpIn 1 area rs body) (λ o w. w ≡ o)
-        (λ o w h same. subst (IsGivenUpIn 1 area rs body) (sym same) (record {
-          named = h.named;
-          text = (h.text.0, loose body ++ h.text.1, h.text.2, h.text.3);
-        })) old new goes held
-    torn-in (suc (suc zero)) few old new goes held = IfSome-goes (IsAfterMovesIn 2 area rs body)
-        (IsGivenUpIn 2 area rs body) (Torn gate 1) third-torn old new goes held
-    torn-in (suc (suc (suc zero))) few old new goes held = IfSome-goes (IsAfterMovesIn 3 area rs body)
-        (IsGivenUpIn 3 area rs body) (λ o w. w ≡ o)
-        (λ o w h same. subst (IsGivenUpIn 3 area rs body) (sym same)
-        (record { named = h.named; text = inr (1, h.text.0, h.text.1) })) old new goes held
-    torn-in (suc (suc (suc (suc n)))) few old new goes held = absurd (omega (arith, few))
-
-    -- a write found no memory
-    still-in : (m : ℕ) → IsWrite m → (old new : Option Cells) → new ≡ old →
-        IfSome old (IsAfterMovesIn m area rs body) → IfSome new (IsGivenUpIn m area rs body)
-    still-in zero w old new same held = IfSome-same (IsAfterMovesIn 0 area rs body)
-        (IsGivenUpIn 0 area rs body) (λ cells h. record { named = h.named; text = h.text }) old new same held
-    still-in (suc zero) w old new same held =
-        absurd (elim w [ inl e ↦ omega (arith, e) | inr e ↦ omega (arith, e) ])
-    still-in (suc (suc zero)) w old new same held = IfSome-same (IsAfterMovesIn 2 area rs body)
-        (IsGivenUpIn 2 area rs body)
-        (λ cells h. record {
-          named = h.named;
-          text = inl (h.text.0, firm body ++ h.text.1, h.text.2, h.text.3);
-        }) old new same held
-    still-in (suc (suc (suc n))) w old new same held =
-        absurd (elim w [ inl e ↦ omega (arith, e) | inr e ↦ omega (arith, e) ])
+    moved-in m few = IfSome-mapped (IsAfterMovesIn m area rs body) (IsAfterMovesIn (m + 1) area rs body)
+        (cells_after m gate body) (made-in m few)
 
     -- want of memory leaves the text before the record firm
     pub kept-in : IsTrue (list_all is_in_grammar rs) → (m : ℕ) → IsWrite m → (old new : Option Cells) →
         new ≡ old → IfSome old (IsAfterMovesIn m area rs body) → IfSome new (StandsFirm area rs)
-    kept-in all zero w old new same held = IfSome-same (IsAfterMovesIn 0 area rs body) (StandsFirm area rs)
-        (λ cells h. record {
+    kept-in all m w = IfSome-same (IsAfterMovesIn m area rs body) (StandsFirm area rs)
+        (λ cells h. (let shut = closed-in m w cells h in record {
           named = h.named;
-          text = record {
-            in_grammar = all;
-            gate = h.text.0;
-            rest = h.text.1;
-            closed = h.text.2;
-            cells_are = h.text.3;
-          };
-        }) old new same held
-    kept-in all (suc zero) w old new same held =
-        absurd (elim w [ inl e ↦ omega (arith, e) | inr e ↦ omega (arith, e) ])
-    kept-in all (suc (suc zero)) w old new same held =
-        IfSome-same (IsAfterMovesIn 2 area rs body) (StandsFirm area rs)
-        (λ cells h. record {
-          named = h.named;
-          text = record {
-            in_grammar = all;
-            gate = h.text.0;
-            rest = firm body ++ h.text.1;
-            closed = h.text.2;
-            cells_are = h.text.3;
-          };
-        }) old new same held
-    kept-in all (suc (suc (suc n))) w old new same held =
-        absurd (elim w [ inl e ↦ omega (arith, e) | inr e ↦ omega (arith, e) ])
+          text = record { in_grammar = all; gate = shut.0; rest = shut.1; closed = shut.2; cells_are = shut.3 };
+        }))
 
     -- a fault of a move
     pub given-up-in : {T : Type 0} (r : Result T WriteFault) (m : ℕ) → m < 4 → (old new : Option Cells) →
@@ -255,9 +209,13 @@ module _ (area : Area) (rs : List Record) where
         IfSome old (IsAfterMovesIn m area rs body) → OnErr r (IfSome new (IsGivenUpIn m area rs body))
     given-up-in (Ok x) m few old new torn memory writes held = tt
     given-up-in (Err write_fault.Failed) m few old new torn memory writes held =
-        torn-in m few old new (torn refl) held
+        IfSome-goes (IsAfterMovesIn m area rs body) (IsGivenUpIn m area rs body) (MayTear m gate body)
+        (torn-in m few) old new (torn refl) held
     given-up-in (Err write_fault.Memory) m few old new torn memory writes held =
-        still-in m (writes refl) old new (memory refl) held
+        IfSome-same (IsAfterMovesIn m area rs body) (IsGivenUpIn m area rs body) (λ cells h. record {
+          named = h.named;
+          text = closed-given m (drop base cells) (closed-in m (writes refl) cells h);
+        }) old new (memory refl) held
 
 -- ---- images
 

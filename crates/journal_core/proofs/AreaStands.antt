@@ -1,11 +1,7 @@
 -- What the images of a disk stand for whose text of an area is firm.
-use Rattle.std.proofs.Common.{ℕ, false, List, [], ◌∷◌, ◌++◌, drop, sym, ap, ◌∙◌, take-append-drop}
-use Rattle.std.proofs.lemmas.List.{map-append, drop-map}
-use Rattle.device_defs.specs.Cells.{Cells, firm}
-use Rattle.device_defs.specs.Images.{IsImage}
+use Rattle.journal_core.proofs.Words.{◌++◌, drop, sym, ap, ◌∙◌, take-append-drop, map-append, drop-map, Cells, firm, IsImage, Area, base_of, magic_front, entries, IsSwitched, StandsActive, IsNamed, StandsFirm}
+use Rattle.std.proofs.Common.{ℕ, false, List, [], ◌∷◌}
 use Rattle.record_defs.specs.Records.{Record}
-use Rattle.record_defs.specs.Areas.{Area, base_of, magic_front, entries, IsSwitched, StandsActive}
-use Rattle.journal_core.specs.Texts.{IsNamed, StandsFirm}
 use Rattle.journal_core.proofs.Texts.{text-image, named-image}
 
 -- while the name and the text of an area are firm, each image stands for its records

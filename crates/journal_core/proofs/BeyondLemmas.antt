@@ -1,15 +1,6 @@
 -- What is read past a write, and past a write that failed.
-use Rattle.std.proofs.Common.{◌≡◌, ℕ, ◌+◌, ◌-◌, ◌≤◌, min, true, List, ◌++◌, length, take, drop, replicate, Option, Some, None, refl, sym, ap, ◌∙◌, subst, arith, length-append, length-take}
-use Rattle.std.specs.Option.{option_map}
-use Rattle.std.proofs.lemmas.List.{drop-drop, length-map, length-replicate, drop-map}
-use Rattle.std.proofs.Math.Seq.{drop-append-add}
-use Rattle.stream_model.specs.declared.fault.WriteFault.{WriteFault}
-use Rattle.stream_model.specs.declared.fault.WriteFault.TheVariants as write_fault
-use Rattle.device_defs.specs.Cells.{Cells, reads, loose}
-use Rattle.device_defs.specs.Disks.{spliced, written, Torn}
-use Rattle.device_defs.specs.Told.{Goes}
-use Rattle.device_defs.proofs.Lasting.{reads-firm}
-use Rattle.journal_core.specs.Moves.{SameFrom}
+use Rattle.journal_core.proofs.Words.{◌+◌, ◌-◌, ◌≤◌, min, true, ◌++◌, length, take, drop, replicate, Option, Some, None, refl, sym, ap, ◌∙◌, subst, arith, length-append, length-take, option_map, drop-drop, length-map, length-replicate, drop-map, drop-append-add, Cells, reads, loose, spliced, written, Torn, Goes, reads-firm, SameFrom}
+use Rattle.std.proofs.Common.{◌≡◌, ℕ, List}
 use Rattle.journal_core.proofs.CellLemmas.{settled}
 
 -- past all that was put in place
@@ -34,7 +25,8 @@ pub size_of : (k : ℕ) (bytes : List ℕ) → length (loose (replicate k 0 ++ b
 size_of k bytes = length-map (replicate k 0 ++ bytes) (λ b. (b, true)) ∙ length-append (replicate k 0) bytes
     ∙ ap (λ (m : ℕ). m + length bytes) (length-replicate k 0)
 
-written_same : (end at : ℕ) (bytes : List ℕ) (old : Cells) → at + length bytes ≤ end →
+-- a write that ends at or before a place changes nothing from that place on
+pub written_same : (end at : ℕ) (bytes : List ℕ) (old : Cells) → at + length bytes ≤ end →
     SameFrom end old (written at bytes old)
 written_same end at bytes old past =
     let size : length (loose (replicate (at - length old) 0 ++ bytes)) ≡ at - length old + length bytes =
@@ -44,25 +36,29 @@ written_same end at bytes old past =
     same_cells end old _ (drop-spliced end (min at (length old))
     (loose (replicate (at - length old) 0 ++ bytes)) old (omega arith) ends)
 
-torn_same : (end at n : ℕ) (old new : Cells) → at + n ≤ end → Torn at n old new → SameFrom end old new
+-- nor does one that failed
+pub torn_same : (end at n : ℕ) (old new : Cells) → at + n ≤ end → Torn at n old new → SameFrom end old new
 torn_same end at n old new past torn =
     let size : length (loose torn.bytes) ≡ length torn.bytes = length-map torn.bytes (λ b. (b, true)) in
     same_cells end old new (ap (λ (c : Cells). drop end c) torn.held
     ∙ drop-spliced end (min at (length old)) (loose torn.bytes) old (omega arith)
     (omega (arith, size, torn.no_longer)))
 
-settled_same : (end : ℕ) (old : Cells) → SameFrom end old (settled old)
+-- nor does a sync
+pub settled_same : (end : ℕ) (old : Cells) → SameFrom end old (settled old)
 settled_same end old = ap (λ (l : List ℕ). drop end l) (reads-firm (reads old))
 
 -- ---- where the disk tells its cells
 
-goes_mapped : (R : Cells → Cells → Type 0) (f : Cells → Cells) → ((cells : Cells) → R cells (f cells)) →
+-- a disk goes as its cells do
+pub goes_mapped : (R : Cells → Cells → Type 0) (f : Cells → Cells) → ((cells : Cells) → R cells (f cells)) →
     (old new : Option Cells) → new ≡ option_map f old → Goes R old new
 goes_mapped R f step None new is = subst (λ (o : Option Cells). Goes R None o) (sym is) tt
 goes_mapped R f step (Some cells) new is =
     subst (λ (o : Option Cells). Goes R (Some cells) o) (sym is) (step cells)
 
-goes_on : (R S : Cells → Cells → Type 0) → ((old new : Cells) → R old new → S old new) →
+-- what follows from how the cells go
+pub goes_on : (R S : Cells → Cells → Type 0) → ((old new : Cells) → R old new → S old new) →
     (old new : Option Cells) → Goes R old new → Goes S old new
 goes_on R S step None None goes = tt
 goes_on R S step None (Some new) goes = goes
@@ -74,22 +70,3 @@ pub goes_still : (end : ℕ) (old new : Option Cells) → new ≡ old → Goes (
 goes_still end None new is = subst (λ (o : Option Cells). Goes (SameFrom end) None o) (sym is) tt
 goes_still end (Some cells) new is =
     subst (λ (o : Option Cells). Goes (SameFrom end) (Some cells) o) (sym is) refl
-
--- a write that ends at or before a place changes nothing from that place on
-pub written_beyond : (end at : ℕ) (bytes : List ℕ) (old new : Option Cells) → at + length bytes ≤ end →
-    new ≡ option_map (written at bytes) old → Goes (SameFrom end) old new
-written_beyond end at bytes old new past is =
-    goes_mapped (SameFrom end) (written at bytes) (λ cells. written_same end at bytes cells past) old new is
-
--- a write that failed, of a range up to a place, changes nothing from that place on
-pub failed_beyond : (end at n : ℕ) (fault : WriteFault) (old new : Option Cells) → at + n ≤ end →
-    (fault ≡ write_fault.Failed → Goes (Torn at n) old new) → (fault ≡ write_fault.Memory → new ≡ old) →
-    Goes (SameFrom end) old new
-failed_beyond end at n write_fault.Failed old new past failed memory =
-    goes_on (Torn at n) (SameFrom end) (λ o w t. torn_same end at n o w past t) old new (failed refl)
-failed_beyond end at n write_fault.Memory old new past failed memory = goes_still end old new (memory refl)
-
--- a sync changes nothing from any place on
-pub synced_beyond : (end : ℕ) (old new : Option Cells) → new ≡ option_map settled old →
-    Goes (SameFrom end) old new
-synced_beyond end old new is = goes_mapped (SameFrom end) settled (settled_same end) old new is

@@ -1,11 +1,6 @@
 -- Writes and syncs of a disk whose front is known.
-use Rattle.std.proofs.Common.{◌≡◌, ℕ, ◌+◌, ◌-◌, min, Bool, true, false, List, [], ◌∷◌, ◌++◌, length, drop, replicate, refl, sym, ap, ◌∙◌, arith, length-append}
-use Rattle.std.proofs.lemmas.List.{take_at, map-append, length-map}
-use Rattle.std.proofs.Math.Seq.{drop-append-add}
-use Rattle.device_defs.specs.Cells.{Cells, reads, firm, loose}
-use Rattle.device_defs.specs.Images.{IsImage}
-use Rattle.device_defs.specs.Disks.{spliced, written, Torn}
-use Rattle.device_defs.proofs.Lasting.{reads-firm}
+use Rattle.journal_core.proofs.Words.{◌+◌, ◌-◌, min, Bool, true, ◌++◌, length, drop, replicate, refl, sym, ap, ◌∙◌, arith, length-append, take_at, map-append, length-map, drop-append-add, Cells, reads, firm, loose, IsImage, spliced, written, Torn, reads-firm}
+use Rattle.std.proofs.Common.{◌≡◌, ℕ, false, List, [], ◌∷◌}
 use Rattle.device_defs.proofs.WriteLaws.{reads-loose}
 
 spliced-behind : {X : Type 0} (front new rest : List X) (at : ℕ) → at ≡ length front →

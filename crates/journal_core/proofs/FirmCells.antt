@@ -1,8 +1,6 @@
 -- Cells of which none is loose.
 use Rattle.std.specs.Prelude.{◌≡◌, ℕ, zero, suc, false, List, [], ◌∷◌}
-use Rattle.std.proofs.Common.{refl}
-use Rattle.device_defs.specs.Cells.{firm, is_loose_at}
-use Rattle.journal_core.specs.Firm.{AreFirm}
+use Rattle.journal_core.proofs.Words.{refl, firm, is_loose_at, AreFirm}
 
 -- no place of firm bytes is loose
 none-loose : (bytes : List ℕ) (k : ℕ) → is_loose_at (firm bytes) k ≡ false

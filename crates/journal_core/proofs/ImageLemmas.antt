@@ -1,16 +1,9 @@
 -- What the images of a disk hold in an area in the course of an append there.
-use Rattle.std.proofs.Common.{◌≡◌, ◌≢◌, ◌⊎◌, inl, inr, ℕ, zero, suc, ◌<◌, Bool, true, false, List, [], ◌∷◌, ◌++◌, drop, sym, ap, ◌∙◌, subst, arith, lit<, append_assoc}
-use Rattle.std.specs.Prelude.{IsTrue, ◌&&◌}
-use Rattle.std.specs.List.{list_all}
+use Rattle.journal_core.proofs.Words.{◌≢◌, ◌⊎◌, inl, inr, ◌<◌, Bool, true, ◌++◌, drop, sym, ap, ◌∙◌, subst, arith, lit<, append_assoc, IsTrue, list_all, map-append, Cells, firm, loose, IsImage, is_in_grammar, spelling, Area, base_of, entries, HoldsIn, IsClosed, IsInDoubt, IsAfterMoves, IsGivenUp, HasText}
+use Rattle.std.proofs.Common.{◌≡◌, ℕ, zero, suc, false, List, [], ◌∷◌}
+use Rattle.std.specs.Prelude.{◌&&◌}
 use Rattle.std.proofs.lemmas.Bool.{cases_eq}
-use Rattle.std.proofs.lemmas.List.{map-append}
-use Rattle.device_defs.specs.Cells.{Cells, firm, loose}
-use Rattle.device_defs.specs.Images.{IsImage}
-use Rattle.record_defs.specs.Records.{Record, is_in_grammar}
-use Rattle.record_defs.specs.Spellings.{spelling}
-use Rattle.record_defs.specs.Areas.{Area, base_of, entries, HoldsIn}
-use Rattle.journal_core.specs.Moves.{IsClosed, IsInDoubt, IsAfterMoves, IsGivenUp}
-use Rattle.journal_core.specs.Texts.{HasText}
+use Rattle.record_defs.specs.Records.{Record}
 use Rattle.journal_core.proofs.CellLemmas.{IsImage-firm}
 use Rattle.journal_core.proofs.Splices.{IsImage-drop}
 use Rattle.journal_core.proofs.Texts.{text-image}

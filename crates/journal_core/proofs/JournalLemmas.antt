@@ -1,10 +1,7 @@
 -- Records as they are read, and a body as it is kept.
-use Rattle.std.proofs.Common.{◌≡◌, ℕ, suc, ◌+◌, ◌-◌, ◌≤◌, List, [], ◌∷◌, ◌++◌, length, take, drop, map, replicate, ap, ◌∙◌, arith}
-use Rattle.std.specs.Prelude.{reverse}
-use Rattle.std.proofs.lemmas.List.{drop-replicate, map-append, reverse-append}
-use Rattle.std.proofs.Math.Seq.{take-append-add}
+use Rattle.journal_core.proofs.Words.{◌+◌, ◌-◌, ◌≤◌, ◌++◌, length, take, drop, map, replicate, ap, ◌∙◌, arith, reverse, drop-replicate, map-append, reverse-append, take-append-add, entry_of}
+use Rattle.std.proofs.Common.{◌≡◌, ℕ, suc, List, [], ◌∷◌}
 use Rattle.record_codec.specs.declared.records.Record.{Record}
-use Rattle.record_codec.specs.Entries.{entry_of}
 use Rattle.journal_core.specs.Lists.{newest_first}
 
 -- one record more is the newest

@@ -1,13 +1,8 @@
 -- What bytes stand for is one list of records, in one area.
-use Rattle.std.proofs.Common.{◌≡◌, ◌≢◌, ◌⊎◌, inl, inr, ℕ, true, ◌&&◌, List, [], ◌∷◌, ◌++◌, length, drop, refl, sym, ap, ◌∙◌, subst, arith, append_assoc, length-append}
-use Rattle.std.specs.Prelude.{reverse}
-use Rattle.std.specs.List.{list_all}
-use Rattle.std.proofs.lemmas.List.{append-nil, reverse-append, reverse-reverse}
+use Rattle.journal_core.proofs.Words.{◌≢◌, ◌⊎◌, inl, inr, true, ◌++◌, length, drop, refl, sym, ap, ◌∙◌, subst, arith, append_assoc, length-append, reverse, list_all, append-nil, reverse-append, reverse-reverse, is_in_grammar, spelling, Spells, SpellsNone, StandsFor, Area, base_of, magic_front, area_of, entries, IsSwitched, HoldsIn, StandsActive, EndsIn, BreaksIn, IsBadAt}
+use Rattle.std.proofs.Common.{◌≡◌, ℕ, ◌&&◌, List, [], ◌∷◌}
 use Rattle.std.proofs.lemmas.List.Folds.{list_all-append}
-use Rattle.record_defs.specs.Records.{Record, is_in_grammar}
-use Rattle.record_defs.specs.Spellings.{spelling, Spells, SpellsNone}
-use Rattle.record_defs.specs.Journal.{StandsFor}
-use Rattle.record_defs.specs.Areas.{Area, base_of, magic_front, area_of, entries, IsSwitched, HoldsIn, StandsActive, EndsIn, BreaksIn, IsBadAt}
+use Rattle.record_defs.specs.Records.{Record}
 use Rattle.record_codec.proofs.Takes.{one_front}
 
 -- records in the order of writing, each behind an open gate

@@ -1,14 +1,6 @@
 -- The moves of an append, one after the other.
-use Rattle.std.proofs.Common.{◌≡◌, ◌≢◌, inl, inr, ℕ, zero, suc, ◌+◌, ◌<◌, Bool, true, false, List, [], ◌∷◌, ◌++◌, length, drop, Option, Some, None, Result, Ok, Err, refl, sym, ap, ◌∙◌, subst, arith, append_assoc, length-append}
-use Rattle.std.specs.Prelude.{IfSome, OnErr}
-use Rattle.std.specs.Option.{option_map}
-use Rattle.std.proofs.lemmas.List.{length-map}
-use Rattle.stream_model.specs.declared.fault.WriteFault.{WriteFault}
-use Rattle.stream_model.specs.declared.fault.WriteFault.TheVariants as write_fault
-use Rattle.device_defs.specs.Cells.{Cells, firm, loose}
-use Rattle.device_defs.specs.Disks.{written, Torn}
-use Rattle.device_defs.specs.Told.{Goes}
-use Rattle.journal_core.specs.Moves.{IsClosed, IsInDoubt, IsInDoubtOrClosed, IsAfterMoves}
+use Rattle.journal_core.proofs.Words.{◌≢◌, ◌+◌, ◌<◌, Bool, true, ◌++◌, length, drop, Option, Some, None, Result, Ok, Err, refl, sym, ap, ◌∙◌, subst, arith, append_assoc, length-append, IfSome, OnErr, option_map, length-map, Cells, firm, loose, written, Torn, Goes, IsClosed, IsInDoubt, IsAfterMoves}
+use Rattle.std.proofs.Common.{◌≡◌, ℕ, zero, suc, false, List, [], ◌∷◌}
 use Rattle.journal_core.proofs.CellLemmas.{written-behind, torn-behind, torn_gate, settled, settled-append, settled-firm, settled-loose}
 
 -- what a disk tells after a call, if it tells
@@ -56,7 +48,8 @@ module _ (front body : List ℕ) where
             ∙ sym (regroup (gate, false) (loose body ++ drop (length body) rest)),
       )
 
-  body_torn : (n : ℕ) (cells new : Cells) → IsClosed front cells → Torn (length front + 1) n cells new →
+  -- where that write failed, the gate is closed as before
+  pub body_torn : (n : ℕ) (cells new : Cells) → IsClosed front cells → Torn (length front + 1) n cells new →
       IsClosed front new
   body_torn n cells new (gate, rest, shut, is) torn =
       let long : length front + 1 ≡ length (firm front ++ ((gate, false) ∷ [])) =
@@ -75,7 +68,8 @@ module _ (front body : List ℕ) where
         (1 ∷ []),
   )
 
-  gate_torn : (cells new : Cells) → IsAfterMoves 2 front body cells → Torn (length front) 1 cells new →
+  -- a gate whose write failed is in doubt
+  pub gate_torn : (cells new : Cells) → IsAfterMoves 2 front body cells → Torn (length front) 1 cells new →
       IsInDoubt front body new
   gate_torn cells new (gate, rest, shut, is) torn =
       let after = torn_gate (firm front) (firm body ++ rest) (gate, false) (length front) new (sym size)
@@ -119,28 +113,6 @@ module _ (front body : List ℕ) where
       IfSome-mapped (IsAfterMoves 3 front body) (IsAfterMoves 4 front body) settled gate_synced old new is
       held
   synced (suc (suc (suc (suc n)))) no_start no_gate few old new is held = absurd (omega arith)
-
-  -- a failed write of the body or of the gate
-  pub body_failed : (n : ℕ) (fault : WriteFault) (old new : Option Cells) →
-      (fault ≡ write_fault.Failed → Goes (Torn (length front + 1) n) old new) →
-      (fault ≡ write_fault.Memory → new ≡ old) → IfSome old (IsClosed front) → IfSome new (IsClosed front)
-  body_failed n write_fault.Failed old new failed memory held =
-      IfSome-goes (IsClosed front) (IsClosed front) (Torn (length front + 1) n) (body_torn n) old new
-      (failed refl) held
-  body_failed n write_fault.Memory old new failed memory held =
-      IfSome-same (IsClosed front) (IsClosed front) (λ cells h. h) old new (memory refl) held
-
-  -- a gate whose write failed is in doubt, or closed as before
-  pub gate_failed : (fault : WriteFault) (old new : Option Cells) →
-      (fault ≡ write_fault.Failed → Goes (Torn (length front) 1) old new) →
-      (fault ≡ write_fault.Memory → new ≡ old) → IfSome old (IsAfterMoves 2 front body) →
-      IfSome new (IsInDoubtOrClosed front body)
-  gate_failed write_fault.Failed old new failed memory held =
-      IfSome-goes (IsAfterMoves 2 front body) (IsInDoubtOrClosed front body) (Torn (length front) 1)
-      (λ c n h t. inr (gate_torn c n h t)) old new (failed refl) held
-  gate_failed write_fault.Memory old new failed memory held =
-      IfSome-same (IsAfterMoves 2 front body) (IsInDoubtOrClosed front body)
-      (λ cells h. inl (h.0, firm body ++ h.1, h.2, h.3)) old new (memory refl) held
 
 -- a statement that holds anyway holds on an Err
 pub on_err : {T E : Type 0} (r : Result T E) (P : Type 0) → P → OnErr r P

@@ -1,10 +1,6 @@
 -- A write, and a write that failed, as cells put in place of others.
-use Rattle.std.proofs.Common.{◌≡◌, ℕ, zero, suc, ◌+◌, ◌-◌, ◌≤◌, min, true, false, List, [], ◌∷◌, ◌++◌, length, take, drop, replicate, refl, sym, ap, ◌∙◌, arith, append_assoc, length-append, length-take, length-drop}
-use Rattle.std.proofs.lemmas.List.{map-append, length-map, length-replicate, drop-append-le, drop-take, drop_at, drop-map}
-use Rattle.std.proofs.Math.Seq.{take-append-add}
-use Rattle.device_defs.specs.Cells.{Cells, reads, firm, loose}
-use Rattle.device_defs.specs.Disks.{spliced, written, Torn}
-use Rattle.device_defs.specs.Images.{IsImage}
+use Rattle.journal_core.proofs.Words.{◌+◌, ◌-◌, ◌≤◌, min, true, ◌++◌, length, take, drop, replicate, refl, sym, ap, ◌∙◌, arith, append_assoc, length-append, length-take, length-drop, map-append, length-map, length-replicate, drop-append-le, drop-take, drop_at, drop-map, take-append-add, Cells, reads, firm, loose, spliced, written, Torn, IsImage}
+use Rattle.std.proofs.Common.{◌≡◌, ℕ, zero, suc, false, List, [], ◌∷◌}
 use Rattle.journal_core.proofs.BeyondLemmas.{drop-spliced, size_of}
 use Rattle.journal_core.proofs.CellLemmas.{settled}
 

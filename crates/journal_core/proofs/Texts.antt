@@ -1,16 +1,9 @@
 -- The text of an area on cells: what of it stays under a write, a sync and a stop.
-use Rattle.std.proofs.Common.{◌≡◌, ◌≢◌, ℕ, ◌+◌, ◌≤◌, Bool, true, false, List, [], ◌∷◌, ◌++◌, length, take, drop, refl, sym, ap, ◌∙◌, subst, arith, append_assoc, length-append}
-use Rattle.std.specs.Prelude.{IsTrue}
-use Rattle.std.specs.List.{list_all}
-use Rattle.std.proofs.lemmas.List.{map-append, length-map}
-use Rattle.device_defs.specs.Cells.{Cells, firm, loose}
-use Rattle.device_defs.specs.Disks.{written, Torn}
-use Rattle.device_defs.specs.Images.{IsImage}
-use Rattle.record_defs.specs.Records.{Record, is_in_grammar}
-use Rattle.record_defs.specs.Areas.{Area, A, B, other_area, base_of, magic_front, switch_of, area_of, entries, HoldsIn, IsSwitched}
+use Rattle.journal_core.proofs.Words.{◌≢◌, ◌+◌, ◌≤◌, Bool, true, ◌++◌, length, take, drop, refl, sym, ap, ◌∙◌, subst, arith, append_assoc, length-append, IsTrue, list_all, map-append, length-map, Cells, firm, loose, written, Torn, IsImage, is_in_grammar, Area, A, B, other_area, base_of, magic_front, switch_of, area_of, entries, HoldsIn, IsSwitched, HasText, HasLooseText, IsNamed, IsSwitching, IsApart}
+use Rattle.std.proofs.Common.{◌≡◌, ℕ, false, List, [], ◌∷◌}
+use Rattle.record_defs.specs.Records.{Record}
 use Rattle.record_defs.proofs.Sizes.{length-entries}
 use Rattle.journal_core.proofs.CellLemmas.{written-behind, torn_gate, settled, settled-append, settled-firm, settled-loose, IsImage-firm}
-use Rattle.journal_core.specs.Texts.{HasText, HasLooseText, IsNamed, IsSwitching, IsApart}
 use Rattle.journal_core.proofs.Splices.{IsSplice, kept-below, kept-above, drop-written, drop-settled, IsImage-drop}
 
 -- ---- a text under a write

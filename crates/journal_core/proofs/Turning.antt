@@ -1,19 +1,12 @@
--- An append and the disk go on by a move, or are left by its fault.
-use Rattle.std.proofs.Common.{◌≡◌, ℕ, zero, suc, ◌+◌, ◌<◌, List, [], ◌∷◌, length, Option, Some, None, Result, Ok, Err, refl, sym, ap, ◌∙◌, subst, arith}
-use Rattle.std.specs.Prelude.{IfSome, IsErrOf, OnOk, OnErr}
-use Rattle.std.specs.Option.{option_map}
-use Rattle.stream_model.specs.declared.fault.WriteFault.{WriteFault}
+-- An append and the disk go on by a turn: what it leaves of the records that the append goes behind.
+use Rattle.journal_core.proofs.Words.{◌+◌, ◌<◌, length, drop, reads, Bool, Option, Result, Ok, Err, refl, sym, ap, ◌∙◌, subst, arith, IfSome, IsErrOf, OnOk, OnErr, WriteFault, Cells, Goes, Area, gate_of, body_of, moves_of, Appends, TurnsAppend, AppendsDisk, KeepsRecords, SameFrom, cells_after, MayTear, IsAfterMovesIn, IsGivenUpIn}
+use Rattle.std.proofs.lemmas.Result.{on_ok_weaker, on_err_weaker}
+use Rattle.std.proofs.Common.{ℕ, zero, suc, List, [], ◌∷◌}
 use Rattle.stream_model.specs.declared.fault.WriteFault.TheVariants as write_fault
-use Rattle.device_defs.specs.Cells.{Cells}
-use Rattle.device_defs.specs.Told.{Goes}
 use Rattle.record_defs.specs.Records.{Record}
-use Rattle.record_defs.specs.Areas.{Area}
 use Rattle.journal_core.specs.declared.append.Append.{Append}
-use Rattle.journal_core.specs.Appends.{gate_of, body_of, moves_of, Appends}
-use Rattle.journal_core.specs.Moves.{IsWrite, SameFrom, cells_after, MayTear}
-use Rattle.journal_core.specs.Texts.{IsAfterMovesIn, IsGivenUpIn}
-use Rattle.journal_core.proofs.BeyondLemmas.{written_beyond, failed_beyond, synced_beyond, goes_still}
-use Rattle.journal_core.proofs.AreaMoves.{moved-in, given-up-in}
+use Rattle.journal_core.proofs.BeyondLemmas.{written_same, torn_same, settled_same, goes_mapped, goes_on, goes_still}
+use Rattle.journal_core.proofs.AreaMoves.{moved-in, given-up-in, before-in, between-in, before-given-in, between-given-in, kept-in, ready-in}
 
 -- what follows from two facts of a call that was done
 pub both_ok : {T E P Q R : Type 0} (r : Result T E) → (P → Q → R) → OnOk r P → OnOk r Q → OnOk r R
@@ -32,60 +25,74 @@ each_way (Ok x) p failed memory = p
 each_way (Err write_fault.Failed) p failed memory = failed refl
 each_way (Err write_fault.Memory) p failed memory = memory refl
 
--- what is read past the body stays by a move
-pub beyond-on : (m gate : ℕ) (body : List ℕ) → m < 4 → (old new : Option Cells) →
-    new ≡ option_map (cells_after m gate body) old → Goes (SameFrom (gate + 1 + length body)) old new
-beyond-on zero gate body few old new is =
-    written_beyond (gate + 1 + length body) (gate + 1) body old new (omega arith) is
-beyond-on (suc zero) gate body few old new is = synced_beyond (gate + 1 + length body) old new is
-beyond-on (suc (suc zero)) gate body few old new is =
-    written_beyond (gate + 1 + length body) gate (1 ∷ []) old new (omega arith) is
-beyond-on (suc (suc (suc zero))) gate body few old new is = synced_beyond (gate + 1 + length body) old new is
-beyond-on (suc (suc (suc (suc n)))) gate body few old new is = absurd (omega (arith, few))
+module _ (gate : ℕ) (body : List ℕ) where
+  abbrev end : ℕ
+  end = gate + 1 + length body
 
--- and by a fault
-pub beyond-torn : (m gate : ℕ) (body : List ℕ) → m < 4 → (old new : Option Cells) →
-    Goes (MayTear m gate body) old new → Goes (SameFrom (gate + 1 + length body)) old new
-beyond-torn zero gate body few old new torn =
-    failed_beyond (gate + 1 + length body) (gate + 1) (length body) write_fault.Failed old new (omega arith)
-    (λ e. torn) (λ e. absurd (let x : write_fault.Failed ≡ write_fault.Memory = e in cc))
-beyond-torn (suc zero) gate body few None None torn = tt
-beyond-torn (suc zero) gate body few None (Some new) torn = torn
-beyond-torn (suc zero) gate body few (Some old) None torn = torn
-beyond-torn (suc zero) gate body few (Some old) (Some new) torn =
-    goes_still (gate + 1 + length body) (Some old) (Some new) (ap Some torn)
-beyond-torn (suc (suc zero)) gate body few old new torn =
-    failed_beyond (gate + 1 + length body) gate 1 write_fault.Failed old new (omega arith)
-    (λ e. torn) (λ e. absurd (let x : write_fault.Failed ≡ write_fault.Memory = e in cc))
-beyond-torn (suc (suc (suc zero))) gate body few None None torn = tt
-beyond-torn (suc (suc (suc zero))) gate body few None (Some new) torn = torn
-beyond-torn (suc (suc (suc zero))) gate body few (Some old) None torn = torn
-beyond-torn (suc (suc (suc zero))) gate body few (Some old) (Some new) torn =
-    goes_still (gate + 1 + length body) (Some old) (Some new) (ap Some torn)
-beyond-torn (suc (suc (suc (suc n)))) gate body few old new torn = absurd (omega (arith, few))
+  -- what is read past the body stays by a move
+  past-move : (m : ℕ) (cells : Cells) → SameFrom end cells (cells_after m gate body cells)
+  past-move zero cells = written_same end (gate + 1) body cells (omega arith)
+  past-move (suc zero) cells = settled_same end cells
+  past-move (suc (suc zero)) cells = written_same end gate (1 ∷ []) cells (omega arith)
+  past-move (suc (suc (suc n))) cells = settled_same end cells
 
-module _ (rs : List Record) (r : Record) (a : Append) (old new : Option Cells) (few : moves_of a < 4) where
+  -- and by a fault
+  past-torn : (m : ℕ) (old new : Cells) → MayTear m gate body old new → SameFrom end old new
+  past-torn zero old new torn = torn_same end (gate + 1) (length body) old new (omega arith) torn
+  past-torn (suc zero) old new same = ap (λ (c : Cells). drop end (reads c)) same
+  past-torn (suc (suc zero)) old new torn = torn_same end gate 1 old new (omega arith) torn
+  past-torn (suc (suc (suc n))) old new same = ap (λ (c : Cells). drop end (reads c)) same
+
+-- and by a turn
+pub beyond-turn : (a : Append) (result : Result Bool WriteFault) (old new : Option Cells) →
+    AppendsDisk a result old new → Goes (SameFrom (gate_of a + 1 + length (body_of a))) old new
+beyond-turn a result old new d =
+    let m = moves_of a in
+    let past = SameFrom (end (gate_of a) (body_of a)) in
+    each_way result
+    (on_ok_weaker result (λ does. goes_mapped past (cells_after m (gate_of a) (body_of a))
+    (past-move (gate_of a) (body_of a) m) old new does) d.does)
+    (λ failed. goes_on (MayTear m (gate_of a) (body_of a)) past (past-torn (gate_of a) (body_of a) m) old new
+    (d.torn failed))
+    (λ memory. goes_still (end (gate_of a) (body_of a)) old new (d.memory memory))
+
+module _ (area : Area) (rs : List Record) (r : Record) (a b : Append) (result : Result Bool WriteFault)
+    (old new : Option Cells) (is : Appends area rs r a old) (few : moves_of a < 4) (t : TurnsAppend a result b)
+    (d : AppendsDisk a result old new) where
   -- an append goes on by a move
-  pub appends-on : (area : Area) → Appends area rs r a old → (b : Append) → gate_of b ≡ gate_of a →
-      body_of b ≡ body_of a → moves_of b ≡ moves_of a + 1 →
-      new ≡ option_map (cells_after (moves_of a) (gate_of a) (body_of a)) old → Appends area rs r b new
-  appends-on area is b gate body next does = record {
+  moved : OnOk result (Appends area rs r b new)
+  moved = both_ok result (λ next does. record {
     records = is.records;
     entry = is.entry;
-    gate = gate ∙ is.gate;
-    body = body ∙ is.body;
+    gate = t.gate ∙ is.gate;
+    body = t.body ∙ is.body;
     disk = subst (λ (m : ℕ). IfSome new (IsAfterMovesIn m area rs (body_of b))) (sym next)
-        (subst (λ (l : List ℕ). IfSome new (IsAfterMovesIn (moves_of a + 1) area rs l)) (sym body)
+        (subst (λ (l : List ℕ). IfSome new (IsAfterMovesIn (moves_of a + 1) area rs l)) (sym t.body)
         (moved-in area rs (body_of a) (gate_of a) is.gate (moves_of a) few old new does is.disk));
-  }
+  }) t.count.next d.does
 
-  module _ {T : Type 0} (result : Result T WriteFault)
-      (torn : IsErrOf result write_fault.Failed →
-      Goes (MayTear (moves_of a) (gate_of a) (body_of a)) old new)
-      (memory : IsErrOf result write_fault.Memory → new ≡ old)
-      (writes : IsErrOf result write_fault.Memory → IsWrite (moves_of a)) where
-    -- a fault gives an append up
-    pub appends-given_up : (area : Area) → Appends area rs r a old →
-        OnErr result (IfSome new (IsGivenUpIn (moves_of a) area rs (body_of a)))
-    appends-given_up area is = given-up-in area rs (body_of a) (gate_of a) is.gate result (moves_of a) few
-        old new torn memory writes is.disk
+  -- a fault gives it up
+  given_up : OnErr result (IfSome new (IsGivenUpIn (moves_of a) area rs (body_of a)))
+  given_up = given-up-in area rs (body_of a) (gate_of a) is.gate result (moves_of a) few old new d.torn d.memory
+      d.writes is.disk
+
+  -- each turn of an append is atomic
+  pub keeps-records : KeepsRecords area rs r a result b new
+  keeps-records = record {
+    moved = moved;
+    given_up = given_up;
+    before = λ less. either_way result
+        (both_ok result (λ next on. before-in area rs r on.records on.entry (body_of b) on.body (moves_of b) new
+        (omega (arith, next, less)) on.disk) t.count.next moved)
+        (on_err_weaker result (λ held. before-given-in area rs r is.records is.entry (body_of a) is.body
+        (moves_of a) new less held) given_up);
+    between = either_way result
+        (on_ok_weaker result (λ on. between-in area rs r on.records on.entry (body_of b) on.body (moves_of b) new
+        on.disk) moved)
+        (on_err_weaker result (λ held. between-given-in area rs r is.records is.entry (body_of a) is.body
+        (moves_of a) new held) given_up);
+    ready = on_ok_weaker result (λ on four. ready-in area rs r on.records on.entry (body_of b) on.body
+        (moves_of b) new four on.disk) moved;
+    kept = λ memory. kept-in area rs (body_of a) (gate_of a) is.gate is.records (moves_of a) (d.writes memory) old
+        new (d.memory memory) is.disk;
+  }

@@ -1,6 +1,7 @@
 pub mod Lists
 pub mod Moves
 pub mod FourMoves
+pub mod Turns
 pub mod Appends
 pub mod Gates
 pub mod Firm

@@ -1,14 +1,11 @@
-ghost use Rattle.std.specs.Prelude.{◌≡◌, ◌+◌, ◌^◌, ◌<◌, ◌≤◌, ◌++◌, [], ◌∷◌, List, length, drop, OnOk, OnErr, IfSome, IfOk, IsErrOf, IsTrue, ◌↔◌};
+ghost use Rattle.std.specs.Prelude.{◌≡◌, ◌+◌, ◌^◌, ◌<◌, ◌≤◌, ◌++◌, [], ◌∷◌, length, drop, IsErrOf};
 ghost use Rattle.stream_model.specs.declared.fault.WriteFault.TheVariants as write_fault;
-ghost use Rattle.std.specs.Option.{option_map};
 ghost use Rattle.device_defs.specs.Faults.{HasCause, one_more};
 ghost use Rattle.device_defs.specs.Told.{Goes};
-ghost use Rattle.record_defs.specs.Records.{Record as Entry, record_size};
+ghost use Rattle.record_defs.specs.Records.{record_size};
 ghost use Rattle.record_defs.specs.Spellings.{spelling};
-ghost use Rattle.record_defs.specs.Areas.{Area};
-ghost use Rattle.journal_core.specs.Texts.{StandsFirm, IsGivenUpIn, AllStandIn, MayStandWith};
 ghost use Rattle.record_codec.specs.Entries.{entry_of, IsInGrammar};
-ghost use Rattle.journal_core.specs.Moves.{SameFrom, IsWrite, cells_after, MayTear};
+ghost use Rattle.journal_core.specs.Moves.{SameFrom};
 
 use crate::moving::make_move;
 use disk_model::Disk;
@@ -36,7 +33,7 @@ fn copy_front(all: &mut [u8], bytes: &[u8])
 }
 
 impl Append {
-    ghost use Rattle.journal_core.specs.Appends.{gate_of, body_of, moves_of, Appends};
+    ghost use Rattle.journal_core.specs.Appends.{gate_of, body_of, moves_of, TurnsAppend, AppendsDisk};
 
     /// An append at the closed gate at offset `gate`. Condition: the record is in the grammar, and the
     /// journal has room.
@@ -66,39 +63,16 @@ impl Append {
         &self.bytes[..self.len]
     }
 
-    /// Makes the next move; true after the fourth. After a fault the append is given up.
+    /// Makes the next move; true after the fourth. After a fault the append is given up. However it ended, the
+    /// old records stand, or these with the new one (`laws::appends_are_atomic`).
     /// Condition: the four moves are not yet made, and none of them failed.
     pub fn turn<D: Disk>(&mut self, disk: &mut D) -> Result<bool, WriteFault>
         requires { moves_of self.old < 4 }
-        ensures last { IfOk result (λ ended. IsTrue ended ↔ (moves_of self.new ≡ 4)) }
-        ensures next { OnOk result (moves_of self.new ≡ moves_of self.old + 1) }
-        ensures failed { OnErr result (moves_of self.new ≡ 5) }
-        ensures gate { gate_of self.new ≡ gate_of self.old }
-        ensures body { body_of self.new ≡ body_of self.old }
-        ensures does { OnOk result (D.holds disk.new ≡ option_map
-            (cells_after (moves_of self.old) (gate_of self.old) (body_of self.old)) (D.holds disk.old)) }
-        ensures torn { IsErrOf result write_fault.Failed
-            → Goes (MayTear (moves_of self.old) (gate_of self.old) (body_of self.old)) (D.holds disk.old)
-            (D.holds disk.new) }
-        ensures moved { (area : Area) (rs : List Entry) (r : Entry) → Appends area rs r self.old
-            (D.holds disk.old) → OnOk result (Appends area rs r self.new (D.holds disk.new)) }
-        ensures given_up { (area : Area) (rs : List Entry) (r : Entry) → Appends area rs r self.old
-            (D.holds disk.old) → OnErr result (IfSome (D.holds disk.new)
-            (IsGivenUpIn (moves_of self.old) area rs (body_of self.old))) }
-        ensures before { (area : Area) (rs : List Entry) (r : Entry) → Appends area rs r self.old
-            (D.holds disk.old) → moves_of self.old < 2 → AllStandIn area rs (D.holds disk.new) }
-        ensures between { (area : Area) (rs : List Entry) (r : Entry) → Appends area rs r self.old
-            (D.holds disk.old) → MayStandWith area rs r (D.holds disk.new) }
-        ensures ready { (area : Area) (rs : List Entry) (r : Entry) → Appends area rs r self.old
-            (D.holds disk.old) → OnOk result (moves_of self.new ≡ 4
-            → IfSome (D.holds disk.new) (StandsFirm area (r ∷ rs))) }
-        ensures kept { (area : Area) (rs : List Entry) (r : Entry) → Appends area rs r self.old
-            (D.holds disk.old) → IsErrOf result write_fault.Memory
-            → IfSome (D.holds disk.new) (StandsFirm area rs) }
+        ensures moves { TurnsAppend self.old result self.new }
+        ensures disk { AppendsDisk self.old result (D.holds disk.old) (D.holds disk.new) }
         ensures beyond { Goes (SameFrom (gate_of self.old + 1 + length (body_of self.old)))
             (D.holds disk.old) (D.holds disk.new) }
-        ensures memory { IsErrOf result write_fault.Memory → D.holds disk.new ≡ D.holds disk.old }
-        ensures writes { IsErrOf result write_fault.Memory → IsWrite (moves_of self.old) }
+        ensures no_fault { IsErrOf result write_fault.Memory → D.faults disk.new ≡ D.faults disk.old }
         ensures cause { HasCause (D.faults disk.old) (D.faults disk.new) (IsErrOf result write_fault.Failed) }
         ensures called { D.calls disk.new ≡ one_more (D.calls disk.old) }
     {

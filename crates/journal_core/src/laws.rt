@@ -1,6 +1,7 @@
 //! What holds of every journal.
-ghost use Rattle.std.specs.Prelude.{◌≡◌, ◌∷◌, ◌++◌, ℕ, suc, List, [], length};
-ghost use Rattle.record_defs.specs.Records.{Record};
+ghost use Rattle.std.specs.Prelude.{◌≡◌, ◌<◌, ◌∷◌, ◌++◌, ℕ, suc, Bool, false, Option, Some, Result, Ok, List, [], length, codes};
+ghost use Rattle.stream_model.specs.declared.fault.WriteFault.{WriteFault};
+ghost use Rattle.record_defs.specs.Records.{Record, Drop};
 ghost use Rattle.record_defs.specs.Journal.{text};
 ghost use Rattle.record_defs.specs.Examples.{four_set_up};
 ghost use Rattle.record_defs.specs.Areas.{Area, A, B, base_of, magic_front, switch_of, entries, StandsActive, IsBadAt};
@@ -8,6 +9,8 @@ ghost use Rattle.device_defs.specs.Cells.{Cells, reads, firm};
 ghost use Rattle.device_defs.specs.Images.{IsImage};
 ghost use Rattle.journal_core.specs.Texts.{StandsFirm};
 ghost use Rattle.journal_core.specs.Firm.{AreFirm};
+ghost use Rattle.journal_core.specs.declared.append.Append.{Append};
+ghost use Rattle.journal_core.specs.Appends.{moves_of, Appends, TurnsAppend, AppendsDisk, KeepsRecords};
 
 /// Bytes stand for one list of records, in one of the two areas, at most.
 pub fn one_meaning()
@@ -51,6 +54,22 @@ pub fn read_stands_firm()
 pub fn firm_texts_stand()
     ensures { (area : Area) (rs : List Record) (cells : Cells) (image : List ℕ) → StandsFirm area rs cells
         → IsImage cells image → StandsActive image area rs }
+{}
+
+/// Each turn of an append is atomic: behind it the disk stands, whatever a crash leaves, for the records that
+/// the append goes behind, or for these with its own; and the append goes on, is given up, or is done.
+pub fn appends_are_atomic()
+    ensures { (area : Area) (rs : List Record) (r : Record) (a b : Append) (result : Result Bool WriteFault)
+        (old new : Option Cells) → Appends area rs r a old → moves_of a < 4 → TurnsAppend a result b
+        → AppendsDisk a result old new → KeepsRecords area rs r a result b new }
+{}
+
+/// An instance: the first turn, which writes the body, of an append of a drop behind the firm text of a store
+/// that was set up.
+pub fn an_append_may_turn()
+    ensures { (a : Append) × (b : Append) × (new : Option Cells)
+        × Appends A four_set_up (Drop (codes "a")) a (Some (firm (text four_set_up))) × (moves_of a < 4)
+        × TurnsAppend a (Ok false) b × AppendsDisk a (Ok false) (Some (firm (text four_set_up))) new }
 {}
 
 /// An instance: of the firm text of a store that was set up, front and text are firm, and it is that store's

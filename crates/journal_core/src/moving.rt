@@ -1,10 +1,8 @@
-ghost use Rattle.std.specs.Prelude.{◌≡◌, ◌+◌, ◌^◌, ◌<◌, ◌≤◌, length, OnOk, OnErr, IfOk, IsErrOf, IsTrue, ◌↔◌};
+ghost use Rattle.std.specs.Prelude.{◌+◌, ◌^◌, ◌<◌, ◌≤◌, ◌≡◌, length, IsErrOf};
 ghost use Rattle.stream_model.specs.declared.fault.WriteFault.TheVariants as write_fault;
-ghost use Rattle.std.specs.Option.{option_map};
 ghost use Rattle.device_defs.specs.Faults.{HasCause, one_more};
-ghost use Rattle.device_defs.specs.Told.{Goes};
-ghost use Rattle.journal_core.specs.Moves.{IsWrite};
 ghost use Rattle.journal_core.specs.FourMoves.{moved_on, MayBeTorn};
+ghost use Rattle.journal_core.specs.Turns.{CountsMove, LeavesDisk};
 
 use disk_model::Disk;
 use stream_model::WriteFault;
@@ -26,15 +24,10 @@ pub fn make_move<D: Disk>(
     requires few { moves.old < 4 }
     requires room { at + length bytes.now ≤ 2 ^ 24 }
     requires mark_room { mark_at + 1 ≤ 2 ^ 24 }
-    ensures last { IfOk result (λ ended. IsTrue ended ↔ (moves.new ≡ 4)) }
-    ensures next { OnOk result (moves.new ≡ moves.old + 1) }
-    ensures failed { OnErr result (moves.new ≡ 5) }
-    ensures does { OnOk result (D.holds disk.new
-        ≡ option_map (moved_on moves.old at bytes.now mark_at mark) (D.holds disk.old)) }
-    ensures torn { IsErrOf result write_fault.Failed
-        → Goes (MayBeTorn moves.old at (length bytes.now) mark_at) (D.holds disk.old) (D.holds disk.new) }
-    ensures memory { IsErrOf result write_fault.Memory → D.holds disk.new ≡ D.holds disk.old }
-    ensures writes { IsErrOf result write_fault.Memory → IsWrite moves.old }
+    ensures count { CountsMove moves.old result moves.new }
+    ensures disk { LeavesDisk moves.old (moved_on moves.old at bytes.now mark_at mark)
+        (MayBeTorn moves.old at (length bytes.now) mark_at) result (D.holds disk.old) (D.holds disk.new) }
+    ensures no_fault { IsErrOf result write_fault.Memory → D.faults disk.new ≡ D.faults disk.old }
     ensures cause { HasCause (D.faults disk.old) (D.faults disk.new) (IsErrOf result write_fault.Failed) }
     ensures called { D.calls disk.new ≡ one_more (D.calls disk.old) }
 {

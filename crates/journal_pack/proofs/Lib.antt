@@ -1,3 +1,4 @@
+mod Words
 pub mod Stands
 pub mod Steps
 pub mod Packs

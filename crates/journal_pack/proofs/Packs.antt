@@ -1,61 +1,61 @@
--- A pack and the disk go on by a move, or are left by its fault.
-use Rattle.std.proofs.Common.{◌≡◌, ◌≢◌, ℕ, ◌+◌, ◌≤◌, ◌<◌, List, [], ◌∷◌, ◌++◌, length, Option, Result, sym, ap, ◌∙◌, subst, arith, length-append}
-use Rattle.std.specs.Prelude.{IfSome, IsErrOf, IsTrue, OnErr}
-use Rattle.std.specs.List.{list_all}
-use Rattle.std.specs.Option.{option_map}
-use Rattle.stream_model.specs.declared.fault.WriteFault.{WriteFault}
-use Rattle.stream_model.specs.declared.fault.WriteFault.TheVariants as write_fault
-use Rattle.device_defs.specs.Cells.{Cells}
-use Rattle.device_defs.specs.Told.{Goes}
-use Rattle.record_defs.specs.Records.{Record, is_in_grammar}
-use Rattle.record_defs.specs.Areas.{Area, A, B, other_area, base_of, switch_of, entries, text_length, end_in}
-use Rattle.journal_core.specs.Moves.{IsWrite}
-use Rattle.journal_core.specs.FourMoves.{moved_on, MayBeTorn}
+-- A pack and the disk go on by a turn: what it leaves of the records that the pack goes from and to.
+use Rattle.journal_pack.proofs.Words.{◌≡◌, ◌≢◌, ℕ, ◌+◌, ◌≤◌, ◌<◌, List, [], ◌∷◌, ◌++◌, length, Option, Result, sym, ap, ◌∙◌, subst, arith, length-append, IfSome, IsTrue, OnErr, on_ok_weaker, on_err_weaker, list_all, option_map, WriteFault, Cells, Goes, is_in_grammar, Area, A, B, other_area, base_of, switch_of, entries, text_length, end_in, moved_on, MayBeTorn, StandsFirm, switch_to, IsAfterPack, IsPackGivenUp, to_of, text_of, moves_of, WritesText, Packs, TurnsPack, PacksDisk, KeepsJournal, length-entries}
+use Rattle.std.specs.Prelude.{Bool, OnOk}
+use Rattle.journal_core.proofs.Turning.{both_ok, either_way}
+use Rattle.record_defs.specs.Records.{Record}
 use Rattle.journal_pack.specs.declared.pack.Pack.{Pack}
-use Rattle.journal_core.specs.Texts.{StandsFirm}
-use Rattle.journal_pack.specs.Moves.{switch_to, IsAfterPack, IsPackGivenUp}
-use Rattle.journal_pack.specs.Packs.{to_of, text_of, moves_of, WritesText, Packs}
-use Rattle.record_defs.proofs.Sizes.{length-entries}
+use Rattle.journal_pack.proofs.Stands.{before-after, between-after, before-given_up, between-given_up, ready-after, all-stand}
 use Rattle.journal_pack.proofs.Steps.{switch-is, moved, kept-up, given-up}
 
-module _ (area : Area) (rs qs : List Record) (p : Pack) (old new : Option Cells)
-    (is : Packs area rs qs p old) (short : length (text_of p) + 8 ≤ base_of B) (few : moves_of p < 4) where
+module _ (area : Area) (rs qs : List Record) (p q : Pack) (result : Result Bool WriteFault)
+    (old new : Option Cells) (is : Packs area rs qs p old) (few : moves_of p < 4) (t : TurnsPack p result q)
+    (d : PacksDisk p result old new) where
   fits : length (entries qs ++ 0 ∷ []) + 8 ≤ base_of B
-  fits = subst (λ (l : List ℕ). length l + 8 ≤ base_of B) is.writes.text short
+  fits = subst (λ (l : List ℕ). length l + 8 ≤ base_of B) is.writes.text p.short
 
   named : switch_to (to_of p) ≡ switch_of (other_area area)
   named = ap switch_to is.writes.to ∙ switch-is (other_area area)
 
   -- a pack goes on by a move
-  pub packs-on : (q : Pack) → to_of q ≡ to_of p → text_of q ≡ text_of p → moves_of q ≡ moves_of p + 1 →
-      new ≡ option_map (moved_on (moves_of p) (to_of p) (text_of p) 7 (switch_to (to_of p))) old →
-      Packs area rs qs q new
-  packs-on q to text next does = record {
-    writes = record { to = to ∙ is.writes.to; text = text ∙ is.writes.text };
+  on : OnOk result (Packs area rs qs q new)
+  on = both_ok result (λ next does. record {
+    writes = record { to = t.to ∙ is.writes.to; text = t.text ∙ is.writes.text };
     in_grammar = is.in_grammar;
     apart = is.apart;
     disk = subst (λ (m : ℕ). IfSome new (IsAfterPack m area rs qs)) (sym next)
         (moved area rs qs is.in_grammar is.apart fits (moves_of p) few old new
         (does ∙ (λ i. option_map (moved_on (moves_of p) (is.writes.to i) (is.writes.text i) 7 (named i)) old))
         is.disk);
-  }
+  }) t.count.next d.does
 
-  -- a fault of a move gives the pack up
-  pub packs-given_up : {T : Type 0} (r : Result T WriteFault)
-      → (IsErrOf r write_fault.Failed →
-      Goes (MayBeTorn (moves_of p) (to_of p) (length (text_of p)) 7) old new) →
-      (IsErrOf r write_fault.Memory → new ≡ old) → (IsErrOf r write_fault.Memory → IsWrite (moves_of p)) →
-      OnErr r (IfSome new (IsPackGivenUp (moves_of p) area rs qs))
-  packs-given_up r torn memory writes =
-      given-up area rs qs is.in_grammar is.apart fits r (moves_of p) few old new
+  -- a fault of a move gives it up
+  off : OnErr result (IfSome new (IsPackGivenUp (moves_of p) area rs qs))
+  off = given-up area rs qs is.in_grammar is.apart fits result (moves_of p) few old new
       (λ e. subst (λ (l : List ℕ). Goes (MayBeTorn (moves_of p) (base_of (other_area area)) (length l) 7) old new)
       is.writes.text
-      (subst (λ (k : ℕ). Goes (MayBeTorn (moves_of p) k (length (text_of p)) 7) old new) is.writes.to (torn e)))
-      memory writes is.disk
+      (subst (λ (k : ℕ). Goes (MayBeTorn (moves_of p) k (length (text_of p)) 7) old new) is.writes.to (d.torn e)))
+      d.memory d.writes is.disk
 
-  -- want of memory leaves the old journal
-  pub packs-kept : IsWrite (moves_of p) → new ≡ old → IfSome new (StandsFirm area rs)
-  packs-kept w same = kept-up area rs qs is.in_grammar is.apart fits (moves_of p) w old new same is.disk
+  ready : OnOk result (moves_of q ≡ 4 → IfSome new (StandsFirm (other_area area) qs))
+  ready = on_ok_weaker result (λ packs four. ready-after area rs qs (moves_of q) new four packs.disk) on
+
+  -- each turn of a pack is atomic
+  pub keeps-journal : KeepsJournal area rs qs p result q new
+  keeps-journal = record {
+    moved = on;
+    given_up = off;
+    before = λ less. either_way result
+        (both_ok result (λ next packs. before-after area rs qs (moves_of q) new (omega (arith, next, less)) packs.disk)
+        t.count.next on)
+        (on_err_weaker result (λ held. before-given_up area rs qs (moves_of p) new less held) off);
+    between = either_way result
+        (on_ok_weaker result (λ packs. between-after area rs qs (moves_of q) new packs.disk) on)
+        (on_err_weaker result (λ held. between-given_up area rs qs (moves_of p) new held) off);
+    after = on_ok_weaker result (λ firm four. all-stand area rs qs new (firm four)) ready;
+    ready = ready;
+    kept = λ memory. kept-up area rs qs is.in_grammar is.apart fits (moves_of p) (d.writes memory) old new
+        (d.memory memory) is.disk;
+  }
 
 -- ---- the length of the new text
 

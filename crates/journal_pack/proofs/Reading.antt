@@ -1,9 +1,5 @@
 -- Reading the active area, record by record.
-use Rattle.std.proofs.Common.{◌≡◌, inl, inr, ℕ, ◌+◌, List, arith}
-use Rattle.record_defs.specs.Records.{Record as Entry}
-use Rattle.record_defs.specs.Areas.{Area, end_in, IsSwitched, IsBadAt}
-use Rattle.journal_core.specs.Gates.{IsReadIn, StopsIn}
-use Rattle.record_defs.proofs.Sizes.{length-entries}
+use Rattle.journal_pack.proofs.Words.{◌≡◌, inl, inr, ℕ, ◌+◌, List, arith, Entry, Area, end_in, IsSwitched, IsBadAt, IsReadIn, StopsIn, length-entries}
 
 -- where reading stops is the first place at which the active area fails to be a text
 pub stops-bad : (bytes : List ℕ) (area : Area) (rs : List Entry) (at : ℕ) → IsSwitched bytes area →

@@ -1,19 +1,10 @@
 -- What the images of a disk stand for in the course of a pack.
-use Rattle.std.proofs.Common.{◌≡◌, inl, inr, ◌⊎◌, ℕ, zero, suc, ◌<◌, List, [], ◌∷◌, ◌++◌, take, Option, Some, None, refl, arith}
-use Rattle.std.specs.Prelude.{IfSome}
-use Rattle.device_defs.specs.Cells.{Cells}
+use Rattle.journal_pack.proofs.Words.{◌≡◌, inl, inr, ◌⊎◌, ℕ, zero, suc, ◌<◌, List, [], ◌∷◌, ◌++◌, take, Option, Some, None, refl, arith, IfSome, Cells, Setup, setup_of, version_of, AreAlike, packed, Area, A, B, other_area, magic_front, area_of, switch_of, StandsActive, HasText, IsSwitching, StandsFirm, AllStandIn, MayStandIn, IsAfterPack, IsBetween, IsPackGivenUp, text-image, switching-image, firm-image}
 use Rattle.device_defs.specs.Images.{IsImage, EachImage}
-use Rattle.record_defs.specs.Records.{Record, Setup}
-use Rattle.record_defs.specs.Table.{setup_of, version_of}
+use Rattle.record_defs.specs.Records.{Record}
 use Rattle.record_defs.specs.Acceptance.{AreAccepted}
-use Rattle.record_defs.specs.Packed.{AreAlike, packed}
-use Rattle.record_defs.specs.Areas.{Area, A, B, other_area, magic_front, area_of, switch_of, StandsActive}
 use Rattle.record_defs.proofs.PackLaws.{packed_are}
-use Rattle.journal_core.specs.Texts.{HasText, IsSwitching, StandsFirm, AllStandIn, MayStandIn}
-use Rattle.journal_pack.specs.Moves.{IsAfterPack, IsBetween, IsPackGivenUp}
 use Rattle.journal_pack.specs.Alike.{StandsAlike}
-use Rattle.journal_core.proofs.Texts.{text-image, switching-image}
-use Rattle.journal_core.proofs.AreaStands.{firm-image}
 
 -- an area is one or the other
 one_of_two : (named area : Area) → (named ≡ area) ⊎ (named ≡ other_area area)

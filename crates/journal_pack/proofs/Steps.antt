@@ -1,24 +1,12 @@
 -- The moves of a pack, one after the other.
-use Rattle.std.proofs.Common.{◌≡◌, inl, inr, ℕ, zero, suc, ◌+◌, ◌≤◌, ◌<◌, List, [], ◌∷◌, ◌++◌, length, Option, Result, Ok, Err, refl, sym, subst, arith}
-use Rattle.std.specs.Prelude.{IsTrue, IfSome, IsErrOf, OnErr}
-use Rattle.std.specs.Option.{option_map}
-use Rattle.std.specs.List.{list_all}
-use Rattle.stream_model.specs.declared.fault.WriteFault.{WriteFault}
+use Rattle.journal_pack.proofs.Words.{◌≡◌, inl, inr, ℕ, zero, suc, ◌+◌, ◌≤◌, ◌<◌, List, [], ◌∷◌, ◌++◌, length, Option, Result, Ok, Err, refl, sym, subst, arith, IsTrue, IfSome, IsErrOf, OnErr, option_map, list_all, WriteFault, Cells, Goes, is_in_grammar, Area, A, B, other_area, base_of, switch_of, entries, IsWrite, moved_on, MayBeTorn, StandsFirm, IsApart, switch_to, IsAfterPack, IsBetween, IsPackGivenUp, text-above, text-apart, named-below, text-written, switch-written, switch-torn, text-settled, loose-settled, named-settled, switching-settled}
 use Rattle.stream_model.specs.declared.fault.WriteFault.TheVariants as write_fault
-use Rattle.device_defs.specs.Cells.{Cells}
 use Rattle.device_defs.specs.Disks.{written, Torn}
-use Rattle.device_defs.specs.Told.{Goes}
-use Rattle.record_defs.specs.Records.{Record, is_in_grammar}
-use Rattle.record_defs.specs.Areas.{Area, A, B, other_area, base_of, switch_of, entries}
-use Rattle.journal_core.specs.Moves.{IsWrite}
-use Rattle.journal_core.specs.FourMoves.{moved_on, MayBeTorn}
+use Rattle.record_defs.specs.Records.{Record}
 use Rattle.journal_core.proofs.CellLemmas.{settled}
 use Rattle.journal_core.proofs.MoveLemmas.{IfSome-mapped, IfSome-goes, IfSome-same}
-use Rattle.journal_core.specs.Texts.{StandsFirm, IsApart}
-use Rattle.journal_pack.specs.Moves.{switch_to, IsAfterPack, IsBetween, IsPackGivenUp}
 use Rattle.journal_core.proofs.Splices.{IsSplice, splice-written, splice-torn}
 use Rattle.record_defs.proofs.Standing.{base-least}
-use Rattle.journal_core.proofs.Texts.{text-above, text-apart, named-below, text-written, switch-written, switch-torn, text-settled, loose-settled, named-settled, switching-settled}
 
 -- the switch byte that is written names the area that is written to
 pub switch-is : (area : Area) → switch_to (base_of area) ≡ switch_of area
@@ -89,62 +77,52 @@ module _ (area : Area) (rs qs : List Record) (good : IsTrue (list_all is_in_gram
     text = text-settled (other_area area) qs cells held.2;
   }
 
+  -- a move is made
+  made : (m : ℕ) → m < 4 → (cells : Cells) → IsAfterPack m area rs qs cells →
+      IsAfterPack (m + 1) area rs qs (moved_on m to text 7 switch cells)
+  made zero few cells held = first cells held
+  made (suc zero) few cells held = second cells held
+  made (suc (suc zero)) few cells held = third cells held
+  made (suc (suc (suc zero))) few cells held = fourth cells held
+  made (suc (suc (suc (suc n)))) few cells held = absurd (omega (arith, few))
+
+  -- a move failed
+  torn-up : (m : ℕ) → m < 4 → (old new : Cells) → IsAfterPack m area rs qs old →
+      MayBeTorn m to (length text) 7 old new → IsPackGivenUp m area rs qs new
+  torn-up zero few old new held torn = first-torn old new held torn
+  torn-up (suc zero) few old new held same = subst (StandsFirm area rs) (sym same) held.0
+  torn-up (suc (suc zero)) few old new held torn = third-torn old new held torn
+  torn-up (suc (suc (suc zero))) few old new held same = subst (IsBetween area rs qs) (sym same)
+      (record { front = inr (switch, held.0); old = held.1; new = held.2 })
+  torn-up (suc (suc (suc (suc n)))) few old new held torn = absurd (omega (arith, few))
+
+  -- a write found no memory
+  firm-at : (m : ℕ) → IsWrite m → (cells : Cells) → IsAfterPack m area rs qs cells → StandsFirm area rs cells
+  firm-at zero w cells held = held
+  firm-at (suc zero) w cells held = held.0
+  firm-at (suc (suc zero)) w cells held = held.0
+  firm-at (suc (suc (suc n))) w cells held =
+      absurd (elim w [ inl e ↦ omega (arith, e) | inr e ↦ omega (arith, e) ])
+
+  still-up : (m : ℕ) → IsWrite m → (cells : Cells) → IsAfterPack m area rs qs cells →
+      IsPackGivenUp m area rs qs cells
+  still-up zero w cells held = held
+  still-up (suc zero) w cells held = held.0
+  still-up (suc (suc zero)) w cells held = record { front = inl held.0.named; old = held.0.text; new = held.1 }
+  still-up (suc (suc (suc n))) w cells held =
+      absurd (elim w [ inl e ↦ omega (arith, e) | inr e ↦ omega (arith, e) ])
+
   -- ---- where the disk tells its cells
 
-  -- a move is made
   pub moved : (m : ℕ) → m < 4 → (old new : Option Cells) →
       new ≡ option_map (moved_on m to text 7 switch) old → IfSome old (IsAfterPack m area rs qs) →
       IfSome new (IsAfterPack (m + 1) area rs qs)
-  moved zero few old new is held = IfSome-mapped (IsAfterPack 0 area rs qs) (IsAfterPack 1 area rs qs)
-      (written to text) first old new is held
-  moved (suc zero) few old new is held = IfSome-mapped (IsAfterPack 1 area rs qs) (IsAfterPack 2 area rs qs)
-      settled second old new is held
-  moved (suc (suc zero)) few old new is held =
-      IfSome-mapped (IsAfterPack 2 area rs qs) (IsAfterPack 3 area rs qs)
-      (written 7 (switch ∷ [])) third old new is held
-  moved (suc (suc (suc zero))) few old new is held =
-      IfSome-mapped (IsAfterPack 3 area rs qs) (IsAfterPack 4 area rs qs) settled fourth old new is held
-  moved (suc (suc (suc (suc n)))) few old new is held = absurd (omega (arith, few))
+  moved m few = IfSome-mapped (IsAfterPack m area rs qs) (IsAfterPack (m + 1) area rs qs)
+      (moved_on m to text 7 switch) (made m few)
 
-  -- a move failed
-  torn-up : (m : ℕ) → m < 4 → (old new : Option Cells) → Goes (MayBeTorn m to (length text) 7) old new →
-      IfSome old (IsAfterPack m area rs qs) → IfSome new (IsPackGivenUp m area rs qs)
-  torn-up zero few old new goes held =
-      IfSome-goes (IsAfterPack 0 area rs qs) (IsPackGivenUp 0 area rs qs) (Torn to (length text)) first-torn
-      old new goes held
-  torn-up (suc zero) few old new goes held =
-      IfSome-goes (IsAfterPack 1 area rs qs) (IsPackGivenUp 1 area rs qs) (λ o w. w ≡ o)
-      (λ o w h same. subst (StandsFirm area rs) (sym same) h.0) old new goes held
-  torn-up (suc (suc zero)) few old new goes held =
-      IfSome-goes (IsAfterPack 2 area rs qs) (IsPackGivenUp 2 area rs qs) (Torn 7 1) third-torn
-      old new goes held
-  torn-up (suc (suc (suc zero))) few old new goes held =
-      IfSome-goes (IsAfterPack 3 area rs qs) (IsPackGivenUp 3 area rs qs) (λ o w. w ≡ o)
-      (λ o w h same. subst (IsBetween area rs qs) (sym same)
-      (record { front = inr (switch, h.0); old = h.1; new = h.2 })) old new goes held
-  torn-up (suc (suc (suc (suc n)))) few old new goes held = absurd (omega (arith, few))
-
-  -- a write found no memory
   pub kept-up : (m : ℕ) → IsWrite m → (old new : Option Cells) → new ≡ old →
       IfSome old (IsAfterPack m area rs qs) → IfSome new (StandsFirm area rs)
-  kept-up zero w old new same held =
-      IfSome-same (IsAfterPack 0 area rs qs) (StandsFirm area rs) (λ cells h. h) old new same held
-  kept-up (suc zero) w old new same held =
-      absurd (elim w [ inl e ↦ omega (arith, e) | inr e ↦ omega (arith, e) ])
-  kept-up (suc (suc zero)) w old new same held =
-      IfSome-same (IsAfterPack 2 area rs qs) (StandsFirm area rs) (λ cells h. h.0) old new same held
-  kept-up (suc (suc (suc n))) w old new same held =
-      absurd (elim w [ inl e ↦ omega (arith, e) | inr e ↦ omega (arith, e) ])
-
-  still-up : (m : ℕ) → IsWrite m → (old new : Option Cells) → new ≡ old →
-      IfSome old (IsAfterPack m area rs qs) → IfSome new (IsPackGivenUp m area rs qs)
-  still-up zero w old new same held = kept-up 0 w old new same held
-  still-up (suc zero) w old new same held = kept-up 1 w old new same held
-  still-up (suc (suc zero)) w old new same held =
-      IfSome-same (IsAfterPack 2 area rs qs) (IsBetween area rs qs)
-      (λ cells h. record { front = inl h.0.named; old = h.0.text; new = h.1 }) old new same held
-  still-up (suc (suc (suc n))) w old new same held =
-      absurd (elim w [ inl e ↦ omega (arith, e) | inr e ↦ omega (arith, e) ])
+  kept-up m w = IfSome-same (IsAfterPack m area rs qs) (StandsFirm area rs) (firm-at m w)
 
   -- a fault of a move
   pub given-up : {T : Type 0} (r : Result T WriteFault) (m : ℕ) → m < 4 → (old new : Option Cells) →
@@ -153,6 +131,8 @@ module _ (area : Area) (rs qs : List Record) (good : IsTrue (list_all is_in_gram
       IfSome old (IsAfterPack m area rs qs) → OnErr r (IfSome new (IsPackGivenUp m area rs qs))
   given-up (Ok x) m few old new torn memory writes held = tt
   given-up (Err write_fault.Failed) m few old new torn memory writes held =
-      torn-up m few old new (torn refl) held
+      IfSome-goes (IsAfterPack m area rs qs) (IsPackGivenUp m area rs qs) (MayBeTorn m to (length text) 7)
+      (torn-up m few) old new (torn refl) held
   given-up (Err write_fault.Memory) m few old new torn memory writes held =
-      still-up m (writes refl) old new (memory refl) held
+      IfSome-same (IsAfterPack m area rs qs) (IsPackGivenUp m area rs qs) (still-up m (writes refl)) old new
+      (memory refl) held

@@ -1,21 +1,11 @@
 -- The records of the packed journal of a table.
-use Rattle.std.proofs.Common.{◌≡◌, ℕ, zero, suc, ◌+◌, ◌<◌, Bool, true, List, [], ◌∷◌, ◌++◌, length, take, map, get_or, Some, None, refl, sym, ap, ◌∙◌, arith, length-append}
-use Rattle.std.specs.Prelude.{IsTrue, All, reverse, slice_get}
-use Rattle.std.specs.List.{list_all}
+use Rattle.journal_pack.proofs.Words.{◌≡◌, ℕ, zero, suc, ◌+◌, ◌<◌, Bool, true, List, [], ◌∷◌, ◌++◌, length, take, map, get_or, Some, None, refl, sym, ap, ◌∙◌, arith, length-append, IsTrue, reverse, slice_get, list_all, All-nil, All-cons, All-head, All-tail, Entry, Version, Resume, is_in_grammar, File, as_record, with_files, with_due, with_setup, packed, entry_of, HasPadding, IsInGrammar, newest_first, Kept, IsFoldOf, entries, entries_size, length-entries}
+use Rattle.std.specs.Prelude.{All}
 use Rattle.std.proofs.lemmas.Bool.{and_parts, and_from}
 use Rattle.std.proofs.lemmas.List.{reverse-append, take_more}
-use Rattle.std.proofs.lemmas.List.Elements.{All-nil, All-cons, All-head, All-tail}
 use Rattle.std.proofs.lemmas.List.Folds.{list_all-append}
-use Rattle.record_defs.specs.Records.{Record as Entry, Version, Resume, is_in_grammar}
-use Rattle.record_defs.specs.Table.{File}
-use Rattle.record_defs.specs.Packed.{as_record, with_files, with_due, with_setup, packed}
 use Rattle.record_codec.specs.declared.records.Record.{Record}
-use Rattle.record_codec.specs.Entries.{entry_of, HasPadding, IsInGrammar}
-use Rattle.journal_core.specs.Lists.{newest_first}
-use Rattle.vault_table.specs.Values.{Kept, IsFoldOf}
-use Rattle.record_defs.specs.Areas.{entries, entries_size}
 use Rattle.journal_pack.specs.Tables.{packed_table}
-use Rattle.record_defs.proofs.Sizes.{length-entries}
 
 -- one file more on top
 pub files-push : (fs : List File) (f : File) (rs : List Entry) →

@@ -1,18 +1,13 @@
-ghost use Rattle.std.specs.Prelude.{◌≡◌, ◌⊎◌, ◌+◌, ◌^◌, ◌<◌, ◌≤◌, ◌∷◌, ◌++◌, [], All, List, length, OnOk, OnErr, IfOk, IfSome, IsErrOf, IsTrue, ◌↔◌};
+ghost use Rattle.std.specs.Prelude.{◌≡◌, ◌⊎◌, ◌+◌, ◌^◌, ◌<◌, ◌≤◌, ◌∷◌, ◌++◌, [], All, List, length, OnOk, IfOk, IsErrOf, IsTrue, ◌↔◌};
 ghost use Rattle.std.specs.List.{list_all};
 ghost use Rattle.stream_model.specs.declared.fault.WriteFault.TheVariants as write_fault;
-ghost use Rattle.std.specs.Option.{option_map};
 ghost use Rattle.device_defs.specs.Faults.{HasCause, one_more};
-ghost use Rattle.device_defs.specs.Told.{Goes};
 ghost use Rattle.record_defs.specs.Records.{Record as Entry, is_in_grammar};
 ghost use Rattle.record_defs.specs.Spellings.{spelling};
 ghost use Rattle.record_defs.specs.Areas.{Area, other_area, base_of, entries, entries_size, text_length, end_in};
 ghost use Rattle.record_codec.specs.Entries.{entry_of, IsInGrammar};
 ghost use Rattle.journal_core.specs.Lists.{newest_first};
-ghost use Rattle.journal_core.specs.Moves.{IsWrite};
-ghost use Rattle.journal_core.specs.FourMoves.{moved_on, MayBeTorn};
-ghost use Rattle.journal_core.specs.Texts.{StandsFirm, AllStandIn, MayStandIn};
-ghost use Rattle.journal_pack.specs.Moves.{switch_to, IsPackGivenUp};
+ghost use Rattle.journal_pack.specs.Moves.{switch_to};
 
 use disk_model::Disk;
 use journal_core::{FIRST_BASE, SECOND, SECOND_BASE, SWITCH, make_move};
@@ -69,7 +64,7 @@ fn switch_to(to: u64) -> u8
 }
 
 impl Pack {
-    ghost use Rattle.journal_pack.specs.Packs.{to_of, text_of, moves_of, WritesText, Packs};
+    ghost use Rattle.journal_pack.specs.Packs.{to_of, moves_of, WritesText, TurnsPack, PacksDisk};
 
     /// A pack of these records, away from the active area, which begins at `base`. Condition: each record has
     /// a spelling, and the text fits in front of the second area.
@@ -127,36 +122,14 @@ impl Pack {
         self.to + self.text.len() as u64
     }
 
-    /// Makes the next move; true after the fourth. After a fault the pack is given up; want of memory leaves
-    /// the old journal. Condition: the four moves are not yet made, and none of them failed.
+    /// Makes the next move; true after the fourth. After a fault the pack is given up. However it ended, the old
+    /// journal stands or the packed one, and the old one where memory ran out (`laws::packs_are_atomic`).
+    /// Condition: the four moves are not yet made, and none of them failed.
     pub fn turn<D: Disk>(&mut self, disk: &mut D) -> Result<bool, WriteFault>
         requires { moves_of self.old < 4 }
-        ensures last { IfOk result (λ ended. IsTrue ended ↔ (moves_of self.new ≡ 4)) }
-        ensures next { OnOk result (moves_of self.new ≡ moves_of self.old + 1) }
-        ensures failed { OnErr result (moves_of self.new ≡ 5) }
-        ensures to { to_of self.new ≡ to_of self.old }
-        ensures text { text_of self.new ≡ text_of self.old }
-        ensures does { OnOk result (D.holds disk.new ≡ option_map (moved_on (moves_of self.old)
-            (to_of self.old) (text_of self.old) 7 (switch_to (to_of self.old))) (D.holds disk.old)) }
-        ensures torn { IsErrOf result write_fault.Failed → Goes (MayBeTorn (moves_of self.old)
-            (to_of self.old) (length (text_of self.old)) 7) (D.holds disk.old) (D.holds disk.new) }
-        ensures moved { (area : Area) (rs qs : List Entry) → Packs area rs qs self.old (D.holds disk.old)
-            → OnOk result (Packs area rs qs self.new (D.holds disk.new)) }
-        ensures given_up { (area : Area) (rs qs : List Entry) → Packs area rs qs self.old (D.holds disk.old)
-            → OnErr result (IfSome (D.holds disk.new) (IsPackGivenUp (moves_of self.old) area rs qs)) }
-        ensures before { (area : Area) (rs qs : List Entry) → Packs area rs qs self.old (D.holds disk.old)
-            → moves_of self.old < 2 → AllStandIn area rs (D.holds disk.new) }
-        ensures between { (area : Area) (rs qs : List Entry) → Packs area rs qs self.old (D.holds disk.old)
-            → MayStandIn area rs qs (D.holds disk.new) }
-        ensures after { (area : Area) (rs qs : List Entry) → Packs area rs qs self.old (D.holds disk.old)
-            → OnOk result (moves_of self.new ≡ 4 → AllStandIn (other_area area) qs (D.holds disk.new)) }
-        ensures ready { (area : Area) (rs qs : List Entry) → Packs area rs qs self.old (D.holds disk.old)
-            → OnOk result (moves_of self.new ≡ 4
-            → IfSome (D.holds disk.new) (StandsFirm (other_area area) qs)) }
-        ensures kept { (area : Area) (rs qs : List Entry) → Packs area rs qs self.old (D.holds disk.old)
-            → IsErrOf result write_fault.Memory → IfSome (D.holds disk.new) (StandsFirm area rs) }
-        ensures memory { IsErrOf result write_fault.Memory → D.holds disk.new ≡ D.holds disk.old }
-        ensures writes { IsErrOf result write_fault.Memory → IsWrite (moves_of self.old) }
+        ensures moves { TurnsPack self.old result self.new }
+        ensures disk { PacksDisk self.old result (D.holds disk.old) (D.holds disk.new) }
+        ensures no_fault { IsErrOf result write_fault.Memory → D.faults disk.new ≡ D.faults disk.old }
         ensures cause { HasCause (D.faults disk.old) (D.faults disk.new) (IsErrOf result write_fault.Failed) }
         ensures called { D.calls disk.new ≡ one_more (D.calls disk.old) }
     {

@@ -1,41 +1,36 @@
 -- The texts of answers, read back.
-use Rattle.std.proofs.Common.{◌≡◌, ℕ, List, [], ◌∷◌, ◌++◌, drop, refl, sym, ◌∙◌, ap, arith, append_assoc}
-use Rattle.std.specs.Prelude.{codes}
-use Rattle.std.specs.List.{AllByRecursion, flat_map}
-use Rattle.std.specs.Fmt.{decimal}
-use Rattle.std.proofs.lemmas.List.{append_cancel_right}
-use Rattle.machine_defs.specs.Answers.{Answer, Put, Got, Dropped, Audited, Repaired, Lost, ProviderFault, DiskFault, Memory, Upgraded, Scrubbed, Packed}
-use Rattle.machine_defs.specs.Lines.{line, then_number, hex_or_dash, answer_text}
-use Rattle.line_laws.specs.Told.{IsShortNumber, IsToldAnswer}
+use Rattle.line_laws.proofs.Words.{◌≡◌, ℕ, List, [], ◌∷◌, ◌++◌, drop, refl, sym, ◌∙◌, ap, arith, append_assoc, codes, AllByRecursion, flat_map, decimal, append_cancel_right, Answer, Put, Got, Dropped, Audited, Repaired, Lost, ProviderFault, Upgraded, Scrubbed, Packed, line, then_number, hex_or_dash, answer_text, IsShortNumber, IsToldAnswer}
+use Rattle.machine_defs.specs.Answers.{DiskFault, Memory}
 use Rattle.line_laws.proofs.Digits.{IsBehind, number-split, number-tells, bytes-tell}
 use Rattle.line_laws.proofs.Marks.{differ}
 
 -- a number, and what is behind it up to the end of the line
-next : (m n : ℕ) (x y : List ℕ) → IsShortNumber n → IsBehind (line x) → IsBehind (line y) →
+pub number-next : (m n : ℕ) (x y : List ℕ) → IsShortNumber n → IsBehind (line x) → IsBehind (line y) →
     line (decimal m ++ x) ≡ line (decimal n ++ y) → (m ≡ n) × (line x ≡ line y)
-next m n x y small behind after same =
+number-next m n x y small behind after same =
     number-split m n (line x) (line y) small behind after
     (sym (append_assoc (decimal m) x (10 ∷ [])) ∙ same ∙ append_assoc (decimal n) y (10 ∷ []))
 
-behind : (ns : List ℕ) → IsBehind (line (flat_map then_number ns))
-behind [] = omega arith
-behind (n ∷ ns) = omega arith
+-- numbers behind each other
+numbers-behind : (ns : List ℕ) → IsBehind (line (flat_map then_number ns))
+numbers-behind [] = omega arith
+numbers-behind (n ∷ ns) = omega arith
 
-numbers-tell : (ms ns : List ℕ) → AllByRecursion IsShortNumber ns →
+-- a line tells them
+pub numbers-tell : (ms ns : List ℕ) → AllByRecursion IsShortNumber ns →
     line (flat_map then_number ms) ≡ line (flat_map then_number ns) → ms ≡ ns
 numbers-tell [] [] small same = refl
-numbers-tell [] (n ∷ ns) small same = absurd (differ 0 0 0 _ _ refl same)
-numbers-tell (m ∷ ms) [] small same = absurd (differ 0 0 0 _ _ refl same)
 numbers-tell (m ∷ ms) (n ∷ ns) small same =
-    let parts = next m n (flat_map then_number ms) (flat_map then_number ns) small.0 (behind ms) (behind ns)
-    (ap (drop 1) same) in
+    let parts = number-next m n (flat_map then_number ms) (flat_map then_number ns) small.0
+    (numbers-behind ms) (numbers-behind ns) (ap (drop 1) same) in
     let rest = numbers-tell ms ns small.1 parts.1 in
     λ i. parts.0 i ∷ rest i
+numbers-tell ms ns small same = absurd (differ 0 0 0 _ _ refl same)
 
 two-tell : (m n k l : ℕ) → IsShortNumber n → IsShortNumber l →
     line (decimal m ++ then_number k) ≡ line (decimal n ++ then_number l) → (m ≡ n) × (k ≡ l)
 two-tell m n k l small few same =
-    let parts = next m n (then_number k) (then_number l) small (omega arith) (omega arith) same in (
+    let parts = number-next m n (then_number k) (then_number l) small (omega arith) (omega arith) same in (
       parts.0,
       (number-tells k l few (ap (drop 1) parts.1)),
     )
@@ -64,14 +59,13 @@ answers-tell (Got xs) (Got ys) told same =
     ap Got (bytes-tell xs ys words)
 answers-tell Dropped Dropped told same = refl
 answers-tell (Audited m u cs) (Audited n v ds) told same =
-    let first = next m n (with-undecided u cs) (with-undecided v ds) told.0 (omega arith) (omega arith)
+    let first = number-next m n (with-undecided u cs) (with-undecided v ds) told.0 (omega arith) (omega arith)
     (sym (audit-parts m u cs) ∙ ap (drop 8) same ∙ audit-parts n v ds) in
-    let second = next u v (with-counts cs) (with-counts ds) told.1 (omega arith) (omega arith)
+    let second = number-next u v (with-counts cs) (with-counts ds) told.1 (omega arith) (omega arith)
     (ap (drop 11) first.1) in
     let third = numbers-tell cs ds told.2 (ap (drop 7) second.1) in
     λ i. Audited (first.0 i) (second.0 i) (third i)
-answers-tell (Repaired m) (Repaired n) told same =
-    ap Repaired (number-tells m n told (ap (drop 9) same))
+answers-tell (Repaired m) (Repaired n) told same = ap Repaired (number-tells m n told (ap (drop 9) same))
 answers-tell (Lost m k) (Lost n l) told same =
     let parts = two-tell m n k l told.0 told.1 (ap (drop 5) same) in λ i. Lost (parts.0 i) (parts.1 i)
 answers-tell (ProviderFault m) (ProviderFault n) told same =

@@ -1,14 +1,11 @@
 -- Numbers in decimal and bytes in hexadecimal, read back.
-use Rattle.std.proofs.Common.{◌≡◌, ℕ, zero, suc, ◌+◌, ◌/◌, ◌%◌, ◌^◌, ◌<◌, ◌≤◌, Bool, true, false, List, [], ◌∷◌, ◌++◌, length, drop, get_or, refl, sym, ◌∙◌, ap, arith, inl, inr, ◌⊎◌}
-use Rattle.std.specs.Prelude.{◌==◌, if◌then◌else◌}
-use Rattle.std.specs.List.{AllByRecursion}
-use Rattle.std.specs.Fmt.{decimal, digits, digits_onto, digit_glyph}
+use Rattle.line_laws.proofs.Words.{◌≡◌, ℕ, zero, suc, ◌+◌, ◌/◌, ◌%◌, ◌^◌, ◌<◌, ◌≤◌, Bool, true, false, List, [], ◌∷◌, ◌++◌, drop, get_or, refl, sym, ◌∙◌, ap, arith, inl, inr, ◌⊎◌, if◌then◌else◌, AllByRecursion, decimal, digits, digits_onto, digit_glyph, nat_tests, line, hex_digit, hex, hex_or_dash}
+use Rattle.std.proofs.Common.{length}
+use Rattle.std.specs.Prelude.{◌==◌}
 use Rattle.std.specs.Str.Parse.{digits_value}
 use Rattle.std.proofs.Math.Nat.{pow-suc}
 use Rattle.std.proofs.lemmas.Bool.{cases_lt, eqb-true}
-use Rattle.std.proofs.lemmas.Bool.Decides.{nat_tests}
 use Rattle.std.proofs.lemmas.Fmt.{decimal_is_IsNumeral_wide, length-decimal-le}
-use Rattle.machine_defs.specs.Lines.{line, hex_digit, hex, hex_or_dash}
 
 -- a digit of a number in decimal
 abbrev pub IsDigit : ℕ → Type 0
@@ -55,8 +52,7 @@ full (suc k) n acc large =
     by : (t : Bool) → (n / 10 == 0) ≡ t →
         length (digits_onto k 10 false (n / 10) last) ≡ k + suc (length acc) →
         length (if t then last else digits_onto k 10 false (n / 10) last) ≡ suc k + length acc
-    by true is rest =
-        absurd (omega (arith, eqb-true (n / 10) 0 is, large, pow-suc 10 k, ten-pow k))
+    by true is rest = absurd (omega (arith, eqb-true (n / 10) 0 is, large, pow-suc 10 k, ten-pow k))
     by false is rest = omega (arith, rest)
 
 long : (n : ℕ) → 10 ^ 64 ≤ n → length (decimal n) ≡ 64
@@ -84,16 +80,15 @@ IsBehind (c ∷ rest) = c < 48
 split : (ds es x y : List ℕ) → AllByRecursion IsDigit ds → AllByRecursion IsDigit es → IsBehind x →
     IsBehind y → ds ++ x ≡ es ++ y → (ds ≡ es) × (x ≡ y)
 split [] [] x y all every behind after same = (refl, same)
-split [] (e ∷ es) [] y all every behind after same = grind arith
 split [] (e ∷ es) (c ∷ x) y all every behind after same =
     absurd (omega (arith, ap (λ l. get_or l 0 0) same, every.0, behind))
-split (d ∷ ds) [] x [] all every behind after same = grind arith
 split (d ∷ ds) [] x (c ∷ y) all every behind after same =
     absurd (omega (arith, ap (λ l. get_or l 0 0) same, all.0, after))
 split (d ∷ ds) (e ∷ es) x y all every behind after same =
     let rest = split ds es x y all.1 every.1 behind after (ap (drop 1) same) in
     let head : d ≡ e = ap (λ l. get_or l 0 0) same in
     ((λ i. head i ∷ rest.0 i), rest.1)
+split ds es x y all every behind after same = grind arith
 
 -- a number in decimal, with no digit behind it, tells the number
 pub number-split : (m n : ℕ) (x y : List ℕ) → n < 2 ^ 64 → IsBehind x → IsBehind y →
@@ -119,16 +114,14 @@ byte-tells a b high low =
 
 hex-tells : (xs ys : List ℕ) → hex xs ≡ hex ys → xs ≡ ys
 hex-tells [] [] same = refl
-hex-tells [] (b ∷ ys) same = grind arith
-hex-tells (a ∷ xs) [] same = grind arith
 hex-tells (a ∷ xs) (b ∷ ys) same =
     let rest = hex-tells xs ys (ap (drop 2) same) in
     let head = byte-tells a b (ap (λ l. get_or l 0 0) same) (ap (λ l. get_or l 1 0) same) in
     λ i. head i ∷ rest i
+hex-tells xs ys same = grind arith
 
 -- bytes in hexadecimal, or a dash for none, tell the bytes
 pub bytes-tell : (xs ys : List ℕ) → hex_or_dash xs ≡ hex_or_dash ys → xs ≡ ys
 bytes-tell [] [] same = refl
-bytes-tell [] (b ∷ ys) same = absurd (omega (arith, ap length same))
-bytes-tell (a ∷ xs) [] same = absurd (omega (arith, ap length same))
 bytes-tell (a ∷ xs) (b ∷ ys) same = hex-tells (a ∷ xs) (b ∷ ys) same
+bytes-tell xs ys same = absurd (omega (arith, ap length same))

@@ -1,13 +1,10 @@
 -- Each event but a list of the names and a later call of the program writes one line.
-use Rattle.std.proofs.Common.{ℕ, zero, suc, ◌==◌, Bool, true, false, List, [], ◌∷◌, Option, Some, None}
-use Rattle.std.specs.Prelude.{IsSome, nat_lt}
+use Rattle.line_laws.proofs.Words.{ℕ, zero, suc, Bool, true, false, List, [], ◌∷◌, Option, Some, None, IsSome, nat_lt, Refusal, Event, Init, Begin, BeginAt, BeginScrub, BeginPack, Step, Alter, Lose, Stop, Reopen, Names, Continue, Outcome, Ready, Refused, Opened, Begun, More, Waiting, Ended, Replaced, NothingHeld, Stopped, Closed, State, Append, Scrub, Pack, Alone, Scrubbing, Packing, AsksForOneLine, WritesOneLine}
+use Rattle.std.proofs.Common.{◌==◌}
 use Rattle.record_defs.specs.Records.{Setup, is_setup}
 use Rattle.device_defs.specs.Providers.{Held, with_symbol, without_block, HasPlace}
 use Rattle.machine_defs.specs.Jobs.{Kind, PutJob, Job, job_of}
 use Rattle.machine_defs.specs.Actions.{Action, WriteBody, SyncBody, WriteGate, SyncGate, Store, Fetch, Ask, Work, Remove, End}
-use Rattle.machine_defs.specs.Refusals.{Refusal}
-use Rattle.machine_defs.specs.Events.{Event, Init, Begin, BeginAt, BeginScrub, BeginPack, Step, Alter, Lose, Stop, Reopen, Names, Continue, Outcome, Ready, Refused, Opened, Begun, More, Waiting, Ended, Replaced, NothingHeld, Stopped, Closed}
-use Rattle.machine_defs.specs.States.{State, Append, Scrub, Pack, Alone, Scrubbing, Packing}
 use Rattle.machine_defs.specs.Begins.{BeginsAt}
 use Rattle.machine_defs.specs.Appends.{Moves}
 use Rattle.machine_defs.specs.Steps.{next_action, holder_of, Acts, ActsOrWaits, StepsOn, StepsJob, StepsMine, StepsOne, StepsOpen, Steps}
@@ -15,7 +12,6 @@ use Rattle.machine_defs.specs.Alone.{number_alone, Scrubs, StepsScrub, Packs, St
 use Rattle.machine_defs.specs.Openings.{Stops, Reopens, InitsClosed, InitsBy, Inits}
 use Rattle.machine_defs.specs.Replacements.{ReplacesAt, ReplacesIf}
 use Rattle.machine_defs.specs.Machine.{Happens}
-use Rattle.line_laws.specs.Told.{AsksForOneLine, WritesOneLine}
 
 module _ (old new : State) where
   module _ (job : Job) where
@@ -166,8 +162,6 @@ module _ (old new : State) where
   happened limit moment (Begin kind) r asks h = begins limit moment kind None r h
   happened limit moment (BeginAt profile name bytes) r asks h =
       begins limit moment (PutJob name bytes) (Some profile) r h
-  happened limit moment BeginScrub r asks h = begins_alone _ _ r h
-  happened limit moment BeginPack r asks h = begins_alone _ _ r h
   happened limit moment (Step number) r asks h = steps number old.is_open r h
   happened limit moment (Alter j object stripe place symbol) r asks h =
       replaces_if (nat_lt j old.handed) j (λ held. HasPlace (held object stripe) place)
@@ -179,3 +173,4 @@ module _ (old new : State) where
   happened limit moment Reopen r asks h = reopens r h
   happened limit moment Names r asks h = absurd asks
   happened limit moment Continue r asks h = absurd asks
+  happened limit moment event r asks h = begins_alone _ _ r h

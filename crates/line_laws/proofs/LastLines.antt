@@ -1,9 +1,6 @@
 -- The last line of a text.
-use Rattle.std.proofs.Common.{◌≡◌, ℕ, List, [], ◌∷◌, ◌++◌, length, drop, get_or, refl, sym, ap, arith, inl, inr, ◌∙◌, subst, length-append}
-use Rattle.std.proofs.lemmas.List.{append_cancel_right}
-use Rattle.machine_defs.specs.Events.{Outcome, Listed, Continued}
-use Rattle.machine_defs.specs.Lines.{line, lines_of}
-use Rattle.line_laws.specs.Told.{IsToldByLine, WritesOneLine, HasNoNewline, IsOfLines}
+use Rattle.line_laws.proofs.Words.{◌≡◌, ℕ, List, [], ◌∷◌, ◌++◌, drop, get_or, refl, sym, ap, arith, inl, inr, ◌∙◌, subst, length-append, append_cancel_right, Outcome, Listed, Continued, line, lines_of, IsToldByLine, WritesOneLine, HasNoNewline, IsOfLines}
+use Rattle.std.proofs.Common.{length}
 use Rattle.line_laws.proofs.OneLine.{one-line}
 use Rattle.line_laws.proofs.Outcomes.{lines-tell}
 
@@ -14,9 +11,8 @@ Ends (c ∷ []) = c ≡ 10
 Ends (c ∷ d ∷ rest) = Ends (d ∷ rest)
 
 ends-line : (front : List ℕ) → Ends (line front)
-ends-line [] = refl
-ends-line (c ∷ []) = refl
 ends-line (c ∷ d ∷ rest) = ends-line (d ∷ rest)
+ends-line front = refl
 
 ends : (text : List ℕ) → IsOfLines text → Ends text
 ends text (inl none) = subst Ends (sym none) tt

@@ -1,7 +1,8 @@
+mod Words
 pub mod Digits
 pub mod Marks
 mod Refusals
-mod Answers
+pub mod Answers
 pub mod Outcomes
 pub mod OneLine
 pub mod LastLines

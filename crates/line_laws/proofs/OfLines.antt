@@ -1,19 +1,11 @@
 -- What outcomes and runs write is of whole lines.
-use Rattle.std.proofs.Common.{ℕ, List, [], ◌∷◌, ◌++◌, refl, sym, ap, subst, ◌∙◌, inl, inr, append_assoc, append-nil}
-use Rattle.std.specs.Prelude.{codes, length}
-use Rattle.std.specs.List.{flat_map}
-use Rattle.record_defs.specs.Table.{File}
-use Rattle.machine_defs.specs.Events.{Outcome, Listed, Continued}
-use Rattle.machine_defs.specs.Lines.{line, then_number, file_line, lines_of}
-use Rattle.machine_defs.specs.Runs.{Moment}
-use Rattle.machine_defs.specs.Transcripts.{Instruction, Once, RunJob, CarriesOut}
-use Rattle.line_laws.specs.Told.{IsOfLines}
+use Rattle.line_laws.proofs.Words.{ℕ, List, [], ◌∷◌, ◌++◌, refl, sym, ap, subst, ◌∙◌, inl, inr, append_assoc, append-nil, codes, flat_map, File, Outcome, Listed, Continued, line, then_number, file_line, lines_of, Moment, Instruction, Once, RunJob, CarriesOut, IsOfLines}
+use Rattle.std.specs.Prelude.{length}
 use Rattle.line_laws.proofs.OneLine.{one-line}
 
 -- lines behind lines
 pub joined : (x y : List ℕ) → IsOfLines x → IsOfLines y → IsOfLines (x ++ y)
-joined x y before (inl none) =
-    subst IsOfLines (sym (append-nil x) ∙ ap (λ l. x ++ l) (sym none)) before
+joined x y before (inl none) = subst IsOfLines (sym (append-nil x) ∙ ap (λ l. x ++ l) (sym none)) before
 joined x y before (inr some) =
     inr (x ++ some.0, ap (λ l. x ++ l) some.1 ∙ sym (append_assoc x some.0 (10 ∷ [])))
 

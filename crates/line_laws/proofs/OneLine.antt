@@ -1,14 +1,7 @@
 -- The text of an outcome that writes one line has no newline inside.
-use Rattle.std.proofs.Common.{◌≡◌, ◌≢◌, ℕ, ◌-◌, ◌/◌, ◌%◌, Bool, true, List, [], ◌∷◌, ◌++◌, length, take, refl, arith, not}
-use Rattle.std.specs.Prelude.{codes, ◌==◌, ◌&&◌}
-use Rattle.std.specs.List.{AllByRecursion, flat_map}
-use Rattle.std.specs.Fmt.{decimal}
-use Rattle.std.proofs.lemmas.Bool.Decides.{nat_tests}
-use Rattle.machine_defs.specs.Refusals.{Refusal, BadJournal}
-use Rattle.machine_defs.specs.Answers.{Answer, Got, Audited, Repaired, Lost, ProviderFault, Scrubbed, Packed}
-use Rattle.machine_defs.specs.Events.{Outcome, Refused, Begun, Waiting, Ended, Listed, Continued}
-use Rattle.machine_defs.specs.Lines.{line, then_number, hex_digit, hex, hex_or_dash, refusal_text, answer_text, lines_of}
-use Rattle.line_laws.specs.Told.{WritesOneLine, HasNoNewline}
+use Rattle.line_laws.proofs.Words.{◌≡◌, ◌≢◌, ℕ, ◌-◌, ◌/◌, ◌%◌, Bool, true, List, [], ◌∷◌, ◌++◌, take, refl, arith, not, codes, ◌&&◌, AllByRecursion, flat_map, decimal, nat_tests, Refusal, BadJournal, Answer, Got, Audited, Repaired, Lost, ProviderFault, Scrubbed, Packed, Outcome, Refused, Begun, Waiting, Ended, Listed, Continued, line, then_number, hex_digit, hex, hex_or_dash, refusal_text, answer_text, lines_of, WritesOneLine, HasNoNewline}
+use Rattle.std.proofs.Common.{length}
+use Rattle.std.specs.Prelude.{◌==◌}
 use Rattle.line_laws.proofs.Digits.{IsDigit, digits-decimal}
 
 -- no newline, by a test
@@ -63,8 +56,7 @@ answer (Audited n undecided counts) =
     let free = append named (codes " undecided") (behind (codes "audited") (then_number n) refl (number n))
     (by-test (codes " undecided") refl) in
     let clear = append both (codes " counts")
-    (append open_word (then_number undecided) free (number undecided))
-    (by-test (codes " counts") refl) in
+    (append open_word (then_number undecided) free (number undecided)) (by-test (codes " counts") refl) in
     append (both ++ codes " counts") (flat_map then_number counts) clear (numbers counts)
 answer (Repaired n) = behind (codes "repaired") (then_number n) refl (number n)
 answer (Lost stripe row) =

@@ -1,9 +1,5 @@
 -- The lines of outcomes, read back.
-use Rattle.std.proofs.Common.{◌≡◌, drop, refl, sym, ap}
-use Rattle.machine_defs.specs.Answers.{Answer, Put}
-use Rattle.machine_defs.specs.Events.{Outcome, Ready, Refused, Opened, Begun, More, Waiting, Ended, Replaced, NothingHeld, Stopped, Listed, Closed, Continued}
-use Rattle.machine_defs.specs.Lines.{line, answer_text, lines_of}
-use Rattle.line_laws.specs.Told.{IsToldByLine}
+use Rattle.line_laws.proofs.Words.{◌≡◌, drop, refl, sym, ap, Answer, Put, Outcome, Ready, Refused, Opened, Begun, More, Waiting, Ended, Replaced, NothingHeld, Stopped, Listed, Closed, Continued, line, answer_text, lines_of, IsToldByLine}
 use Rattle.line_laws.proofs.Digits.{number-tells}
 use Rattle.line_laws.proofs.Marks.{differ}
 use Rattle.line_laws.proofs.Refusals.{refusals-tell}
@@ -25,11 +21,9 @@ pub lines-tell : (r s : Outcome) → IsToldByLine s → lines_of r ≡ lines_of 
 lines-tell Ready Ready told same = refl
 lines-tell (Refused a) (Refused b) told same = ap Refused (refusals-tell a b told (ap (drop 8) same))
 lines-tell Opened Opened told same = refl
-lines-tell (Begun m) (Begun n) told same =
-    ap Begun (number-tells m n told (ap (drop 4) same))
+lines-tell (Begun m) (Begun n) told same = ap Begun (number-tells m n told (ap (drop 4) same))
 lines-tell More More told same = refl
-lines-tell (Waiting m) (Waiting n) told same =
-    ap Waiting (number-tells m n told (ap (drop 8) same))
+lines-tell (Waiting m) (Waiting n) told same = ap Waiting (number-tells m n told (ap (drop 8) same))
 lines-tell (Ended a) (Ended b) told same = ap Ended (answers-tell a b told same)
 lines-tell Replaced Replaced told same = refl
 lines-tell NothingHeld NothingHeld told same = refl

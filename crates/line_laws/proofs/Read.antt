@@ -1,14 +1,7 @@
 -- A text read as the outcomes that wrote it.
-use Rattle.std.proofs.Common.{◌≡◌, ℕ, List, [], ◌∷◌, ◌++◌, length, refl, sym, ap, subst, ◌∙◌, arith, length-append, append_assoc, append-nil, inl}
-use Rattle.std.specs.List.{AllByRecursion}
-use Rattle.machine_defs.specs.Events.{Event, Step, Outcome}
-use Rattle.machine_defs.specs.Lines.{lines_of}
-use Rattle.machine_defs.specs.Runs.{Moment, now, IsRun}
-use Rattle.machine_defs.specs.States.{State}
-use Rattle.machine_defs.specs.Transcripts.{Instruction, Once, RunJob, CarriesOut}
+use Rattle.line_laws.proofs.Words.{◌≡◌, ℕ, List, [], ◌∷◌, ◌++◌, refl, sym, ap, subst, ◌∙◌, arith, length-append, append_assoc, append-nil, inl, AllByRecursion, Event, Step, Outcome, lines_of, Moment, now, IsRun, State, Instruction, Once, RunJob, CarriesOut, IsToldByLine, AsksForOneLine, WritesOneLine, IsOfLines, lines_of_all, AskForOneLine, EndsAs}
+use Rattle.std.proofs.Common.{length}
 use Rattle.machine_defs.proofs.Untouched.{run_back}
-use Rattle.line_laws.specs.Told.{IsToldByLine, AsksForOneLine, WritesOneLine, IsOfLines}
-use Rattle.line_laws.specs.Read.{lines_of_all, AskForOneLine, EndsAs}
 use Rattle.line_laws.proofs.OneLine.{one-line}
 use Rattle.line_laws.proofs.LastLines.{one-told, last-told}
 use Rattle.line_laws.proofs.OfLines.{joined, outcome-lines, run-lines}

@@ -1,8 +1,6 @@
 -- The texts of refusals, read back.
-use Rattle.std.proofs.Common.{◌≡◌, drop, refl, ap}
-use Rattle.machine_defs.specs.Refusals.{Refusal, MustReopen, Busy, BadName, TooLong, NoSuchName, TooManyFiles, RepairDue, NothingDue, JournalFull, Memory, BadSetup, DiskFault, BadJournal, Already, NotSetUp, TooFewProviders, NoSuchJob, BadProfile, OldVersion, NewVersion, PackTooLong}
-use Rattle.machine_defs.specs.Lines.{line, refusal_text}
-use Rattle.line_laws.specs.Told.{IsToldRefusal}
+use Rattle.line_laws.proofs.Words.{◌≡◌, drop, refl, ap, Refusal, MustReopen, Busy, BadName, TooLong, NoSuchName, TooManyFiles, RepairDue, NothingDue, JournalFull, BadSetup, BadJournal, Already, NotSetUp, TooFewProviders, NoSuchJob, BadProfile, OldVersion, NewVersion, PackTooLong, line, refusal_text, IsToldRefusal}
+use Rattle.machine_defs.specs.Refusals.{Memory, DiskFault}
 use Rattle.line_laws.proofs.Digits.{number-tells}
 use Rattle.line_laws.proofs.Marks.{differ}
 

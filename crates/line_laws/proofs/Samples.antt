@@ -1,16 +1,6 @@
 -- A text that is read, and a step at a closed vault.
-use Rattle.std.proofs.Common.{◌≡◌, ℕ, List, [], ◌∷◌, ◌++◌, refl, arith, inr}
-use Rattle.std.specs.Prelude.{codes}
-use Rattle.std.specs.List.{AllByRecursion, flat_map}
-use Rattle.std.specs.Fmt.{digits}
-use Rattle.record_defs.specs.Table.{File}
-use Rattle.machine_defs.specs.Answers.{Put, Got}
-use Rattle.machine_defs.specs.Events.{Outcome, Step, More, Opened, Begun, Ended, Listed, Closed}
+use Rattle.line_laws.proofs.Words.{◌≡◌, ℕ, List, [], ◌∷◌, ◌++◌, refl, arith, inr, codes, AllByRecursion, flat_map, digits, File, Put, Got, Outcome, Step, More, Opened, Begun, Ended, Listed, Closed, line, lines_of, Moment, lines_of_all, IsToldByLine, WritesOneLine, HasNoNewline, IsOfLines}
 use Rattle.machine_defs.specs.Examples.{set_up}
-use Rattle.machine_defs.specs.Lines.{line, lines_of}
-use Rattle.machine_defs.specs.Runs.{Moment}
-use Rattle.line_laws.specs.Read.{lines_of_all}
-use Rattle.line_laws.specs.Told.{IsToldByLine, WritesOneLine, HasNoNewline, IsOfLines}
 use Rattle.line_laws.proofs.Outcomes.{lines-tell}
 use Rattle.line_laws.proofs.OneLine.{by-test}
 use Rattle.line_laws.proofs.LastLines.{last-told}

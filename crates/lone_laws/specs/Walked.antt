@@ -2,7 +2,8 @@
 --
 --   MayName kind own                  == a put may name a profile of its own, and no other job
 --   appends_of w kind                 == how many records a job of this kind appends
---   first_record w kind               == the first one, over the records of this state
+--   first_record w kind               == the first one, over the records of this state; of a get, which has
+--                                        none, any
 --   IsSecondRecord w job kind entry   == the second one: a put's end, or an audit's end with the sums of all
 --                                        that it heard
 --   HasSubject w kind job             == the number of the job: that of a put or an audit from its first move
@@ -16,17 +17,17 @@
 --   WalkedAt start kind profile w job == this is the state, and the job in it, after some steps that went on,
 --                                        since the job began in `start`, with this profile
 --   Walked start kind w job           == the same of a job with the setup's profile
-use Rattle.std.specs.Prelude.{◌≡◌, ℕ, ◌+◌, ◌≤◌, true, false, List, [], ◌∷◌, length, take, Option, None}
+use Rattle.std.specs.Prelude.{◌≡◌, ℕ, ◌+◌, ◌≤◌, true, false, List, [], ◌∷◌, length, take, Option, None, unwrap_or}
 use Rattle.column_defs.specs.Verdicts.{Sums}
-use Rattle.record_defs.specs.Records.{Record, PutStart, Drop, AuditStart, AuditDone, RepairDone, Version}
+use Rattle.record_defs.specs.Records.{Record, AuditDone, Version}
 use Rattle.record_defs.specs.Table.{version_of, next_id, next_audit, due_of}
-use Rattle.machine_defs.specs.Jobs.{Kind, PutJob, DropJob, AuditJob, RepairJob, UpgradeJob, aim_of, Job}
+use Rattle.machine_defs.specs.Jobs.{Kind, PutJob, DropJob, AuditJob, RepairJob, aim_of, Job}
 use Rattle.machine_defs.specs.Actions.{actions_of, appends_left}
 use Rattle.machine_defs.specs.States.{State, setup_in, file_in}
 use Rattle.machine_defs.specs.Space.{append_sizes}
-use Rattle.machine_defs.specs.Begins.{due_number, due_flags, pinned_for}
+use Rattle.machine_defs.specs.Begins.{due_number, due_flags, pinned_for, new_job}
 use Rattle.machine_defs.specs.Audits.{HasSums}
-use Rattle.machine_defs.specs.Appends.{done_record, removable}
+use Rattle.machine_defs.specs.Appends.{done_record, record_of, removable}
 use Rattle.state_laws.specs.Sound.{IsSound}
 use Rattle.lone_laws.specs.Made.{With, Made}
 
@@ -39,13 +40,9 @@ pub data MayName (kind : Kind) (own : Option ℕ) : Type 0 where
 abbrev pub appends_of : State → Kind → ℕ
 appends_of w kind = length (append_sizes (version_of w.records) (setup_in w) (aim_of kind))
 
--- the first record of a job of this kind
+-- the first record of a job of this kind, as it stands at its begin
 abbrev pub first_record : State → Kind → Record
-first_record w (PutJob name bytes) = PutStart (next_id w.records) name
-first_record w (DropJob name) = Drop name
-first_record w AuditJob = AuditStart (next_audit w.records)
-first_record w UpgradeJob = Version
-first_record w kind = RepairDone (due_number (due_of w.records))
+first_record w kind = unwrap_or (record_of w.records (new_job w 0 kind) kind) Version
 
 -- the second record of a put or an audit
 abbrev pub IsSecondRecord : State → Job → Kind → Record → Type 0

@@ -1,16 +1,7 @@
 -- A put that ended well had brought its file in.
-use Rattle.std.proofs.Common.{◌≡◌, ℕ, zero, suc, ◌+◌, ◌≤◌, ◌==◌, List, [], ◌∷◌, length, Some, None, refl, ap, sym, subst, ◌∙◌, inl, inr, arith}
-use Rattle.std.specs.Prelude.{slice_get}
-use Rattle.std.proofs.lemmas.Bool.{cases_eq, eq-eqb}
-use Rattle.record_defs.specs.Records.{Record}
-use Rattle.record_defs.specs.Table.{File, file_as, setup_of}
-use Rattle.machine_defs.specs.Jobs.{PutJob, Job, job_of}
-use Rattle.machine_defs.specs.Actions.{Action, WriteBody, SyncBody, WriteGate, SyncGate, End, append_actions}
+use Rattle.machine_defs.proofs.Words.{◌≡◌, zero, suc, ◌≤◌, refl, ap, sym, subst, ◌∙◌, inl, inr, arith, slice_get, cases_eq, eq-eqb, Record, File, file_as, setup_of, PutJob, Job, job_of, Action, WriteBody, SyncBody, WriteGate, SyncGate, End, append_actions, State, Append, IsStart, next_action, Moment, now, newest, came, IsRun, HasComeIn, IsAcknowledged}
+use Rattle.std.proofs.Common.{ℕ, ◌+◌, ◌==◌, List, [], ◌∷◌, length, Some, None}
 use Rattle.machine_defs.specs.Answers as answer
-use Rattle.machine_defs.specs.States.{State, Append, IsStart}
-use Rattle.machine_defs.specs.Steps.{next_action}
-use Rattle.machine_defs.specs.Runs.{Moment, now, newest, came, IsRun}
-use Rattle.machine_defs.specs.Survival.{HasComeIn, IsAcknowledged}
 use Rattle.machine_defs.proofs.JobLists.{cond_true, found_none}
 use Rattle.machine_defs.proofs.Changes.{IsPlain, Grown, Job_is, Changes}
 use Rattle.machine_defs.proofs.StepEnds.{event_end}

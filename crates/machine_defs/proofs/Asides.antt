@@ -1,12 +1,7 @@
 -- A step of a scrub or of a pack leaves all of the state but what runs alone, the journal and the devices:
 -- one lemma for every walk.
-use Rattle.std.proofs.Common.{◌≡◌, ℕ, Bool, List, Option, refl}
-use Rattle.record_defs.specs.Records.{Record}
-use Rattle.record_defs.specs.Areas.{Area}
-use Rattle.device_defs.specs.Providers.{Provider}
-use Rattle.machine_defs.specs.Events.{Outcome}
-use Rattle.machine_defs.specs.States.{State, Alone}
-use Rattle.machine_defs.specs.Alone.{StepsAlone}
+use Rattle.machine_defs.proofs.Words.{◌≡◌, Bool, refl, Record, Area, Provider, Outcome, State, Alone, StepsAlone}
+use Rattle.std.proofs.Common.{ℕ, List, Option}
 use Rattle.machine_defs.proofs.Cases.{by_alone}
 
 -- jobs, records, doubt, numbers and bytes stay

@@ -1,17 +1,8 @@
 -- A running job is the one that its begin began.
-use Rattle.std.proofs.Common.{◌≡◌, ℕ, ◌⊎◌, List, [], ◌∷◌, ◌++◌, length, Option, Some, None, refl, ap, sym, subst, ◌∙◌, inl, inr, arith}
-use Rattle.machine_defs.specs.Jobs.{Kind, PutJob, GetJob, AuditJob, Job, job_of, with_job, without_job, advanced}
+use Rattle.machine_defs.proofs.Words.{◌≡◌, ◌⊎◌, refl, ap, sym, subst, ◌∙◌, inl, inr, arith, Kind, PutJob, GetJob, AuditJob, Job, job_of, with_job, without_job, advanced, Answer, Event, Init, Begin, BeginAt, BeginScrub, BeginPack, Step, Alter, Lose, Stop, Reopen, Names, Continue, Outcome, Ready, Refused, Opened, Begun, More, Ended, Replaced, NothingHeld, Stopped, Continued, State, Alone, IsStart, Settles, beginning, StepsAlone, reread, Stops, Reopens, Continues, Happens, Moment, now, IsRun, IsBeginOf, NoneBegan, WasBegun, IsPutBegin, GivesUp, IsOfJob}
+use Rattle.std.proofs.Common.{ℕ, List, [], ◌∷◌, ◌++◌, length, Option, Some, None}
 use Rattle.machine_defs.specs.Refusals as refusal
 use Rattle.machine_defs.specs.Answers as answer
-use Rattle.machine_defs.specs.Answers.{Answer}
-use Rattle.machine_defs.specs.Events.{Event, Init, Begin, BeginAt, BeginScrub, BeginPack, Step, Alter, Lose, Stop, Reopen, Names, Continue, Outcome, Ready, Refused, Opened, Begun, More, Ended, Replaced, NothingHeld, Stopped, Continued}
-use Rattle.machine_defs.specs.States.{State, Alone, IsStart, Settles}
-use Rattle.machine_defs.specs.Begins.{beginning}
-use Rattle.machine_defs.specs.Alone.{StepsAlone}
-use Rattle.machine_defs.specs.Openings.{reread, Stops, Reopens, Continues}
-use Rattle.machine_defs.specs.Machine.{Happens}
-use Rattle.machine_defs.specs.Runs.{Moment, now, IsRun}
-use Rattle.machine_defs.specs.Began.{IsBeginOf, NoneBegan, WasBegun, IsPutBegin, GivesUp, IsOfJob}
 use Rattle.machine_defs.proofs.Asides.{steps_aside}
 use Rattle.machine_defs.proofs.StepEnds.{HasFailed, alone_fails}
 use Rattle.machine_defs.proofs.Cases.{IsStill, IsStepped, Acting, Beside, Cases, by_action, by_alone, by_step, by_event}
@@ -64,8 +55,7 @@ module _ (moment : ℕ) (old : State) where
   no_jobs e r k j h = absurd (found_none [] k j refl h)
 
   module _ (job : Job) (runs : job_of old.jobs job.number ≡ Some job) where
-    over : (how : Answer) →
-        AllCame moment old (Step job.number) (Ended how) (without_job old.jobs job.number)
+    over : (how : Answer) → AllCame moment old (Step job.number) (Ended how) (without_job old.jobs job.number)
     over how k j h = kept (Step job.number) (Ended how) k j tt
         (itself k j (found_without old.jobs job.number k j h).1)
 
@@ -91,8 +81,8 @@ module _ (moment : ℕ) (old : State) where
       finishes = λ a next flight mine faults low. on _ refl refl refl refl;
       bars = λ action plain next mine faults low rose. over answer.DiskFault;
       bars_gated = λ a next flight mine faults low rose. over answer.DiskFault;
-      begins_not = λ next none faults low. over answer.Memory;
-      gates_not = λ a next flight mine faults low. over answer.Memory;
+      begins_not = λ next none. over answer.Memory;
+      gates_not = λ a next flight mine. over answer.Memory;
       stores = λ j o s p next call. on (advanced job) refl refl refl refl;
       stores_not = λ j o s p how next call. over how;
       fetches = λ j o s block p next call. on _ refl refl refl refl;
@@ -214,8 +204,7 @@ one_last number (x ∷ later) (y ∷ rest) m n before older is out other none la
 -- a job that runs with the number of a begin, behind which none of that number came, is the one begun there
 pub is_begun : (limit : ℕ) (start : State) → IsStart start → (later before : List Moment) (m : Moment) →
     IsRun limit start (later ++ m ∷ before) → (k : ℕ) (j : Job) → m.outcome ≡ Begun k → NoneBegan k later →
-    job_of (now start (later ++ m ∷ before)).jobs k ≡ Some j →
-    (j.begun ≡ length before) × IsBeginOf m.event j
+    job_of (now start (later ++ m ∷ before)).jobs k ≡ Some j → (j.begun ≡ length before) × IsBeginOf m.event j
 is_begun limit start clean later before m run k j out none h =
     (let b = was_begun limit start clean (later ++ m ∷ before) run k j h in
     let e = one_last k later b.later m b.moment before b.before b.split out b.outcome none b.last in
@@ -243,18 +232,13 @@ kind_of e j name (inr (n, by, kind, is)) p =
 -- ---- which job a step ended
 
 not_failed : (how : Answer) → IsOfJob how → HasFailed how → ⊥
-not_failed answer.Put h f = f
-not_failed (answer.Got bytes) h f = f
-not_failed answer.Dropped h f = f
-not_failed (answer.Audited number undecided counts) h f = f
-not_failed (answer.Repaired number) h f = f
-not_failed answer.Upgraded h f = f
 not_failed (answer.Lost stripe row) h f = h
 not_failed (answer.ProviderFault provider) h f = h
 not_failed answer.DiskFault h f = h
 not_failed answer.Memory h f = h
 not_failed (answer.Scrubbed stripes symbols blocks) h f = h
 not_failed (answer.Packed before after) h f = h
+not_failed how h f = f
 
 -- a step that ended with an answer of a job is one of a running job
 pub ended_job : (limit moment : ℕ) (old : State) (e : Event) (r : Outcome) (new : State) (number : ℕ)
@@ -283,8 +267,8 @@ ended_leaves old job = record {
   finishes = λ a next flight mine faults low. inl tt;
   bars = λ action plain next mine faults low rose. inr refl;
   bars_gated = λ a next flight mine faults low rose. inr refl;
-  begins_not = λ next none faults low. inr refl;
-  gates_not = λ a next flight mine faults low. inr refl;
+  begins_not = λ next none. inr refl;
+  gates_not = λ a next flight mine. inr refl;
   stores = λ j o s p next call. inl tt;
   stores_not = λ j o s p how next call. inr refl;
   fetches = λ j o s block p next call. inl tt;
@@ -346,12 +330,4 @@ pub given_up_none : (limit moment : ℕ) (old : State) (e : Event) (r : Outcome)
 given_up_none limit moment old (Stop picks) r new up h = stops_none old r new h
 given_up_none limit moment old Reopen r new up h = reopens_none old r new h
 given_up_none limit moment old Continue r new up h = continues_none old r new h
-given_up_none limit moment old (Init s) r new up h = absurd up
-given_up_none limit moment old (Begin kind) r new up h = absurd up
-given_up_none limit moment old (BeginAt profile name bytes) r new up h = absurd up
-given_up_none limit moment old BeginScrub r new up h = absurd up
-given_up_none limit moment old BeginPack r new up h = absurd up
-given_up_none limit moment old (Step number) r new up h = absurd up
-given_up_none limit moment old (Alter j object stripe place symbol) r new up h = absurd up
-given_up_none limit moment old (Lose j object stripe) r new up h = absurd up
-given_up_none limit moment old Names r new up h = absurd up
+given_up_none limit moment old e r new up h = absurd up

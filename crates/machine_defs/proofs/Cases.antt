@@ -7,36 +7,14 @@
 --   Cases limit moment old P == P of what any event comes to
 --   by_action, by_alone      == so P holds of every action, and of every step of what runs alone
 --   by_step, by_event        == so P holds of every step, and of every event
-use Rattle.std.proofs.Common.{◌≡◌, ℕ, zero, suc, ◌+◌, ◌≤◌, ◌==◌, Bool, true, false, ◌⊎◌, List, [], ◌∷◌, ◌++◌, Option, Some, None, refl, ap, sym, subst, ◌∙◌, inl, inr}
-use Rattle.std.specs.Prelude.{IsSome, is_some, nat_lt}
-use Rattle.std.proofs.lemmas.Bool.{eq-eqb}
+use Rattle.machine_defs.proofs.Words.{◌≡◌, zero, suc, ◌≤◌, Bool, false, ◌⊎◌, refl, ap, sym, subst, ◌∙◌, inl, inr, IsSome, is_some, nat_lt, eq-eqb, GivesSymbols, LosesRow, Record, Setup, SetUp, is_setup, setup_of, Area, Rose, Held, Provider, with_symbol, without_block, HasPlace, Stores, FailsToStore, FindsNoMemory, Fetches, Asks, Removes, Replaces, Kind, PutJob, Job, Fetched, Answered, Worked, job_of, advanced, advanced_with, Action, WriteBody, SyncBody, WriteGate, SyncGate, Store, Fetch, Ask, Work, Remove, End, Refusal, Answer, Event, Init, Begin, BeginAt, BeginScrub, BeginPack, Step, Alter, Lose, Stop, Reopen, Names, Continue, Outcome, Ready, Refused, Opened, Begun, More, Waiting, Ended, Replaced, NothingHeld, Stopped, Listed, Closed, Continued, State, Append, Doubt, Scrub, Pack, Alone, Scrubbing, Packing, setup_in, worked_object, brought, with_provider, going_on, continued, Settles, blocks_given, refusal_of_begin, beginning, BeginsAt, Writes, begun_append, moved, doubted, done_append, barred, unappended, IsAt, Moves, block_to_store, Ends, next_action, holder_of, Acts, ActsOrWaits, StepsOn, StepsJob, StepsMine, StepsOne, StepsOpen, Steps, number_alone, alone_refusal, scrubbed_object, block_to_scrub, Scrubs, StepsScrub, Packs, StepsAlone, new_scrub, pack_refusal, new_pack, BeginsAlone, IsSetUp, IsNotSetUp, LeavesDoubt, reread, Rereads, Stops, Reopens, InitsClosed, InitsBy, Inits, Continues, ReplacesAt, ReplacesIf, Lists, Happens, is_replacement}
+use Rattle.std.proofs.Common.{ℕ, ◌+◌, ◌==◌, true, List, [], ◌∷◌, ◌++◌, Option, Some, None}
 use Rattle.algebra_laws.proofs.Options.{some-not-none, is_some-none}
 use Rattle.column_defs.specs.Challenges.{honest_answer}
-use Rattle.column_defs.specs.Opened.{GivesSymbols, LosesRow}
-use Rattle.record_defs.specs.Records.{Record, Setup, SetUp, is_setup}
-use Rattle.record_defs.specs.Table.{setup_of}
-use Rattle.record_defs.specs.Areas.{Area}
-use Rattle.device_defs.specs.Faults.{Rose}
-use Rattle.device_defs.specs.Providers.{Held, Provider, with_symbol, without_block, HasPlace}
-use Rattle.device_defs.specs.ProviderCalls.{Stores, FailsToStore, FindsNoMemory, Fetches, Asks, Removes, Replaces}
-use Rattle.machine_defs.specs.Jobs.{Kind, PutJob, Job, Fetched, Answered, Worked, job_of, advanced, advanced_with}
-use Rattle.machine_defs.specs.Actions.{Action, WriteBody, SyncBody, WriteGate, SyncGate, Store, Fetch, Ask, Work, Remove, End}
 use Rattle.machine_defs.specs.Refusals as refusal
-use Rattle.machine_defs.specs.Refusals.{Refusal}
 use Rattle.machine_defs.specs.Answers as answer
-use Rattle.machine_defs.specs.Answers.{Answer}
-use Rattle.machine_defs.specs.Events.{Event, Init, Begin, BeginAt, BeginScrub, BeginPack, Step, Alter, Lose, Stop, Reopen, Names, Continue, Outcome, Ready, Refused, Opened, Begun, More, Waiting, Ended, Replaced, NothingHeld, Stopped, Listed, Closed, Continued}
-use Rattle.machine_defs.specs.States.{State, Append, Doubt, Scrub, Pack, Alone, Scrubbing, Packing, setup_in, worked_object, brought, with_provider, going_on, ended, given_up, continued, Settles}
-use Rattle.machine_defs.specs.Given.{blocks_given}
+use Rattle.machine_defs.specs.States.{ended, given_up}
 use Rattle.machine_defs.specs.Audits.{asked_challenge}
-use Rattle.machine_defs.specs.Begins.{refusal_of_begin, beginning, BeginsAt}
-use Rattle.machine_defs.specs.Appends.{Writes, begun_append, moved, doubted, done_append, barred, unappended, IsAt, Moves}
-use Rattle.machine_defs.specs.Steps.{block_to_store, Ends, next_action, holder_of, Acts, ActsOrWaits, StepsOn, StepsJob, StepsMine, StepsOne, StepsOpen, Steps}
-use Rattle.machine_defs.specs.Alone.{number_alone, alone_refusal, scrubbed_object, block_to_scrub, Scrubs, StepsScrub, Packs, StepsAlone, new_scrub, pack_refusal, new_pack, BeginsAlone}
-use Rattle.machine_defs.specs.Openings.{IsSetUp, IsNotSetUp, LeavesDoubt, reread, Rereads, Stops, Reopens, InitsClosed, InitsBy, Inits, Continues}
-use Rattle.machine_defs.specs.Replacements.{ReplacesAt, ReplacesIf}
-use Rattle.machine_defs.specs.Machine.{Lists, Happens}
-use Rattle.machine_defs.specs.Runs.{is_replacement}
 use Rattle.machine_defs.proofs.JobLists.{number_of}
 
 -- an event that neither begins, goes on with nor ends a job or what runs alone, nor is a later call
@@ -101,11 +79,10 @@ pub record Acting (old : State) (job : Job) (P : Outcome → State → Type 0) :
   pub bars_gated : (a : Append) → next_action old job ≡ Some WriteGate → old.append ≡ Some a →
       IsAt a job 2 → (faults : ℕ) → old.disk_faults ≤ faults → Rose old.disk_faults faults →
       P (Ended answer.DiskFault) (record (doubted (barred (ended old job)) a job) { disk_faults = faults })
-  pub begins_not : next_action old job ≡ Some WriteBody → old.append ≡ None → (faults : ℕ) →
-      old.disk_faults ≤ faults → P (Ended answer.Memory) (record (ended old job) { disk_faults = faults })
+  pub begins_not : next_action old job ≡ Some WriteBody → old.append ≡ None →
+      P (Ended answer.Memory) (ended old job)
   pub gates_not : (a : Append) → next_action old job ≡ Some WriteGate → old.append ≡ Some a → IsAt a job 2 →
-      (faults : ℕ) → old.disk_faults ≤ faults →
-      P (Ended answer.Memory) (record (unappended (ended old job)) { disk_faults = faults })
+      P (Ended answer.Memory) (unappended (ended old job))
   pub stores : (j o s : ℕ) (p : Provider) → next_action old job ≡ Some (Store j o s) →
       Stores o s (block_to_store old job job.kind j o s) (old.providers j) p →
       P More (record (going_on old (advanced job)) { providers = with_provider old.providers j p })
@@ -229,8 +206,7 @@ module _ (old : State) (job : Job) (P : Outcome → State → Type 0) (c : Actin
   moves WriteBody (Some a) r new at next free h = absurd (some-not-none (Some a.job) a.job refl free)
   moves WriteBody None (Ended answer.DiskFault) new at next free (faults, low, rose, is) =
       left is (c.bars WriteBody tt next (flies_none at) faults low rose)
-  moves WriteBody None (Ended answer.Memory) new at next free (faults, low, is) =
-      left is (c.begins_not next at faults low)
+  moves WriteBody None (Ended answer.Memory) new at next free is = left is (c.begins_not next at)
   moves SyncBody (Some a) More new at next free (mine, (faults, low, is)) =
       left is (c.syncs a next at mine faults low)
   moves SyncBody (Some a) (Ended answer.DiskFault) new at next free (mine, (faults, low, rose, is)) =
@@ -239,8 +215,8 @@ module _ (old : State) (job : Job) (P : Outcome → State → Type 0) (c : Actin
       left is (c.gates a next at mine faults low)
   moves WriteGate (Some a) (Ended answer.DiskFault) new at next free (mine, (faults, low, rose, is)) =
       left is (c.bars_gated a next at mine faults low rose)
-  moves WriteGate (Some a) (Ended answer.Memory) new at next free (mine, (faults, low, is)) =
-      left is (c.gates_not a next at mine faults low)
+  moves WriteGate (Some a) (Ended answer.Memory) new at next free (mine, is) =
+      left is (c.gates_not a next at mine)
   moves SyncGate (Some a) More new at next free (mine, (faults, low, is)) =
       left is (c.finishes a next at mine faults low)
   moves SyncGate (Some a) (Ended answer.DiskFault) new at next free (mine, (faults, low, rose, is)) =
@@ -270,8 +246,7 @@ module _ (old : State) (x : Alone) (P : Outcome → State → Type 0) (c : Besid
   leaves is h = subst (P _) (sym is) h
 
   scrubs : (scrub : Scrub) (action : Action) (rest : List Action) (r : Outcome) (new : State) →
-      x ≡ Scrubbing scrub → scrub.todo ≡ action ∷ rest →
-      Scrubs old scrub action rest r new → P r new
+      x ≡ Scrubbing scrub → scrub.todo ≡ action ∷ rest → Scrubs old scrub action rest r new → P r new
   scrubs scrub (Fetch j o s) rest More new at todo (block, (p, call, is)) =
       leaves is (c.fetches scrub _ j o s block p call)
   scrubs scrub (Work o s) rest More new at todo (symbols, gives, is) = leaves is (c.aside _ More tt)
@@ -296,8 +271,7 @@ module _ (old : State) (x : Alone) (P : Outcome → State → Type 0) (c : Besid
   packed_by pack zero More new (faults, low, is) = leaves is (c.packs _ _ _ _ _ faults More tt low)
   packed_by pack zero (Ended answer.DiskFault) new (faults, low, rose, is) =
       leaves is (c.packs _ _ _ _ _ faults (Ended answer.DiskFault) tt low)
-  packed_by pack zero (Ended answer.Memory) new (faults, low, is) =
-      leaves is (c.packs _ _ _ _ _ faults (Ended answer.Memory) tt low)
+  packed_by pack zero (Ended answer.Memory) new is = leaves is (c.aside None (Ended answer.Memory) tt)
   packed_by pack (suc zero) More new (faults, low, is) = leaves is (c.packs _ _ _ _ _ faults More tt low)
   packed_by pack (suc zero) (Ended answer.DiskFault) new (faults, low, rose, is) =
       leaves is (c.packs _ _ _ _ _ faults (Ended answer.DiskFault) tt low)
@@ -305,8 +279,8 @@ module _ (old : State) (x : Alone) (P : Outcome → State → Type 0) (c : Besid
       leaves is (c.packs _ _ _ _ _ faults More tt low)
   packed_by pack (suc (suc zero)) (Ended answer.DiskFault) new (faults, low, rose, is) =
       leaves is (c.packs _ _ _ _ _ faults (Ended answer.DiskFault) tt low)
-  packed_by pack (suc (suc zero)) (Ended answer.Memory) new (faults, low, is) =
-      leaves is (c.packs _ _ _ _ _ faults (Ended answer.Memory) tt low)
+  packed_by pack (suc (suc zero)) (Ended answer.Memory) new is =
+      leaves is (c.aside None (Ended answer.Memory) tt)
   packed_by pack (suc (suc (suc zero))) More new (faults, low, is) =
       leaves is (c.packs _ _ _ _ _ faults More tt low)
   packed_by pack (suc (suc (suc zero))) (Ended answer.DiskFault) new (faults, low, rose, is) =
@@ -370,8 +344,7 @@ module _ (old : State) (P : ℕ → Outcome → State → Type 0)
 
   steps_open : (is_barred : Bool) (r : Outcome) (new : State) → old.is_open ≡ true →
       old.is_barred ≡ is_barred → StepsOpen old number is_barred r new → P number r new
-  steps_open true (Refused refusal.MustReopen) new is_open at h =
-      stays (Refused refusal.MustReopen) new h tt
+  steps_open true (Refused refusal.MustReopen) new is_open at h = stays (Refused refusal.MustReopen) new h tt
   steps_open false r new is_open at h = steps_one is_open at old.alone r new refl h
   steps_open true r new is_open at h = absurd h
 
@@ -429,8 +402,7 @@ module _ (limit moment : ℕ) (old : State) (P : Event → Outcome → State →
   by_reading : (Q : State → Type 0) →
       ((rs js : List Record) (area : Area) → AreSettled old rs → Q (settled (reread old js area) rs js)) →
       (mid : State) → Rereads old mid → Q mid
-  by_reading Q q mid (journal, area, holds, inl is) =
-      subst Q (sym is) (q old.records journal area (inl refl))
+  by_reading Q q mid (journal, area, holds, inl is) = subst Q (sym is) (q old.records journal area (inl refl))
   by_reading Q q mid (journal, area, holds, inr (d, at, is)) =
       subst Q (sym is) (q (d.entry ∷ old.records) (d.entry ∷ journal) area (inr (d, at, refl)))
 
@@ -502,8 +474,7 @@ module _ (limit moment : ℕ) (old : State) (P : Event → Outcome → State →
   lists : (is_open : Bool) (r : Outcome) (new : State) → Lists old is_open r new → P Names r new
   lists true (Listed files) new h = keeps Names (Listed files) new h.1 tt
   lists false Closed new h = keeps Names Closed new h tt
-  lists true r new h = absurd h
-  lists false r new h = absurd h
+  lists is_open r new h = absurd h
 
   going : (r : Outcome) (new : State) → Continues old r new → P Continue r new
   going Continued new is = becomes is c.continues

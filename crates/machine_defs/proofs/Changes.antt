@@ -1,20 +1,6 @@
 -- What an event may change, whatever the event is: the laws over runs are proved of this alone.
-use Rattle.std.proofs.Common.{◌≡◌, ℕ, ◌+◌, ◌<◌, ◌≤◌, true, false, ◌⊎◌, List, [], ◌∷◌, Option, Some, None, refl, ap, sym, subst, ◌∙◌, inl, inr, arith}
-use Rattle.std.specs.Option.{option_map}
-use Rattle.record_defs.specs.Records.{Setup, SetUp}
-use Rattle.record_defs.specs.Table.{next_id, setup_of}
-use Rattle.machine_defs.specs.Jobs.{Kind, Job, Fetched, Answered, Worked, job_of, with_job, without_job, advanced}
-use Rattle.machine_defs.specs.Actions.{Action, WriteBody, SyncGate, Store, Fetch, Ask, Work, Remove}
-use Rattle.machine_defs.specs.Events.{Event, Outcome}
-use Rattle.machine_defs.specs.States.{State, Append, Doubt, Scrub, Alone, Scrubbing, setup_in, worked_object}
-use Rattle.machine_defs.specs.Given.{blocks_given}
-use Rattle.column_defs.specs.Opened.{GivesSymbols}
-use Rattle.machine_defs.specs.Begins.{refusal_of_begin, beginning}
-use Rattle.machine_defs.specs.Appends.{Writes, subject_drawn, taken_out}
-use Rattle.machine_defs.specs.Alone.{block_to_scrub}
-use Rattle.machine_defs.specs.Steps.{next_action, block_to_store}
-use Rattle.machine_defs.specs.Runs.{is_replacement}
-use Rattle.machine_defs.specs.Deeds.{told_block}
+use Rattle.machine_defs.proofs.Words.{◌≡◌, ◌≤◌, false, ◌⊎◌, refl, ap, sym, subst, ◌∙◌, inl, inr, arith, option_map, Setup, SetUp, next_id, setup_of, Kind, Job, Fetched, Answered, Worked, job_of, with_job, without_job, advanced, Action, WriteBody, SyncGate, Store, Fetch, Ask, Work, Remove, Event, Outcome, State, Append, Doubt, Scrub, Alone, Scrubbing, setup_in, worked_object, blocks_given, GivesSymbols, refusal_of_begin, beginning, Writes, subject_drawn, taken_out, block_to_scrub, next_action, block_to_store, is_replacement, told_block}
+use Rattle.std.proofs.Common.{ℕ, ◌+◌, ◌<◌, true, List, [], ◌∷◌, Option, Some, None}
 use Rattle.machine_defs.proofs.JobLists.{found_with, found_without, found_none}
 
 -- an action that neither draws a number nor puts a record in effect

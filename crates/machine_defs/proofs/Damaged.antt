@@ -1,16 +1,9 @@
 -- Which providers a run replaced, by the events that name them; and the first moments of a run.
-use Rattle.std.proofs.Common.{◌≡◌, ℕ, ◌≤◌, ◌&&◌, Bool, true, List, [], ◌∷◌, ◌++◌, length, ap, sym, subst, ◌∙◌, inl, inr, arith, append_assoc}
-use Rattle.std.specs.Prelude.{nat_le}
-use Rattle.std.proofs.lemmas.Bool.{cases_Bool, and_parts, or_cases, eqb-true, leb-true, leb-false, false≢true}
-use Rattle.algebra_laws.specs.Lists.{In}
-use Rattle.machine_defs.specs.Jobs.{Kind}
-use Rattle.machine_defs.specs.Events.{Event, Alter, Lose, Outcome, Replaced}
-use Rattle.machine_defs.specs.States.{State}
-use Rattle.machine_defs.specs.Runs.{Moment, first_moments, is_replacement, is_replaced_since}
+use Rattle.machine_defs.proofs.Words.{◌≡◌, ◌≤◌, ◌&&◌, Bool, ap, sym, subst, ◌∙◌, inl, inr, arith, nat_le, cases_Bool, and_parts, or_cases, eqb-true, leb-true, leb-false, false≢true, In, Kind, Event, Alter, Lose, Outcome, Replaced, State, Moment, first_moments, is_replacement, is_replaced_since, Instruction, Once, RunJob, GoOn, CarriesOut}
+use Rattle.std.proofs.Common.{ℕ, true, List, [], ◌∷◌, ◌++◌, length, append_assoc}
 use Rattle.machine_defs.specs.Calm.{Mark, IsCalm}
 use Rattle.machine_defs.specs.Missed.{NoneMissed}
 use Rattle.machine_defs.specs.Scrubs.{AreScrubsCalm}
-use Rattle.machine_defs.specs.Transcripts.{Instruction, Once, RunJob, GoOn, CarriesOut}
 use Rattle.machine_defs.specs.Damaged.{IsAmong, DamagesOnly, AsksDamageOf}
 use Rattle.machine_defs.proofs.JobLists.{cond_true, cond_false}
 use Rattle.machine_defs.proofs.Held.{first_more, first_all}
@@ -24,8 +17,7 @@ no_fewer (x ∷ gaps) ms = (let l = no_fewer gaps ms in omega arith)
 -- the first moments, as many as these are, are these
 pub first_before : (gaps ms : List Moment) → first_moments (length ms) (gaps ++ ms) ≡ ms
 first_before [] ms = first_all ms
-first_before (x ∷ gaps) ms =
-    first_more (length ms) x (gaps ++ ms) (no_fewer gaps ms) ∙ first_before gaps ms
+first_before (x ∷ gaps) ms = first_more (length ms) x (gaps ++ ms) (no_fewer gaps ms) ∙ first_before gaps ms
 
 -- so it is with a moment between
 pub first_behind : (gaps : List Moment) (b : Moment) (ms : List Moment) →

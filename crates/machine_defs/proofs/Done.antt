@@ -1,9 +1,6 @@
 -- The record that ends a put, whatever the version.
-use Rattle.std.proofs.Common.{◌≡◌, ℕ, cond, ◌==◌, List, ◌∷◌, Option, Some, None, refl, sym, subst, inl, inr}
-use Rattle.std.proofs.lemmas.Bool.{cases_Bool}
-use Rattle.record_defs.specs.Records.{Record, PutDone, PutDoneIn}
-use Rattle.record_defs.specs.Table.{file_as, profile_in, setup_of, started_as, is_start_of, file_of}
-use Rattle.machine_defs.specs.Appends.{done_record}
+use Rattle.machine_defs.proofs.Words.{◌≡◌, cond, refl, sym, subst, inl, inr, cases_Bool, Record, PutDone, PutDoneIn, file_as, profile_in, setup_of, started_as, is_start_of, file_of, done_record}
+use Rattle.std.proofs.Common.{ℕ, ◌==◌, List, ◌∷◌, Option, Some, None}
 use Rattle.machine_defs.proofs.JobLists.{cond_true, cond_false}
 
 -- the number of the put that a record ends

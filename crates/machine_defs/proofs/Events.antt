@@ -1,31 +1,11 @@
 -- Each event makes such changes and no others.
-use Rattle.std.proofs.Common.{◌≡◌, ℕ, ◌+◌, ◌<◌, ◌≤◌, ◌==◌, Bool, true, false, ◌⊎◌, ◌&&◌, List, [], ◌∷◌, ◌++◌, Option, Some, None, refl, ap, sym, subst, ◌∙◌, inl, inr, arith}
-use Rattle.std.specs.Prelude.{is_some, nat_lt}
-use Rattle.std.specs.Option.{option_map}
+use Rattle.machine_defs.proofs.Words.{◌≡◌, ◌≤◌, Bool, false, ◌⊎◌, ◌&&◌, refl, ap, sym, subst, ◌∙◌, inl, inr, arith, is_some, nat_lt, option_map, lt-ltb, eqb-true, eq-eqb, ne_eqb, cases_Bool, and_parts, and_from, false≢true, Record, Setup, SetUp, next_id, setup_of, version_of, Held, Provider, with_block, without_object, LosesPart, Stores, Removes, Replaces, Kind, PutJob, GetJob, DropJob, AuditJob, RepairJob, UpgradeJob, Job, Given, Fetched, Answered, Worked, job_of, with_job, without_job, advanced, advanced_with, Action, WriteBody, SyncBody, WriteGate, SyncGate, Store, Fetch, Ask, Work, Remove, Event, Init, Begin, BeginAt, BeginScrub, BeginPack, Step, Stop, Reopen, Continue, Outcome, Ready, Refused, Opened, Begun, More, Ended, Replaced, NothingHeld, Stopped, Continued, State, Append, Doubt, Scrub, Alone, Scrubbing, setup_in, worked_object, with_provider, going_on, beginning, Writes, begun_append, done_append, subject_drawn, bytes_drawn, is_first_append, taken_out, next_action, block_to_store, alone_refusal, scrubbing, block_to_scrub, is_too_long, Cause, first_refusal, LeavesDoubt, Happens, GivesSymbols, blocks_given, Answer, refusal_of_begin}
+use Rattle.std.proofs.Common.{ℕ, ◌+◌, ◌<◌, ◌==◌, true, List, [], ◌∷◌, ◌++◌, Option, Some, None}
 use Rattle.std.specs.Prelude.{◌||◌, length}
-use Rattle.std.proofs.lemmas.Bool.{lt-ltb, eqb-true, eq-eqb, ne_eqb, cases_Bool, and_parts, and_from, false≢true}
-use Rattle.record_defs.specs.Records.{Record, Setup, SetUp}
-use Rattle.record_defs.specs.Table.{next_id, setup_of, version_of}
-use Rattle.device_defs.specs.Providers.{Held, Provider, with_block, without_object, LosesPart}
-use Rattle.device_defs.specs.ProviderCalls.{Stores, Removes, Replaces}
 use Rattle.device_defs.specs.Told.{Goes}
-use Rattle.machine_defs.specs.Jobs.{Kind, PutJob, GetJob, DropJob, AuditJob, RepairJob, UpgradeJob, Job, Given, Fetched, Answered, Worked, job_of, with_job, without_job, advanced, advanced_with}
-use Rattle.machine_defs.specs.Actions.{Action, WriteBody, SyncBody, WriteGate, SyncGate, Store, Fetch, Ask, Work, Remove}
 use Rattle.machine_defs.specs.Refusals as refusal
 use Rattle.machine_defs.specs.Answers as answer
-use Rattle.machine_defs.specs.Events.{Event, Init, Begin, BeginAt, BeginScrub, BeginPack, Step, Stop, Reopen, Continue, Outcome, Ready, Refused, Opened, Begun, More, Ended, Replaced, NothingHeld, Stopped, Continued}
-use Rattle.machine_defs.specs.States.{State, Append, Doubt, Scrub, Alone, Scrubbing, setup_in, worked_object, with_provider, going_on, ended}
-use Rattle.machine_defs.specs.Begins.{beginning}
-use Rattle.machine_defs.specs.Appends.{Writes, begun_append, done_append, subject_drawn, bytes_drawn, is_first_append, taken_out}
-use Rattle.machine_defs.specs.Steps.{next_action, block_to_store}
-use Rattle.machine_defs.specs.Alone.{alone_refusal, scrubbing, block_to_scrub, is_too_long}
-use Rattle.machine_defs.specs.Refusals.{Cause, first_refusal}
-use Rattle.machine_defs.specs.Openings.{LeavesDoubt}
-use Rattle.machine_defs.specs.Machine.{Happens}
-use Rattle.column_defs.specs.Opened.{GivesSymbols}
-use Rattle.machine_defs.specs.Given.{blocks_given}
-use Rattle.machine_defs.specs.Answers.{Answer}
-use Rattle.machine_defs.specs.Begins.{refusal_of_begin}
+use Rattle.machine_defs.specs.States.{ended}
 use Rattle.machine_defs.proofs.Cases.{IsUnstored, AreSettled, Acting, Beside, Cases, by_alone, by_event}
 use Rattle.machine_defs.proofs.Refused.{left_false, none_lone}
 use Rattle.machine_defs.proofs.JobLists.{cond_true, cond_false, found_with, found_itself, found_more, found_none}
@@ -75,10 +55,9 @@ gone_block object (Some h) o s = elim (cases_Bool (o == object)) [
 part_block : (object : ℕ) (old new : Option Held) (o s : ℕ) → Goes (LosesPart object) old new →
     (o ≡ object) ⊎ (option_map (λ (h : Held). h o s) new ≡ option_map (λ (h : Held). h o s) old)
 part_block object None None o s g = inr refl
-part_block object None (Some h) o s g = absurd g
-part_block object (Some h) None o s g = absurd g
 part_block object (Some h) (Some k) o s g =
     elim (g o s) [ inl stays ↦ inr (ap Some stays) | inr lost ↦ inl lost.0 ]
+part_block object old new o s g = absurd g
 
 removed_block : (object : ℕ) (old new : Provider) (o s : ℕ) → Removes object old new →
     (o ≡ object) ⊎ (told new o s ≡ told old o s)
@@ -110,11 +89,7 @@ drawn_bytes w job (PutJob name bytes) o l =
     go : (b : Bool) → (o == next_id w.records) ≡ false → (b && (o == next_id w.records)) ≡ false
     go true h = h
     go false h = refl
-drawn_bytes w job (GetJob name) o l = refl
-drawn_bytes w job (DropJob name) o l = refl
-drawn_bytes w job AuditJob o l = refl
-drawn_bytes w job RepairJob o l = refl
-drawn_bytes w job UpgradeJob o l = refl
+drawn_bytes w job kind o l = refl
 
 -- an action that stores nothing
 abbrev IsNoStore : Action → Type 0
@@ -136,8 +111,7 @@ stored_value : (old : State) (job : Job) (j object stripe : ℕ) (p : Provider) 
     Stores object stripe (block_to_store old job job.kind j object stripe) (old.providers j) p →
     (i o s : ℕ) (b : Option (List ℕ)) → Store j object stripe ≡ Store i o s →
     told (with_provider old.providers j p i) o s ≡ Some b → b ≡ Some (block_to_store old job job.kind i o s)
-stored_value old job j object stripe p call i o s b e h =
-    subst (λ (a : Action). Value a) e here
+stored_value old job j object stripe p call i o s b e h = subst (λ (a : Action). Value a) e here
   where
     Value : Action → Type 0
     Value (Store x y z) = b ≡ Some (block_to_store old job job.kind x y z)
@@ -266,12 +240,10 @@ module _ (limit moment : ℕ) (old : State) where
             (old.providers i).held
         same_block i o s a b c =
             subst (λ n. option_map (λ (h : Held). Some (block_to_store old job job.kind j object stripe))
-            (old.providers j).held
-            ≡ option_map (λ (h : Held). Some (block_to_store old job job.kind n o s))
+            (old.providers j).held ≡ option_map (λ (h : Held). Some (block_to_store old job job.kind n o s))
             (old.providers n).held) (sym a)
             (subst (λ n. option_map (λ (h : Held). Some (block_to_store old job job.kind j object stripe))
-            (old.providers j).held
-            ≡ option_map (λ (h : Held). Some (block_to_store old job job.kind j n s))
+            (old.providers j).held ≡ option_map (λ (h : Held). Some (block_to_store old job job.kind j n s))
             (old.providers j).held) (sym b)
             (subst (λ n. option_map (λ (h : Held). Some (block_to_store old job job.kind j object stripe))
             (old.providers j).held
@@ -463,9 +435,9 @@ module _ (limit moment : ℕ) (old : State) where
             alone = refl;
             doubt = λ d h. inr (a, flight, in_doubt a d h);
           }) refl;
-      begins_not = λ next none faults low. ends_so (Ended answer.Memory) _ (λ g. g) refl (inl refl) refl
+      begins_not = λ next none. ends_so (Ended answer.Memory) _ (λ g. g) refl (inl refl) refl
           (record { next = refl; is_open = refl; bytes = refl; alone = refl; doubt = λ d h. inl h }) refl;
-      gates_not = λ a next flight mine faults low. ends_so (Ended answer.Memory) _
+      gates_not = λ a next flight mine. ends_so (Ended answer.Memory) _
           (λ g b h three. absurd (none_flies b h)) refl (inr refl) refl
           (record { next = refl; is_open = refl; bytes = refl; alone = refl; doubt = λ d h. inl h }) refl;
       stores = λ j o s p next call. stores j o s p next call;
@@ -691,5 +663,4 @@ module _ (limit moment : ℕ) (old : State) where
   -- each event that happens makes such changes and no others
   pub changes : (e : Event) (r : Outcome) (new : State) → IsQuietState old →
       Happens limit moment old e r new → Changes limit moment old e r new
-  changes e r new quiet h =
-      by_event limit moment old (Changes limit moment old) (events quiet) e r new h
+  changes e r new quiet h = by_event limit moment old (Changes limit moment old) (events quiet) e r new h

@@ -1,18 +1,7 @@
 -- What the stores and removals of a job are of, and where its appends stand.
-use Rattle.std.proofs.Common.{◌≡◌, ℕ, zero, suc, ◌+◌, ◌-◌, ◌<◌, ◌≤◌, Bool, true, false, cond, List, [], ◌∷◌, ◌++◌, length, Some, None, refl, sym, subst, ◌∙◌, inl, inr, arith}
-use Rattle.std.specs.Prelude.{slice_get}
-use Rattle.std.specs.List.{flat_map}
-use Rattle.std.proofs.lemmas.Bool.{cases_Bool}
-use Rattle.code_defs.specs.Points.{upto}
-use Rattle.record_defs.specs.Records.{Setup}
-use Rattle.machine_defs.specs.Jobs.{Kind, PutJob, GetJob, DropJob, AuditJob, RepairJob, UpgradeJob, Pinned, Job}
-use Rattle.machine_defs.specs.Actions.{Action, WriteBody, SyncBody, WriteGate, SyncGate, Store, Fetch, Ask, Work, Remove, End, append_actions, on_each_provider, on_each_stripe, open_actions, store_actions, read_actions, rewrite_actions, repair_actions, rounds_of, ask_actions, remove_actions, actions_by}
-use Rattle.machine_defs.specs.Setups.{profiled, stripes_of}
-use Rattle.machine_defs.specs.States.{State, setup_in}
-use Rattle.machine_defs.specs.Steps.{next_action, is_idle_drop}
+use Rattle.machine_defs.proofs.Words.{◌≡◌, zero, suc, ◌-◌, ◌≤◌, Bool, false, cond, refl, sym, subst, ◌∙◌, inl, inr, arith, slice_get, flat_map, cases_Bool, upto, Setup, Kind, PutJob, GetJob, DropJob, AuditJob, RepairJob, UpgradeJob, Pinned, Job, Action, WriteBody, SyncBody, WriteGate, SyncGate, Store, Fetch, Ask, Work, Remove, End, append_actions, on_each_provider, on_each_stripe, open_actions, store_actions, read_actions, rewrite_actions, repair_actions, rounds_of, ask_actions, remove_actions, actions_by, profiled, stripes_of, State, setup_in, next_action, is_idle_drop, Each, In, each_flat_in, each_get, each_append, each_map, each_flat}
+use Rattle.std.proofs.Common.{ℕ, ◌+◌, ◌<◌, true, List, [], ◌∷◌, ◌++◌, length, Some, None}
 use Rattle.machine_defs.proofs.JobLists.{cond_true, cond_false}
-use Rattle.algebra_laws.specs.Lists.{Each, In}
-use Rattle.algebra_laws.proofs.Each.{each_flat_in, each_get, each_append, each_map, each_flat}
 use Rattle.machine_defs.proofs.ActionLists.{split_get}
 use Rattle.machine_defs.proofs.Numbers.{next_by, next_is_by}
 
@@ -148,11 +137,6 @@ fair s job UpgradeJob = (tt, (tt, (tt, (tt, (tt, tt)))))
 
 fair_by : (w : State) (job : Job) (kind : Kind) (place : ℕ) (action : Action) →
     next_by w job kind place ≡ Some action → IsFair job kind action
-fair_by w job (PutJob name bytes) place action h =
-    each_get (IsFair job (PutJob name bytes)) (actions_by (setup_in w) job (PutJob name bytes)) place action
-    (fair (setup_in w) job (PutJob name bytes)) h
-fair_by w job (GetJob name) place action h = each_get (IsFair job (GetJob name))
-    (actions_by (setup_in w) job (GetJob name)) place action (fair (setup_in w) job (GetJob name)) h
 fair_by w job (DropJob name) place action h = elim (cases_Bool (is_idle_drop w job (DropJob name))) [
   | inl t ↦ subst (IsFair job (DropJob name))
       (let e : Some End ≡ Some action =
@@ -164,12 +148,8 @@ fair_by w job (DropJob name) place action h = elim (cases_Bool (is_idle_drop w j
       (sym (cond_false (is_idle_drop w job (DropJob name)) (Some End)
       (slice_get (actions_by (setup_in w) job (DropJob name)) place) f) ∙ h)
 ]
-fair_by w job AuditJob place action h = each_get (IsFair job AuditJob)
-    (actions_by (setup_in w) job AuditJob) place action (fair (setup_in w) job AuditJob) h
-fair_by w job RepairJob place action h = each_get (IsFair job RepairJob)
-    (actions_by (setup_in w) job RepairJob) place action (fair (setup_in w) job RepairJob) h
-fair_by w job UpgradeJob place action h = each_get (IsFair job UpgradeJob)
-    (actions_by (setup_in w) job UpgradeJob) place action (fair (setup_in w) job UpgradeJob) h
+fair_by w job kind place action h = each_get (IsFair job kind)
+    (actions_by (setup_in w) job kind) place action (fair (setup_in w) job kind) h
 
 -- the next action of a job is fair
 pub is_fair : (w : State) (job : Job) (action : Action) → next_action w job ≡ Some action →

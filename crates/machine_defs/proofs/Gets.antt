@@ -1,25 +1,8 @@
 -- A get gives what its fetches open to.
-use Rattle.std.proofs.Common.{◌≡◌, ℕ, ◌+◌, ◌<◌, ◌==◌, cond, ◌&&◌, List, [], ◌∷◌, ◌++◌, length, Option, Some, None, refl, ap, sym, subst, ◌∙◌, inl, inr, arith}
-use Rattle.std.specs.Prelude.{is_some, slice_get}
-use Rattle.std.proofs.lemmas.Bool.{cases_Bool, cases_lt, and_parts, eqb-true, eq-eqb}
-use Rattle.algebra_laws.proofs.Each.{each_get}
-use Rattle.algebra_laws.proofs.Lists.{map-same}
-use Rattle.code_defs.specs.Points.{upto}
-use Rattle.column_defs.specs.Opened.{GivesSymbols}
-use Rattle.record_defs.specs.Records.{Setup, is_name}
-use Rattle.record_defs.specs.Table.{File, setup_of}
-use Rattle.machine_defs.specs.Jobs.{GetJob, aim_of, Pinned, Given, Fetched, Answered, Worked, Job, job_of}
-use Rattle.machine_defs.specs.Setups.{object_of, profiled, pinned_stripes}
-use Rattle.machine_defs.specs.Actions.{Action, WriteBody, SyncGate, Fetch, Ask, Work, End, read_actions, actions_of}
+use Rattle.machine_defs.proofs.Words.{◌≡◌, cond, ◌&&◌, refl, ap, sym, subst, ◌∙◌, inl, inr, arith, is_some, slice_get, cases_Bool, cases_lt, and_parts, eqb-true, eq-eqb, each_get, map-same, upto, GivesSymbols, Setup, is_name, File, setup_of, GetJob, aim_of, Pinned, Given, Fetched, Answered, Worked, Job, job_of, object_of, profiled, pinned_stripes, Action, WriteBody, SyncGate, Fetch, Ask, Work, End, read_actions, actions_of, State, IsStart, setup_in, object_in, file_object, file_in, refusal_of_begin, pinned_file, pin_found, pinned_for, sight_of, is_busy, block_given, blocks_given, symbols_given, file_given, pinned_profile, next_action, GotBytes, Ends, Moment, now, first_moments, IsRun, entries_of, heard_by_kind, heard_by, given_to}
+use Rattle.std.proofs.Common.{ℕ, ◌+◌, ◌<◌, ◌==◌, List, [], ◌∷◌, ◌++◌, length, Option, Some, None}
 use Rattle.machine_defs.specs.Refusals as refusal
 use Rattle.machine_defs.specs.Answers as answer
-use Rattle.machine_defs.specs.States.{State, IsStart, setup_in, object_in, file_object, file_in}
-use Rattle.machine_defs.specs.Begins.{refusal_of_begin, pinned_file, pin_found, pinned_for}
-use Rattle.machine_defs.specs.Sights.{sight_of, is_busy}
-use Rattle.machine_defs.specs.Given.{block_given, blocks_given, symbols_given, file_given, pinned_profile}
-use Rattle.machine_defs.specs.Steps.{next_action, GotBytes, Ends}
-use Rattle.machine_defs.specs.Runs.{Moment, now, first_moments, IsRun}
-use Rattle.machine_defs.specs.Heard.{entries_of, heard_by_kind, heard_by, given_to}
 use Rattle.machine_defs.specs.Halves.{GotIsOpened}
 use Rattle.machine_defs.proofs.JobLists.{cond_true, cond_false, same_value, found_none}
 use Rattle.machine_defs.proofs.Changes.{IsQuiet, Gave, Job_is, Changes}
@@ -288,8 +271,7 @@ module _ (limit : ℕ) (start : State) (m : Moment) (ms : List Moment) (A : All 
             (blocks_given x.given (setup_in (now start ms)).n o2 s2) symbols →
             Opened (setup_in (now start ms)) f.profile f.id (Worked o2 s2 symbols ∷ x.given) s
         worked_here a b g =
-            subst (λ n. Opened (setup_in (now start ms)) f.profile f.id (Worked o2 s2 symbols ∷ x.given) n)
-            b
+            subst (λ n. Opened (setup_in (now start ms)) f.profile f.id (Worked o2 s2 symbols ∷ x.given) n) b
             (subst (λ n. Opened (setup_in (now start ms)) f.profile n (Worked o2 s2 symbols ∷ x.given) s2) a
             (subst (GivesSymbols (object_in (now start ms) f.profile o2) s2
             (blocks_given (Worked o2 s2 symbols ∷ x.given) (setup_in (now start ms)).n o2 s2))

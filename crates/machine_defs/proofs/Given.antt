@@ -1,15 +1,8 @@
 -- What the calls of a job gave it, and the parts of a run.
-use Rattle.std.proofs.Common.{◌≡◌, ℕ, ◌+◌, ◌<◌, ◌==◌, ◌&&◌, List, [], ◌∷◌, ◌++◌, length, Option, refl, ap, sym, ◌∙◌, inl, inr, arith, zero, suc, replicate}
-use Rattle.std.proofs.lemmas.Bool.{cases_Bool, and_from, eq-eqb, eqb-true}
-use Rattle.std.specs.Prelude.{option_and_then}
-use Rattle.algebra_laws.proofs.Lists.{get-map_range}
+use Rattle.machine_defs.proofs.Words.{◌≡◌, ◌&&◌, refl, ap, sym, ◌∙◌, inl, inr, arith, zero, suc, replicate, cases_Bool, and_from, eq-eqb, eqb-true, option_and_then, get-map_range, block_at, SeenBlock, Given, Worked, block_given, blocks_given, symbols_given, Entry, given_to, AreBytes}
+use Rattle.std.proofs.Common.{ℕ, ◌+◌, ◌<◌, ◌==◌, List, [], ◌∷◌, ◌++◌, length, Option}
 use Rattle.code_defs.specs.ServerCode.{differences}
-use Rattle.column_defs.specs.Opened.{block_at, SeenBlock}
-use Rattle.machine_defs.specs.Jobs.{Given, Worked}
-use Rattle.machine_defs.specs.Given.{block_given, blocks_given, symbols_given}
-use Rattle.machine_defs.specs.Heard.{Entry, given_to}
 use Rattle.machine_defs.proofs.JobLists.{cond_true, cond_false}
-use Rattle.machine_defs.specs.Events.{AreBytes}
 
 -- one more entry of the job
 pub given_to-more : (n : ℕ) (es : List Entry) (g : Given) →
@@ -48,8 +41,6 @@ zeros-bytes (suc n) = zeros-bytes n
 -- blocks of one length that differ in no place are one
 pub differs-none : (xs ys : List ℕ) → length xs ≡ length ys → differences xs ys ≡ 0 → xs ≡ ys
 differs-none [] [] e h = refl
-differs-none [] (y ∷ ys) e h = absurd (omega (arith, e))
-differs-none (x ∷ xs) [] e h = absurd (omega (arith, e))
 differs-none (x ∷ xs) (y ∷ ys) e h = elim (cases_Bool (x == y)) [
   | inl t ↦ ap (λ a. a ∷ xs) (eqb-true x y t)
       ∙ ap (λ l. y ∷ l) (differs-none xs ys (omega (arith, e))
@@ -57,3 +48,4 @@ differs-none (x ∷ xs) (y ∷ ys) e h = elim (cases_Bool (x == y)) [
   | inr f ↦ absurd (let z : suc (differences xs ys) ≡ 0 =
       sym (cond_false (x == y) (differences xs ys) (suc (differences xs ys)) f) ∙ h in omega (arith, z))
 ]
+differs-none xs ys e h = absurd (omega (arith, e))

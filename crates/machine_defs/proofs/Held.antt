@@ -1,25 +1,11 @@
 -- What an audit pinned changes only by replacements while it runs, and what a put has stored is its columns.
-use Rattle.std.proofs.Common.{◌≡◌, ℕ, zero, suc, ◌+◌, ◌<◌, ◌≤◌, ◌==◌, true, false, ◌⊎◌, ◌&&◌, List, [], ◌∷◌, ◌++◌, length, Option, Some, None, refl, ap, sym, subst, ◌∙◌, inl, inr, arith}
-use Rattle.std.specs.Prelude.{slice_get, slice_index_or, nat_le}
-use Rattle.std.specs.List.{Contains, flat_map}
-use Rattle.std.proofs.lemmas.Bool.{eq-eqb, cases_lt, or_parts, and_from, le-leb, lt-leb, false≢true}
+use Rattle.machine_defs.proofs.Words.{◌≡◌, zero, suc, ◌≤◌, false, ◌⊎◌, ◌&&◌, refl, ap, sym, subst, ◌∙◌, inl, inr, arith, slice_get, slice_index_or, nat_le, Contains, flat_map, eq-eqb, cases_lt, or_parts, and_from, le-leb, lt-leb, false≢true, Record, Setup, started_as, setup_of, Kind, PutJob, GetJob, DropJob, AuditJob, RepairJob, UpgradeJob, aim_of, Pinned, Job, job_of, Action, WriteBody, SyncBody, WriteGate, SyncGate, Store, Remove, End, append_actions, on_each_provider, on_each_stripe, actions_by, actions_of, object_of, profiled, State, Append, IsStart, setup_in, object_in, Scrub, Scrubbing, is_check, next_action, block_to_store, Moment, now, first_moments, is_replacement, is_replaced_since, IsRun, told_block, HasMadeStore, each_get, In}
+use Rattle.std.proofs.Common.{ℕ, ◌+◌, ◌<◌, ◌==◌, true, List, [], ◌∷◌, ◌++◌, length, Option, Some, None}
 use Rattle.column_defs.specs.Columns.{columns}
-use Rattle.record_defs.specs.Records.{Record, Setup}
-use Rattle.record_defs.specs.Table.{started_as, setup_of}
-use Rattle.machine_defs.specs.Jobs.{Kind, PutJob, GetJob, DropJob, AuditJob, RepairJob, UpgradeJob, aim_of, Pinned, Job, job_of}
-use Rattle.machine_defs.specs.Actions.{Action, WriteBody, SyncBody, WriteGate, SyncGate, Store, Remove, End, append_actions, on_each_provider, on_each_stripe, actions_by, actions_of}
-use Rattle.machine_defs.specs.Setups.{object_of, profiled}
-use Rattle.machine_defs.specs.States.{State, Append, IsStart, setup_in, object_in, Scrub, Scrubbing}
-use Rattle.machine_defs.specs.Sights.{is_check}
-use Rattle.machine_defs.specs.Steps.{next_action, block_to_store}
-use Rattle.machine_defs.specs.Runs.{Moment, now, first_moments, is_replacement, is_replaced_since, IsRun}
-use Rattle.machine_defs.specs.Deeds.{told_block, HasMadeStore}
 use Rattle.machine_defs.proofs.JobLists.{cond_true, same_value, found_none}
-use Rattle.algebra_laws.proofs.Each.{each_get}
 use Rattle.machine_defs.proofs.Changes.{Grown, Job_is, Block_is, Changes}
 use Rattle.machine_defs.proofs.Events.{some_told, changes}
 use Rattle.machine_defs.proofs.Numbers.{objects, Draws, next_is_by, first_above, drawn_later}
-use Rattle.algebra_laws.specs.Lists.{In}
 use Rattle.machine_defs.proofs.RecordFacts.{started-less}
 use Rattle.machine_defs.proofs.Refused.{none_lone}
 use Rattle.machine_defs.proofs.Done.{done-started}
@@ -68,20 +54,13 @@ pub store_kinds : (job : Job) (kind : Kind) (i o s : ℕ) → job.kind ≡ kind 
     ((job.kind ≡ RepairJob) × HasPin job o)
 store_kinds job (PutJob name bytes) i o s is h = inl (name, bytes, is, h)
 store_kinds job RepairJob i o s is h = inr (is, h)
-store_kinds job UpgradeJob i o s is h = absurd h
-store_kinds job (GetJob name) i o s is h = absurd h
-store_kinds job (DropJob name) i o s is h = absurd h
-store_kinds job AuditJob i o s is h = absurd h
+store_kinds job kind i o s is h = absurd h
 
 -- a job of any kind removes only the object that it takes away
 pub remove_kinds : (job : Job) (kind : Kind) (i o : ℕ) → job.kind ≡ kind → IsFair job kind (Remove i o) →
     In o job.older
 remove_kinds job (PutJob name bytes) i o is h = h
-remove_kinds job (GetJob name) i o is h = h
-remove_kinds job (DropJob name) i o is h = h
-remove_kinds job AuditJob i o is h = h
-remove_kinds job RepairJob i o is h = h
-remove_kinds job UpgradeJob i o is h = h
+remove_kinds job kind i o is h = h
 
 -- ---- the actions of a put
 

@@ -1,7 +1,6 @@
 -- Lemmas on lists of jobs by number.
-use Rattle.std.proofs.Common.{◌≡◌, ℕ, ◌==◌, Bool, true, false, cond, ◌⊎◌, List, [], ◌∷◌, ◌++◌, Option, Some, None, refl, ap, sym, subst, ◌∙◌, inl, inr}
-use Rattle.std.proofs.lemmas.Bool.{eqb-true, eq-eqb, ne_eqb, cases_Bool, cases_eq, false≢true}
-use Rattle.machine_defs.specs.Jobs.{Job, job_of, with_job, without_job}
+use Rattle.machine_defs.proofs.Words.{◌≡◌, Bool, false, cond, ◌⊎◌, refl, ap, sym, subst, ◌∙◌, inl, inr, eqb-true, eq-eqb, ne_eqb, cases_Bool, cases_eq, false≢true, Job, job_of, with_job, without_job}
+use Rattle.std.proofs.Common.{ℕ, ◌==◌, true, List, [], ◌∷◌, ◌++◌, Option, Some, None}
 
 -- the first of a choice, and the second
 pub cond_true : {X : Type 0} (b : Bool) (x y : X) → b ≡ true → cond b x y ≡ x

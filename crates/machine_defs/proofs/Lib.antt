@@ -1,3 +1,4 @@
+mod Words
 pub mod NextActions
 pub mod Given
 pub mod RunParts
@@ -30,6 +31,7 @@ pub mod Gets
 pub mod Reports
 pub mod Began
 pub mod Lone
+pub mod Uncounted
 pub mod Untouched
 pub mod Damaged
 pub mod JobEnds

@@ -1,30 +1,10 @@
 -- What runs alone keeps its number, or has just begun under it; so a job runs from its begin to the step that
 -- ends it.
-use Rattle.std.proofs.Common.{◌≡◌, ℕ, zero, suc, ◌==◌, ◌⊎◌, Bool, true, false, List, [], ◌∷◌, ◌++◌, length, Option, Some, None, refl, ap, sym, subst, ◌∙◌, inl, inr}
-use Rattle.std.specs.Prelude.{IsSome, nat_lt}
-use Rattle.std.proofs.lemmas.Bool.{eqb-true}
-use Rattle.std.specs.Option.{option_map}
-use Rattle.record_defs.specs.Records.{Setup, is_setup}
-use Rattle.device_defs.specs.Providers.{Held, with_symbol, without_block, HasPlace}
-use Rattle.machine_defs.specs.Jobs.{Kind, PutJob, Job, job_of}
-use Rattle.machine_defs.specs.Actions.{Action, WriteBody, SyncBody, WriteGate, SyncGate, Store, Fetch, Ask, Work, Remove, End}
-use Rattle.machine_defs.specs.Refusals as refusal
-use Rattle.machine_defs.specs.Refusals.{Refusal}
+use Rattle.machine_defs.proofs.Words.{◌≡◌, zero, suc, ◌⊎◌, Bool, false, refl, ap, sym, subst, ◌∙◌, inl, inr, eqb-true, option_map, Kind, PutJob, Job, job_of, Action, Store, Fetch, Work, End, Answer, Event, Begin, BeginAt, Step, Outcome, Begun, More, Ended, State, Scrub, Pack, Alone, Scrubbing, Packing, IsStart, BeginsAt, StepsJob, StepsMine, StepsOne, StepsOpen, Steps, number_alone, Scrubs, StepsScrub, Packs, StepsAlone, Happens, Moment, now, IsRun, IsBeginOf, IsBeginOfKind, NoneBegan, IsBeginFor}
+use Rattle.std.proofs.Common.{ℕ, ◌==◌, true, List, [], ◌∷◌, ◌++◌, length, Option, Some, None}
 use Rattle.machine_defs.specs.Answers as answer
-use Rattle.machine_defs.specs.Answers.{Answer}
-use Rattle.machine_defs.specs.Events.{Event, Init, Begin, BeginAt, BeginScrub, BeginPack, Step, Alter, Lose, Stop, Reopen, Names, Continue, Outcome, Ready, Refused, Opened, Begun, More, Waiting, Ended, Replaced, NothingHeld, Stopped, Listed, Closed, Continued}
-use Rattle.machine_defs.specs.States.{State, Append, Scrub, Pack, Alone, Scrubbing, Packing, IsStart, Settles}
-use Rattle.machine_defs.specs.Begins.{BeginsAt}
-use Rattle.machine_defs.specs.Appends.{Moves}
-use Rattle.machine_defs.specs.Steps.{next_action, holder_of, Acts, ActsOrWaits, StepsOn, StepsJob, StepsMine, StepsOne, StepsOpen, Steps}
-use Rattle.machine_defs.specs.Alone.{number_alone, Scrubs, StepsScrub, Packs, StepsAlone, BeginsAlone}
-use Rattle.machine_defs.specs.Openings.{reread, Stops, Reopens, InitsClosed, InitsBy, Inits, Continues}
-use Rattle.machine_defs.specs.Replacements.{ReplacesAt, ReplacesIf}
-use Rattle.machine_defs.specs.Machine.{Lists, Happens}
-use Rattle.machine_defs.specs.Runs.{Moment, now, IsRun}
-use Rattle.machine_defs.specs.Began.{IsBeginOf, IsBeginOfKind, NoneBegan}
-use Rattle.machine_defs.specs.Untouched.{IsBeginFor}
 use Rattle.machine_defs.proofs.JobLists.{number_of, found_none}
+use Rattle.machine_defs.proofs.Cases.{Acting, Cases, by_event}
 use Rattle.machine_defs.proofs.Changes.{IsLone}
 use Rattle.machine_defs.proofs.Refused.{none_lone}
 use Rattle.machine_defs.proofs.Began.{is_begun}
@@ -35,62 +15,30 @@ use Rattle.machine_defs.proofs.Numbers as num
 abbrev pub lone_number : State → Option ℕ
 lone_number w = option_map number_alone w.alone
 
-settled_lone : (left mid : State) → Settles left mid → lone_number mid ≡ lone_number left
-settled_lone left mid (inl is) = ap lone_number is
-settled_lone left mid (inr (d, at, is)) = ap lone_number is
-
 module _ (old : State) where
   -- nothing runs alone, or what did still does, or something has begun with its number
   abbrev pub Lone_is : Outcome → State → Type 0
   Lone_is r new = (lone_number new ≡ None) ⊎ ((lone_number new ≡ lone_number old) ⊎
       ((n : ℕ) × (r ≡ Begun n) × (lone_number new ≡ Some n)))
 
-  kept : (r : Outcome) (new : State) → lone_number new ≡ lone_number old → Lone_is r new
-  kept r new is = inr (inl is)
-
-  moves : (job : Job) (action : Action) (flight : Option Append) (r : Outcome) (new : State) →
-      Moves old job action flight r new → lone_number new ≡ lone_number old
-  moves job WriteBody flight More new (entry, writes, (faults, low, is)) = ap lone_number is
-  moves job WriteBody flight (Ended answer.DiskFault) new (faults, low, rose, is) = ap lone_number is
-  moves job WriteBody flight (Ended answer.Memory) new (faults, low, is) = ap lone_number is
-  moves job SyncBody (Some a) More new (at, (faults, low, is)) = ap lone_number is
-  moves job SyncBody (Some a) (Ended answer.DiskFault) new (at, (faults, low, rose, is)) = ap lone_number is
-  moves job WriteGate (Some a) More new (at, (faults, low, is)) = ap lone_number is
-  moves job WriteGate (Some a) (Ended answer.DiskFault) new (at, (faults, low, rose, is)) = ap lone_number is
-  moves job WriteGate (Some a) (Ended answer.Memory) new (at, (faults, low, is)) = ap lone_number is
-  moves job SyncGate (Some a) More new (at, (faults, low, is)) = ap lone_number is
-  moves job SyncGate (Some a) (Ended answer.DiskFault) new (at, (faults, low, rose, is)) = ap lone_number is
-  moves job action flight r new h = absurd h
-
-  acts : (job : Job) (action : Action) (r : Outcome) (new : State) → Acts old job action r new →
-      lone_number new ≡ lone_number old
-  acts job (Store j o s) More new (p, call, is) = ap lone_number is
-  acts job (Store j o s) (Ended (answer.ProviderFault k)) new (k_is, (p, call, is)) = ap lone_number is
-  acts job (Store j o s) (Ended answer.Memory) new (p, call, is) = ap lone_number is
-  acts job (Fetch j o s) More new (block, (p, call, is)) = ap lone_number is
-  acts job (Ask j o round) More new (symbol, (p, call, is)) = ap lone_number is
-  acts job (Work o s) More new (symbols, gives, is) = ap lone_number is
-  acts job (Work o s) (Ended (answer.Lost t row)) new (t_is, lost, is) = ap lone_number is
-  acts job (Remove j o) More new (p, call, is) = ap lone_number is
-  acts job End (Ended how) new (ends_so, is) = ap lone_number is
-  acts job action r new h = moves job action old.append r new h
-
-  waits : (job : Job) (action : Action) (holder : Option ℕ) (r : Outcome) (new : State) →
-      ActsOrWaits old job action holder r new → lone_number new ≡ lone_number old
-  waits job action (Some n) (Waiting h) new w = ap lone_number w.1
-  waits job action None r new h = acts job action r new h
-  waits job action (Some n) r new h = absurd h
-
-  steps_on : (job : Job) (action : Option Action) (r : Outcome) (new : State) → StepsOn old job action r new →
-      lone_number new ≡ lone_number old
-  steps_on job None r new h = absurd h
-  steps_on job (Some action) r new h = waits job action (holder_of old.append action) r new h
-
-  steps_job : (job : Option Job) (r : Outcome) (new : State) → StepsJob old job r new →
-      lone_number new ≡ lone_number old
-  steps_job None (Refused refusal.NoSuchJob) new h = ap lone_number h
-  steps_job (Some job) r new h = steps_on job (next_action old job) r new h
-  steps_job None r new h = absurd h
+  acting : (job : Job) → Acting old job Lone_is
+  acting job = record {
+    begins = λ entry next none writes faults low. inr (inl refl);
+    syncs = λ a next flight mine faults low. inr (inl refl);
+    gates = λ a next flight mine faults low. inr (inl refl);
+    finishes = λ a next flight mine faults low. inr (inl refl);
+    bars = λ action ungated next mine faults low rose. inr (inl refl);
+    bars_gated = λ a next flight mine faults low rose. inr (inl refl);
+    begins_not = λ next none. inr (inl refl);
+    gates_not = λ a next flight mine. inr (inl refl);
+    stores = λ j o s p next call. inr (inl refl);
+    stores_not = λ j o s p how next call. inr (inl refl);
+    fetches = λ j o s block p next call. inr (inl refl);
+    asks = λ j o round symbol p next call. inr (inl refl);
+    works = λ o s symbols next gives. inr (inl refl);
+    removes = λ j o p next call. inr (inl refl);
+    ends = λ action how next last. inr (inl refl);
+  }
 
   module _ (x : Alone) (at : old.alone ≡ Some x) where
     -- it goes on with its number, or nothing runs alone any more
@@ -126,12 +74,12 @@ module _ (old : State) where
       (lone_number new ≡ None) ⊎ (lone_number new ≡ Some (number_alone (Packing pack)))
   packs pack zero More new (faults, low, is) = inr (ap lone_number is)
   packs pack zero (Ended answer.DiskFault) new (faults, low, rose, is) = inl (ap lone_number is)
-  packs pack zero (Ended answer.Memory) new (faults, low, is) = inl (ap lone_number is)
+  packs pack zero (Ended answer.Memory) new is = inl (ap lone_number is)
   packs pack (suc zero) More new (faults, low, is) = inr (ap lone_number is)
   packs pack (suc zero) (Ended answer.DiskFault) new (faults, low, rose, is) = inl (ap lone_number is)
   packs pack (suc (suc zero)) More new (faults, low, is) = inr (ap lone_number is)
   packs pack (suc (suc zero)) (Ended answer.DiskFault) new (faults, low, rose, is) = inl (ap lone_number is)
-  packs pack (suc (suc zero)) (Ended answer.Memory) new (faults, low, is) = inl (ap lone_number is)
+  packs pack (suc (suc zero)) (Ended answer.Memory) new is = inl (ap lone_number is)
   packs pack (suc (suc (suc zero))) More new (faults, low, is) = inr (ap lone_number is)
   packs pack (suc (suc (suc zero))) (Ended answer.DiskFault) new (faults, low, rose, is) =
       inl (ap lone_number is)
@@ -144,122 +92,32 @@ module _ (old : State) where
   steps_alone (Scrubbing scrub) r new h = steps_scrub scrub scrub.todo r new h
   steps_alone (Packing pack) r new h = packs pack pack.moves r new h
 
-  steps_mine : (number : ℕ) (x : Alone) (mine : Bool) (r : Outcome) (new : State) → old.alone ≡ Some x →
-      StepsMine old number x mine r new → Lone_is r new
-  steps_mine number x true r new at h = goes_on x at r new (steps_alone x r new h)
-  steps_mine number x false r new at h = kept r new (steps_job (job_of old.jobs number) r new h)
-
-  steps_one : (number : ℕ) (alone : Option Alone) (r : Outcome) (new : State) → old.alone ≡ alone →
-      StepsOne old number alone r new → Lone_is r new
-  steps_one number None r new at h = kept r new (steps_job (job_of old.jobs number) r new h)
-  steps_one number (Some x) r new at h = steps_mine number x (number_alone x == number) r new at h
-
-  steps_open : (number : ℕ) (is_barred : Bool) (r : Outcome) (new : State) →
-      StepsOpen old number is_barred r new → Lone_is r new
-  steps_open number true (Refused refusal.MustReopen) new h =
-      kept (Refused refusal.MustReopen) new (ap lone_number h)
-  steps_open number false r new h = steps_one number old.alone r new refl h
-  steps_open number true r new h = absurd h
-
-  steps : (number : ℕ) (is_open : Bool) (r : Outcome) (new : State) → Steps old number is_open r new →
-      Lone_is r new
-  steps number false Closed new h = kept Closed new (ap lone_number h)
-  steps number true r new h = steps_open number old.is_barred r new h
-  steps number false r new h = absurd h
-
-  stops : (r : Outcome) (new : State) → Stops old r new → Lone_is r new
-  stops Stopped new (journal, area, holds, h) = inl (settled_lone (reread old journal area) new h)
-  stops r new h = absurd h
-
-  reopens : (r : Outcome) (new : State) → Reopens old r new → Lone_is r new
-  reopens Opened new (mid, (journal, area, holds, s), up, enough, (faults, low, is)) =
-      inl (ap lone_number is ∙ settled_lone (reread old journal area) mid s)
-  reopens (Refused refusal.NotSetUp) new (mid, (journal, area, holds, s), nothing, (faults, low, is)) =
-      inl (ap lone_number is ∙ settled_lone (reread old journal area) mid s)
-  reopens (Refused refusal.TooFewProviders) new (mid, (journal, area, holds, s), up, few, (faults, low, is)) =
-      inl (ap lone_number is ∙ settled_lone (reread old journal area) mid s)
-  reopens (Refused refusal.DiskFault) new (faults, low, rose, is) = inl (ap lone_number is)
-  reopens (Refused refusal.Memory) new (faults, low, is) = inl (ap lone_number is)
-  reopens r new h = absurd h
-
-  inits_closed : (s : Setup) (r : Outcome) (new : State) → InitsClosed old s r new → Lone_is r new
-  inits_closed s (Refused refusal.DiskFault) new (doubt, leaves_it, (faults, low, rose, is)) =
-      kept (Refused refusal.DiskFault) new (ap lone_number is)
-  inits_closed s (Refused refusal.Memory) new (doubt, leaves_it, (faults, low, is)) =
-      kept (Refused refusal.Memory) new (ap lone_number is)
-  inits_closed s (Refused refusal.Already) new (mid, settles, up, (faults, low, is)) =
-      kept (Refused refusal.Already) new (ap lone_number is ∙ settled_lone old mid settles)
-  inits_closed s Ready new (mid, settles, nothing, (faults, low, is)) =
-      kept Ready new (ap lone_number is ∙ settled_lone old mid settles)
-  inits_closed s r new h = absurd h
-
-  inits_by : (s : Setup) (good : Bool) (r : Outcome) (new : State) → InitsBy old s good r new → Lone_is r new
-  inits_by s false (Refused refusal.BadSetup) new h = kept (Refused refusal.BadSetup) new (ap lone_number h)
-  inits_by s true r new h = inits_closed s r new h
-  inits_by s false r new h = absurd h
-
-  inits : (s : Setup) (is_open : Bool) (r : Outcome) (new : State) → Inits old s is_open r new → Lone_is r new
-  inits s true (Refused refusal.Already) new h = kept (Refused refusal.Already) new (ap lone_number h)
-  inits s false r new h = inits_by s (is_setup s) r new h
-  inits s true r new h = absurd h
-
-  replaces : (j : ℕ) (IsThere : Held → Type 0) (changed : Held → Held) (r : Outcome) (new : State) →
-      ReplacesAt old j IsThere changed r new → Lone_is r new
-  replaces j IsThere changed Replaced new (p, call, is) = kept Replaced new (ap lone_number is)
-  replaces j IsThere changed NothingHeld new (p, call, is) = kept NothingHeld new (ap lone_number is)
-  replaces j IsThere changed r new h = absurd h
-
-  replaces_if : (handed : Bool) (j : ℕ) (IsThere : Held → Type 0) (changed : Held → Held) (r : Outcome)
-      (new : State) → ReplacesIf handed old j IsThere changed r new → Lone_is r new
-  replaces_if true j IsThere changed r new h = replaces j IsThere changed r new h
-  replaces_if false j IsThere changed NothingHeld new h = kept NothingHeld new (ap lone_number h)
-  replaces_if false j IsThere changed r new h = absurd h
-
-  lists : (is_open : Bool) (r : Outcome) (new : State) → Lists old is_open r new → Lone_is r new
-  lists true (Listed files) new h = kept (Listed files) new (ap lone_number h.1)
-  lists false Closed new h = kept Closed new (ap lone_number h)
-  lists true r new h = absurd h
-  lists false r new h = absurd h
-
-  continues : (r : Outcome) (new : State) → Continues old r new → Lone_is r new
-  continues Continued new is = inl (ap lone_number is)
-  continues r new h = absurd h
-
-  begins : (limit moment : ℕ) (kind : Kind) (profile : Option ℕ) (r : Outcome) (new : State) →
-      BeginsAt limit moment old kind profile r new → Lone_is r new
-  begins limit moment kind profile Closed new h = kept Closed new (ap lone_number h.1)
-  begins limit moment kind profile (Refused why) new h = kept (Refused why) new (ap lone_number h.2)
-  begins limit moment kind profile (Begun job) new h = kept (Begun job) new (ap lone_number h.3)
-  begins limit moment kind profile r new h = absurd h
-
-  begins_alone : (why : Option Refusal) (x : Alone) (r : Outcome) (new : State) →
-      number_alone x ≡ old.next_job → BeginsAlone old why x r new → Lone_is r new
-  begins_alone why x Closed new number h = kept Closed new (ap lone_number h.1)
-  begins_alone why x (Refused refused) new number h = kept (Refused refused) new (ap lone_number h.2)
-  begins_alone why x (Begun job) new number h =
-      inr (inr (job, refl, ap lone_number h.3 ∙ ap Some (number ∙ sym h.2)))
-  begins_alone why x r new number h = absurd h
+  lone_cases : (limit moment : ℕ) → Cases limit moment old (λ e r new. Lone_is r new)
+  lone_cases limit moment = record {
+    still = λ e r quiet. inr (inl refl);
+    acts = λ job runs is_open unbarred. acting job;
+    alone = λ number x r new at is_open unbarred h. goes_on x at r new (steps_alone x r new h);
+    begins = λ kind is_open allowed. inr (inl refl);
+    begins_at = λ profile name bytes is_open allowed. inr (inl refl);
+    scrub = λ allowed. inr (inr (old.next_job, refl, refl));
+    pack = λ allowed. inr (inr (old.next_job, refl, refl));
+    stops = λ picks rs js area so. inl refl;
+    opens = λ rs js area so up faults low. inl refl;
+    opens_not = λ why rs js area so faults low. inl refl;
+    reads_not = λ why faults low. inl refl;
+    sets_up = λ s rs js good closed so none faults low. inr (inl refl);
+    sets_up_not = λ s why doubt good closed so faults low. inr (inl refl);
+    is_set_up = λ s rs js closed so faults low. inr (inl refl);
+    replaces = λ e j IsThere changed p quiet counts call. inr (inl refl);
+    replaces_not = λ e j IsThere changed p quiet call. inr (inl refl);
+    continues = inl refl;
+  }
 
   -- what runs alone after an event did so before, or the event is its begin
   pub lone_is : (limit moment : ℕ) (e : Event) (r : Outcome) (new : State) → Happens limit moment old e r new →
       Lone_is r new
-  lone_is limit moment (Init s) r new h = inits s old.is_open r new h
-  lone_is limit moment (Begin kind) r new h = begins limit moment kind None r new h
-  lone_is limit moment (BeginAt profile name bytes) r new h =
-      begins limit moment (PutJob name bytes) (Some profile) r new h
-  lone_is limit moment BeginScrub r new h = begins_alone _ _ r new refl h
-  lone_is limit moment BeginPack r new h = begins_alone _ _ r new refl h
-  lone_is limit moment (Step number) r new h = steps number old.is_open r new h
-  lone_is limit moment (Alter j object stripe place symbol) r new h =
-      replaces_if (nat_lt j old.handed) j (λ held. HasPlace (held object stripe) place)
-      (with_symbol object stripe place symbol) r new h
-  lone_is limit moment (Lose j object stripe) r new h =
-      replaces_if (nat_lt j old.handed) j (λ held. IsSome (held object stripe))
-      (without_block object stripe) r new h
-  lone_is limit moment (Stop picks) r new h = stops r new h
-  lone_is limit moment Reopen r new h = reopens r new h
-  lone_is limit moment Names r new h = lists old.is_open r new h
-  lone_is limit moment Continue r new h = continues r new h
+  lone_is limit moment e r new h =
+      by_event limit moment old (λ e r new. Lone_is r new) (lone_cases limit moment) e r new h
 
 -- something runs alone where it has a number
 alone_of : (x : Option Alone) (n : ℕ) → option_map number_alone x ≡ Some n →
@@ -286,8 +144,7 @@ by_number w k other = go (job_of w.jobs k) refl
 
 -- where a job begins, nothing runs alone
 begins_lone : (limit moment : ℕ) (old : State) (e : Event) (r : Outcome) (new : State) (n : ℕ) →
-    IsBeginFor (λ kind. Unit {0}) e → r ≡ Begun n → Happens limit moment old e r new →
-    lone_number new ≡ None
+    IsBeginFor (λ kind. Unit {0}) e → r ≡ Begun n → Happens limit moment old e r new → lone_number new ≡ None
 begins_lone limit moment old (Begin kind) r new n on is h =
     by_begin kind None (subst (λ (o : Outcome). BeginsAt limit moment old kind None o new) is h)
   where
@@ -302,16 +159,7 @@ begins_lone limit moment old (BeginAt profile name bytes) r new n on is h =
         lone_number new ≡ None
     by_begin g = ap lone_number g.3
         ∙ ap (option_map number_alone) (none_lone limit old (PutJob name bytes) (Some profile) g.1)
-begins_lone limit moment old (Init s) r new n on is h = absurd on
-begins_lone limit moment old BeginScrub r new n on is h = absurd on
-begins_lone limit moment old BeginPack r new n on is h = absurd on
-begins_lone limit moment old (Step number) r new n on is h = absurd on
-begins_lone limit moment old (Alter j object stripe place symbol) r new n on is h = absurd on
-begins_lone limit moment old (Lose j object stripe) r new n on is h = absurd on
-begins_lone limit moment old (Stop picks) r new n on is h = absurd on
-begins_lone limit moment old Reopen r new n on is h = absurd on
-begins_lone limit moment old Names r new n on is h = absurd on
-begins_lone limit moment old Continue r new n on is h = absurd on
+begins_lone limit moment old e r new n on is h = absurd on
 
 -- behind the begin of a job, and no later one of its number, the number is never that of what runs alone
 still : (limit : ℕ) (start : State) → IsStart start → (gaps older : List Moment) (b : Moment) (k : ℕ) →
@@ -381,8 +229,7 @@ ended_by_job limit start clean between older m b k how run on begun none event o
 -- the begin of a job of some kind is one of any
 any_kind : (e : Event) (kind : Kind) → IsBeginOfKind e kind → IsBeginFor (λ kind. Unit {0}) e
 any_kind e kind (inl is) = subst (IsBeginFor (λ kind. Unit {0})) (sym is) tt
-any_kind e kind (inr (profile, name, bytes, kind_is, is)) =
-    subst (IsBeginFor (λ kind. Unit {0})) (sym is) tt
+any_kind e kind (inr (profile, name, bytes, kind_is, is)) = subst (IsBeginFor (λ kind. Unit {0})) (sym is) tt
 
 -- a job that such an event began is of that kind
 kind_is_of : (e : Event) (j : Job) (kind : Kind) → IsBeginOf e j → IsBeginOfKind e kind → j.kind ≡ kind

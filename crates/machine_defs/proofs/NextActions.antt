@@ -1,12 +1,6 @@
 -- Where the next action of a job stands in its list.
-use Rattle.std.proofs.Common.{◌≡◌, Some, refl, sym, ◌∙◌, inl, inr}
-use Rattle.std.specs.Prelude.{slice_get}
-use Rattle.std.proofs.lemmas.Bool.{cases_Bool}
-use Rattle.record_defs.specs.Records.{Setup}
-use Rattle.machine_defs.specs.Jobs.{Kind, PutJob, GetJob, DropJob, AuditJob, RepairJob, UpgradeJob, Job, advanced}
-use Rattle.machine_defs.specs.Actions.{Action, End, actions_by, actions_of}
-use Rattle.machine_defs.specs.States.{State, setup_in}
-use Rattle.machine_defs.specs.Steps.{next_action, is_idle_drop}
+use Rattle.machine_defs.proofs.Words.{◌≡◌, refl, sym, ◌∙◌, inl, inr, slice_get, cases_Bool, Setup, Kind, PutJob, GetJob, DropJob, AuditJob, RepairJob, UpgradeJob, Job, advanced, Action, End, actions_by, actions_of, State, setup_in, next_action, is_idle_drop}
+use Rattle.std.proofs.Common.{Some}
 use Rattle.machine_defs.proofs.JobLists.{cond_true, cond_false}
 
 -- the next action stands in the list, unless it is the End
@@ -24,8 +18,4 @@ next_stands w job action h n = elim (cases_Bool (is_idle_drop w job job.kind)) [
 pub actions_by-advanced : (s : Setup) (x : Job) (kind : Kind) →
     actions_by s (advanced x) kind ≡ actions_by s x kind
 actions_by-advanced s x (PutJob name bytes) = refl
-actions_by-advanced s x (GetJob name) = refl
-actions_by-advanced s x (DropJob name) = refl
-actions_by-advanced s x AuditJob = refl
-actions_by-advanced s x RepairJob = refl
-actions_by-advanced s x UpgradeJob = refl
+actions_by-advanced s x kind = refl

@@ -1,15 +1,6 @@
 -- Object numbers and audit numbers: each is drawn once, and what uses it is the job that drew it.
-use Rattle.std.proofs.Common.{◌≡◌, ℕ, suc, ◌+◌, ◌<◌, ◌≤◌, true, false, cond, ◌⊎◌, List, [], ◌∷◌, length, Option, Some, None, refl, ap, sym, subst, ◌∙◌, inl, inr, arith}
-use Rattle.std.specs.Prelude.{slice_get, nat_lt}
-use Rattle.std.proofs.lemmas.Bool.{cases_Bool, cases_eq, cases_lt, ltb-true, lt-ltb}
-use Rattle.record_defs.specs.Records.{Record, SetUp, PutStart, PutDone, Drop, AuditStart, AuditDone, RepairDone, PutDoneIn, Version, Resume, InEffect, RepairDue}
-use Rattle.record_defs.specs.Table.{next_id, next_audit}
-use Rattle.machine_defs.specs.Jobs.{Kind, PutJob, GetJob, DropJob, AuditJob, RepairJob, UpgradeJob, Job, job_of}
-use Rattle.machine_defs.specs.Actions.{Action, WriteBody, SyncGate, End, actions_by, actions_of}
-use Rattle.machine_defs.specs.States.{State, Append, IsStart, setup_in}
-use Rattle.machine_defs.specs.Appends.{Writes, is_first_append, subject_drawn}
-use Rattle.machine_defs.specs.Steps.{next_action, is_idle_drop}
-use Rattle.machine_defs.specs.Runs.{Moment, now, IsRun}
+use Rattle.machine_defs.proofs.Words.{◌≡◌, suc, ◌≤◌, false, cond, ◌⊎◌, refl, ap, sym, subst, ◌∙◌, inl, inr, arith, slice_get, nat_lt, cases_Bool, cases_eq, cases_lt, ltb-true, lt-ltb, Record, SetUp, PutStart, PutDone, Drop, AuditStart, AuditDone, RepairDone, PutDoneIn, Version, Resume, InEffect, RepairDue, next_id, next_audit, Kind, PutJob, GetJob, DropJob, AuditJob, RepairJob, UpgradeJob, Job, job_of, Action, WriteBody, SyncGate, End, actions_by, actions_of, State, Append, IsStart, setup_in, Writes, is_first_append, subject_drawn, next_action, is_idle_drop, Moment, now, IsRun}
+use Rattle.std.proofs.Common.{ℕ, ◌+◌, ◌<◌, true, List, [], ◌∷◌, length, Option, Some, None}
 use Rattle.machine_defs.proofs.JobLists.{cond_true, cond_false, same_value, found_none}
 use Rattle.machine_defs.proofs.Changes.{IsPlain, Job_is, Append_is, Records_is, IsQuietState, Changes}
 use Rattle.machine_defs.proofs.Written.{IsAppended, IsWritten, written_on}
@@ -37,30 +28,13 @@ HasNumber series j = Draws series j.kind × (4 ≤ j.place)
 
 next_grows : (series : Series) (r : Record) (rs : List Record) → IsAppended r →
     next series rs ≤ next series (r ∷ rs)
-next_grows objects (SetUp s) rs good = omega arith
-next_grows objects (PutStart id name) rs good = omega arith
-next_grows objects (PutDone id size) rs good = omega arith
-next_grows objects (Drop name) rs good = omega arith
-next_grows objects (AuditStart number) rs good = omega arith
-next_grows objects (AuditDone number undecided counts) rs good = omega arith
-next_grows objects (RepairDone number) rs good = omega arith
-next_grows objects (PutDoneIn id size profile) rs good = omega arith
-next_grows objects Version rs good = omega arith
 next_grows objects (Resume next audit) rs good = absurd good
 next_grows objects (InEffect id size profile kept) rs good = absurd good
 next_grows objects (RepairDue number counts) rs good = absurd good
-next_grows audits (SetUp s) rs good = omega arith
-next_grows audits (PutStart id name) rs good = omega arith
-next_grows audits (PutDone id size) rs good = omega arith
-next_grows audits (Drop name) rs good = omega arith
-next_grows audits (AuditStart number) rs good = omega arith
-next_grows audits (AuditDone number undecided counts) rs good = omega arith
-next_grows audits (RepairDone number) rs good = omega arith
-next_grows audits (PutDoneIn id size profile) rs good = omega arith
-next_grows audits Version rs good = omega arith
 next_grows audits (Resume next audit) rs good = absurd good
 next_grows audits (InEffect id size profile kept) rs good = absurd good
 next_grows audits (RepairDue number counts) rs good = absurd good
+next_grows series r rs good = omega arith
 
 on_top : (series : Series) (rs more : List Record) → more ≡ rs → next series rs ≤ next series more
 on_top series rs more is = (let e : next series more ≡ next series rs = ap (next series) is in omega arith)
@@ -97,16 +71,7 @@ three_by : (series : Series) (w : State) (job : Job) (kind : Kind) → Draws ser
     next_by w job kind 3 ≡ Some SyncGate
 three_by objects w job (PutJob name bytes) d = refl
 three_by audits w job AuditJob d = refl
-three_by objects w job (GetJob name) d = absurd d
-three_by objects w job (DropJob name) d = absurd d
-three_by objects w job AuditJob d = absurd d
-three_by objects w job RepairJob d = absurd d
-three_by objects w job UpgradeJob d = absurd d
-three_by audits w job (PutJob name bytes) d = absurd d
-three_by audits w job (GetJob name) d = absurd d
-three_by audits w job (DropJob name) d = absurd d
-three_by audits w job RepairJob d = absurd d
-three_by audits w job UpgradeJob d = absurd d
+three_by series w job kind d = absurd d
 
 -- at place 3 a put or an audit makes the fourth move of its first append
 pub at_three : (series : Series) (w : State) (job : Job) → Draws series job.kind → job.place ≡ 3 →
@@ -118,27 +83,15 @@ at_three series w job d is =
 pub drawn_later : (w : State) (job : Job) (kind : Kind) → is_first_append job ≡ false →
     subject_drawn w job kind ≡ job.subject
 drawn_later w job (PutJob name bytes) h = cond_false _ _ _ h
-drawn_later w job (GetJob name) h = refl
-drawn_later w job (DropJob name) h = refl
 drawn_later w job AuditJob h = cond_false _ _ _ h
-drawn_later w job RepairJob h = refl
-drawn_later w job UpgradeJob h = refl
+drawn_later w job kind h = refl
 
 -- with its first append a job draws the next number
 pub drawn_first : (series : Series) (w : State) (job : Job) (kind : Kind) → Draws series kind →
     is_first_append job ≡ true → subject_drawn w job kind ≡ next series w.records
 drawn_first objects w job (PutJob name bytes) d h = cond_true _ _ _ h
 drawn_first audits w job AuditJob d h = cond_true _ _ _ h
-drawn_first objects w job (GetJob name) d h = absurd d
-drawn_first objects w job (DropJob name) d h = absurd d
-drawn_first objects w job AuditJob d h = absurd d
-drawn_first objects w job RepairJob d h = absurd d
-drawn_first objects w job UpgradeJob d h = absurd d
-drawn_first audits w job (PutJob name bytes) d h = absurd d
-drawn_first audits w job (GetJob name) d h = absurd d
-drawn_first audits w job (DropJob name) d h = absurd d
-drawn_first audits w job RepairJob d h = absurd d
-drawn_first audits w job UpgradeJob d h = absurd d
+drawn_first series w job kind d h = absurd d
 
 -- a record that raises the next number
 abbrev pub Raises : Series → Record → Type 0
@@ -153,16 +106,7 @@ writes_first objects w job (PutJob name bytes) entry d first h =
     raises_start objects entry (PutStart (next_id w.records) name) (h ∙ cond_true _ _ _ first) (λ rs. refl)
 writes_first audits w job AuditJob entry d first h =
     raises_start audits entry (AuditStart (next_audit w.records)) (let g = rw first at h in g) (λ rs. refl)
-writes_first objects w job (GetJob name) entry d first h = absurd d
-writes_first objects w job (DropJob name) entry d first h = absurd d
-writes_first objects w job AuditJob entry d first h = absurd d
-writes_first objects w job RepairJob entry d first h = absurd d
-writes_first objects w job UpgradeJob entry d first h = absurd d
-writes_first audits w job (PutJob name bytes) entry d first h = absurd d
-writes_first audits w job (GetJob name) entry d first h = absurd d
-writes_first audits w job (DropJob name) entry d first h = absurd d
-writes_first audits w job RepairJob entry d first h = absurd d
-writes_first audits w job UpgradeJob entry d first h = absurd d
+writes_first series w job kind entry d first h = absurd d
 
 -- a job before its fifth action is in its first append
 pub first_below : (job : Job) → job.place < 4 → is_first_append job ≡ true
@@ -287,8 +231,7 @@ module _ (series : Series) (limit : ℕ) (start : State) (m : Moment) (ms : List
   ]
 
   fits_step : (a : Append) (j : Job) → m.state.append ≡ Some a → job_of m.state.jobs a.job ≡ Some j →
-      Draws series j.kind → j.place < 4 →
-      (j.subject ≡ next series m.state.records) × Raises series a.entry
+      Draws series j.kind → j.place < 4 → (j.subject ≡ next series m.state.records) × Raises series a.entry
   fits_step a j h hj d small = elim (X.append a h) [
     | Append_is.kept b flight job_is entry rec ↦ elim (X.job a.job j hj) [
       | Job_is.kept r grown ↦ carried b entry rec j refl
@@ -313,8 +256,7 @@ module _ (series : Series) (limit : ℕ) (start : State) (m : Moment) (ms : List
   ]
     where
       carried : (b : Append) → a.entry ≡ b.entry → m.state.records ≡ (now start ms).records → (i : Job) →
-          j.subject ≡ i.subject →
-          (i.subject ≡ next series (now start ms).records) × Raises series b.entry →
+          j.subject ≡ i.subject → (i.subject ≡ next series (now start ms).records) × Raises series b.entry →
           (j.subject ≡ next series m.state.records) × Raises series a.entry
       carried b entry rec i subject f =
           (subject ∙ (f.0 ∙ sym (ap (next series) rec)), raises_start series a.entry b.entry entry f.1)

@@ -1,23 +1,10 @@
 -- What holds at each moment of a run of the files in effect and of those that jobs work on.
-use Rattle.std.proofs.Common.{◌≡◌, ℕ, suc, ◌+◌, ◌<◌, ◌≤◌, ◌==◌, true, ◌⊎◌, List, [], ◌∷◌, length, Option, Some, None, refl, ap, sym, subst, ◌∙◌, inl, inr, arith}
-use Rattle.std.proofs.lemmas.Bool.{eq-eqb, ne_eqb, cases_Bool, cases_eq, cases_lt, false≢true}
-use Rattle.record_defs.specs.Records.{Record, Setup, SetUp, PutStart, PutDone, Drop, AuditStart, AuditDone, RepairDone, PutDoneIn, Version, Resume, InEffect, RepairDue}
-use Rattle.record_defs.specs.Table.{File, file_as, setup_of, version_of, next_id, next_audit, started_as, is_start_of, is_same_name, file_of}
-use Rattle.machine_defs.specs.Jobs.{Kind, PutJob, GetJob, DropJob, AuditJob, RepairJob, UpgradeJob, aim_of, Pinned, Job, job_of}
-use Rattle.machine_defs.specs.Actions.{Action, WriteBody, SyncGate, Store, on_each_provider, on_each_stripe}
-use Rattle.machine_defs.specs.Setups.{setup_or_none, profiled}
-use Rattle.machine_defs.specs.States.{State, Append, Doubt, AreFirst, IsStart, setup_in, file_in}
-use Rattle.machine_defs.specs.Begins.{refusal_of_begin, beginning}
-use Rattle.machine_defs.specs.Sights.{is_check}
-use Rattle.machine_defs.specs.Appends.{Writes, done_record, is_first_append, subject_drawn}
-use Rattle.machine_defs.specs.Steps.{next_action}
-use Rattle.machine_defs.specs.Runs.{Moment, now}
+use Rattle.machine_defs.proofs.Words.{◌≡◌, suc, ◌≤◌, ◌⊎◌, refl, ap, sym, subst, ◌∙◌, inl, inr, arith, eq-eqb, ne_eqb, cases_Bool, cases_eq, cases_lt, false≢true, Record, Setup, SetUp, PutStart, PutDone, Drop, AuditStart, AuditDone, RepairDone, PutDoneIn, Version, Resume, InEffect, RepairDue, File, file_as, setup_of, version_of, next_id, next_audit, started_as, is_start_of, is_same_name, file_of, Kind, PutJob, GetJob, DropJob, AuditJob, RepairJob, UpgradeJob, aim_of, Pinned, Job, job_of, Action, WriteBody, SyncGate, Store, on_each_provider, on_each_stripe, setup_or_none, profiled, State, Append, Doubt, AreFirst, IsStart, setup_in, file_in, refusal_of_begin, beginning, is_check, Writes, done_record, is_first_append, subject_drawn, next_action, Moment, now, In, same-refl}
+use Rattle.std.proofs.Common.{ℕ, ◌+◌, ◌<◌, ◌==◌, true, List, [], ◌∷◌, length, Option, Some, None}
 use Rattle.machine_defs.proofs.JobLists.{cond_true, cond_false, same_value, found_none}
 use Rattle.machine_defs.proofs.Changes.{IsPlain, Grown, Job_is, Append_is, Records_is, Doubt_is, Changes}
 use Rattle.machine_defs.proofs.Numbers.{objects, Draws, next_of_records, at_three, first_above, first_below, drawn_later}
 use Rattle.machine_defs.proofs.RecordFacts.{IsProper, AreSound, sound-more, sound-none, not_started-more, file-more}
-use Rattle.algebra_laws.specs.Lists.{In}
-use Rattle.record_defs.proofs.FilesLaws.{same-refl}
 use Rattle.machine_defs.proofs.Done.{put_ended, profile_done, done-setup, done-ended, done-file}
 use Rattle.machine_defs.proofs.Fair.{stores_count, gate_place}
 use Rattle.machine_defs.proofs.Pins.{Stands, pinned_stands, not_pinned, Taken, Takes, taken, check_alone, Wrote, writes_proper}
@@ -51,31 +38,28 @@ count_same v w i j bytes s e p =
 -- no append of a job changes the setup
 pub wrote_setup : (job : Job) (kind : Kind) (entry : Record) (rs : List Record) → Wrote job kind entry →
     setup_of (entry ∷ rs) ≡ setup_of rs
-wrote_setup job (PutJob name bytes) entry rs (inl h) = ap (λ (r : Record). setup_of (r ∷ rs)) h.1
 wrote_setup job (PutJob name bytes) entry rs (inr h) =
     ap (λ (r : Record). setup_of (r ∷ rs)) h.1.1 ∙ done-setup h.1.0 job.subject (length bytes) job.profile rs
 wrote_setup job (GetJob name) entry rs h = absurd h
 wrote_setup job (DropJob name) entry rs h = ap (λ (r : Record). setup_of (r ∷ rs)) h
-wrote_setup job AuditJob entry rs (inl h) = ap (λ (r : Record). setup_of (r ∷ rs)) h.1
 wrote_setup job AuditJob entry rs (inr h) = ap (λ (r : Record). setup_of (r ∷ rs)) h.3
 wrote_setup job RepairJob entry rs h = ap (λ (r : Record). setup_of (r ∷ rs)) h.1
 wrote_setup job UpgradeJob entry rs h = ap (λ (r : Record). setup_of (r ∷ rs)) h
+wrote_setup job kind entry rs (inl h) = ap (λ (r : Record). setup_of (r ∷ rs)) h.1
 
 -- a put's end is written by a put that has its number
 wrote_done : (job : Job) (kind : Kind) (entry : Record) (id : ℕ) → Wrote job kind entry →
     put_ended entry ≡ Some id → Draws objects kind × (4 ≤ job.place) × (job.subject ≡ id)
-wrote_done job (PutJob name bytes) entry id (inl h) e =
-    (let f : None ≡ Some id = sym (ap put_ended h.1) ∙ e in cc)
 wrote_done job (PutJob name bytes) entry id (inr h) e =
     (let f : Some job.subject ≡ Some id =
     sym (ap put_ended h.1.1 ∙ done-ended h.1.0 job.subject (length bytes) job.profile) ∙ e in
     (tt, h.0, (let g : job.subject ≡ id = cc in g)))
 wrote_done job (GetJob name) entry id h e = absurd h
 wrote_done job (DropJob name) entry id h e = (let f : None ≡ Some id = sym (ap put_ended h) ∙ e in cc)
-wrote_done job AuditJob entry id (inl h) e = (let f : None ≡ Some id = sym (ap put_ended h.1) ∙ e in cc)
 wrote_done job AuditJob entry id (inr h) e = (let f : None ≡ Some id = sym (ap put_ended h.3) ∙ e in cc)
 wrote_done job RepairJob entry id h e = (let f : None ≡ Some id = sym (ap put_ended h.1) ∙ e in cc)
 wrote_done job UpgradeJob entry id h e = (let f : None ≡ Some id = sym (ap put_ended h) ∙ e in cc)
+wrote_done job kind entry id (inl h) e = (let f : None ≡ Some id = sym (ap put_ended h.1) ∙ e in cc)
 
 wrote_on : (i j : Job) (kind : Kind) (entry : Record) → j.subject ≡ i.subject → j.profile ≡ i.profile →
     j.place ≡ i.place + 1 → (Draws objects kind → i.place ≡ 3 → ⊥) → Wrote i kind entry → Wrote j kind entry
@@ -93,11 +77,7 @@ wrote_on i j (PutJob name bytes) entry subject profile place apart (inr h) =
             ∙ ap (λ x. done_record h.1.0 j.subject (length bytes) x) (sym profile)),
       ),
     )
-wrote_on i j (GetJob name) entry subject profile place apart h = h
-wrote_on i j (DropJob name) entry subject profile place apart h = h
-wrote_on i j AuditJob entry subject profile place apart h = h
-wrote_on i j RepairJob entry subject profile place apart h = h
-wrote_on i j UpgradeJob entry subject profile place apart h = h
+wrote_on i j kind entry subject profile place apart h = h
 
 writes_wrote : (w : State) (i j : Job) (kind : Kind) (entry : Record) → j.subject ≡ subject_drawn w i kind →
     j.profile ≡ i.profile → j.place ≡ i.place + 1 → (Draws objects kind → i.place ≡ 3 → ⊥) →
@@ -134,21 +114,16 @@ writes_wrote w i j UpgradeJob entry subject profile place apart h = h
 -- a started number stays so unless its put ends
 started_keeps : (rs : List Record) (r : Record) (id : ℕ) (name : List ℕ) → IsProper rs r → id < next_id rs →
     started_as rs id ≡ Some name → (put_ended r ≡ Some id → ⊥) → started_as (r ∷ rs) id ≡ Some name
-started_keeps rs (SetUp s) id name proper l h other = h
 started_keeps rs (PutStart k n) id name proper l h other =
     cond_false (k == id) (Some n) (started_as rs id) (ne_eqb k id (λ e. omega arith)) ∙ h
 started_keeps rs (PutDone k size) id name proper l h other =
     cond_false (k == id) None (started_as rs id) (ne_eqb k id (λ e. other (ap Some e))) ∙ h
-started_keeps rs (Drop n) id name proper l h other = h
-started_keeps rs (AuditStart number) id name proper l h other = h
-started_keeps rs (AuditDone number undecided counts) id name proper l h other = h
-started_keeps rs (RepairDone number) id name proper l h other = h
 started_keeps rs (PutDoneIn k size profile) id name proper l h other =
     cond_false (k == id) None (started_as rs id) (ne_eqb k id (λ e. other (ap Some e))) ∙ h
-started_keeps rs Version id name proper l h other = h
 started_keeps rs (Resume next audit) id name proper l h other = absurd proper
 started_keeps rs (InEffect k size profile kept) id name proper l h other = absurd proper
 started_keeps rs (RepairDue number counts) id name proper l h other = absurd proper
+started_keeps rs r id name proper l h other = h
 
 -- what holds
 pub record Facts (start : State) (ms : List Moment) : Type 0 where
@@ -452,8 +427,7 @@ module _ (limit : ℕ) (start : State) (m : Moment) (ms : List Moment) (N : num.
   -- what a job has just taken out of effect is out
   out_now : (k : ℕ) (x : Job) (a : Append) (name : List ℕ) (o : ℕ) (q : List ℕ) (f : File) →
       job_of (now start ms).jobs k ≡ Some x → next_action (now start ms) x ≡ Some SyncGate → (kind : Kind) →
-      x.kind ≡ kind →
-      Wrote x kind a.entry → Takes x kind name → Taken (now start ms) x name o →
+      x.kind ≡ kind → Wrote x kind a.entry → Takes x kind name → Taken (now start ms) x name o →
       m.state.records ≡ a.entry ∷ (now start ms).records → file_in (now start ms) q ≡ Some f →
       file_in m.state q ≡ Some f → f.id ≡ o → ⊥
   out_now k x a name o q f runs next_is (PutJob n bytes) kind (inl w) takes t rec stood h e =
@@ -486,9 +460,7 @@ module _ (limit : ℕ) (start : State) (m : Moment) (ms : List Moment) (N : num.
       sym (ap (λ rs. file_of rs q) (rec ∙ ap (λ (r : Record). r ∷ (now start ms).records) w) ∙ gone) ∙ h in
       cc)
   out_now k x a name o q f runs next_is (GetJob n) kind w takes t rec stood h e = w
-  out_now k x a name o q f runs next_is AuditJob kind w takes t rec stood h e = takes
-  out_now k x a name o q f runs next_is RepairJob kind w takes t rec stood h e = takes
-  out_now k x a name o q f runs next_is UpgradeJob kind w takes t rec stood h e = takes
+  out_now k x a name o q f runs next_is d kind w takes t rec stood h e = takes
 
   older_out_step : (k : ℕ) (j : Job) (o : ℕ) (q : List ℕ) (f : File) → job_of m.state.jobs k ≡ Some j →
       In o j.older → file_in m.state q ≡ Some f → f.id ≡ o → ⊥

@@ -1,23 +1,12 @@
 -- Files in effect, files that jobs work on, and objects that they take away.
-use Rattle.std.proofs.Common.{◌≡◌, ℕ, ◌<◌, ◌≤◌, ◌==◌, Bool, true, false, ◌⊎◌, List, [], ◌∷◌, length, Option, Some, None, refl, ap, sym, subst, ◌∙◌, inl, inr}
-use Rattle.std.specs.Prelude.{nat_lt}
-use Rattle.std.specs.List.{list_any}
-use Rattle.std.proofs.lemmas.Bool.{eq-eqb, cases_Bool, cases_lt, false≢true}
-use Rattle.record_defs.specs.Records.{Record, PutStart, Drop, AuditStart, AuditDone, RepairDone, Version}
-use Rattle.record_defs.specs.Table.{File, next_id, files_of, version_of}
-use Rattle.machine_defs.specs.Jobs.{Kind, PutJob, GetJob, DropJob, AuditJob, RepairJob, UpgradeJob, Aim, ToPut, ToGet, ToDrop, ToAudit, ToRepair, ToUpgrade, aim_of, Pinned, Job, job_of}
-use Rattle.machine_defs.specs.Actions.{machine_pins}
-use Rattle.machine_defs.specs.States.{State, file_in}
-use Rattle.machine_defs.specs.Begins.{refusal_of_begin, pinned_file, pin_by, pin_all, pin_found, pinned_for}
-use Rattle.machine_defs.specs.Sights.{aims_of, sight_of, is_check, is_put_or_check, is_shut, are_jobs_in_the_way}
-use Rattle.machine_defs.specs.Appends.{Writes, is_first_append, is_pinned, removable, taken_out, done_record}
+use Rattle.machine_defs.proofs.Words.{◌≡◌, ◌≤◌, Bool, false, ◌⊎◌, refl, ap, sym, subst, ◌∙◌, inl, inr, nat_lt, list_any, eq-eqb, cases_Bool, cases_lt, false≢true, Record, PutStart, Drop, AuditStart, AuditDone, RepairDone, Version, File, next_id, files_of, version_of, Kind, PutJob, GetJob, DropJob, AuditJob, RepairJob, UpgradeJob, Aim, ToPut, ToGet, ToDrop, ToAudit, ToRepair, ToUpgrade, aim_of, Pinned, Job, job_of, machine_pins, State, file_in, refusal_of_begin, pinned_file, pin_by, pin_all, pin_found, pinned_for, aims_of, sight_of, is_check, is_put_or_check, is_shut, are_jobs_in_the_way, Writes, is_first_append, is_pinned, removable, taken_out, done_record, In}
+use Rattle.std.proofs.Common.{ℕ, ◌<◌, ◌==◌, true, List, [], ◌∷◌, length, Option, Some, None}
 use Rattle.machine_defs.proofs.Done.{by_version}
 use Rattle.machine_defs.proofs.Refused.{not_busy, right_false}
 use Rattle.machine_defs.proofs.JobLists.{cond_true, cond_false, same_value}
 use Rattle.machine_defs.proofs.Sights.{any-aims}
 use Rattle.machine_defs.proofs.Numbers.{first_above, first_below}
 use Rattle.machine_defs.proofs.RecordFacts.{IsProper, listed_file}
-use Rattle.algebra_laws.specs.Lists.{In}
 
 -- ---- what begins pin
 
@@ -73,9 +62,8 @@ pub pinned_stands : (w : State) (kind : Kind) (f : Pinned) → In f (pinned_for 
 pinned_stands w (PutJob name bytes) f h = absurd h
 pinned_stands w (GetJob name) f h = in_effect_one w name (file_in w name) f refl h
 pinned_stands w (DropJob name) f h = absurd h
-pinned_stands w AuditJob f h = in_effect_all w f h
-pinned_stands w RepairJob f h = in_effect_all w f h
 pinned_stands w UpgradeJob f h = absurd h
+pinned_stands w kind f h = in_effect_all w f h
 
 -- ---- what is pinned is not taken away
 
@@ -156,10 +144,7 @@ taken w job (PutJob n bytes) o h = elim (cases_lt job.place 4) [
   )
 ]
 taken w job (DropJob n) o h = (n, refl, removable_is w job n (file_in w n) o refl h)
-taken w job (GetJob n) o h = absurd h
-taken w job AuditJob o h = absurd h
-taken w job RepairJob o h = absurd h
-taken w job UpgradeJob o h = absurd h
+taken w job kind o h = absurd h
 
 -- ---- begins of audits and repairs
 
@@ -174,20 +159,13 @@ check_alone limit w kind profile none check k j runs =
   where
     not_put : (aim : Aim) → is_put_or_check aim ≡ false → is_check aim ≡ false
     not_put (ToPut name size) h = refl
-    not_put (ToGet name) h = h
-    not_put (ToDrop name) h = h
-    not_put ToAudit h = h
-    not_put ToRepair h = h
-    not_put ToUpgrade h = h
+    not_put aim h = h
 
     by : (kd : Kind) → is_check (aim_of kd) ≡ true
         → are_jobs_in_the_way limit (aims_of w.jobs) (aim_of kd) ≡ false → is_check (aim_of j.kind) ≡ false
     by AuditJob c h = not_put (aim_of j.kind) (any_aim is_put_or_check w.jobs k j runs (right_false _ _ h))
     by RepairJob c h = any_aim is_check w.jobs k j runs (right_false _ _ h)
-    by UpgradeJob c h = absurd (false≢true c)
-    by (PutJob name bytes) c h = absurd (false≢true c)
-    by (GetJob name) c h = absurd (false≢true c)
-    by (DropJob name) c h = absurd (false≢true c)
+    by kd c h = absurd (false≢true c)
 
 -- ---- what appends write
 
@@ -218,10 +196,8 @@ writes_proper w job (PutJob name bytes) entry h = elim (cases_Bool (is_first_app
       (done_proper (version_of w.records) job.subject (length bytes) job.profile w.records)
 ]
 writes_proper w job (GetJob name) entry h = absurd h
-writes_proper w job (DropJob name) entry h = subst (IsProper w.records) (sym h) tt
 writes_proper w job AuditJob entry h = elim (cases_Bool (is_first_append job)) [
   | inl t ↦ subst (IsProper w.records) (sym (let g = rw t at h in g)) tt
   | inr f ↦ (let g = rw f at h in subst (IsProper w.records) (sym g.2) tt)
 ]
-writes_proper w job RepairJob entry h = subst (IsProper w.records) (sym h) tt
-writes_proper w job UpgradeJob entry h = subst (IsProper w.records) (sym h) tt
+writes_proper w job kind entry h = subst (IsProper w.records) (sym h) tt

@@ -1,19 +1,7 @@
 -- While the journal has its first version, each put that runs has the profile of the setup.
-use Rattle.std.proofs.Common.{◌≡◌, ℕ, ◌+◌, ◌≤◌, ◌==◌, true, false, Bool, List, [], ◌∷◌, length, Option, Some, None, refl, ap, sym, subst, ◌∙◌, inl, inr, arith}
-use Rattle.std.specs.Prelude.{nat_lt, nat_le, not}
-use Rattle.std.proofs.lemmas.Bool.{cases_Bool, cases_eq, eq-eqb, false≢true}
-use Rattle.record_defs.specs.Records.{Record, Setup, SetUp, PutStart, PutDone, Drop, AuditStart, AuditDone, RepairDone, PutDoneIn, Version, Resume, InEffect, RepairDue, is_name, largest_file, all_profiles}
-use Rattle.record_defs.specs.Table.{setup_of, version_of, profile_in, next_id}
-use Rattle.machine_defs.specs.Jobs.{PutJob, aim_of, Job, job_of}
+use Rattle.machine_defs.proofs.Words.{◌≡◌, ◌≤◌, false, Bool, refl, ap, sym, subst, ◌∙◌, inl, inr, arith, nat_lt, nat_le, not, cases_Bool, cases_eq, eq-eqb, false≢true, Record, Setup, SetUp, PutStart, PutDone, Drop, AuditStart, AuditDone, RepairDone, PutDoneIn, Version, Resume, InEffect, RepairDue, is_name, largest_file, all_profiles, setup_of, version_of, profile_in, next_id, PutJob, aim_of, Job, job_of, setup_or_none, State, Append, IsStart, setup_in, refusal_of_begin, chosen, sight_of, is_busy, Writes, done_record, is_first_append, Action, WriteBody, SyncGate, next_action, Moment, now, IsRun}
+use Rattle.std.proofs.Common.{ℕ, ◌+◌, ◌==◌, true, List, [], ◌∷◌, length, Option, Some, None}
 use Rattle.machine_defs.specs.Refusals as refusal
-use Rattle.machine_defs.specs.Setups.{setup_or_none}
-use Rattle.machine_defs.specs.States.{State, Append, IsStart, setup_in}
-use Rattle.machine_defs.specs.Begins.{refusal_of_begin, chosen}
-use Rattle.machine_defs.specs.Sights.{sight_of, is_busy}
-use Rattle.machine_defs.specs.Appends.{Writes, done_record, is_first_append}
-use Rattle.machine_defs.specs.Actions.{Action, WriteBody, SyncGate}
-use Rattle.machine_defs.specs.Steps.{next_action}
-use Rattle.machine_defs.specs.Runs.{Moment, now, IsRun}
 use Rattle.machine_defs.proofs.JobLists.{number_of, cond_false, same_value, found_none}
 use Rattle.machine_defs.proofs.Changes.{IsPlain, Grown, Job_is, Append_is, Changes}
 use Rattle.machine_defs.proofs.Events.{changes}
@@ -42,18 +30,8 @@ first_version (RepairDue number counts ∷ rs) h = first_version rs h
 -- a version that is not the second now was not so before
 version_less : (r : Record) (rs : List Record) → (version_of (r ∷ rs) == 2) ≡ false →
     (version_of rs == 2) ≡ false
-version_less (SetUp s) rs h = h
-version_less (PutStart id name) rs h = h
-version_less (PutDone id size) rs h = h
-version_less (Drop name) rs h = h
-version_less (AuditStart number) rs h = h
-version_less (AuditDone number undecided counts) rs h = h
-version_less (RepairDone number) rs h = h
-version_less (PutDoneIn id size profile) rs h = h
 version_less Version rs h = absurd (false≢true (sym h))
-version_less (Resume id audit) rs h = h
-version_less (InEffect id size profile name) rs h = h
-version_less (RepairDue number counts) rs h = h
+version_less r rs h = h
 
 -- a put that begins in the first version names no profile
 none_named : (limit : ℕ) (w : State) (name bytes : List ℕ) (profile : Option ℕ) →

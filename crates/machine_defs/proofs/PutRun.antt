@@ -1,13 +1,6 @@
 -- A put of one byte is a run, and what it writes.
-use Rattle.std.specs.Prelude.{List, [], ◌∷◌, ◌++◌, codes}
-use Rattle.std.proofs.Common.{refl}
-use Rattle.std.specs.Fmt.{digits}
-use Rattle.machine_defs.specs.Jobs.{PutJob}
-use Rattle.machine_defs.specs.Answers.{Put}
-use Rattle.machine_defs.specs.Events.{Begin, Step, Reopen, Opened, Begun, Ended}
-use Rattle.machine_defs.specs.Runs.{Moment, IsRun}
-use Rattle.machine_defs.specs.Transcripts.{Once, RunJob, CarriesOut}
-use Rattle.machine_defs.specs.Examples.{set_up}
+use Rattle.machine_defs.proofs.Words.{codes, refl, digits, PutJob, Put, Begin, Step, Reopen, Opened, Begun, Ended, Moment, IsRun, Once, RunJob, CarriesOut, set_up}
+use Rattle.std.specs.Prelude.{List, [], ◌∷◌, ◌++◌}
 use Rattle.machine_defs.proofs.RunParts.{stepped, not_more, fits}
 use Rattle.machine_defs.proofs.PutSteps.{state_1, state_2, state_3, state_4, state_5, state_6, state_7, state_8, state_9, state_10, state_11, state_12, state_13, state_14, state_15, happens_0, happens_1, happens_2, happens_3, happens_4, happens_5, happens_6, happens_7, happens_8, happens_9, happens_10, happens_11, happens_12, happens_13, happens_14}
 

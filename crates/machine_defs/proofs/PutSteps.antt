@@ -1,15 +1,7 @@
 -- The states and steps of a put of one byte.
 use Rattle.std.specs.Prelude.{[], ◌∷◌, None}
-use Rattle.std.proofs.Common.{refl, arith, inl}
-use Rattle.record_defs.specs.Records.{PutStart, PutDone}
-use Rattle.machine_defs.specs.Jobs.{PutJob}
-use Rattle.machine_defs.specs.Actions.{actions_of}
-use Rattle.machine_defs.specs.Answers.{Put}
-use Rattle.machine_defs.specs.Events.{Begin, Step, Reopen, Opened, Begun, More, Ended}
-use Rattle.machine_defs.specs.States.{State, setup_in, ended, given_up}
-use Rattle.machine_defs.specs.Appends.{begun_append, done_append}
-use Rattle.machine_defs.specs.Machine.{Happens}
-use Rattle.machine_defs.specs.Examples.{set_up}
+use Rattle.machine_defs.proofs.Words.{refl, arith, inl, PutStart, PutDone, PutJob, actions_of, Put, Begin, Step, Reopen, Opened, Begun, More, Ended, State, setup_in, begun_append, done_append, Happens, set_up}
+use Rattle.machine_defs.specs.States.{ended, given_up}
 use Rattle.machine_defs.proofs.RunParts.{reopened, begun, job_at, append_at, synced, gated, with_store, store_call}
 
 -- a vault has opened

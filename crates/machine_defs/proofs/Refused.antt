@@ -1,13 +1,7 @@
 -- What follows from a begin that is not refused.
-use Rattle.std.proofs.Common.{◌≡◌, ℕ, true, false, Bool, ◌||◌, Option, Some, None, refl, sym, inl, inr}
-use Rattle.std.specs.Prelude.{is_some}
-use Rattle.std.specs.List.{list_any}
-use Rattle.std.proofs.lemmas.Bool.{cases_Bool, false≢true}
-use Rattle.machine_defs.specs.Jobs.{Kind, aim_of}
+use Rattle.machine_defs.proofs.Words.{◌≡◌, false, Bool, refl, sym, inl, inr, is_some, list_any, cases_Bool, false≢true, Kind, aim_of, State, Alone, refusal_of_begin, sight_of, aims_of, is_busy, are_jobs_in_the_way, is_shut, is_upgrade}
+use Rattle.std.proofs.Common.{ℕ, true, ◌||◌, Option, Some, None}
 use Rattle.machine_defs.specs.Refusals as refusal
-use Rattle.machine_defs.specs.States.{State, Alone}
-use Rattle.machine_defs.specs.Begins.{refusal_of_begin}
-use Rattle.machine_defs.specs.Sights.{sight_of, aims_of, is_busy, are_jobs_in_the_way, is_shut, is_upgrade}
 
 -- a begin that is not refused finds nothing in its way
 pub not_busy : (limit : ℕ) (w : State) (kind : Kind) (profile : Option ℕ) →

@@ -1,16 +1,9 @@
 -- What a report has of a job is what that job heard.
-use Rattle.std.proofs.Common.{◌≡◌, ℕ, ◌<◌, ◌≤◌, ◌==◌, ◌⊎◌, List, [], ◌∷◌, ◌++◌, length, Some, refl, ap, sym, subst, ◌∙◌, inl, inr, arith}
-use Rattle.std.proofs.lemmas.Bool.{cases_Bool, eqb-true}
-use Rattle.std.proofs.lemmas.List.{append_assoc, append-nil}
-use Rattle.machine_defs.specs.Jobs.{Kind, PutJob, GetJob, DropJob, AuditJob, RepairJob, UpgradeJob, Given, Fetched, Answered, Worked, Job, job_of, without_job}
+use Rattle.machine_defs.proofs.Words.{◌≡◌, ◌≤◌, ◌⊎◌, refl, ap, sym, subst, ◌∙◌, inl, inr, arith, cases_Bool, eqb-true, append-nil, Kind, PutJob, GetJob, DropJob, AuditJob, RepairJob, UpgradeJob, Given, Fetched, Answered, Worked, Job, job_of, without_job, Answer, Event, Init, Step, Stop, Reopen, Continue, Outcome, Ready, Refused, Opened, More, Ended, Replaced, NothingHeld, Stopped, State, IsStart, Happens, Moment, now, IsRun, Entry, entries_of, heard_by_kind, heard_by, heard_at, reported_after, heard_in, given_to, NoneContinues, EndsJob}
+use Rattle.std.proofs.Common.{ℕ, ◌<◌, ◌==◌, List, [], ◌∷◌, ◌++◌, length, Some}
+use Rattle.std.proofs.lemmas.List.{append_assoc}
 use Rattle.machine_defs.specs.Refusals as refusal
 use Rattle.machine_defs.specs.Answers as answer
-use Rattle.machine_defs.specs.Answers.{Answer}
-use Rattle.machine_defs.specs.Events.{Event, Init, Step, Stop, Reopen, Continue, Outcome, Ready, Refused, Opened, More, Ended, Replaced, NothingHeld, Stopped}
-use Rattle.machine_defs.specs.States.{State, IsStart}
-use Rattle.machine_defs.specs.Machine.{Happens}
-use Rattle.machine_defs.specs.Runs.{Moment, now, IsRun}
-use Rattle.machine_defs.specs.Heard.{Entry, entries_of, heard_by_kind, heard_by, heard_at, reported_after, heard_in, given_to, NoneContinues, EndsJob}
 use Rattle.machine_defs.proofs.JobLists.{cond_true, cond_false, found_none, found_without}
 use Rattle.machine_defs.proofs.Changes.{IsLone, Job_is, Changes}
 use Rattle.machine_defs.proofs.Asides.{steps_aside}
@@ -56,10 +49,7 @@ others_nothing k n (Answered i o r symbol ∷ more) apart =
 others_hear : (k : ℕ) (x : Job) (kind : Kind) → (x.number ≡ k → ⊥) → given_to k (heard_by_kind x kind) ≡ []
 others_hear k x (GetJob name) apart = others_nothing k x.number x.given apart
 others_hear k x AuditJob apart = others_nothing k x.number x.given apart
-others_hear k x (PutJob name bytes) apart = refl
-others_hear k x (DropJob name) apart = refl
-others_hear k x RepairJob apart = refl
-others_hear k x UpgradeJob apart = refl
+others_hear k x kind apart = refl
 
 -- an outcome that ends no job
 abbrev IsNoEnd : Outcome → Type 0
@@ -96,8 +86,8 @@ module _ (old : State) where
       finishes = λ a next flight mine faults low. on _ (omega arith);
       bars = λ action plain next mine faults low rose. over answer.DiskFault _ (omega arith) refl;
       bars_gated = λ a next flight mine faults low rose. over answer.DiskFault _ (omega arith) refl;
-      begins_not = λ next none faults low. over answer.Memory _ (omega arith) refl;
-      gates_not = λ a next flight mine faults low. over answer.Memory _ (omega arith) refl;
+      begins_not = λ next none. over answer.Memory _ (omega arith) refl;
+      gates_not = λ a next flight mine. over answer.Memory _ (omega arith) refl;
       stores = λ j o s p next call. on _ (omega arith);
       stores_not = λ j o s p how next call. over how _ (omega arith) refl;
       fetches = λ j o s block p next call. on _ (omega arith);

@@ -1,19 +1,7 @@
 -- What the runs of this folder are made of.
-use Rattle.std.specs.Prelude.{ℕ, ◌+◌, ◌<◌, ◌^◌, ◌≢◌, true, List, [], ◌∷◌, ◌++◌, Option, Some, None}
-use Rattle.std.specs.Option.{option_map}
-use Rattle.std.proofs.Common.{refl, arith, subst}
-use Rattle.record_defs.specs.Records.{PutDone}
-use Rattle.device_defs.specs.Providers.{with_block}
-use Rattle.device_defs.specs.ProviderCalls.{Stores}
-use Rattle.machine_defs.specs.Jobs.{Kind, GetJob, Job, job_of, advanced}
-use Rattle.machine_defs.specs.Answers.{Answer}
-use Rattle.machine_defs.specs.Events.{Step, Outcome, Ended, More}
-use Rattle.machine_defs.specs.States.{State, Append, ProviderCall, going_on, given_up, with_provider}
-use Rattle.machine_defs.specs.Appends.{moved, doubted}
-use Rattle.machine_defs.specs.Begins.{new_job}
-use Rattle.machine_defs.specs.Steps.{block_to_store}
-use Rattle.machine_defs.specs.Runs.{Moment}
-use Rattle.machine_defs.specs.Examples.{set_up}
+use Rattle.machine_defs.proofs.Words.{◌^◌, ◌≢◌, option_map, refl, arith, subst, PutDone, with_block, Stores, Kind, GetJob, Job, job_of, advanced, Answer, Step, Outcome, Ended, More, State, Append, ProviderCall, going_on, with_provider, moved, doubted, new_job, block_to_store, Moment, set_up}
+use Rattle.std.specs.Prelude.{ℕ, ◌+◌, ◌<◌, true, List, [], ◌∷◌, ◌++◌, Option, Some, None}
+use Rattle.machine_defs.specs.States.{given_up}
 
 -- a vault has opened
 abbrev pub reopened : State → State

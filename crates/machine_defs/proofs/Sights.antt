@@ -1,11 +1,6 @@
 -- The aims of running jobs, and the names in effect that a sight finds.
-use Rattle.std.proofs.Common.{◌≡◌, Bool, ◌||◌, ℕ, suc, List, [], ◌∷◌, length, refl, ap}
-use Rattle.std.specs.Prelude.{is_some}
-use Rattle.std.specs.List.{list_any}
-use Rattle.record_defs.proofs.FilesLaws.{find-files_of}
-use Rattle.machine_defs.specs.Jobs.{Aim, aim_of, Job}
-use Rattle.machine_defs.specs.States.{State, file_in}
-use Rattle.machine_defs.specs.Sights.{aims_of, sight_of, is_stored}
+use Rattle.machine_defs.proofs.Words.{◌≡◌, Bool, suc, refl, ap, is_some, list_any, find-files_of, Aim, aim_of, Job, State, file_in, aims_of, sight_of, is_stored}
+use Rattle.std.proofs.Common.{◌||◌, ℕ, List, [], ◌∷◌, length}
 
 -- a test of the aims of running jobs is one of the jobs
 pub any-aims : (test : Aim → Bool) (js : List Job)

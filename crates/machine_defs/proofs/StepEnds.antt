@@ -1,15 +1,8 @@
 -- A step that ends a job with an answer of its kind makes the end of that job.
-use Rattle.std.proofs.Common.{◌≡◌, ℕ, zero, suc, ◌==◌, Bool, List, [], ◌∷◌, true, false, Option, Some, None, refl, ap, subst, ◌∙◌}
-use Rattle.machine_defs.specs.Jobs.{Job, job_of}
-use Rattle.machine_defs.specs.Actions.{Action, WriteBody, SyncBody, WriteGate, SyncGate, Store, Work, End}
+use Rattle.machine_defs.proofs.Words.{◌≡◌, zero, suc, refl, ap, sym, subst, ◌∙◌, Job, job_of, Action, WriteBody, SyncBody, WriteGate, SyncGate, Store, Work, End, Answer, Event, Step, Outcome, Ended, State, Append, Scrub, Pack, Alone, Scrubbing, Packing, Moves, Ends, next_action, Acts, Steps, Scrubs, StepsScrub, Packs, StepsAlone, Happens}
+use Rattle.std.proofs.Common.{ℕ, List, [], ◌∷◌, Option, Some}
 use Rattle.machine_defs.specs.Answers as answer
-use Rattle.machine_defs.specs.Answers.{Answer}
-use Rattle.machine_defs.specs.Events.{Event, Step, Outcome, Ended}
-use Rattle.machine_defs.specs.States.{State, Append, Scrub, Pack, Alone, Scrubbing, Packing}
-use Rattle.machine_defs.specs.Appends.{Moves}
-use Rattle.machine_defs.specs.Steps.{Ends, next_action, holder_of, Acts, ActsOrWaits, StepsOn, StepsJob, StepsMine, StepsOne, StepsOpen, Steps}
-use Rattle.machine_defs.specs.Alone.{number_alone, Scrubs, StepsScrub, Packs, StepsAlone}
-use Rattle.machine_defs.specs.Machine.{Happens}
+use Rattle.machine_defs.proofs.Cases.{IsStill, by_step}
 
 -- an answer of an action that failed, or of what runs alone
 abbrev pub HasFailed : Answer → Type 0
@@ -71,50 +64,37 @@ module _ (old : State) (job : Job) (new : State) where
   alone_fails (Scrubbing scrub) how h = todo_fails scrub scrub.todo how h
   alone_fails (Packing pack) how h = packs_fail pack pack.moves how h
 
-  module _ (how : Answer) (good : HasFailed how → ⊥) where
-    waits_end : (action : Action) (holder : Option ℕ) → ActsOrWaits old job action holder (Ended how) new →
-        (action ≡ End) × Ends old job job.kind how
-    waits_end action None h = acts_end action how good h
-    waits_end action (Some n) h = absurd h
+-- a step that ended, of the number of a job that runs, is one of its actions or one of what runs alone
+pub by_end : (old : State) (job : Job) (how : Answer) (new : State) (Q : Type 0) →
+    job_of old.jobs job.number ≡ Some job →
+    ((action : Action) → next_action old job ≡ Some action → Acts old job action (Ended how) new → Q) →
+    ((x : Alone) → old.alone ≡ Some x → StepsAlone old x (Ended how) new → Q) →
+    Steps old job.number old.is_open (Ended how) new → Q
+by_end old job how new Q runs acts alone h =
+    by_step old (λ n r w. n ≡ job.number → r ≡ Ended how → w ≡ new → Q)
+    (λ n r still same is left. absurd (subst (IsStill (Step n)) is still))
+    (λ x at is_open unbarred action r w next free made same is left. its x
+    (let e : Some x ≡ Some job = sym at ∙ (ap (job_of old.jobs) same ∙ runs) in let f : x ≡ job = cc in f)
+    action next (subst (λ (v : State). Acts old x action (Ended how) v) left
+    (subst (λ (o : Outcome). Acts old x action o w) is made)))
+    (λ n x r w at is_open unbarred made same is left.
+    alone x at (subst (λ (v : State). StepsAlone old x (Ended how) v) left
+    (subst (λ (o : Outcome). StepsAlone old x o w) is made)))
+    job.number old.is_open (Ended how) new refl h refl refl refl
+  where
+    its : (x : Job) → x ≡ job → (action : Action) → next_action old x ≡ Some action →
+        Acts old x action (Ended how) new → Q
+    its x same action next made = acts action (subst (λ (y : Job). next_action old y ≡ Some action) same next)
+        (subst (λ (y : Job). Acts old y action (Ended how) new) same made)
 
-    on_end : (action : Option Action) → next_action old job ≡ action →
-        StepsOn old job action (Ended how) new → IsItsEnd old job how
-    on_end None is h = absurd h
-    on_end (Some action) is h =
-        (let r = waits_end action (holder_of old.append action) h in (is ∙ ap Some r.0, r.1))
-
-    job_end : (found : Option Job) → found ≡ Some job → StepsJob old found (Ended how) new →
-        IsItsEnd old job how
-    job_end None is h = absurd h
-    job_end (Some x) is h = on_end (next_action old job) refl
-        (subst (λ (y : Job). StepsOn old y (next_action old y) (Ended how) new) (let e : x ≡ job = cc in e) h)
-
-    mine_end : (x : Alone) (mine : Bool) → job_of old.jobs job.number ≡ Some job →
-        StepsMine old job.number x mine (Ended how) new → IsItsEnd old job how
-    mine_end x true runs h = absurd (good (alone_fails x how h))
-    mine_end x false runs h = job_end (job_of old.jobs job.number) runs h
-
-    one_end : (alone : Option Alone) → job_of old.jobs job.number ≡ Some job →
-        StepsOne old job.number alone (Ended how) new → IsItsEnd old job how
-    one_end None runs h = job_end (job_of old.jobs job.number) runs h
-    one_end (Some x) runs h = mine_end x (number_alone x == job.number) runs h
-
-    open_end : (is_barred : Bool) → job_of old.jobs job.number ≡ Some job →
-        StepsOpen old job.number is_barred (Ended how) new → IsItsEnd old job how
-    open_end true runs h = absurd h
-    open_end false runs h = one_end old.alone runs h
-
-    step_end : (is_open : Bool) → job_of old.jobs job.number ≡ Some job →
-        Steps old job.number is_open (Ended how) new → IsItsEnd old job how
-    step_end true runs h = open_end old.is_barred runs h
-    step_end false runs h = absurd h
-
--- the same of an event that is such a step
+-- an event that is such a step of a job whose answer is of no failure is the end of that job
 pub event_end : (limit moment : ℕ) (old : State) (e : Event) (r : Outcome) (new : State) (job : Job)
     (how : Answer) → (HasFailed how → ⊥) →
     e ≡ Step job.number → r ≡ Ended how → job_of old.jobs job.number ≡ Some job →
     Happens limit moment old e r new → IsItsEnd old job how
 event_end limit moment old e r new job how good event outcome runs h =
-    step_end old job new how good old.is_open runs
+    by_end old job how new (IsItsEnd old job how) runs
+    (λ action next made. (let z = acts_end old job new action how good made in (next ∙ ap Some z.0, z.1)))
+    (λ x at made. absurd (good (alone_fails old job new x how made)))
     (subst (λ (x : Event). Happens limit moment old x (Ended how) new) event
     (subst (λ (o : Outcome). Happens limit moment old e o new) outcome h))

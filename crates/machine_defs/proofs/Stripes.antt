@@ -1,16 +1,7 @@
 -- Where the fetches and the work on each stripe of a file stand.
-use Rattle.std.proofs.Common.{◌≡◌, ℕ, zero, suc, ◌+◌, ◌-◌, ◌<◌, ◌≤◌, ◌⊎◌, List, [], ◌∷◌, ◌++◌, length, Some, None, refl, ap, sym, subst, ◌∙◌, inl, inr, arith}
-use Rattle.std.specs.Prelude.{slice_get}
-use Rattle.std.specs.List.{flat_map, range_with_len}
-use Rattle.std.proofs.lemmas.Bool.{cases_eq}
+use Rattle.machine_defs.proofs.Words.{◌≡◌, zero, suc, ◌-◌, ◌≤◌, ◌⊎◌, refl, ap, sym, subst, ◌∙◌, inl, inr, arith, slice_get, flat_map, range_with_len, cases_eq, length-append, Each, each_get, each_append, each_map, each_mono, get_behind, upto, Setup, Action, WriteBody, SyncBody, WriteGate, SyncGate, Store, Fetch, Ask, Work, Remove, End, on_each_provider, open_actions}
+use Rattle.std.proofs.Common.{ℕ, ◌+◌, ◌<◌, List, [], ◌∷◌, ◌++◌, length, Some, None}
 use Rattle.std.proofs.lemmas.Option.{slice_get_within}
-use Rattle.std.proofs.lemmas.List.{length-append}
-use Rattle.algebra_laws.specs.Lists.{Each}
-use Rattle.algebra_laws.proofs.Each.{each_get, each_append, each_map, each_mono}
-use Rattle.algebra_laws.proofs.Lists.{get_behind}
-use Rattle.code_defs.specs.Points.{upto}
-use Rattle.record_defs.specs.Records.{Setup}
-use Rattle.machine_defs.specs.Actions.{Action, WriteBody, SyncBody, WriteGate, SyncGate, Store, Fetch, Ask, Work, Remove, End, on_each_provider, open_actions}
 use Rattle.machine_defs.proofs.ActionLists.{split_get}
 
 -- what stands in the first of two lists stands there in both together
@@ -39,14 +30,7 @@ module _ (s : Setup) (id : ℕ) where
   lower : (low : ℕ) (a : Action) → From (suc low) a → From low a
   lower low (Fetch i o t) h = ((let l = h.0 in omega arith), h.1)
   lower low (Work o t) h = ((let l = h.0 in omega arith), h.1)
-  lower low End h = h
-  lower low WriteBody h = h
-  lower low SyncBody h = h
-  lower low WriteGate h = h
-  lower low SyncGate h = h
-  lower low (Store i o t) h = h
-  lower low (Ask i o t) h = h
-  lower low (Remove i o) h = h
+  lower low a h = h
 
   -- all of these are of this object and on these stripes
   pub from : (n a : ℕ) → Each (From a) (flat (range_with_len a n))

@@ -1,18 +1,11 @@
 -- A file that came into effect stays until a record that takes it out is in doubt.
-use Rattle.std.proofs.Common.{◌≡◌, ℕ, suc, ◌==◌, Bool, false, List, [], ◌∷◌, ◌++◌, length, Some, None, refl, ap, sym, ◌∙◌, inl, inr, arith}
-use Rattle.std.proofs.lemmas.Bool.{cases_Bool, ne_eqb}
-use Rattle.record_defs.specs.Records.{Record, Setup, SetUp, PutStart, PutDone, Drop, AuditStart, AuditDone, RepairDone, PutDoneIn, Version, Resume, InEffect, RepairDue}
-use Rattle.record_defs.specs.Table.{File, file_as, setup_of, profile_in, started_as, is_start_of, is_same_name, file_of}
-use Rattle.machine_defs.specs.Appends.{done_record}
-use Rattle.machine_defs.specs.States.{State, Doubt, IsStart}
-use Rattle.machine_defs.specs.Runs.{Moment, now, newest, came, IsRun}
-use Rattle.machine_defs.specs.Survival.{ComesIn, takes_out, NoneTakesOut, IsKept, Survives}
+use Rattle.machine_defs.proofs.Words.{◌≡◌, suc, Bool, false, refl, ap, sym, ◌∙◌, inl, inr, arith, cases_Bool, ne_eqb, Record, Setup, SetUp, PutStart, PutDone, Drop, AuditStart, AuditDone, RepairDone, PutDoneIn, Version, Resume, InEffect, RepairDue, File, file_as, setup_of, profile_in, started_as, is_start_of, is_same_name, file_of, done_record, State, Doubt, IsStart, Moment, now, newest, came, IsRun, ComesIn, takes_out, NoneTakesOut, IsKept, Survives, same-refl}
+use Rattle.std.proofs.Common.{ℕ, ◌==◌, List, [], ◌∷◌, ◌++◌, length, Some, None}
 use Rattle.machine_defs.proofs.JobLists.{cond_true, cond_false}
 use Rattle.machine_defs.proofs.Changes.{Records_is, Doubt_is, IsGated, Changes}
 use Rattle.machine_defs.proofs.Events.{changes}
 use Rattle.machine_defs.proofs.Numbers.{objects}
 use Rattle.machine_defs.proofs.Done.{put_ended, profile_done, done-ended, done-file}
-use Rattle.record_defs.proofs.FilesLaws.{same-refl}
 use Rattle.machine_defs.proofs.Numbers as num
 
 pub gated : (limit : ℕ) (start : State) → IsStart start → (ms : List Moment) → IsRun limit start ms →
@@ -25,21 +18,14 @@ gated limit start clean (m ∷ ms) run =
 -- a record that takes no file of a name out leaves the one in effect
 file_kept : (rs : List Record) (r : Record) (name : List ℕ) → takes_out rs name r ≡ false →
     file_of (r ∷ rs) name ≡ file_of rs name
-file_kept rs (SetUp s) name h = refl
-file_kept rs (PutStart id n) name h = refl
 file_kept rs (PutDone id size) name h = cond_false (is_start_of name (started_as rs id))
     (Some (file_as name id size (profile_in (setup_of rs)))) (file_of rs name) h
 file_kept rs (Drop n) name h = cond_false (is_same_name n name) None (file_of rs name) h
-file_kept rs (AuditStart number) name h = refl
-file_kept rs (AuditDone number undecided counts) name h = refl
-file_kept rs (RepairDone number) name h = refl
 file_kept rs (PutDoneIn id size profile) name h =
     cond_false (is_start_of name (started_as rs id)) (Some (file_as name id size profile)) (file_of rs name) h
-file_kept rs Version name h = refl
-file_kept rs (Resume next audit) name h = refl
 file_kept rs (InEffect id size profile kept) name h =
     cond_false (is_same_name kept name) (Some (file_as name id size profile)) (file_of rs name) h
-file_kept rs (RepairDue number counts) name h = refl
+file_kept rs r name h = refl
 
 pub shorter : (r : Record) (rs : List Record) → rs ≡ r ∷ rs → ⊥
 shorter r rs e = (let l : length rs ≡ suc (length rs) = ap length e in omega arith)
@@ -84,8 +70,7 @@ module _ (limit : ℕ) (start : State) (m : Moment) (ms : List Moment) (G : IsGa
           ap (λ l. file_of l name) (rec ∙ ap (λ l. ended ∷ l) is)
           ∙ (done-file c.version file.id file.size file.profile (now start ms).records name
           ∙ (cond_true (is_start_of name (started_as (now start ms).records file.id)) _
-          (file_of (now start ms).records name)
-          (ap (is_start_of name) c.started ∙ same-refl name)
+          (file_of (now start ms).records name) (ap (is_start_of name) c.started ∙ same-refl name)
           ∙ (ap (λ p. Some (file_as name file.id file.size p)) same_profile
           ∙ ap Some (ap (λ (n : List ℕ). file_as n file.id file.size file.profile) (sym c.named)))))
 

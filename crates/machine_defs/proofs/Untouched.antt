@@ -1,22 +1,8 @@
 -- The file of a name stays while no job that puts or drops the name begins.
-use Rattle.std.proofs.Common.{◌≡◌, ℕ, ◌+◌, ◌<◌, ◌≤◌, ◌==◌, ◌⊎◌, false, List, [], ◌∷◌, ◌++◌, length, Some, None, refl, ap, sym, subst, ◌∙◌, inl, inr, arith}
-use Rattle.std.proofs.lemmas.Bool.{cases_Bool, cases_eq, cases_lt, eq-eqb}
-use Rattle.record_defs.specs.Records.{Record, PutStart}
-use Rattle.record_defs.specs.Table.{File, file_as, setup_of, version_of, next_id, started_as, is_start_of, is_same_name}
-use Rattle.record_defs.proofs.FilesLaws.{same-eq}
-use Rattle.machine_defs.specs.Jobs.{Kind, PutJob, GetJob, DropJob, AuditJob, RepairJob, UpgradeJob, Job, job_of}
-use Rattle.machine_defs.specs.Actions.{WriteBody, SyncGate}
+use Rattle.machine_defs.proofs.Words.{◌≡◌, ◌≤◌, ◌⊎◌, false, refl, ap, sym, subst, ◌∙◌, inl, inr, arith, cases_Bool, cases_eq, cases_lt, eq-eqb, Record, PutStart, File, file_as, setup_of, version_of, next_id, started_as, is_start_of, is_same_name, same-eq, Kind, PutJob, GetJob, DropJob, AuditJob, RepairJob, UpgradeJob, Job, job_of, WriteBody, SyncGate, Event, Step, Begun, More, Ended, State, Append, IsStart, Writes, done_record, is_first_append, next_action, Moment, now, IsRun, takes_out, NoneTakesOut, NeverTakenOut, IsKept, EndsPut, IsBeginOf, NoneBegan, GivesUp, Instruction, Once, RunJob, GoOn, CarriesOut, Answer, Touches, IsBeginFor, BeginsNone, NoneBeganFor, NoneRuns, NoneUnderWay, at_start, unbegun, IsBeginOn, NoneBeganOn, NoneAsksOn, NoneOn, IsUntouched}
+use Rattle.std.proofs.Common.{ℕ, ◌+◌, ◌<◌, ◌==◌, List, [], ◌∷◌, ◌++◌, length, Some, None}
 use Rattle.machine_defs.specs.Answers as answer
-use Rattle.machine_defs.specs.Events.{Event, Step, Begun, More, Ended}
-use Rattle.machine_defs.specs.States.{State, Append, IsStart}
-use Rattle.machine_defs.specs.Appends.{Writes, done_record, is_first_append}
-use Rattle.machine_defs.specs.Steps.{next_action}
-use Rattle.machine_defs.specs.Runs.{Moment, now, IsRun}
-use Rattle.machine_defs.specs.Survival.{takes_out, NoneTakesOut, NeverTakenOut, IsKept, EndsPut}
-use Rattle.machine_defs.specs.Began.{IsBeginOf, NoneBegan, GivesUp}
-use Rattle.machine_defs.specs.Transcripts.{Instruction, Once, RunJob, GoOn, CarriesOut}
-use Rattle.machine_defs.specs.Answers.{Answer}
-use Rattle.machine_defs.specs.Untouched.{Touches, IsBeginFor, BeginsNone, NoneBeganFor, NoneRuns, NoneUnderWay, at_start, given_up, unbegun, ended, IsBeginOn, NoneBeganOn, NoneAsksOn, NoneOn, IsUntouched}
+use Rattle.machine_defs.specs.Untouched.{given_up, ended}
 use Rattle.machine_defs.proofs.JobLists.{cond_true, cond_false, same_value, found_none, found_without}
 use Rattle.machine_defs.proofs.Changes.{IsPlain, IsGated, Grown, Job_is, Append_is, Doubt_is, Changes}
 use Rattle.machine_defs.proofs.StepEnds.{event_end}
@@ -38,8 +24,7 @@ use Rattle.machine_defs.proofs.Began.{Had, Came, came_all, ended_gone, given_up_
 -- a begin of a job of a kind that is meant is one for these
 begin_for : (Meant : Kind → Type 0) (e : Event) (j : Job) → IsBeginOf e j → Meant j.kind → IsBeginFor Meant e
 begin_for Meant e j (inl is) t = subst (IsBeginFor Meant) (sym is) t
-begin_for Meant e j (inr (n, bytes, kind, is)) t =
-    subst (IsBeginFor Meant) (sym is) (subst Meant kind t)
+begin_for Meant e j (inr (n, bytes, kind, is)) t = subst (IsBeginFor Meant) (sym is) (subst Meant kind t)
 
 -- a running job of a kind that is meant ran before an event that began none
 ran_on : (Meant : Kind → Type 0) (limit : ℕ) (start : State) (m : Moment) (ms : List Moment) →
@@ -140,8 +125,7 @@ run_back limit start (m ∷ later) ms run = run_back limit start later ms run.2
 pub none_under_way : (Meant : Kind → Type 0) (limit : ℕ) (start : State) → IsStart start →
     (ms : List Moment) → NoneUnderWay Meant ms → IsRun limit start ms → NoneRuns Meant (now start ms)
 none_under_way Meant limit start clean _ at_start run = none_at_start Meant start clean
-none_under_way Meant limit start clean _ (given_up m ms up) run =
-    none_given_up Meant limit start m ms run up
+none_under_way Meant limit start clean _ (given_up m ms up) run = none_given_up Meant limit start m ms run up
 none_under_way Meant limit start clean _ (unbegun m ms begins free) run = λ k j h t.
     (let x = ran_on Meant limit start m ms run begins k j h t in
     none_under_way Meant limit start clean ms free run.2 k x.job x.runs (subst Meant x.kind t))
@@ -170,10 +154,7 @@ apart_of : (name : List ℕ) (rs : List Record) (j : Job) (kind : Kind) → (Tou
     Apart name rs j kind
 apart_of name rs j (PutJob n bytes) none = λ e. absurd (none e)
 apart_of name rs j (DropJob n) none = none
-apart_of name rs j (GetJob n) none = tt
-apart_of name rs j AuditJob none = tt
-apart_of name rs j RepairJob none = tt
-apart_of name rs j UpgradeJob none = tt
+apart_of name rs j kind none = tt
 
 spared_of : (name : List ℕ) (w : State) → IsUntouched name w → IsSpared name w
 spared_of name w u = record {
@@ -224,10 +205,7 @@ module _ (limit : ℕ) (start : State) (m : Moment) (ms : List Moment) (name : L
         ap (started_as m.state.records) s ∙ q.1,
       ))
   carried x j (DropJob n) g place subject apart = apart
-  carried x j (GetJob n) g place subject apart = tt
-  carried x j AuditJob g place subject apart = tt
-  carried x j RepairJob g place subject apart = tt
-  carried x j UpgradeJob g place subject apart = tt
+  carried x j kind g place subject apart = tt
 
   -- what a job that takes no file of the name out writes takes none out
   writes_none : (x : Job) (kind : Kind) (entry : Record) →
@@ -389,13 +367,9 @@ module _ (limit : ℕ) (start : State) (m : Moment) (ms : List Moment) (name : L
     its_own : (kd : Kind) → j.kind ≡ kd → Apart name m.state.records j kd
     its_own (PutJob n by) is = λ e. (late, below, gone)
     its_own (DropJob n) is = absurd (let z : PutJob name bytes ≡ DropJob n = sym kind ∙ is in cc)
-    its_own (GetJob n) is = tt
-    its_own AuditJob is = tt
-    its_own RepairJob is = tt
-    its_own UpgradeJob is = tt
+    its_own kd is = tt
 
-    at_own : (l : ℕ) (y : Job) → job_of m.state.jobs l ≡ Some y → l ≡ k →
-        Apart name m.state.records y y.kind
+    at_own : (l : ℕ) (y : Job) → job_of m.state.jobs l ≡ Some y → l ≡ k → Apart name m.state.records y y.kind
     at_own l y g e = subst (λ (z : Job). Apart name m.state.records z z.kind)
         (same_value _ j y h (subst (λ n. job_of m.state.jobs n ≡ Some y) e g)) (its_own j.kind refl)
 

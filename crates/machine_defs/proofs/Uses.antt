@@ -1,19 +1,6 @@
 -- Stores of puts use object numbers, and asks of audits use audit numbers.
-use Rattle.std.proofs.Common.{◌≡◌, ℕ, ◌-◌, ◌<◌, ◌≤◌, List, [], ◌∷◌, ◌++◌, Some, refl, sym, subst, ◌∙◌, inl, inr}
-use Rattle.std.specs.Prelude.{slice_get}
-use Rattle.std.specs.List.{flat_map}
-use Rattle.algebra_laws.specs.Lists.{Each}
-use Rattle.algebra_laws.proofs.Each.{each_get, each_append, each_map, each_flat}
-use Rattle.code_defs.specs.Points.{upto}
-use Rattle.record_defs.specs.Records.{Setup}
-use Rattle.record_defs.specs.Table.{next_id, next_audit}
-use Rattle.machine_defs.specs.Jobs.{PutJob, AuditJob, Job}
-use Rattle.machine_defs.specs.Actions.{Action, Store, Ask, Remove, End, append_actions, on_each_provider, store_actions, ask_actions, remove_actions, actions_by}
-use Rattle.machine_defs.specs.Setups.{put_stripes}
-use Rattle.machine_defs.specs.States.{State, setup_in, IsStart}
-use Rattle.machine_defs.specs.Steps.{next_action}
-use Rattle.machine_defs.specs.Runs.{Moment, now, IsRun}
-use Rattle.machine_defs.specs.Deeds.{StoresFor, AsksFor, HasStored, HasAsked}
+use Rattle.machine_defs.proofs.Words.{◌≡◌, ◌-◌, ◌≤◌, refl, sym, subst, ◌∙◌, inl, inr, slice_get, flat_map, Each, each_get, each_append, each_map, each_flat, upto, Setup, next_id, next_audit, PutJob, AuditJob, Job, Action, Store, Ask, Remove, End, append_actions, on_each_provider, store_actions, ask_actions, remove_actions, actions_by, put_stripes, State, setup_in, IsStart, next_action, Moment, now, IsRun, StoresFor, AsksFor, HasStored, HasAsked}
+use Rattle.std.proofs.Common.{ℕ, ◌<◌, List, [], ◌∷◌, ◌++◌, Some}
 use Rattle.machine_defs.proofs.ActionLists.{split_get}
 use Rattle.machine_defs.proofs.Numbers.{objects, audits, next_is_by, Draws, Uses, HasUsed, facts}
 

@@ -1,13 +1,7 @@
 -- The kinds of record that appends bring: those of a packed journal alone never come so.
-use Rattle.std.proofs.Common.{◌≡◌, ℕ, true, false, Bool, Some, sym, subst, inl, inr}
-use Rattle.std.proofs.lemmas.Bool.{cases_Bool}
-use Rattle.std.specs.Prelude.{◌==◌, length, if◌then◌else◌}
-use Rattle.record_defs.specs.Records.{Record, PutStart, PutDone, PutDoneIn, Resume, InEffect, RepairDue}
-use Rattle.record_defs.specs.Table.{version_of, next_id}
-use Rattle.machine_defs.specs.Jobs.{Kind, PutJob, GetJob, DropJob, AuditJob, RepairJob, UpgradeJob, Job}
-use Rattle.machine_defs.specs.Events.{Event, Outcome}
-use Rattle.machine_defs.specs.States.{State, Append, Doubt}
-use Rattle.machine_defs.specs.Appends.{Writes, done_record, is_first_append}
+use Rattle.machine_defs.proofs.Words.{◌≡◌, false, Bool, sym, subst, inl, inr, cases_Bool, if◌then◌else◌, Record, PutStart, PutDone, PutDoneIn, Resume, InEffect, RepairDue, version_of, next_id, Kind, PutJob, GetJob, DropJob, AuditJob, RepairJob, UpgradeJob, Job, Event, Outcome, State, Append, Doubt, Writes, done_record, is_first_append}
+use Rattle.std.proofs.Common.{ℕ, true, Some}
+use Rattle.std.specs.Prelude.{◌==◌, length}
 use Rattle.machine_defs.proofs.Changes.{Append_is, Doubt_is, Changes}
 
 -- a record that an append may bring
@@ -40,13 +34,11 @@ writes_appended w job (PutJob name bytes) entry h = subst IsAppended (sym h) (by
     by true = tt
     by false = done_appended (version_of w.records) job.subject (length bytes) job.profile
 writes_appended w job (GetJob name) entry h = absurd h
-writes_appended w job (DropJob name) entry h = subst IsAppended (sym h) tt
 writes_appended w job AuditJob entry h = elim (cases_Bool (is_first_append job)) [
   | inl t ↦ subst IsAppended (sym (let g = rw t at h in g)) tt
   | inr f ↦ (let g = rw f at h in subst IsAppended (sym g.2) tt)
 ]
-writes_appended w job RepairJob entry h = subst IsAppended (sym h) tt
-writes_appended w job UpgradeJob entry h = subst IsAppended (sym h) tt
+writes_appended w job kind entry h = subst IsAppended (sym h) tt
 
 -- after an event, what is in flight or in doubt still is such a record
 pub written_on : (limit moment : ℕ) (old : State) (e : Event) (r : Outcome) (new : State) →

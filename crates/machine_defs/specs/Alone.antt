@@ -150,16 +150,16 @@ abbrev pub barred_pack : State → State
 barred_pack w = record w { alone = None; is_barred = true }
 
 -- the moves of a pack, by how many are made: the text into the other area, a sync, the switch byte, a sync;
--- and its end
+-- and its end; a move that found no memory is no fault, and the disk's count stays
 abbrev pub Packs : State → Pack → ℕ → Outcome → State → Type 0
 Packs old pack zero More new = DiskCall old (packing old pack) new
 Packs old pack zero (Ended DiskFault) new = DiskFails old (barred_pack old) new
-Packs old pack zero (Ended Memory) new = DiskCall old (unalone old) new
+Packs old pack zero (Ended Memory) new = new ≡ unalone old
 Packs old pack (suc zero) More new = DiskCall old (packing old pack) new
 Packs old pack (suc zero) (Ended DiskFault) new = DiskFails old (barred_pack old) new
 Packs old pack (suc (suc zero)) More new = DiskCall old (switching (packing old pack)) new
 Packs old pack (suc (suc zero)) (Ended DiskFault) new = DiskFails old (switching (barred_pack old)) new
-Packs old pack (suc (suc zero)) (Ended Memory) new = DiskCall old (unalone old) new
+Packs old pack (suc (suc zero)) (Ended Memory) new = new ≡ unalone old
 Packs old pack (suc (suc (suc zero))) More new = DiskCall old (switched (packing old pack)) new
 Packs old pack (suc (suc (suc zero))) (Ended DiskFault) new = DiskFails old (barred_pack old) new
 Packs old pack (suc (suc (suc (suc zero)))) (Ended (Packed before after)) new =

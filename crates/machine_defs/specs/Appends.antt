@@ -1,7 +1,9 @@
 -- The four moves of an append, and what is in effect or in doubt after each.
 --
---   Writes w job kind entry                  == the record that a job's append writes, by which of its
---                                               appends it is at
+--   writes_counts job kind                   == an append writes what an audit counted
+--   record_of rs job kind                    == the record that a job's append writes over these records, by
+--                                               which of its appends it is at, but for the counts of an audit
+--   Writes w job kind entry                  == the record that a job's append writes
 --   done_record version id size profile      == the record that ends a put
 --   subject_drawn, bytes_drawn, audits_drawn == the number that the first append of a put or an audit draws
 --                                               at its first move, and what the state keeps of it
@@ -16,9 +18,10 @@
 --                                               state
 --
 -- A record is in doubt from the third move until the fourth is done, and after a fault in either. A third
--- move that found no memory counts as not made. Numbers are drawn at the first move, so that they stand in
--- the journal in order; an object to be taken away is decided on at the fourth.
-use Rattle.std.specs.Prelude.{◌≡◌, ℕ, ◌+◌, ◌==◌, ◌&&◌, Bool, true, List, [], ◌∷◌, length, Option, None, Some, nat_lt, if◌then◌else◌}
+-- move that found no memory counts as not made. A move that found no memory is no fault: the disk's count
+-- stays. Numbers are drawn at the first move, so that they stand in the journal in order; an object to be
+-- taken away is decided on at the fourth.
+use Rattle.std.specs.Prelude.{◌≡◌, ℕ, ◌+◌, ◌==◌, ◌&&◌, Bool, true, false, not, List, [], ◌∷◌, length, Option, None, Some, nat_lt, if◌then◌else◌}
 use Rattle.std.specs.List.{list_any}
 use Rattle.column_defs.specs.Verdicts.{Sums}
 use Rattle.record_defs.specs.Records.{Record, PutStart, PutDone, Drop, AuditStart, AuditDone, RepairDone, PutDoneIn, Version}
@@ -39,22 +42,36 @@ abbrev pub done_record : ℕ → ℕ → ℕ → ℕ → Record
 done_record version id size profile =
     if version == 2 then PutDoneIn id size profile else PutDone id size
 
--- the record that a job's append writes
+-- an append writes what an audit counted: it is an audit's second one
+abbrev pub writes_counts : Job → Kind → Bool
+writes_counts job AuditJob = not (is_first_append job)
+writes_counts job kind = false
+
+-- the record that a job's append writes over these records, but for the counts of an audit; a get has none
+abbrev pub record_of : List Record → Job → Kind → Option Record
+record_of rs job (PutJob name bytes) =
+    Some (if is_first_append job then PutStart (next_id rs) name
+    else done_record (version_of rs) job.subject (length bytes) job.profile)
+record_of rs job (GetJob name) = None
+record_of rs job (DropJob name) = Some (Drop name)
+record_of rs job AuditJob = Some (AuditStart (next_audit rs))
+record_of rs job RepairJob = Some (RepairDone job.subject)
+record_of rs job UpgradeJob = Some Version
+
+-- a record is this one
+abbrev pub IsRecord : Option Record → Record → Type 0
+IsRecord None entry = ⊥
+IsRecord (Some r) entry = entry ≡ r
+
+-- the record that a job's append writes: that of counts has the sums of all that the audit heard
 abbrev pub Writes : State → Job → Kind → Record → Type 0
-Writes w job (PutJob name bytes) entry =
-    entry ≡ (if is_first_append job then PutStart (next_id w.records) name
-    else done_record (version_of w.records) job.subject (length bytes) job.profile)
-Writes w job (GetJob name) entry = ⊥
-Writes w job (DropJob name) entry = entry ≡ Drop name
-Writes w job AuditJob entry = by_append (is_first_append job)
+Writes w job kind entry = by_counts (writes_counts job kind)
   where
-    by_append : Bool → Type 0
-    by_append true = entry ≡ AuditStart (next_audit w.records)
-    by_append more =
+    by_counts : Bool → Type 0
+    by_counts true =
         (sums : Sums) × HasSums (setup_in w) job sums
         × (entry ≡ AuditDone job.subject sums.undecided sums.counts)
-Writes w job RepairJob entry = entry ≡ RepairDone job.subject
-Writes w job UpgradeJob entry = entry ≡ Version
+    by_counts more = IsRecord (record_of w.records job kind) entry
 
 -- the number of a job from the first move of this append on
 abbrev pub subject_drawn : State → Job → Kind → ℕ
@@ -131,7 +148,7 @@ abbrev pub Moves : State → Job → Action → Option Append → Outcome → St
 Moves old job WriteBody flight More new =
     (entry : Record) × Writes old job job.kind entry × DiskCall old (begun_append old job entry) new
 Moves old job WriteBody flight (Ended DiskFault) new = DiskFails old (barred (ended old job)) new
-Moves old job WriteBody flight (Ended Memory) new = DiskCall old (ended old job) new
+Moves old job WriteBody flight (Ended Memory) new = new ≡ ended old job
 Moves old job SyncBody (Some a) More new =
     IsAt a job 1 × DiskCall old (moved (going_on old (advanced job)) a) new
 Moves old job SyncBody (Some a) (Ended DiskFault) new =
@@ -140,8 +157,7 @@ Moves old job WriteGate (Some a) More new =
     IsAt a job 2 × DiskCall old (doubted (moved (going_on old (advanced job)) a) a job) new
 Moves old job WriteGate (Some a) (Ended DiskFault) new =
     IsAt a job 2 × DiskFails old (doubted (barred (ended old job)) a job) new
-Moves old job WriteGate (Some a) (Ended Memory) new =
-    IsAt a job 2 × DiskCall old (unappended (ended old job)) new
+Moves old job WriteGate (Some a) (Ended Memory) new = IsAt a job 2 × (new ≡ unappended (ended old job))
 Moves old job SyncGate (Some a) More new = IsAt a job 3 × DiskCall old (done_append old job a) new
 Moves old job SyncGate (Some a) (Ended DiskFault) new =
     IsAt a job 3 × DiskFails old (barred (ended old job)) new

@@ -7,11 +7,12 @@
 --   one_file, flagged_file == a file of 100 bytes over six providers; then an audit that flags provider 0
 --   beginning_job w kind   == a job of this kind that begins now
 --   set_up                 == the start over a journal whose only record is the setup of four providers
+--   putting                == an open vault over that journal in which a put of one byte has begun
 use Rattle.std.specs.Prelude.{ℕ, true, false, List, [], ◌∷◌, replicate, codes, None, Some}
 use Rattle.record_defs.specs.Records.{Setup, Record, SetUp, PutStart, PutDone, AuditStart, AuditDone}
 use Rattle.record_defs.specs.Areas.{A}
 use Rattle.device_defs.specs.Providers.{Provider}
-use Rattle.machine_defs.specs.Jobs.{Kind, Job}
+use Rattle.machine_defs.specs.Jobs.{Kind, PutJob, Job}
 use Rattle.machine_defs.specs.States.{State}
 use Rattle.machine_defs.specs.Begins.{new_job}
 use Rattle.record_defs.specs.Examples.{four}
@@ -75,3 +76,10 @@ beginning_job w kind = new_job w 0 kind
 -- the start over a journal whose only record is the setup of four providers
 abbrev pub set_up : State
 set_up = record (opened (SetUp four ∷ []) []) { is_open = false }
+
+-- an open vault over the setup of four providers in which a put of one byte has begun
+abbrev pub putting : State
+putting = record (opened (SetUp four ∷ []) []) {
+  jobs = beginning_job (opened (SetUp four ∷ []) []) (PutJob (codes "a") (111 ∷ [])) ∷ [];
+  next_job = 2;
+}

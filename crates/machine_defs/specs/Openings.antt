@@ -8,6 +8,9 @@
 --   LeavesDoubt old s doubt         == what may be in doubt after an init that failed
 --   Inits old s is_open outcome new == what an init may come to
 --   Continues old outcome new       == what a later call of the program comes to
+--
+-- Reopenings and inits call the disk more than once. One that finds no memory may have made calls before, that
+-- went well: of the disk's count no more is said than of theirs, that it does not fall.
 use Rattle.std.specs.Prelude.{◌≡◌, ◌⊎◌, ◌<◌, ◌≤◌, Bool, true, false, List, Option, None, Some, is_some}
 use Rattle.record_defs.specs.Records.{Setup, Record, SetUp, is_setup}
 use Rattle.record_defs.specs.Table.{setup_of}

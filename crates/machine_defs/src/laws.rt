@@ -8,8 +8,10 @@ ghost use Rattle.machine_defs.specs.Jobs.{Kind, PutJob, AuditJob, Pinned, Job, j
 ghost use Rattle.machine_defs.specs.States.{State, IsStart, setup_in, put_object};
 ghost use Rattle.machine_defs.specs.Runs.{Moment, IsRun, now, first_moments, is_replaced_since};
 ghost use Rattle.machine_defs.specs.Began.{IsBeginOf, IsBeginOfKind, NoneBegan, WasBegun, GivesUp, IsOfJob};
-ghost use Rattle.machine_defs.specs.Answers.{Answer};
+ghost use Rattle.machine_defs.specs.Answers.{Answer, Memory};
 ghost use Rattle.machine_defs.specs.Events.{Step, Begun, Ended};
+ghost use Rattle.machine_defs.specs.Machine.{Happens};
+ghost use Rattle.machine_defs.specs.Failures.{Count, count_in};
 ghost use Rattle.machine_defs.specs.Calm.{Mark, IsCalm, since, relies};
 ghost use Rattle.machine_defs.specs.Missed.{NoneMissed};
 ghost use Rattle.machine_defs.specs.Scrubs.{AreScrubsCalm};
@@ -177,6 +179,13 @@ pub fn jobs_end_so()
         → IsBeginOfKind b.event kind → b.outcome ≡ Begun number → NoneBegan number between
         → m.event ≡ Step number → m.outcome ≡ Ended answer
         → EndsSo (now start (between ++ b ∷ older)) m.state kind answer }
+{}
+
+/// A step that ends for want of memory counts no fault: the disk's count stays as it was, and so do those of
+/// each provider.
+pub fn want_of_memory_is_no_fault()
+    ensures { (limit moment : ℕ) (old new : State) (number : ℕ) (count : Count)
+        → Happens limit moment old (Step number) (Ended Memory) new → count_in count new ≡ count_in count old }
 {}
 
 /// While no job that puts or drops a name begins, none on it runs where none did, and no record in doubt takes

@@ -1,11 +1,13 @@
-//! A whole run, given outright: it shows that the machine is not empty.
+//! A whole run, given outright: it shows that the machine is not empty. And a step that finds no memory.
 ghost use Rattle.std.specs.Prelude.{◌≡◌, List, [], ◌∷◌, ◌++◌, length, codes, Some};
 ghost use Rattle.machine_defs.specs.Jobs.{PutJob};
-ghost use Rattle.machine_defs.specs.Events.{Begin, Reopen};
+ghost use Rattle.machine_defs.specs.Answers.{Memory};
+ghost use Rattle.machine_defs.specs.Events.{Begin, Reopen, Step, Ended};
 ghost use Rattle.machine_defs.specs.States.{file_in};
 ghost use Rattle.machine_defs.specs.Runs.{Moment, IsRun, now};
 ghost use Rattle.machine_defs.specs.Transcripts.{Once, RunJob, CarriesOut};
-ghost use Rattle.machine_defs.specs.Examples.{set_up};
+ghost use Rattle.machine_defs.specs.Machine.{Happens};
+ghost use Rattle.machine_defs.specs.Examples.{set_up, putting};
 
 /// A put of one byte over four providers is a run of 13 steps. Schedules have the newest command first.
 pub fn put_is_stored()
@@ -14,4 +16,10 @@ pub fn put_is_stored()
         (((codes "opened" ++ 10 ∷ []) ++ (codes "job 1" ++ 10 ∷ [])) ++ (codes "put" ++ 10 ∷ []))
         × (length ms ≡ 15) × (file_in (now set_up ms) (codes "a")
         ≡ Some (record { name = codes "a"; id = 1; size = 1; profile = 0 })) }
+{}
+
+/// A put that finds no memory at its first move ends so, and leaves the vault as it was before it began, but for
+/// the next job's number.
+pub fn put_finds_no_memory()
+    ensures { Happens 1 0 putting (Step 1) (Ended Memory) (record putting { jobs = [] }) }
 {}

@@ -1,12 +1,8 @@
 -- Instructions in which no call fails leave all counts of faults.
 use Rattle.std.specs.List.{list_all}
-use Rattle.std.proofs.Common.{refl, ap, sym, ◌∙◌, inl, inr, ◌≡◌, ℕ, zero, suc, ◌==◌, true, List, [], ◌∷◌, Option, None, Some}
-use Rattle.std.proofs.lemmas.Bool.{cases_Bool, eqb-true, false≢true}
-use Rattle.made_runs.specs.Words.{Provider, Action, WriteBody, SyncBody, WriteGate, SyncGate, Store, Fetch, Ask, Work, Remove, End, Event, Begin, BeginAt, BeginScrub, BeginPack, Job, job_of, advanced, moved, doubted, done_append, Moment, now, State, Append, with_provider, going_on, next_action}
+use Rattle.made_runs.proofs.Words.{refl, ap, sym, ◌∙◌, inl, inr, ◌≡◌, ℕ, zero, suc, ◌==◌, true, List, [], ◌∷◌, Option, None, Some, cases_Bool, eqb-true, false≢true, Provider, Action, WriteBody, SyncBody, WriteGate, SyncGate, Store, Fetch, Ask, Work, Remove, End, Event, Begin, BeginAt, BeginScrub, BeginPack, Job, job_of, advanced, moved, doubted, done_append, Moment, now, State, Append, with_provider, going_on, next_action, called, with_found, acted, gone, gone_on, stepped, Turn, Works, Notes, Came, Heard, NoneCame, StoreFails, Cut, after, after_next, after_found, gone_by, turned, job_run, Instruction, Turned, Turns, Begins, Reopens, Comes, begun_by, done, run_of, begun_append, written}
 use Rattle.machine_defs.proofs.JobLists.{cond_true, cond_false}
-use Rattle.made_runs.specs.Steps.{called, by_flight, acted, gone, gone_on, stepped}
-use Rattle.made_runs.specs.Turns.{Turn, Goes, Works, Notes, Came, Heard, NoneCame, StoreFails, Cut, after, after_next, after_found, gone_by, turned, job_run}
-use Rattle.made_runs.specs.Instructions.{Instruction, Turned, Turns, Begins, Reopens, Comes, begun_by, done, run_of}
+use Rattle.made_runs.specs.Turns.{Goes}
 use Rattle.made_runs.specs.Counts.{SameCounts, goes_well, IsWell, AreWell}
 use Rattle.made_runs.proofs.Steps.{first, second}
 
@@ -32,20 +28,21 @@ called-same w i p stores others = (refl, by)
           (ap (λ (q : Provider). q.store_faults) e, ap (λ (q : Provider). q.other_faults) e))
     ]
 
--- a change that an append in flight makes
-flight-same : (w : State) (change : Append → State) (flight : Option Append) →
-    ((a : Append) → SameCounts w (change a)) → SameCounts w (by_flight w change flight)
-flight-same w change None same = (refl, λ j. (refl, refl))
-flight-same w change (Some a) same = same a
+-- a change that something makes, if it is there
+change-same : {X : Type 0} (w : State) (change : X → State) (found : Option X) →
+    ((x : X) → SameCounts w (change x)) → SameCounts w (with_found w change found)
+change-same w change None same = (refl, λ j. (refl, refl))
+change-same w change (Some x) same = same x
 
 -- an action in which nothing fails
 acted-same : (w : State) (job : Job) (action : Action) → SameCounts w (acted w job action)
-acted-same w job WriteBody = (refl, λ j. (refl, refl))
+acted-same w job WriteBody =
+    change-same w (begun_append w job) (written w job job.kind) (λ r. (refl, λ j. (refl, refl)))
 acted-same w job SyncBody =
-    flight-same w (moved (going_on w (advanced job))) w.append (λ a. (refl, λ j. (refl, refl)))
-acted-same w job WriteGate = flight-same w (λ a. doubted (moved (going_on w (advanced job)) a) a job) w.append
+    change-same w (moved (going_on w (advanced job))) w.append (λ a. (refl, λ j. (refl, refl)))
+acted-same w job WriteGate = change-same w (λ a. doubted (moved (going_on w (advanced job)) a) a job) w.append
     (λ a. (refl, λ j. (refl, refl)))
-acted-same w job SyncGate = flight-same w (done_append w job) w.append (λ a. (refl, λ j. (refl, refl)))
+acted-same w job SyncGate = change-same w (done_append w job) w.append (λ a. (refl, λ j. (refl, refl)))
 acted-same w job (Store i object stripe) = called-same w i _ refl refl
 acted-same w job (Fetch i object stripe) = called-same w i _ refl refl
 acted-same w job (Ask i object round) = called-same w i _ refl refl

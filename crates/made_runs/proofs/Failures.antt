@@ -1,9 +1,6 @@
 -- A step in which an ask or a removal can fail happens so.
-use Rattle.std.proofs.Common.{refl, arith, inl, inr, ◌≡◌, ℕ, true, Option, None, Some}
-use Rattle.std.proofs.lemmas.Bool.{false≢true}
+use Rattle.made_runs.proofs.Words.{refl, arith, inl, inr, ◌≡◌, ℕ, true, Option, None, Some, false≢true, Held, LosesPart, Job, job_of, Action, Ask, Remove, Step, More, Happens, State, Append, Acts, ActsOrWaits, StepsOn, StepsJob, next_action, holder_of, is_ready}
 use Rattle.device_defs.specs.Told.{Goes}
-use Rattle.made_runs.specs.Words.{Held, LosesPart, Job, job_of, Action, Ask, Remove, Step, More, Happens, State, Append, Acts, ActsOrWaits, StepsOn, StepsJob, next_action, holder_of}
-use Rattle.made_runs.specs.Steps.{is_ready}
 use Rattle.made_runs.specs.Failures.{call_failed, is_such, failed_call, can_fail_next, failed_next, can_fail_step, failed_step}
 use Rattle.made_runs.proofs.Steps.{first, second, ready}
 

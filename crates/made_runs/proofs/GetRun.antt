@@ -1,9 +1,7 @@
 -- A put of no bytes and a get of it, and a stop before the fourth move of the put's last append: runs that
 -- are computed from their instructions.
-use Rattle.std.proofs.Common.{refl, inl, arith, List, [], ◌∷◌, codes, None}
-use Rattle.made_runs.specs.Words.{PutJob, GetJob, actions_of, Put, Got, Begin, Stop, Stopped, State, setup_in, reread, Happens, Moment, IsRun, now, set_up}
-use Rattle.made_runs.specs.Turns.{Goes, Gives}
-use Rattle.made_runs.specs.Instructions.{Instruction, Turns, Begins, Reopens, Stops, stopped, run_of, AreFit}
+use Rattle.made_runs.proofs.Words.{refl, inl, arith, List, [], ◌∷◌, codes, None, PutJob, GetJob, actions_of, Put, Got, Begin, Stop, Stopped, State, setup_in, reread, Happens, Moment, IsRun, now, set_up, Gives, Instruction, Turns, Begins, Reopens, Stops, stopped, run_of, AreFit}
+use Rattle.made_runs.specs.Turns.{Goes}
 use Rattle.made_runs.proofs.Instructions.{are-run}
 
 -- a vault opens, and a put of no bytes begins

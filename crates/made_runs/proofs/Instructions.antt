@@ -1,10 +1,6 @@
 -- What instructions make that can be carried out is a run.
-use Rattle.std.proofs.Common.{refl, arith, inl, inr, ◌≡◌, ℕ, zero, suc, ◌<◌, ◌^◌, true, false, List, [], ◌∷◌, length, Option, None, Some, leb-true}
-use Rattle.made_runs.specs.Words.{Event, Begin, BeginAt, BeginScrub, BeginPack, Begun, Happens, reread, Moment, IsRun, now, State, Doubt, Settles, setup_in, given_up}
-use Rattle.made_runs.specs.Steps.{can_step}
-use Rattle.made_runs.specs.Turns.{Turn, Goes, gone_by, can_go_by, turned, FitsTurn, job_run}
-use Rattle.made_runs.specs.Sweeps.{Sweep}
-use Rattle.made_runs.specs.Instructions.{Instruction, Turned, Turns, Swept, Sweeps, Fails, Begins, Reopens, Stops, Comes, begun_by, FitsBegin, settled, sweep_run, AreTurns, AreSweeps, done, FitsOne, run_of, AreFit}
+use Rattle.made_runs.proofs.Words.{refl, arith, inl, inr, ◌≡◌, ℕ, zero, suc, ◌<◌, ◌^◌, true, false, List, [], ◌∷◌, length, Option, None, Some, leb-true, Event, Begin, BeginAt, BeginScrub, BeginPack, Begun, Happens, reread, Moment, IsRun, now, State, Doubt, Settles, setup_in, given_up, can_step, Turn, gone_by, can_go_by, turned, FitsTurn, job_run, Sweep, Instruction, Turned, Turns, Swept, Sweeps, Fails, Begins, Reopens, Stops, Comes, begun_by, FitsBegin, settled, sweep_run, AreTurns, AreSweeps, done, FitsOne, run_of, AreFit}
+use Rattle.made_runs.specs.Turns.{Goes}
 use Rattle.made_runs.proofs.Steps.{first, second, steps}
 use Rattle.made_runs.proofs.Turns.{goes-so}
 use Rattle.made_runs.proofs.Sweeps.{sweeps-so}

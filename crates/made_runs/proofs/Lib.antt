@@ -1,3 +1,4 @@
+mod Words
 pub mod Steps
 pub mod Turns
 pub mod Sweeps

@@ -1,8 +1,6 @@
 -- A step that can be made in which nothing fails happens.
-use Rattle.std.proofs.Common.{refl, arith, inl, ◌≡◌, ℕ, ◌==◌, ◌&&◌, Bool, true, false, not, List, Option, None, Some, is_some}
-use Rattle.std.proofs.lemmas.Bool.{eqb-true, false≢true}
-use Rattle.made_runs.specs.Words.{honest_answer, asked_challenge, Held, Provider, FetchGives, AskGives, Kind, PutJob, GetJob, DropJob, AuditJob, RepairJob, UpgradeJob, Job, job_of, advanced, Action, WriteBody, SyncBody, WriteGate, SyncGate, Store, Fetch, Ask, Work, Remove, End, Step, Outcome, More, Happens, State, Append, Alone, setup_in, worked_object, going_on, Moves, Writes, IsAt, moved, doubted, done_append, block_to_store, Acts, ActsOrWaits, StepsOn, StepsJob, StepsOne, StepsOpen, Steps, next_action, holder_of}
-use Rattle.made_runs.specs.Steps.{stored, fetched, removed, block_from, answer_from, can_write, written, is_at, can_act, acted, by_flight, can_go, can_run, is_ready, can_step, gone, gone_on, stepped}
+use Rattle.made_runs.proofs.Words.{refl, arith, inl, inr, ◌≡◌, ℕ, ◌==◌, ◌&&◌, Bool, true, false, not, List, Option, None, Some, is_some, eqb-true, false≢true, honest_answer, asked_challenge, Held, Provider, FetchGives, AskGives, Kind, Job, job_of, advanced, Action, WriteBody, SyncBody, WriteGate, SyncGate, Store, Fetch, Ask, Work, Remove, End, Step, Outcome, More, Happens, State, Append, Alone, setup_in, worked_object, going_on, Writes, IsAt, moved, doubted, done_append, block_to_store, Acts, ActsOrWaits, StepsOn, StepsJob, StepsOne, StepsOpen, Steps, next_action, holder_of, stored, fetched, removed, block_from, answer_from, written, is_at, can_act, acted, with_found, can_go, can_run, is_ready, can_step, gone, gone_on, stepped, cases_Bool, Record, writes_counts, record_of, begun_append}
+use Rattle.made_runs.specs.Words.{Moves}
 
 -- of two tests that hold the first does
 pub first : (a b : Bool) → (a && b) ≡ true → a ≡ true
@@ -14,15 +12,19 @@ pub second : (a b : Bool) → (a && b) ≡ true → b ≡ true
 second true b c = c
 second false b c = absurd (false≢true c)
 
--- the record is one that the append may write
-writes : (w : State) (job : Job) (kind : Kind) → can_write job kind ≡ true →
-    Writes w job kind (written w job kind)
-writes w job (PutJob name bytes) c = refl
-writes w job (GetJob name) c = absurd (false≢true c)
-writes w job (DropJob name) c = refl
-writes w job AuditJob c = rw c refl
-writes w job RepairJob c = refl
-writes w job UpgradeJob c = refl
+-- the record that is found is the one that the append writes
+writes : (w : State) (job : Job) (kind : Kind) (entry : Record) → written w job kind ≡ Some entry →
+    Writes w job kind entry
+writes w job kind entry e = elim (cases_Bool (writes_counts job kind)) [
+  | inl t ↦ absurd (let f : None ≡ Some entry = rw t at e in cc)
+  | inr f ↦ (let g : record_of w.records job kind ≡ Some entry = rw f at e in rw (f, g) refl)
+]
+
+-- a write of the body
+bodies : (w : State) (job : Job) (entry : Option Record) → written w job job.kind ≡ entry →
+    is_some entry ≡ true → Moves w job WriteBody w.append More (with_found w (begun_append w job) entry)
+bodies w job None is c = absurd (false≢true c)
+bodies w job (Some entry) is c = (entry, writes w job job.kind entry is, (w.disk_faults, omega arith, refl))
 
 -- the append in flight is at its place
 pub is-at : (a : Append) (job : Job) (moves : ℕ) → is_at job moves (Some a) ≡ true → IsAt a job moves
@@ -33,20 +35,20 @@ is-at a job moves c = (
 
 -- a sync of the body
 syncs : (w : State) (job : Job) (flight : Option Append) → is_at job 1 flight ≡ true →
-    Moves w job SyncBody flight More (by_flight w (moved (going_on w (advanced job))) flight)
+    Moves w job SyncBody flight More (with_found w (moved (going_on w (advanced job))) flight)
 syncs w job None c = absurd (false≢true c)
 syncs w job (Some a) c = (is-at a job 1 c, (w.disk_faults, omega arith, refl))
 
 -- a write of the gate
 gates : (w : State) (job : Job) (flight : Option Append) → is_at job 2 flight ≡ true →
     Moves w job WriteGate flight More
-    (by_flight w (λ a. doubted (moved (going_on w (advanced job)) a) a job) flight)
+    (with_found w (λ a. doubted (moved (going_on w (advanced job)) a) a job) flight)
 gates w job None c = absurd (false≢true c)
 gates w job (Some a) c = (is-at a job 2 c, (w.disk_faults, omega arith, refl))
 
 -- a sync of the gate
 ends : (w : State) (job : Job) (flight : Option Append) → is_at job 3 flight ≡ true →
-    Moves w job SyncGate flight More (by_flight w (done_append w job) flight)
+    Moves w job SyncGate flight More (with_found w (done_append w job) flight)
 ends w job None c = absurd (false≢true c)
 ends w job (Some a) c = (is-at a job 3 c, (w.disk_faults, omega arith, refl))
 
@@ -65,7 +67,7 @@ asks honest object (Some held) c = refl
 -- an action that can be made so
 pub acts : (w : State) (job : Job) (action : Action) → can_act w job action ≡ true →
     Acts w job action More (acted w job action)
-acts w job WriteBody c = (written w job job.kind, writes w job job.kind c, (w.disk_faults, omega arith, refl))
+acts w job WriteBody c = bodies w job (written w job job.kind) refl c
 acts w job SyncBody c = syncs w job w.append c
 acts w job WriteGate c = gates w job w.append c
 acts w job SyncGate c = ends w job w.append c

@@ -1,9 +1,6 @@
 -- A step of a scrub or a pack that can go so happens.
-use Rattle.std.proofs.Common.{refl, arith, inl, ap, sym, ◌≡◌, ℕ, zero, suc, ◌==◌, ◌&&◌, Bool, true, false, not, List, [], ◌∷◌, Option, None, Some}
-use Rattle.std.proofs.lemmas.Bool.{false≢true}
-use Rattle.made_runs.specs.Words.{Action, Store, Fetch, Work, End, opened_scrub, scrubbing, block_to_scrub, Scrubs, StepsScrub, Packs, StepsAlone, Step, Happens, State, Scrub, Pack, Alone, Scrubbing, Packing, StepsMine, StepsOne, StepsOpen, Steps}
-use Rattle.made_runs.specs.Steps.{stored, fetched}
-use Rattle.made_runs.specs.Sweeps.{Sweep, Brings, Opens, Mends, Finds, Moves, Tells, swept_so, FitsScrub, scrubbed_on, FitsPack, packed_on, FitsTodo, after_todo, FitsAlone, after_alone, FitsSweep, swept}
+use Rattle.made_runs.proofs.Words.{refl, arith, inl, ap, sym, ◌≡◌, ℕ, zero, suc, ◌==◌, ◌&&◌, Bool, true, false, not, List, [], ◌∷◌, Option, None, Some, false≢true, Action, Store, Fetch, Work, End, opened_scrub, scrubbing, block_to_scrub, Scrubs, StepsScrub, Packs, StepsAlone, Step, Happens, State, Scrub, Pack, Alone, Scrubbing, Packing, StepsMine, StepsOne, StepsOpen, Steps, stored, fetched, Sweep, Brings, Opens, Mends, Finds, Tells, swept_so, FitsScrub, scrubbed_on, FitsPack, packed_on, FitsTodo, after_todo, FitsAlone, after_alone, FitsSweep, swept}
+use Rattle.made_runs.specs.Sweeps.{Moves}
 
 -- an action of a scrub
 scrubs : (w : State) (scrub : Scrub) (action : Action) (rest : List Action) (sweep : Sweep) →

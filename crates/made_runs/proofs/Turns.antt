@@ -1,9 +1,6 @@
 -- A step that can go as a turn says happens.
-use Rattle.std.proofs.Common.{refl, arith, inl, inr, ◌≡◌, ℕ, ◌+◌, true, Option, None, Some}
-use Rattle.std.proofs.lemmas.Bool.{false≢true}
-use Rattle.made_runs.specs.Words.{Job, job_of, Action, WriteBody, SyncBody, WriteGate, SyncGate, Store, Fetch, Ask, Work, Remove, End, DiskFault, Step, Ended, Happens, State, Append, ended, Moves, doubted, barred, Acts, StepsOn, StepsJob, next_action, holder_of}
-use Rattle.made_runs.specs.Steps.{fetched, is_at, by_flight}
-use Rattle.made_runs.specs.Turns.{Turn, Works, Notes, Came, Heard, NoneCame, Gives, LosesOne, StoreFails, Cut, told, faulted, can_fail, failed_at, store_failed, fetch_failed, Fits, after, FitsNext, FitsFound, FitsStep, after_next, after_found, after_step}
+use Rattle.made_runs.proofs.Words.{refl, arith, inl, inr, ◌≡◌, ℕ, ◌+◌, true, Option, None, Some, false≢true, Job, job_of, Action, WriteBody, SyncBody, WriteGate, SyncGate, Store, Fetch, Ask, Work, Remove, End, DiskFault, Step, Ended, Happens, State, Append, ended, doubted, barred, Acts, StepsOn, StepsJob, next_action, holder_of, fetched, is_at, with_found, Turn, Works, Notes, Came, Heard, NoneCame, Gives, LosesOne, StoreFails, Cut, told, faulted, can_fail, failed_at, store_failed, fetch_failed, Fits, after, FitsNext, FitsFound, FitsStep, after_next, after_found, after_step}
+use Rattle.made_runs.specs.Words.{Moves}
 use Rattle.made_runs.proofs.Steps.{is-at, free, ready}
 
 -- ---- a move that fails
@@ -17,7 +14,7 @@ sync_fails w job (Some a) c = (is-at a job 1 c, (w.disk_faults + 1, omega arith,
 -- the third
 gate_fails : (w : State) (job : Job) (flight : Option Append) → is_at job 2 flight ≡ true →
     Moves w job WriteGate flight (Ended DiskFault)
-    (faulted (by_flight w (λ a. doubted (barred (ended w job)) a job) flight))
+    (faulted (with_found w (λ a. doubted (barred (ended w job)) a job) flight))
 gate_fails w job None c = absurd (false≢true c)
 gate_fails w job (Some a) c = (is-at a job 2 c, (w.disk_faults + 1, omega arith, λ low. omega arith, refl))
 

@@ -1,13 +1,8 @@
 -- What instructions make carries out their commands and writes their lines.
-use Rattle.std.proofs.Common.{refl, ap, sym, ◌∙◌, ◌≡◌, ◌≢◌, ℕ, zero, suc, true, not, List, [], ◌∷◌, ◌++◌}
-use Rattle.std.proofs.lemmas.Bool.{false≢true}
-use Rattle.made_runs.specs.Words.{Lost, DiskFault, ProviderFault, Scrubbed, Packed, Step, More, lines_of, Moment, now, State, GoOn, CarriesOut}
+use Rattle.made_runs.proofs.Words.{refl, ap, sym, ◌∙◌, ◌≡◌, ◌≢◌, ℕ, zero, suc, true, not, List, [], ◌∷◌, ◌++◌, false≢true, Lost, DiskFault, ProviderFault, Scrubbed, Packed, Step, More, lines_of, Moment, now, State, GoOn, CarriesOut, stepped, Turn, Gives, LosesOne, StoreFails, Cut, told, is_more, step_of, after_step, gone_by, turned, job_run, Sweep, Finds, Tells, swept_so, swept, Instruction, Turns, Sweeps, moment, sweep_run, done, run_of}
 use Rattle.machine_defs.specs.Transcripts as transcripts
 use Rattle.machine_defs.proofs.RunParts.{not_more}
-use Rattle.made_runs.specs.Steps.{stepped}
-use Rattle.made_runs.specs.Turns.{Turn, Goes, Gives, LosesOne, StoreFails, Cut, told, is_more, step_of, after_step, gone_by, turned, job_run}
-use Rattle.made_runs.specs.Sweeps.{Sweep, Finds, Tells, swept_so, swept}
-use Rattle.made_runs.specs.Instructions.{Instruction, Turns, Sweeps, moment, sweep_run, done, run_of}
+use Rattle.made_runs.specs.Turns.{Goes}
 use Rattle.made_runs.specs.Written.{all_more, is_end, none_ends, is_whole, are_whole, commanded, schedule_of, newest_outcome, lines_made}
 use Rattle.made_runs.proofs.Steps.{first, second}
 

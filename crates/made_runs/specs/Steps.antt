@@ -4,9 +4,9 @@
 --   stepped w n     == the state after it
 --
 -- A step has a choice where it works on a stripe, ends, or writes what an audit counted: Turns has those.
-use Rattle.std.specs.Prelude.{ℕ, ◌==◌, ◌&&◌, Bool, true, false, not, List, length, Option, None, Some, is_some, if◌then◌else◌}
+use Rattle.std.specs.Prelude.{ℕ, ◌==◌, ◌&&◌, Bool, true, false, not, List, Option, None, Some, is_some, if◌then◌else◌}
 use Rattle.std.specs.Option.{option_map}
-use Rattle.made_runs.specs.Words.{honest_answer, Record, PutStart, Drop, AuditStart, RepairDone, Version, version_of, next_id, next_audit, one_more, Held, Provider, with_block, without_object, sized, Kind, PutJob, GetJob, DropJob, AuditJob, RepairJob, UpgradeJob, Job, Fetched, Answered, job_of, advanced, advanced_with, Action, WriteBody, SyncBody, WriteGate, SyncGate, Store, Fetch, Ask, Work, Remove, End, State, Append, setup_in, worked_object, going_on, with_provider, asked_challenge, is_first_append, done_record, begun_append, moved, doubted, done_append, block_to_store, next_action, holder_of}
+use Rattle.made_runs.specs.Words.{honest_answer, Record, one_more, Held, Provider, with_block, without_object, sized, Kind, Job, Fetched, Answered, job_of, advanced, advanced_with, Action, WriteBody, SyncBody, WriteGate, SyncGate, Store, Fetch, Ask, Work, Remove, End, State, Append, setup_in, worked_object, going_on, with_provider, asked_challenge, begun_append, moved, doubted, done_append, block_to_store, next_action, holder_of, writes_counts, record_of}
 
 -- ---- calls of a provider that go well
 
@@ -36,26 +36,11 @@ answer_from honest object (Some held) = honest (held object)
 abbrev pub called : State → ℕ → Provider → State
 called w j p = record w { providers = with_provider w.providers j p }
 
--- ---- the record that an append writes
-
--- but for the counts of an audit
-abbrev pub can_write : Job → Kind → Bool
-can_write job (GetJob name) = false
-can_write job AuditJob = is_first_append job
-can_write job kind = true
-
--- that record
-abbrev pub written : State → Job → Kind → Record
-written w job (PutJob name bytes) =
-    if is_first_append job then PutStart (next_id w.records) name
-    else done_record (version_of w.records) job.subject (length bytes) job.profile
-written w job (GetJob name) = Version
-written w job (DropJob name) = Drop name
-written w job AuditJob = AuditStart (next_audit w.records)
-written w job RepairJob = RepairDone job.subject
-written w job UpgradeJob = Version
-
 -- ---- an action
+
+-- the record that an append writes, but for the counts of an audit
+abbrev pub written : State → Job → Kind → Option Record
+written w job kind = if writes_counts job kind then None else record_of w.records job kind
 
 -- the append in flight is this job's, with so many moves done
 abbrev pub is_at : Job → ℕ → Option Append → Bool
@@ -64,7 +49,7 @@ is_at job moves (Some a) = (a.job == job.number) && (a.moves == moves)
 
 -- an action can be made so
 abbrev pub can_act : State → Job → Action → Bool
-can_act w job WriteBody = can_write job job.kind
+can_act w job WriteBody = is_some (written w job job.kind)
 can_act w job SyncBody = is_at job 1 w.append
 can_act w job WriteGate = is_at job 2 w.append
 can_act w job SyncGate = is_at job 3 w.append
@@ -75,18 +60,18 @@ can_act w job (Work object stripe) = false
 can_act w job (Remove j object) = true
 can_act w job End = false
 
--- a change that an append in flight makes
-abbrev pub by_flight : State → (Append → State) → Option Append → State
-by_flight w change None = w
-by_flight w change (Some a) = change a
+-- a change that this makes, if it is there
+abbrev pub with_found : {X : Type 0} → State → (X → State) → Option X → State
+with_found w change None = w
+with_found w change (Some x) = change x
 
 -- the state after it
 abbrev pub acted : State → Job → Action → State
-acted w job WriteBody = begun_append w job (written w job job.kind)
-acted w job SyncBody = by_flight w (moved (going_on w (advanced job))) w.append
+acted w job WriteBody = with_found w (begun_append w job) (written w job job.kind)
+acted w job SyncBody = with_found w (moved (going_on w (advanced job))) w.append
 acted w job WriteGate =
-    by_flight w (λ a. doubted (moved (going_on w (advanced job)) a) a job) w.append
-acted w job SyncGate = by_flight w (done_append w job) w.append
+    with_found w (λ a. doubted (moved (going_on w (advanced job)) a) a job) w.append
+acted w job SyncGate = with_found w (done_append w job) w.append
 acted w job (Store j object stripe) =
     called (going_on w (advanced job)) j
     (stored object stripe (block_to_store w job job.kind j object stripe) (w.providers j))

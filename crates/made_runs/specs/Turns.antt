@@ -7,7 +7,7 @@
 --   AreFitTurns              == after them the job can go so in each, and each answers more
 use Rattle.std.specs.Prelude.{◌≡◌, ℕ, zero, suc, ◌+◌, ◌&&◌, Bool, true, false, not, List, [], ◌∷◌, Option, None, Some, is_some}
 use Rattle.made_runs.specs.Words.{honest_answer, GivesSymbols, LosesRow, Record, one_more, Provider, FetchGives, AskGives, asked_challenge, Job, Fetched, Answered, Worked, job_of, advanced_with, Action, WriteBody, SyncBody, WriteGate, SyncGate, Store, Fetch, Ask, Work, End, Answer, Lost, DiskFault, ProviderFault, Step, Outcome, More, Ended, State, setup_in, worked_object, going_on, ended, blocks_given, Writes, begun_append, doubted, barred, Moment, now, Ends, next_action, holder_of}
-use Rattle.made_runs.specs.Steps.{called, fetched, is_ready, can_step, stepped, is_at, by_flight}
+use Rattle.made_runs.specs.Steps.{called, fetched, is_ready, can_step, stepped, is_at, with_found}
 
 -- how steps of a job go
 pub data Turn : Type 0 where
@@ -56,7 +56,7 @@ can_fail w job action = false
 
 -- the state after it
 abbrev pub failed_at : State → Job → Action → State
-failed_at w job WriteGate = faulted (by_flight w (λ a. doubted (barred (ended w job)) a job) w.append)
+failed_at w job WriteGate = faulted (with_found w (λ a. doubted (barred (ended w job)) a job) w.append)
 failed_at w job action = faulted (barred (ended w job))
 
 -- a provider whose store failed

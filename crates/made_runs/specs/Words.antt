@@ -1,6 +1,6 @@
 -- The words of the machine in which its steps are told, passed on from one place. Declares nothing.
-pub use Rattle.record_defs.specs.Records.{AuditStart, Drop, PutDone, PutStart, Record, RepairDone, Version}
-pub use Rattle.record_defs.specs.Table.{next_audit, next_id, setup_of, version_of}
+pub use Rattle.record_defs.specs.Records.{PutDone, Record}
+pub use Rattle.record_defs.specs.Table.{setup_of}
 pub use Rattle.column_defs.specs.Challenges.{honest_answer}
 pub use Rattle.column_defs.specs.Opened.{GivesSymbols, LosesRow}
 pub use Rattle.device_defs.specs.Faults.{one_more}
@@ -10,12 +10,12 @@ pub use Rattle.machine_defs.specs.Actions.{Action, Ask, End, Fetch, Remove, Stor
 unfoldable pub use Rattle.machine_defs.specs.Actions.{actions_of}
 pub use Rattle.machine_defs.specs.Alone.{Packs, Scrubs, StepsAlone, StepsScrub, alone_refusal, block_to_scrub, new_pack, new_scrub, opened_scrub, pack_refusal, packing, scrub_stores, scrubbed_object, scrubbing, switched, switching, unalone}
 pub use Rattle.machine_defs.specs.Answers.{Answer, DiskFault, Got, Lost, Packed, ProviderFault, Put, Scrubbed}
-pub use Rattle.machine_defs.specs.Appends.{IsAt, Moves, Writes, barred, begun_append, done_append, done_record, doubted, is_first_append, moved}
+pub use Rattle.machine_defs.specs.Appends.{IsAt, Moves, Writes, barred, begun_append, done_append, doubted, moved, record_of, writes_counts}
 pub use Rattle.machine_defs.specs.Audits.{asked_challenge}
 pub use Rattle.machine_defs.specs.Events.{Begin, BeginAt, BeginPack, BeginScrub, Begun, Ended, Event, IsSpelled, More, Opened, Outcome, Reopen, Step, Stop, Stopped}
 pub use Rattle.machine_defs.specs.Examples.{set_up}
 pub use Rattle.machine_defs.specs.Given.{blocks_given}
-pub use Rattle.machine_defs.specs.Jobs.{Answered, AuditJob, DropJob, Fetched, GetJob, Job, Kind, PutJob, RepairJob, UpgradeJob, Worked, advanced, advanced_with, job_of}
+pub use Rattle.machine_defs.specs.Jobs.{Answered, Fetched, GetJob, Job, Kind, PutJob, Worked, advanced, advanced_with, job_of}
 pub use Rattle.machine_defs.specs.Lines.{lines_of}
 pub use Rattle.machine_defs.specs.Machine.{Happens}
 pub use Rattle.machine_defs.specs.Openings.{reread}

@@ -1,33 +1,13 @@
 -- How an audit ends in a run.
-use Rattle.std.proofs.Common.{◌≡◌, ℕ, ◌+◌, ◌-◌, ◌≤◌, List, [], ◌∷◌, ◌++◌, length, Some, ap, sym, subst, ◌∙◌, inl, inr, arith}
+use Rattle.outcome_laws.proofs.Words.{◌≡◌, ℕ, ◌+◌, ◌-◌, ◌≤◌, List, [], ◌∷◌, ◌++◌, length, Some, ap, sym, subst, ◌∙◌, inl, inr, arith, AuditJob, Answered, Job, job_of, Action, Ask, End, append_actions, ask_actions, Answer, Begin, Step, Begun, Ended, IsStart, pinned_for, profiled, rounds_of, answer_given, HasSums, Ends, next_action, NoneBegan, EndsSo, first_behind, contains_in, job_ends_so, ended_of_kind, event_end, always, asks_all, ask_at, EndsAudit}
 use Rattle.algebra_laws.proofs.Each.{each_get}
-use Rattle.machine_defs.specs.Jobs.{AuditJob, Answered, Job, job_of}
-use Rattle.machine_defs.specs.Actions.{Action, Ask, End, append_actions, ask_actions}
 use Rattle.machine_defs.specs.Answers as answer
-use Rattle.machine_defs.specs.Answers.{Answer}
-use Rattle.machine_defs.specs.Events.{Begin, Step, Begun, Ended}
-use Rattle.machine_defs.specs.States.{State, IsStart, setup_in}
-use Rattle.machine_defs.specs.Begins.{pinned_for}
-use Rattle.machine_defs.specs.Setups.{profiled}
-use Rattle.machine_defs.specs.Actions.{rounds_of}
-use Rattle.machine_defs.specs.Given.{answer_given}
-use Rattle.machine_defs.specs.Audits.{HasSums}
-use Rattle.machine_defs.specs.Steps.{Ends, next_action}
+use Rattle.machine_defs.specs.States.{State, setup_in}
 use Rattle.machine_defs.specs.Runs.{Moment, now, first_moments, IsRun}
-use Rattle.machine_defs.specs.Began.{NoneBegan}
-use Rattle.machine_defs.specs.JobEnds.{EndsSo}
 use Rattle.machine_defs.proofs.ActionLists.{split_get}
-use Rattle.machine_defs.proofs.Damaged.{first_behind}
-use Rattle.machine_defs.proofs.Held.{contains_in}
-use Rattle.machine_defs.proofs.JobEnds.{job_ends_so}
-use Rattle.machine_defs.proofs.Lone.{ended_of_kind}
 use Rattle.machine_defs.proofs.Numbers.{next_by, next_is_by}
-use Rattle.machine_defs.proofs.StepEnds.{event_end}
 use Rattle.second_half_laws.specs.Whole.{AuditIsWhole}
-use Rattle.second_half_laws.proofs.EveryRun.{always}
 use Rattle.second_half_laws.proofs.MadeFacts as made
-use Rattle.second_half_laws.proofs.Places.{asks_all, ask_at}
-use Rattle.outcome_laws.specs.RunEnds.{EndsAudit}
 use Rattle.outcome_laws.proofs.Begun.{as_begun}
 
 -- ---- an audit at its end has made its asks

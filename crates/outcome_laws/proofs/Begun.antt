@@ -1,17 +1,9 @@
 -- A running job works on the files of its begin, and a repair has the number of the audit that was due then.
-use Rattle.std.proofs.Common.{◌≡◌, ℕ, List, [], ◌∷◌, length, Some, None, refl, ap, sym, subst, ◌∙◌, arith}
-use Rattle.record_defs.specs.Table.{Due, due_of}
-use Rattle.machine_defs.specs.Jobs.{RepairJob, Job, job_of}
-use Rattle.machine_defs.specs.States.{State, IsStart}
-use Rattle.machine_defs.specs.Begins.{refusal_of_begin, pinned_for, due_number, subject_at_begin}
-use Rattle.machine_defs.specs.Appends.{subject_drawn}
+use Rattle.outcome_laws.proofs.Words.{◌≡◌, ℕ, List, [], ◌∷◌, length, Some, None, refl, ap, sym, subst, ◌∙◌, arith, Due, due_of, RepairJob, Job, job_of, IsStart, refusal_of_begin, pinned_for, due_number, subject_at_begin, subject_drawn, Job_is, Changes, All, all, first_more, first_all, repair_due, begin_of}
+use Rattle.machine_defs.specs.States.{State}
 use Rattle.machine_defs.specs.Runs.{Moment, now, first_moments, IsRun}
 use Rattle.machine_defs.proofs.JobLists.{found_none}
-use Rattle.machine_defs.proofs.Changes.{Job_is, Changes}
 use Rattle.machine_defs.proofs.Events.{changes}
-use Rattle.machine_defs.proofs.Held.{All, all, first_more, first_all}
-use Rattle.second_half_laws.proofs.EveryRun.{repair_due}
-use Rattle.second_half_laws.proofs.Points.{begin_of}
 
 -- a job has the files of its begin, and a repair the number of the due audit
 pub record AsBegun (start : State) (ms : List Moment) (j : Job) : Type 0 where

@@ -1,3 +1,4 @@
+mod Words
 pub mod Listings
 pub mod Begun
 pub mod LostRepairs

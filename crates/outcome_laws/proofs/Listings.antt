@@ -1,9 +1,6 @@
 -- What a list of the names gives.
-use Rattle.std.proofs.Common.{◌≡◌, ℕ, true, false, List, ◌∷◌, length, refl, ap, subst}
-use Rattle.record_defs.specs.Table.{files_of}
-use Rattle.machine_defs.specs.Events.{Event, Names, Outcome, Listed, Closed}
+use Rattle.outcome_laws.proofs.Words.{◌≡◌, ℕ, true, false, List, ◌∷◌, length, refl, ap, subst, files_of, Event, Names, Outcome, Listed, Closed, Lists, Happens}
 use Rattle.machine_defs.specs.States.{State}
-use Rattle.machine_defs.specs.Machine.{Lists, Happens}
 use Rattle.machine_defs.specs.Runs.{Moment, now, IsRun}
 
 listed : (old new : State) (r : Outcome) → Lists old true r new → r ≡ Listed (files_of old.records)

@@ -1,33 +1,20 @@
 -- A repair that relies on providers is lost only where a provider's count rose.
-use Rattle.std.proofs.Common.{◌≡◌, ℕ, ◌<◌, ◌≤◌, Bool, true, List, length, Some, refl, sym, subst, inl, inr, arith}
+use Rattle.outcome_laws.proofs.Words.{◌≡◌, ℕ, ◌<◌, ◌≤◌, Bool, true, List, length, Some, refl, sym, subst, inl, inr, arith, LosesRow, block_at, Pinned, Job, job_of, profiled, stripes_of, pinned_stripes, Fetch, Work, IsStart, pinned_object, worked_object, block_given, blocks_given, next_action, Mark, relies, replaced_count, runs_shape, RoseSince, always, worked_is, fetched_before_work, Facts, begin_of, mark_of, some_rose}
 use Rattle.std.specs.Prelude.{IsTrue}
 use Rattle.algebra_laws.specs.Lists.{In}
 use Rattle.code_defs.specs.Points.{upto}
 use Rattle.column_defs.specs.Objects.{Object, symbols_in}
 use Rattle.column_defs.specs.Columns.{row_polynomial, is_wrong_block}
-use Rattle.column_defs.specs.Opened.{LosesRow, block_at}
 use Rattle.column_defs.specs.Forgeries.{count_of}
 use Rattle.column_laws.proofs.Counts.{count_of-within}
 use Rattle.column_laws.proofs.UniqueLaws.{profile-room}
 use Rattle.column_laws.proofs.RightRows.{row-right}
-use Rattle.machine_defs.specs.Jobs.{Pinned, Job, job_of}
-use Rattle.machine_defs.specs.Setups.{profiled, stripes_of, pinned_stripes}
-use Rattle.machine_defs.specs.Actions.{Fetch, Work}
-use Rattle.machine_defs.specs.States.{State, IsStart, setup_in, pinned_object, worked_object}
-use Rattle.machine_defs.specs.Given.{block_given, blocks_given}
-use Rattle.machine_defs.specs.Steps.{next_action}
+use Rattle.machine_defs.specs.States.{State, setup_in}
 use Rattle.machine_defs.specs.Runs.{Moment, now, is_replaced_since, IsRun}
-use Rattle.machine_defs.specs.Calm.{Mark, relies, replaced_count}
 use Rattle.machine_defs.proofs.Given.{block_at-given}
-use Rattle.run_laws.proofs.FirstHalf.{runs_shape}
 use Rattle.second_half_laws.specs.Behind.{HasMade}
-use Rattle.second_half_laws.specs.Damage.{RoseSince}
-use Rattle.second_half_laws.proofs.EveryRun.{always, worked_is}
 use Rattle.second_half_laws.proofs.MadeFacts.{given_block, made_fetch_gave}
 use Rattle.second_half_laws.proofs.MovePlaces.{works_within}
-use Rattle.second_half_laws.proofs.Places.{fetched_before_work}
-use Rattle.second_half_laws.proofs.Points.{Facts, begin_of, mark_of}
-use Rattle.second_half_laws.proofs.SecondHalf.{some_rose}
 
 -- ---- the work of a job that relies on providers
 

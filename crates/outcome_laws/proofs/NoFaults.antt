@@ -1,11 +1,9 @@
 -- In the run with damage no count rises while the repair runs.
-use Rattle.std.proofs.Common.{◌≡◌, ℕ, ◌<◌, refl, arith}
+use Rattle.outcome_laws.proofs.Words.{◌≡◌, ℕ, ◌<◌, refl, arith, set_up, run_of, lose, audited, repaired, NoneRose}
 use Rattle.device_defs.specs.Faults.{Rose, last_count}
-use Rattle.damage_run.specs.Words.{State, now, set_up, run_of}
+use Rattle.damage_run.specs.Words.{State, now}
 use Rattle.made_runs.specs.Counts.{SameCounts, AreWell}
 use Rattle.made_runs.proofs.Counts.{called-same, counts-stay}
-use Rattle.damage_run.proofs.Run.{lose, audited, repaired}
-use Rattle.outcome_laws.specs.RunEnds.{NoneRose}
 
 -- a count that is 0 at both ends did not rise
 still : (a b : ℕ) → a ≡ 0 → b ≡ 0 → Rose a b → ⊥

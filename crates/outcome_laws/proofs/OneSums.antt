@@ -1,10 +1,8 @@
 -- The sums of an audit are one.
-use Rattle.std.proofs.Common.{◌≡◌, sym}
+use Rattle.outcome_laws.proofs.Words.{◌≡◌, sym, Job, HasSums}
 use Rattle.hail_field.specs.Shape.{IsShape}
 use Rattle.column_defs.specs.Verdicts.{Sums}
 use Rattle.record_defs.specs.Records.{Setup}
-use Rattle.machine_defs.specs.Jobs.{Job}
-use Rattle.machine_defs.specs.Audits.{HasSums}
 use Rattle.run_laws.proofs.Sums.{sums-one}
 use Rattle.second_half_laws.proofs.Finals.{sums_same}
 

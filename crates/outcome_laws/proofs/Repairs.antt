@@ -1,35 +1,9 @@
 -- How a repair ends in a run that is calm by a mark.
-use Rattle.std.proofs.Common.{◌≡◌, ℕ, ◌<◌, Bool, true, false, List, ◌∷◌, ◌++◌, length, Option, Some, None, refl, ap, sym, subst, ◌∙◌, inl}
-use Rattle.column_defs.specs.Opened.{LosesRow}
-use Rattle.record_defs.specs.Table.{Due, due_of}
-use Rattle.machine_defs.specs.Jobs.{Kind, PutJob, GetJob, DropJob, AuditJob, RepairJob, UpgradeJob, Job, job_of}
-use Rattle.machine_defs.specs.Actions.{Action, WriteBody, SyncBody, WriteGate, SyncGate, Store, Fetch, Ask, Work, Remove, End}
+use Rattle.outcome_laws.proofs.Words.{◌≡◌, ℕ, ◌<◌, Bool, true, false, List, ◌∷◌, ◌++◌, length, Option, Some, None, refl, ap, sym, subst, ◌∙◌, inl, LosesRow, Due, due_of, Kind, PutJob, GetJob, DropJob, AuditJob, RepairJob, UpgradeJob, Job, job_of, Action, WriteBody, SyncBody, WriteGate, SyncGate, Store, Fetch, Ask, Work, Remove, End, Answer, Event, Begin, Step, Outcome, Begun, Ended, Append, Alone, worked_object, blocks_given, Moves, Ends, next_action, holder_of, Acts, ActsOrWaits, StepsOn, StepsJob, StepsOne, StepsOpen, Steps, Happens, Mark, relies, NoneBegan, EndsSo, IsLone, first_behind, all, job_ends_so, ended_of_kind, event_end, RoseSince, IsMarkedRun, run_onward, begin_of, rose_on, calm_now, marked_facts, EndsRepair}
 use Rattle.machine_defs.specs.Answers as answer
-use Rattle.machine_defs.specs.Answers.{Answer}
-use Rattle.machine_defs.specs.Events.{Event, Begin, Step, Outcome, Begun, Ended}
-use Rattle.machine_defs.specs.States.{State, Append, Alone, setup_in, worked_object}
-use Rattle.machine_defs.specs.Given.{blocks_given}
-use Rattle.machine_defs.specs.Appends.{Moves}
-use Rattle.machine_defs.specs.Steps.{Ends, next_action, holder_of, Acts, ActsOrWaits, StepsOn, StepsJob, StepsOne, StepsOpen, Steps}
-use Rattle.machine_defs.specs.Machine.{Happens}
+use Rattle.machine_defs.specs.States.{State, setup_in}
 use Rattle.machine_defs.specs.Runs.{Moment, now, first_moments}
-use Rattle.machine_defs.specs.Calm.{Mark, relies}
-use Rattle.machine_defs.specs.Began.{NoneBegan}
-use Rattle.machine_defs.specs.JobEnds.{EndsSo}
-use Rattle.machine_defs.proofs.Changes.{IsLone}
-use Rattle.machine_defs.proofs.Damaged.{first_behind}
-use Rattle.machine_defs.proofs.Held.{all}
-use Rattle.machine_defs.proofs.JobEnds.{job_ends_so}
-use Rattle.machine_defs.proofs.Lone.{ended_of_kind}
-use Rattle.machine_defs.proofs.StepEnds.{event_end}
-use Rattle.second_half_laws.specs.Damage.{RoseSince}
-use Rattle.second_half_laws.specs.MarkedRuns.{IsMarkedRun}
 use Rattle.second_half_laws.proofs.GetEnds.{none_beside}
-use Rattle.second_half_laws.proofs.Onward.{run_onward}
-use Rattle.second_half_laws.proofs.Points.{begin_of}
-use Rattle.second_half_laws.proofs.Readers.{rose_on}
-use Rattle.second_half_laws.proofs.SecondHalf.{calm_now, marked_facts}
-use Rattle.outcome_laws.specs.RunEnds.{EndsRepair}
 use Rattle.outcome_laws.proofs.Begun.{as_begun}
 use Rattle.outcome_laws.proofs.LostRepairs.{count_rose}
 

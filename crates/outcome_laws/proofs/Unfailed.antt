@@ -1,19 +1,8 @@
 -- A repair in a run that is calm by a mark, where no count rose since its begin.
-use Rattle.std.proofs.Common.{◌≡◌, ℕ, ◌≤◌, ◌⊎◌, List, [], ◌∷◌, ◌++◌, Some, refl, ap, inl, inr, arith}
-use Rattle.record_defs.specs.Table.{Due, due_of}
-use Rattle.machine_defs.specs.Jobs.{RepairJob}
+use Rattle.outcome_laws.proofs.Words.{◌≡◌, ℕ, ◌≤◌, ◌⊎◌, List, [], ◌∷◌, ◌++◌, Some, refl, ap, inl, inr, arith, Due, due_of, RepairJob, Answer, Begin, Step, Begun, Ended, Mark, NoneBegan, run_back, IsMarkedRun, run_onward, rose_since, NoneRose, EndsRepair}
 use Rattle.machine_defs.specs.Answers as answer
-use Rattle.machine_defs.specs.Answers.{Answer}
-use Rattle.machine_defs.specs.Events.{Begin, Step, Begun, Ended}
 use Rattle.machine_defs.specs.States.{State}
 use Rattle.machine_defs.specs.Runs.{Moment, now, IsRun}
-use Rattle.machine_defs.specs.Calm.{Mark}
-use Rattle.machine_defs.specs.Began.{NoneBegan}
-use Rattle.machine_defs.proofs.Untouched.{run_back}
-use Rattle.second_half_laws.specs.MarkedRuns.{IsMarkedRun}
-use Rattle.second_half_laws.proofs.Onward.{run_onward}
-use Rattle.second_half_laws.proofs.Readers.{rose_since}
-use Rattle.outcome_laws.specs.RunEnds.{NoneRose, EndsRepair}
 use Rattle.outcome_laws.proofs.Repairs.{repairs_end}
 
 -- counts never fall

@@ -5,7 +5,8 @@ ghost use Rattle.provider_model.specs.Seen.{provider_seen};
 ghost use Rattle.provider_server.specs.Answers.{AnswersServe};
 ghost use Rattle.provider_server.specs.Statuses.{served_ending};
 
-use crate::status::{Served, TOO_FEW_PROVIDERS, told};
+use crate::status::{Served, told};
+use exit_statuses::TOO_FEW_PROVIDERS;
 use provider_model::Provider;
 use provider_wire::laws::counts_never_fall;
 use provider_wire::serve;

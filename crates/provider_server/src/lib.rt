@@ -7,5 +7,6 @@ mod status;
 mod words;
 
 pub use command::serve_at;
-pub use status::{BAD_FRAME, Served};
+pub use exit_statuses::BAD_FRAME;
+pub use status::Served;
 pub use words::read_serve;

@@ -3,28 +3,11 @@ ghost use Rattle.std.specs.Prelude.{◌≡◌};
 ghost use Rattle.provider_wire.specs.Ends.{end_of};
 ghost use Rattle.provider_server.specs.Answers.{served_status, place_of};
 
+use exit_statuses::{BAD_FRAME, NO_MEMORY, SINK_FAULT, SOURCE_FAULT, TOO_LONG};
 use provider_wire::ServeEnd;
 
 /// The source was read to its end, and every request answered.
 const DONE: u8 = 0;
-
-/// A read of the source failed.
-const SOURCE_FAULT: u8 = 14;
-
-/// A write to the sink failed.
-const SINK_FAULT: u8 = 15;
-
-/// The source gave more bytes than are served.
-const TOO_LONG: u8 = 16;
-
-/// Too few providers were handed in.
-pub const TOO_FEW_PROVIDERS: u8 = 22;
-
-/// The bytes from an offset on begin no request.
-pub const BAD_FRAME: u8 = 25;
-
-/// There was no memory.
-const NO_MEMORY: u8 = 70;
 
 /// How a server ended: its status, and at the status of a bad frame the offset of its first byte, at every
 /// other 0.

@@ -1,14 +1,6 @@
 -- The answer to a request over a link that tells what is behind it.
-use Rattle.std.proofs.Common.{◌≡◌, ◌≢◌, ℕ, ◌*◌, Bool, true, false, List, [], ◌∷◌, length, Option, Some, None, refl, sym, ap, subst, ◌∙◌, arith}
-use Rattle.std.specs.Prelude.{◌==◌, if◌then◌else◌}
-use Rattle.std.proofs.lemmas.Bool.{eqb-true}
-use Rattle.device_defs.specs.Told.{Goes}
-use Rattle.device_defs.specs.Providers.{sized}
-use Rattle.column_defs.proofs.SymbolBytes.{length-bytes_of_symbols}
-use Rattle.wire_defs.specs.Requests.{Request, Store, Fetch, Ask, Remove, SpellsRequest}
-use Rattle.wire_defs.specs.Replies.{Reply, Done, Found, Missing, Failed, NoMemory, AnswersRequest, reply_bytes}
-use Rattle.wire_defs.specs.Links.{Behind, Sends, provider_behind}
-use Rattle.provider_wire.specs.Linked.{AskedFor, answer_size, first_byte_of, tail_of}
+use Rattle.provider_wire.proofs.Words.{◌≡◌, ◌≢◌, ℕ, ◌*◌, Bool, true, false, List, [], ◌∷◌, length, refl, sym, ap, subst, ◌∙◌, arith, ◌==◌, if◌then◌else◌, eqb-true, Goes, sized, length-bytes_of_symbols, Request, Store, Fetch, Ask, Remove, SpellsRequest, Reply, Done, Found, Missing, Failed, NoMemory, AnswersRequest, reply_bytes, Behind, Sends, provider_behind, AskedFor, answer_size, first_byte_of, tail_of}
+use Rattle.std.proofs.Common.{Option, Some, None}
 
 -- an answer is its first byte and the bytes behind it
 pub parts_of : (a : Reply) → reply_bytes a ≡ first_byte_of a ∷ tail_of a

@@ -1,11 +1,5 @@
 -- Bytes that are bad stay so under more bytes, and begin no request.
-use Rattle.std.proofs.Common.{◌≡◌, ℕ, ◌+◌, ◌<◌, ◌≤◌, ◌^◌, Bool, true, false, cond, List, [], ◌∷◌, ◌++◌, length, take, drop, get_or, refl, sym, ap, ◌∙◌, arith, append_assoc, length-append, length-drop}
-use Rattle.std.specs.Prelude.{◌&&◌, ◌||◌, not, ◌==◌}
-use Rattle.std.specs.Int.{w64, to_le_bytes, from_le_bytes}
-use Rattle.std.proofs.lemmas.Bool.Decides.{nat_tests}
-use Rattle.std.proofs.lemmas.List.{take-append-le, drop-append-le, drop_at, get_or_append_left, get_or-append_right}
-use Rattle.wire_defs.specs.Requests.{Request, Store, Fetch, Ask, Remove, SpellsNoRequest, is_within, is_request, misses, number_misses, is_bad_request, request_bytes}
-use Rattle.record_codec.proofs.Fields.{wide64}
+use Rattle.provider_wire.proofs.Words.{◌≡◌, ℕ, ◌+◌, ◌<◌, ◌≤◌, ◌^◌, Bool, true, false, cond, List, [], ◌∷◌, ◌++◌, length, take, drop, get_or, refl, sym, ap, ◌∙◌, arith, append_assoc, length-append, length-drop, ◌&&◌, ◌||◌, not, ◌==◌, w64, to_le_bytes, from_le_bytes, nat_tests, take-append-le, drop-append-le, drop_at, get_or_append_left, get_or-append_right, Request, Store, Fetch, Ask, Remove, SpellsNoRequest, is_within, is_request, misses, number_misses, is_bad_request, request_bytes, wide64}
 
 and_grows : (a b c d : Bool) → (a && b) ≡ true → (a ≡ true → c ≡ true) → (b ≡ true → d ≡ true) →
     (c && d) ≡ true

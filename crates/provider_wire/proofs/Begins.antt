@@ -1,14 +1,6 @@
 -- When the bytes at hand begin no request.
-use Rattle.std.proofs.Common.{◌≡◌, ℕ, suc, ◌*◌, ◌<◌, ◌≤◌, ◌^◌, true, false, List, [], ◌∷◌, length, take, drop, get_or, Option, Some, refl, sym, ap, subst, ◌∙◌, arith, length-drop, ◌⊎◌, inl, inr}
-use Rattle.std.specs.Int.{Width, w32, w64, byte_len, from_le_bytes}
-use Rattle.std.proofs.Math.Seq.{drop-cons}
-use Rattle.std.proofs.lemmas.Bool.{le-ltb, cases_lt, or_parts}
-use Rattle.std.proofs.lemmas.Bool.Decides.{nat_tests}
-use Rattle.std.proofs.lemmas.List.{drop-drop}
-use Rattle.wire_defs.specs.Requests.{is_within, misses, number_misses, is_bad_request, request_bytes, SpellsNoRequest}
-use Rattle.record_codec.specs.Reading.{◌>>=◌, number_at}
-use Rattle.record_codec.proofs.Fields.{IsBytes}
-use Rattle.provider_wire.specs.Reading.{within_at, block_read_at, store_at, fetch_at, seed_at, rows_at, challenge_read_at, ask_at, remove_at, request_at}
+use Rattle.provider_wire.proofs.Words.{◌≡◌, ℕ, suc, ◌*◌, ◌<◌, ◌≤◌, ◌^◌, true, false, List, [], ◌∷◌, length, take, drop, get_or, refl, sym, ap, subst, ◌∙◌, arith, length-drop, ◌⊎◌, inl, inr, Width, w32, w64, byte_len, from_le_bytes, drop-cons, le-ltb, cases_lt, or_parts, nat_tests, drop-drop, is_within, misses, number_misses, is_bad_request, request_bytes, SpellsNoRequest, ◌>>=◌, number_at, IsBytes, within_at, block_read_at, store_at, fetch_at, seed_at, rows_at, challenge_read_at, ask_at, remove_at, request_at}
+use Rattle.std.proofs.Common.{Option, Some}
 use Rattle.provider_wire.proofs.Takes.{request_takes}
 
 -- ---- bytes that are long enough, and not bad, begin a request

@@ -1,13 +1,8 @@
 -- When a count of faults rose in a call, from what its parts did.
-use Rattle.std.proofs.Common.{◌≡◌, ◌≤◌, ℕ, Bool, true, false, refl, sym, ap, ◌∙◌, le_trans}
-use Rattle.std.specs.Prelude.{Ok, Err, IsErrOf}
-use Rattle.device_defs.specs.Faults.{HasCause}
-use Rattle.stream_model.specs.declared.fault.WriteFault.{WriteFault}
+use Rattle.provider_wire.proofs.Words.{◌≡◌, ◌≤◌, ℕ, Bool, true, false, refl, sym, ap, ◌∙◌, le_trans, IsErrOf, HasCause, WriteFault, ServeEnd, rose-before, end_after}
+use Rattle.std.specs.Prelude.{Ok, Err}
 use Rattle.stream_model.specs.declared.fault.WriteFault.TheVariants as write_fault
-use Rattle.provider_wire.specs.declared.end.ServeEnd.{ServeEnd}
 use Rattle.provider_wire.specs.declared.end.ServeEnd.TheVariants as serve_end
-use Rattle.device_defs.proofs.Lasting.{rose-before}
-use Rattle.provider_wire.specs.Ends.{end_after}
 
 -- a call that is no fault says of its count only that it did not fall
 pub no_fault : {before now : ℕ} {F : Type 0} → before ≤ now → (F → ⊥) → HasCause before now F

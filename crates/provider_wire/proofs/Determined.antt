@@ -1,13 +1,6 @@
 -- What the answers to requests are, where no call fails, and how many say that one did.
-use Rattle.std.proofs.Common.{◌≡◌, ℕ, ◌+◌, ◌<◌, ◌≤◌, List, [], ◌∷◌, ◌++◌, Option, Some, None, refl, ap, subst, ◌∙◌, arith, ◌⊎◌, inl, inr, ⊎_elim}
-use Rattle.std.specs.Prelude.{if◌then◌else◌}
-use Rattle.std.specs.Option.{option_map}
-use Rattle.column_defs.specs.Challenges.{honest_answer}
-use Rattle.device_defs.specs.Faults.{last_count, Rose}
-use Rattle.device_defs.specs.Providers.{Held, Provider, with_block, without_object}
-use Rattle.device_defs.specs.ProviderCalls.{FetchGives, AskGives}
-use Rattle.wire_defs.specs.Requests.{Request, Store, Fetch, Ask, Remove}
-use Rattle.wire_defs.specs.Replies.{Reply, Done, Found, Missing, Failed, NoMemory, AnswersRequest, Serves, AreClean, is_failed, failed_count, found, reply_to, held_after, served, reply_bytes, replies_text}
+use Rattle.provider_wire.proofs.Words.{◌≡◌, ℕ, ◌+◌, ◌<◌, ◌≤◌, List, [], ◌∷◌, ◌++◌, refl, ap, subst, ◌∙◌, arith, ◌⊎◌, inl, inr, ⊎_elim, if◌then◌else◌, option_map, honest_answer, last_count, Rose, Held, Provider, with_block, without_object, FetchGives, AskGives, Request, Store, Fetch, Ask, Remove, Reply, Done, Found, Missing, Failed, NoMemory, AnswersRequest, Serves, AreClean, is_failed, failed_count, found, reply_to, held_after, served, reply_bytes, replies_text}
+use Rattle.std.proofs.Common.{Option, Some, None}
 
 -- the answer to one request
 answer_is : (r : Request) (a : Reply) (old new : Provider) (held : Held) → old.held ≡ Some held →

@@ -1,14 +1,5 @@
 -- The bytes of requests, piece by piece.
-use Rattle.std.proofs.Common.{◌≡◌, ℕ, suc, ◌<◌, ◌≤◌, ◌^◌, true, List, [], ◌∷◌, ◌++◌, length, refl, ap, ◌∙◌, arith, append_assoc}
-use Rattle.std.specs.Prelude.{◌&&◌, nat_lt, ◌==◌, All}
-use Rattle.std.specs.Int.{w64, to_le_bytes}
-use Rattle.std.specs.List.{list_all}
-use Rattle.std.proofs.lemmas.Bool.{lt-ltb}
-use Rattle.std.proofs.lemmas.Bool.Decides.{nat_tests}
-use Rattle.column_defs.specs.Challenges.{Challenge}
-use Rattle.column_defs.specs.Objects.{bytes_of_symbols}
-use Rattle.device_defs.specs.Told.{IsByte}
-use Rattle.wire_defs.specs.Requests.{Store, Fetch, Ask, Remove, SpellsRequest, request_bytes, place_bytes, is_within}
+use Rattle.provider_wire.proofs.Words.{◌≡◌, ℕ, suc, ◌<◌, ◌≤◌, ◌^◌, true, List, [], ◌∷◌, ◌++◌, length, refl, ap, ◌∙◌, arith, append_assoc, ◌&&◌, nat_lt, ◌==◌, All, w64, to_le_bytes, list_all, lt-ltb, nat_tests, Challenge, bytes_of_symbols, IsByte, Store, Fetch, Ask, Remove, SpellsRequest, request_bytes, place_bytes, is_within}
 
 -- numbers that are all below a limit pass the test for it
 pub all_below : (limit : ℕ) (xs : List ℕ) → All (λ x. x < limit) xs → list_all (λ x. nat_lt x limit) xs ≡ true

@@ -1,8 +1,6 @@
 -- What a fetch and an ask give, where they give something.
-use Rattle.std.proofs.Common.{◌≡◌, ◌↔◌, ◌<◌, ◌^◌, ℕ, Bool, true, false, List, length, Option, Some, None, subst}
-use Rattle.std.specs.Prelude.{IsTrue, IfSome, All}
-use Rattle.device_defs.specs.Providers.{Held, HasSize}
-use Rattle.device_defs.specs.ProviderCalls.{FetchGives, AskGives}
+use Rattle.provider_wire.proofs.Words.{◌≡◌, ◌↔◌, ◌<◌, ◌^◌, ℕ, Bool, true, false, List, length, subst, IsTrue, IfSome, All, Held, HasSize, FetchGives, AskGives}
+use Rattle.std.proofs.Common.{Option, Some, None}
 use Rattle.provider_model.proofs.Fetches.{given}
 
 fetched : (held : Option Held) (size object stripe : ℕ) (out : List ℕ)

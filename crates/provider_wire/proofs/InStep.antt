@@ -1,8 +1,6 @@
 -- A provider over a link stays in step where the link tells what is behind it.
-use Rattle.std.proofs.Common.{◌≡◌, ℕ, Bool, true, false, List, [], Option, Some, None, refl, sym, ap, ◌∙◌}
-use Rattle.wire_defs.specs.Requests.{Request}
-use Rattle.wire_defs.specs.Links.{Behind}
-use Rattle.provider_wire.specs.Linked.{AskedFor, out_of_step}
+use Rattle.provider_wire.proofs.Words.{◌≡◌, ℕ, Bool, true, false, List, [], refl, sym, ap, ◌∙◌, Request, Behind, AskedFor, out_of_step}
+use Rattle.std.proofs.Common.{Option, Some, None}
 
 -- a link that is in step is not broken, and no answer is due
 pub idle : (b : Behind) (behind : Option Behind) (broken : Bool) → behind ≡ Some b →

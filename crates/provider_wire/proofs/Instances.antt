@@ -1,10 +1,6 @@
 -- A removal of the object 1, and a byte 9 behind it.
-use Rattle.std.proofs.Common.{[], ◌∷◌, Some, refl, arith, inl}
-use Rattle.device_defs.specs.Providers.{Held, without_object}
-use Rattle.wire_defs.specs.Requests.{Remove, AreFrames, request_bytes}
-use Rattle.wire_defs.specs.Replies.{Done, Serves}
-use Rattle.wire_defs.specs.Links.{provider_behind}
-use Rattle.wire_defs.specs.Serving.{BadAt, HasServed}
+use Rattle.provider_wire.proofs.Words.{[], ◌∷◌, refl, arith, inl, Held, without_object, Remove, AreFrames, request_bytes, Done, Serves, provider_behind, BadAt, HasServed}
+use Rattle.std.proofs.Common.{Some}
 use Rattle.provider_wire.specs.Loops.{idle}
 
 -- nine bytes that are the one request to remove object 1

@@ -1,3 +1,4 @@
+mod Words
 pub mod Symbols
 pub mod Takes
 pub mod Given

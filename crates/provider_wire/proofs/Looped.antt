@@ -1,14 +1,6 @@
 -- What a link to a provider in the same program tells.
-use Rattle.std.proofs.Common.{◌≡◌, ℕ, ◌<◌, List, [], ◌∷◌, length, Option, Some, None, is_some, sym, ap, subst, ◌∙◌, arith}
-use Rattle.std.specs.Option.{option_map}
-use Rattle.std.proofs.lemmas.List.{append-nil}
-use Rattle.algebra_laws.proofs.Options.{is_some-option_map}
-use Rattle.device_defs.specs.Told.{Goes}
-use Rattle.device_defs.specs.Providers.{Held, Provider, LosesPart}
-use Rattle.device_defs.proofs.Lasting.{is_some-goes}
-use Rattle.wire_defs.specs.Requests.{Request, Store, Fetch, Ask, Remove, SpellsRequest, request_bytes}
-use Rattle.wire_defs.specs.Replies.{Reply, Done, Found, Missing, Failed, NoMemory, AnswersRequest, AnswersIn}
-use Rattle.wire_defs.specs.Links.{Behind, Sends}
+use Rattle.provider_wire.proofs.Words.{◌≡◌, ℕ, ◌<◌, List, [], ◌∷◌, length, is_some, sym, ap, subst, ◌∙◌, arith, option_map, append-nil, is_some-option_map, Goes, Held, Provider, LosesPart, is_some-goes, Request, Store, Fetch, Ask, Remove, SpellsRequest, request_bytes, Reply, Done, Found, Missing, Failed, NoMemory, AnswersRequest, AnswersIn, Behind, Sends}
+use Rattle.std.proofs.Common.{Option, Some, None}
 use Rattle.provider_wire.proofs.Takes.{one_front}
 
 -- a provider that tells what it holds goes on to tell it, and one that does not never begins to

@@ -1,13 +1,6 @@
 -- Bytes are the text of one list of requests, up to where they begin none; and a server of them has one end.
-use Rattle.std.proofs.Common.{◌≡◌, ◌≢◌, ◌⊎◌, inl, inr, ℕ, ◌+◌, ◌-◌, ◌<◌, ◌≤◌, true, false, List, [], ◌∷◌, ◌++◌, length, take, Option, Some, None, refl, sym, ap, subst, ◌∙◌, arith, append_assoc, length-append}
-use Rattle.std.specs.List.{list_all}
-use Rattle.std.proofs.Math.Seq.{take-append-add}
-use Rattle.std.proofs.lemmas.Bool.{cases_lt, and_from, and_parts}
-use Rattle.std.proofs.lemmas.List.{append-nil, take_all, take-append-le}
-use Rattle.device_defs.specs.Providers.{Provider}
-use Rattle.device_defs.specs.Told.{then_told}
-use Rattle.wire_defs.specs.Requests.{Request, SpellsNoRequest, AreFrames, is_request, is_bad_request, request_bytes, requests_text}
-use Rattle.wire_defs.specs.Serving.{most_bytes, End, Finished, BadAt, TooMany, SourceFailed, SinkFailed, OutOfMemory, HasServed, IsAtEnd, IsOfBytes, EndsOf, within_limit}
+use Rattle.provider_wire.proofs.Words.{◌≡◌, ◌≢◌, ◌⊎◌, inl, inr, ℕ, ◌+◌, ◌-◌, ◌<◌, ◌≤◌, true, false, List, [], ◌∷◌, ◌++◌, length, take, refl, sym, ap, subst, ◌∙◌, arith, append_assoc, length-append, list_all, take-append-add, cases_lt, and_from, and_parts, append-nil, take_all, take-append-le, Provider, then_told, Request, SpellsNoRequest, AreFrames, is_request, is_bad_request, request_bytes, requests_text, most_bytes, End, Finished, BadAt, TooMany, SourceFailed, SinkFailed, OutOfMemory, HasServed, IsAtEnd, IsOfBytes, EndsOf, within_limit}
+use Rattle.std.proofs.Common.{Option, Some, None}
 use Rattle.provider_wire.proofs.Takes.{one_front}
 use Rattle.provider_wire.proofs.Progress.{nothing_spells}
 use Rattle.provider_wire.proofs.BadBytes.{bad-grows, bad-none}

@@ -1,22 +1,10 @@
 -- What the answer to each request says, by its first byte.
-use Rattle.std.proofs.Common.{◌≡◌, ◌≢◌, ℕ, ◌<◌, ◌+◌, ◌^◌, Bool, true, false, List, [], ◌∷◌, length, Option, Some, None, refl, sym, ap, subst, ◌∙◌, arith}
-use Rattle.std.specs.Prelude.{◌&&◌, not, min, All}
-use Rattle.std.specs.Option.{option_eq}
-use Rattle.std.proofs.Common.{eqb, eq-eqb}
-use Rattle.std.proofs.lemmas.Bool.{eqb-true, lt-ltb}
-use Rattle.provider_wire.specs.Reading.{symbols_read}
+use Rattle.provider_wire.proofs.Words.{◌≡◌, ◌≢◌, ℕ, ◌<◌, ◌+◌, ◌^◌, Bool, true, false, List, [], ◌∷◌, length, refl, sym, ap, subst, ◌∙◌, arith, ◌&&◌, not, All, option_eq, eqb, eq-eqb, eqb-true, lt-ltb, symbols_read, bytes_of_symbols, last_count, Provider, Stores, FailsToStore, FindsNoMemory, RemovesAll, FailsToRemove, Request, Store, Fetch, Ask, Remove, Reply, Done, Found, Missing, Failed, NoMemory, AnswersRequest, FetchesAs, FailsToFetch, AsksAs, FailsToAnswer, Behind, provider_behind, Challenge, honest_answer, SpellsRequest, answer_size, AskedFor, first_byte_of, tail_of, seen_behind, out_of_step}
+use Rattle.std.proofs.Common.{Option, Some, None}
+use Rattle.std.specs.Prelude.{min}
 use Rattle.provider_wire.proofs.Symbols.{symbols-bytes}
 use Rattle.provider_wire.proofs.Framed.{all_below}
 use Rattle.provider_wire.proofs.Asked.{sized-length}
-use Rattle.column_defs.specs.Objects.{bytes_of_symbols}
-use Rattle.device_defs.specs.Faults.{last_count}
-use Rattle.device_defs.specs.Providers.{Provider}
-use Rattle.device_defs.specs.ProviderCalls.{Stores, FailsToStore, FindsNoMemory, RemovesAll, FailsToRemove}
-use Rattle.wire_defs.specs.Requests.{Request, Store, Fetch, Ask, Remove}
-use Rattle.wire_defs.specs.Replies.{Reply, Done, Found, Missing, Failed, NoMemory, AnswersRequest, FetchesAs, FailsToFetch, AsksAs, FailsToAnswer}
-use Rattle.wire_defs.specs.Links.{Behind, provider_behind}
-use Rattle.column_defs.specs.Challenges.{Challenge, honest_answer}
-use Rattle.provider_wire.specs.Linked.{AskedFor, first_byte_of, tail_of, seen_behind, out_of_step}
 use Rattle.provider_wire.proofs.Counting.{one_more_is}
 
 -- ---- by the answer itself
@@ -132,32 +120,45 @@ is_other (Some x) k n e is =
 same_kind : (result : Option ℕ) (k n : ℕ) → option_eq eqb result (Some k) ≡ true → result ≡ Some n → k ≡ n
 same_kind result k n e is = let h = sym (is_kind result k e) ∙ is in (let g : k ≡ n = cc in g)
 
+-- what is known of a request over a link, once its answer came
+pub record Heard (r : Request) (old now : Option Behind) (result : Option ℕ) (tail : List ℕ) : Type 0 where
+  pub told : (b : Behind) → old ≡ Some b → AskedFor r result tail b now
+  pub untold : old ≡ None → now ≡ None
+
+-- the bytes that were sent spell it
+pub heard : {r : Request} {bytes frame tail : List ℕ} {old now : Option Behind} {result : Option ℕ} {room : ℕ}
+    → ((b : Behind) (q : Request) → old ≡ Some b → SpellsRequest bytes q → room ≡ answer_size q →
+    AskedFor q result tail b now) → (old ≡ None → now ≡ None) → bytes ≡ frame → SpellsRequest frame r →
+    room ≡ answer_size r → Heard r old now result tail
+heard {r = r} told untold same spells size = record {
+  told = λ b is. told b r is (subst (λ (l : List ℕ). SpellsRequest l r) (sym same) spells) size;
+  untold = untold;
+}
+
 -- what is known of a provider over a link, by whether the link tells what is behind it
 through : (r : Request) (old now : Option Behind) (result : Option ℕ) (tail : List ℕ)
-    (P : Provider → Provider → Type 0) (s o f s' o' f' : ℕ)
-    → ((b : Behind) → old ≡ Some b → AskedFor r result tail b now) → (old ≡ None → now ≡ None)
-    → ((b new : Behind) (a : Reply) → AnswersRequest r (provider_behind b) a (provider_behind new) →
+    (P : Provider → Provider → Type 0) (s o f s' o' f' : ℕ) → Heard r old now result tail →
+    ((b new : Behind) (a : Reply) → AnswersRequest r (provider_behind b) a (provider_behind new) →
     result ≡ Some (first_byte_of a) → (first_byte_of a ≡ 1 → tail ≡ tail_of a) →
     P (provider_behind b) (provider_behind new))
     → P (seen_behind None s o f) (seen_behind None s' o' f') →
     P (seen_behind old s o f) (seen_behind now s' o' f')
-through r None now result tail P s o f s' o' f' told untold at_told at_none =
+through r None now result tail P s o f s' o' f' h at_told at_none =
     subst (λ (w : Option Behind). P (seen_behind None s o f) (seen_behind w s' o' f'))
-    (sym (untold refl)) at_none
-through r (Some b) now result tail P s o f s' o' f' told untold at_told at_none =
-    let a = told b refl in
+    (sym (h.untold refl)) at_none
+through r (Some b) now result tail P s o f s' o' f' h at_told at_none =
+    let a = h.told b refl in
     subst (λ (w : Option Behind). P (provider_behind b) (seen_behind w s' o' f')) (sym a.now_is)
     (at_told b a.new a.reply a.answered a.kind a.symbols)
 
 stepped : (r : Request) (old now : Option Behind) (result : Option ℕ) (tail : List ℕ) (broken : Bool)
-    → ((b : Behind) → old ≡ Some b → AskedFor r result tail b now) → (old ≡ None → now ≡ None)
+    → Heard r old now result tail
     → ((b new : Behind) (a : Reply) → AnswersRequest r (provider_behind b) a (provider_behind new) →
     result ≡ Some (first_byte_of a) → broken ≡ false)
     → out_of_step now broken ≡ []
-stepped r None now result tail broken told untold mends =
-    ap (λ (w : Option Behind). out_of_step w broken) (untold refl)
-stepped r (Some b) now result tail broken told untold mends =
-    let a = told b refl in
+stepped r None now result tail broken h mends = ap (λ (w : Option Behind). out_of_step w broken) (h.untold refl)
+stepped r (Some b) now result tail broken h mends =
+    let a = h.told b refl in
     ap (λ (w : Option Behind). out_of_step w broken) a.now_is
     ∙ ap (λ (t : Bool). out_of_step (Some a.new) t) (mends b a.new a.reply a.answered a.kind) ∙ a.nothing_due
 
@@ -165,121 +166,128 @@ not_lost : (result : Option ℕ) (n : ℕ) → result ≡ Some n → n ≡ 2 →
 not_lost result n is two =
     ap (λ (o : Option ℕ). not (option_eq eqb o (Some 2))) (is ∙ ap (λ (k : ℕ). Some k) two)
 
+-- an answer of no wanted kind is that the call failed, which leaves the link in step
+module _ {result : Option ℕ} (one : option_eq eqb result (Some 1) ≡ false) where
+  module _ (object stripe : ℕ) (block : List ℕ) (three : option_eq eqb result (Some 3) ≡ false) where
+    lost_store : {p q : Provider} (a : Reply) → AnswersRequest (Store object stripe block) p a q →
+        result ≡ Some (first_byte_of a) → (first_byte_of a ≡ 2) × FailsToStore p q
+    lost_store a is x = store_lost object stripe block _ _ a is (is_other result 1 (first_byte_of a) one x)
+        (is_other result 3 (first_byte_of a) three x)
+
+  pub store_steps : {object stripe : ℕ} {block : List ℕ} → option_eq eqb result (Some 3) ≡ false →
+      {old now : Option Behind} {tail : List ℕ} → Heard (Store object stripe block) old now result tail →
+      out_of_step now (not (option_eq eqb result (Some 2))) ≡ []
+  store_steps three h = stepped _ _ _ result _ _ h
+      (λ b new a is x. not_lost result (first_byte_of a) x (lost_store _ _ _ three a is x).0)
+
+  module _ {object : ℕ} where
+    lost_remove : {p q : Provider} (a : Reply) → AnswersRequest (Remove object) p a q →
+        result ≡ Some (first_byte_of a) → (first_byte_of a ≡ 2) × FailsToRemove object p q
+    lost_remove a is x = remove_lost object _ _ a is (is_other result 1 (first_byte_of a) one x)
+
+    pub remove_steps : {old now : Option Behind} {tail : List ℕ} → Heard (Remove object) old now result tail →
+        out_of_step now (not (option_eq eqb result (Some 2))) ≡ []
+    remove_steps h = stepped _ _ _ result _ _ h
+        (λ b new a is x. not_lost result (first_byte_of a) x (lost_remove a is x).0)
+
+  module _ (object : ℕ) (c : Challenge) (none : option_eq eqb result (Some 0) ≡ false) where
+    lost_ask : {p q : Provider} (a : Reply) → AnswersRequest (Ask object c) p a q →
+        result ≡ Some (first_byte_of a) → (first_byte_of a ≡ 2) × FailsToAnswer p q
+    lost_ask a is x = ask_lost object c _ _ a is (is_other result 1 (first_byte_of a) one x)
+        (is_other result 0 (first_byte_of a) none x)
+
+  pub ask_steps : {object : ℕ} {c : Challenge} → option_eq eqb result (Some 0) ≡ false →
+      {old now : Option Behind} {tail : List ℕ} → Heard (Ask object c) old now result tail →
+      out_of_step now (not (option_eq eqb result (Some 2))) ≡ []
+  ask_steps none h = stepped _ _ _ result _ _ h
+      (λ b new a is x. not_lost result (first_byte_of a) x (lost_ask _ _ none a is x).0)
+
+  module _ (object stripe size : ℕ) (none : option_eq eqb result (Some 0) ≡ false) where
+    lost_fetch : {p q : Provider} (a : Reply) → AnswersRequest (Fetch object stripe size) p a q →
+        result ≡ Some (first_byte_of a) → (first_byte_of a ≡ 2) × FailsToFetch p q
+    lost_fetch a is x = fetch_lost object stripe size _ _ a is (is_other result 1 (first_byte_of a) one x)
+        (is_other result 0 (first_byte_of a) none x)
+
+  pub fetch_steps : {object stripe size : ℕ} → option_eq eqb result (Some 0) ≡ false →
+      {old now : Option Behind} {tail : List ℕ} → Heard (Fetch object stripe size) old now result tail →
+      out_of_step now (not (option_eq eqb result (Some 2))) ≡ []
+  fetch_steps none h = stepped _ _ _ result _ _ h
+      (λ b new a is x. not_lost result (first_byte_of a) x (lost_fetch _ _ _ none a is x).0)
+
 -- all that the calls over a link need to know of the answer that came
-module _ (r : Request) (old now : Option Behind) (result : Option ℕ) (tail : List ℕ) (s o f s' o' f' : ℕ)
-    (told : (b : Behind) → old ≡ Some b → AskedFor r result tail b now)
-    (untold : old ≡ None → now ≡ None) where
-  -- a store that was answered as done stored the block
-  pub store_done : (object stripe : ℕ) (block : List ℕ) → r ≡ Store object stripe block →
-      option_eq eqb result (Some 1) ≡ true → s' ≡ s → o' ≡ o → f' ≡ f →
-      Stores object stripe block (seen_behind old s o f) (seen_behind now s' o' f')
-  store_done object stripe block is one s_is o_is f_is =
-      through r old now result tail (Stores object stripe block) s o f s' o' f' told untold
-      (λ b new a h k t. stored object stripe block _ _ a
-      (subst (λ (q : Request). AnswersRequest q (provider_behind b) a (provider_behind new)) is h)
-      (same_kind result 1 (first_byte_of a) one k))
-      (record {
-        held = refl;
-        counts = record { store_faults = omega (arith, s_is); other_faults = o_is; fetches = f_is };
-      })
+module _ {old now : Option Behind} {result : Option ℕ} {tail : List ℕ} {s o f s' o' f' : ℕ} where
+  module _ {object stripe : ℕ} {block : List ℕ} (h : Heard (Store object stripe block) old now result tail) where
+    -- a store that was answered as done stored the block
+    pub store_done : option_eq eqb result (Some 1) ≡ true → s' ≡ s → o' ≡ o → f' ≡ f →
+        Stores object stripe block (seen_behind old s o f) (seen_behind now s' o' f')
+    store_done one s_is o_is f_is =
+        through _ old now result tail (Stores object stripe block) s o f s' o' f' h
+        (λ b new a x k t. stored object stripe block _ _ a x (same_kind result 1 (first_byte_of a) one k))
+        (record {
+          held = refl;
+          counts = record { store_faults = omega (arith, s_is); other_faults = o_is; fetches = f_is };
+        })
 
-  -- a store that was answered with no memory found none
-  pub store_no_room : (object stripe : ℕ) (block : List ℕ) → r ≡ Store object stripe block →
-      option_eq eqb result (Some 3) ≡ true → s' ≡ s → o' ≡ o → f' ≡ f →
-      FindsNoMemory (seen_behind old s o f) (seen_behind now s' o' f')
-  store_no_room object stripe block is three s_is o_is f_is =
-      through r old now result tail FindsNoMemory s o f s' o' f' told untold
-      (λ b new a h k t. no_room object stripe block _ _ a
-      (subst (λ (q : Request). AnswersRequest q (provider_behind b) a (provider_behind new)) is h)
-      (same_kind result 3 (first_byte_of a) three k))
-      (record {
-        held = refl;
-        counts = record { store_faults = omega (arith, s_is); other_faults = o_is; fetches = f_is };
-        no_fault = s_is;
-      })
+    -- a store that was answered with no memory found none
+    pub store_no_room : option_eq eqb result (Some 3) ≡ true → s' ≡ s → o' ≡ o → f' ≡ f →
+        FindsNoMemory (seen_behind old s o f) (seen_behind now s' o' f')
+    store_no_room three s_is o_is f_is =
+        through _ old now result tail FindsNoMemory s o f s' o' f' h
+        (λ b new a x k t. no_room object stripe block _ _ a x (same_kind result 3 (first_byte_of a) three k))
+        (record {
+          held = refl;
+          counts = record { store_faults = omega (arith, s_is); other_faults = o_is; fetches = f_is };
+          no_fault = s_is;
+        })
 
-  -- a store that was answered otherwise failed, and was counted
-  pub store_failed : (object stripe : ℕ) (block : List ℕ) → r ≡ Store object stripe block →
-      option_eq eqb result (Some 1) ≡ false → option_eq eqb result (Some 3) ≡ false →
-      s' ≡ min (s + 1) last_count → o' ≡ o → f' ≡ f → s < 2 ^ 64
-      → FailsToStore (seen_behind old s o f) (seen_behind now s' o' f')
-  store_failed object stripe block is one three s_is o_is f_is fits =
-      through r old now result tail FailsToStore s o f s' o' f' told untold
-      (λ b new a h k t. (store_lost object stripe block _ _ a
-      (subst (λ (q : Request). AnswersRequest q (provider_behind b) a (provider_behind new)) is h)
-      (is_other result 1 (first_byte_of a) one k) (is_other result 3 (first_byte_of a) three k)).1)
-      (record {
-        held = refl;
-        counts = record { store_faults = omega (arith, s_is, fits); other_faults = o_is; fetches = f_is };
-        cause = λ less. omega (arith, s_is, fits);
-      })
+    -- a store that was answered otherwise failed, and was counted
+    pub store_failed : option_eq eqb result (Some 1) ≡ false → option_eq eqb result (Some 3) ≡ false →
+        s' ≡ min (s + 1) last_count → o' ≡ o → f' ≡ f → s < 2 ^ 64
+        → FailsToStore (seen_behind old s o f) (seen_behind now s' o' f')
+    store_failed one three s_is o_is f_is fits =
+        through _ old now result tail FailsToStore s o f s' o' f' h
+        (λ b new a x k t. (lost_store one object stripe block three a x k).1)
+        (record {
+          held = refl;
+          counts = record { store_faults = omega (arith, s_is, fits); other_faults = o_is; fetches = f_is };
+          cause = λ less. omega (arith, s_is, fits);
+        })
 
-  -- a store that failed otherwise than by a known answer leaves the link out of step
-  pub store_steps : (object stripe : ℕ) (block : List ℕ) → r ≡ Store object stripe block →
-      option_eq eqb result (Some 1) ≡ false → option_eq eqb result (Some 3) ≡ false →
-      out_of_step now (not (option_eq eqb result (Some 2))) ≡ []
-  store_steps object stripe block is one three =
-      stepped r old now result tail _ told untold
-      (λ b new a h k. not_lost result (first_byte_of a) k
-      (store_lost object stripe block _ _ a
-      (subst (λ (q : Request). AnswersRequest q (provider_behind b) a (provider_behind new)) is h)
-      (is_other result 1 (first_byte_of a) one k) (is_other result 3 (first_byte_of a) three k)).0)
+  module _ {object : ℕ} (h : Heard (Remove object) old now result tail) where
+    -- a removal that was answered as done took the object away
+    pub remove_done : option_eq eqb result (Some 1) ≡ true → s' ≡ s → o' ≡ o → f' ≡ f →
+        RemovesAll object (seen_behind old s o f) (seen_behind now s' o' f')
+    remove_done one s_is o_is f_is =
+        through _ old now result tail (RemovesAll object) s o f s' o' f' h
+        (λ b new a x k t. removed object _ _ a x (same_kind result 1 (first_byte_of a) one k))
+        (record {
+          held = refl;
+          counts = record { store_faults = s_is; other_faults = omega (arith, o_is); fetches = f_is };
+        })
 
-  -- a removal that was answered as done took the object away
-  pub remove_done : (object : ℕ) → r ≡ Remove object → option_eq eqb result (Some 1) ≡ true → s' ≡ s →
-      o' ≡ o → f' ≡ f → RemovesAll object (seen_behind old s o f) (seen_behind now s' o' f')
-  remove_done object is one s_is o_is f_is =
-      through r old now result tail (RemovesAll object) s o f s' o' f' told untold
-      (λ b new a h k t. removed object _ _ a
-      (subst (λ (q : Request). AnswersRequest q (provider_behind b) a (provider_behind new)) is h)
-      (same_kind result 1 (first_byte_of a) one k))
-      (record {
-        held = refl;
-        counts = record { store_faults = s_is; other_faults = omega (arith, o_is); fetches = f_is };
-      })
+    -- a removal that was answered otherwise failed, and was counted
+    pub remove_failed : option_eq eqb result (Some 1) ≡ false →
+        s' ≡ s → o' ≡ min (o + 1) last_count → f' ≡ f → o < 2 ^ 64 →
+        FailsToRemove object (seen_behind old s o f) (seen_behind now s' o' f')
+    remove_failed one s_is o_is f_is fits =
+        through _ old now result tail (FailsToRemove object) s o f s' o' f' h
+        (λ b new a x k t. (lost_remove one a x k).1)
+        (record {
+          held = tt;
+          counts = record { store_faults = s_is; other_faults = omega (arith, o_is, fits); fetches = f_is };
+          cause = λ less. omega (arith, o_is, fits);
+        })
 
-  -- a removal that was answered otherwise failed, and was counted
-  pub remove_failed : (object : ℕ) → r ≡ Remove object → option_eq eqb result (Some 1) ≡ false → s' ≡ s →
-      o' ≡ min (o + 1) last_count → f' ≡ f → o < 2 ^ 64 →
-      FailsToRemove object (seen_behind old s o f) (seen_behind now s' o' f')
-  remove_failed object is one s_is o_is f_is fits =
-      through r old now result tail (FailsToRemove object) s o f s' o' f' told untold
-      (λ b new a h k t. (remove_lost object _ _ a
-      (subst (λ (q : Request). AnswersRequest q (provider_behind b) a (provider_behind new)) is h)
-      (is_other result 1 (first_byte_of a) one k)).1)
-      (record {
-        held = tt;
-        counts =
-            record { store_faults = s_is; other_faults = omega (arith, o_is, fits); fetches = f_is };
-        cause = λ less. omega (arith, o_is, fits);
-      })
-
-  -- a removal that failed otherwise than by a known answer leaves the link out of step
-  pub remove_steps : (object : ℕ) → r ≡ Remove object → option_eq eqb result (Some 1) ≡ false →
-      out_of_step now (not (option_eq eqb result (Some 2))) ≡ []
-  remove_steps object is one =
-      stepped r old now result tail _ told untold
-      (λ b new a h k. not_lost result (first_byte_of a) k
-      (remove_lost object _ _ a
-      (subst (λ (q : Request). AnswersRequest q (provider_behind b) a (provider_behind new)) is h)
-      (is_other result 1 (first_byte_of a) one k)).0)
-
-  module _ (object : ℕ) (c : Challenge) (is : r ≡ Ask object c) where
-    at_ask : (b new : Behind) (a : Reply) → AnswersRequest r (provider_behind b) a (provider_behind new) →
-        AnswersRequest (Ask object c) (provider_behind b) a (provider_behind new)
-    at_ask b new a h = subst (λ (q : Request). AnswersRequest q (provider_behind b) a (provider_behind new))
-        is h
-
+  module _ {object : ℕ} {c : Challenge} (h : Heard (Ask object c) old now result tail) where
     -- an ask that was answered with a symbol gives it
     pub ask_done : (symbol : ℕ) → symbol ∷ [] ≡ symbols_read 1 tail → symbol < 2 ^ 128 →
         option_eq eqb result (Some 1) ≡ true → s' ≡ s → o' ≡ o → f' ≡ f →
         AsksAs (honest_answer c) object (seen_behind old s o f) (Some symbol) (seen_behind now s' o' f')
     ask_done symbol read small one s_is o_is f_is =
-        through r old now result tail (λ p q. AsksAs (honest_answer c) object p (Some symbol) q) s o f s' o'
-        f' told untold
-        (λ b new a h k t.
+        through _ old now result tail (λ p q. AsksAs (honest_answer c) object p (Some symbol) q) s o f s' o' f' h
+        (λ b new a answers k t.
         let kind = same_kind result 1 (first_byte_of a) one k in
-        let x = answered object c _ _ a (at_ask b new a h) kind in
+        let x = answered object c _ _ a answers kind in
         let fits : x.0 < 2 ^ 128 = x.2.symbol in
         let same : symbol ∷ [] ≡ x.0 ∷ [] = read ∙ ap (symbols_read 1) (t (sym kind) ∙ x.1)
         ∙ symbols-bytes (x.0 ∷ []) (λ i. lt-ltb x.0 (2 ^ 128) fits i && true) in
@@ -297,10 +305,8 @@ module _ (r : Request) (old now : Option Behind) (result : Option ℕ) (tail : L
     pub ask_missing : option_eq eqb result (Some 0) ≡ true → s' ≡ s → o' ≡ o → f' ≡ f →
         AsksAs (honest_answer c) object (seen_behind old s o f) None (seen_behind now s' o' f')
     ask_missing none s_is o_is f_is =
-        through r old now result tail (λ p q. AsksAs (honest_answer c) object p None q) s o f s' o' f' told
-        untold
-        (λ b new a h k t. not_answered object c _ _ a (at_ask b new a h)
-        (same_kind result 0 (first_byte_of a) none k))
+        through _ old now result tail (λ p q. AsksAs (honest_answer c) object p None q) s o f s' o' f' h
+        (λ b new a x k t. not_answered object c _ _ a x (same_kind result 0 (first_byte_of a) none k))
         (record {
           held = refl;
           counts = record { store_faults = s_is; other_faults = omega (arith, o_is); fetches = f_is };
@@ -309,45 +315,29 @@ module _ (r : Request) (old now : Option Behind) (result : Option ℕ) (tail : L
         })
 
     -- an ask that was answered otherwise failed, and was counted
-    pub ask_failed : option_eq eqb result (Some 1) ≡ false → option_eq eqb result (Some 0) ≡ false → s' ≡ s →
-        o' ≡ min (o + 1) last_count → f' ≡ f → o < 2 ^ 64 →
+    pub ask_failed : option_eq eqb result (Some 1) ≡ false → option_eq eqb result (Some 0) ≡ false →
+        s' ≡ s → o' ≡ min (o + 1) last_count → f' ≡ f → o < 2 ^ 64 →
         FailsToAnswer (seen_behind old s o f) (seen_behind now s' o' f')
     ask_failed one none s_is o_is f_is fits =
-        through r old now result tail FailsToAnswer s o f s' o' f' told untold
-        (λ b new a h k t. (ask_lost object c _ _ a (at_ask b new a h)
-        (is_other result 1 (first_byte_of a) one k) (is_other result 0 (first_byte_of a) none k)).1)
+        through _ old now result tail FailsToAnswer s o f s' o' f' h
+        (λ b new a x k t. (lost_ask one object c none a x k).1)
         (record {
           held = refl;
           counts = record { store_faults = s_is; other_faults = omega (arith, o_is, fits); fetches = f_is };
           cause = λ less. omega (arith, o_is, fits);
         })
 
-    -- an ask that failed otherwise than by a known answer leaves the link out of step
-    pub ask_steps : option_eq eqb result (Some 1) ≡ false → option_eq eqb result (Some 0) ≡ false →
-        out_of_step now (not (option_eq eqb result (Some 2))) ≡ []
-    ask_steps one none =
-        stepped r old now result tail _ told untold
-        (λ b new a h k. not_lost result (first_byte_of a) k
-        (ask_lost object c _ _ a (at_ask b new a h) (is_other result 1 (first_byte_of a) one k)
-        (is_other result 0 (first_byte_of a) none k)).0)
-
-  module _ (object stripe size : ℕ) (is : r ≡ Fetch object stripe size) where
-    at_fetch : (b new : Behind) (a : Reply) → AnswersRequest r (provider_behind b) a (provider_behind new) →
-        AnswersRequest (Fetch object stripe size) (provider_behind b) a (provider_behind new)
-    at_fetch b new a h = subst (λ (q : Request). AnswersRequest q (provider_behind b) a (provider_behind new))
-        is h
-
+  module _ {object stripe size : ℕ} (h : Heard (Fetch object stripe size) old now result tail) where
     -- a fetch that was answered with a block gives it, and was counted
     pub fetch_done : (out : List ℕ) → out ≡ symbols_read size tail → length out ≡ size →
         All (λ symbol. symbol < 2 ^ 128) out → option_eq eqb result (Some 1) ≡ true → s' ≡ s → o' ≡ o →
         f' ≡ min (f + 1) last_count → f < 2 ^ 64
         → FetchesAs size object stripe (seen_behind old s o f) (Some out) (seen_behind now s' o' f')
     fetch_done out read long small one s_is o_is f_is fits =
-        through r old now result tail (λ p q. FetchesAs size object stripe p (Some out) q) s o f s' o' f' told
-        untold
-        (λ b new a h k t.
+        through _ old now result tail (λ p q. FetchesAs size object stripe p (Some out) q) s o f s' o' f' h
+        (λ b new a answers k t.
         let kind = same_kind result 1 (first_byte_of a) one k in
-        let x = fetched object stripe size _ _ a (at_fetch b new a h) kind in
+        let x = fetched object stripe size _ _ a answers kind in
         let count : length x.0 ≡ size = sized-length size (b.held object stripe) x.0 x.2.gives in
         let e : x.0 ≡ out = sym (symbols-bytes x.0 (all_below (2 ^ 128) x.0 x.2.symbols))
         ∙ (λ i. symbols_read (count i) ((sym x.1 ∙ sym (t (sym kind))) i)) ∙ sym read in
@@ -358,8 +348,7 @@ module _ (r : Request) (old now : Option Behind) (result : Option ℕ) (tail : L
           counts = record {
             store_faults = s_is;
             other_faults = omega (arith, o_is);
-            fetches = f_is
-                ∙ one_more_is f fits;
+            fetches = f_is ∙ one_more_is f fits;
           };
           gives = record { size_is = long; symbols = small };
           symbols = small;
@@ -369,17 +358,14 @@ module _ (r : Request) (old now : Option Behind) (result : Option ℕ) (tail : L
     pub fetch_missing : option_eq eqb result (Some 0) ≡ true → s' ≡ s → o' ≡ o → f' ≡ min (f + 1) last_count →
         f < 2 ^ 64 → FetchesAs size object stripe (seen_behind old s o f) None (seen_behind now s' o' f')
     fetch_missing none s_is o_is f_is fits =
-        through r old now result tail (λ p q. FetchesAs size object stripe p None q) s o f s' o' f' told
-        untold
-        (λ b new a h k t. not_fetched object stripe size _ _ a (at_fetch b new a h)
-        (same_kind result 0 (first_byte_of a) none k))
+        through _ old now result tail (λ p q. FetchesAs size object stripe p None q) s o f s' o' f' h
+        (λ b new a x k t. not_fetched object stripe size _ _ a x (same_kind result 0 (first_byte_of a) none k))
         (record {
           held = refl;
           counts = record {
             store_faults = s_is;
             other_faults = omega (arith, o_is);
-            fetches = f_is
-                ∙ one_more_is f fits;
+            fetches = f_is ∙ one_more_is f fits;
           };
           gives = tt;
           symbols = tt;
@@ -387,28 +373,17 @@ module _ (r : Request) (old now : Option Behind) (result : Option ℕ) (tail : L
 
     -- a fetch that was answered otherwise failed, and both counts rose
     pub fetch_failed : option_eq eqb result (Some 1) ≡ false → option_eq eqb result (Some 0) ≡ false →
-        s' ≡ s → o' ≡ min (o + 1) last_count → f' ≡ min (f + 1) last_count → o < 2 ^ 64 → f < 2 ^ 64 →
-        FailsToFetch (seen_behind old s o f) (seen_behind now s' o' f')
+        s' ≡ s → o' ≡ min (o + 1) last_count → f' ≡ min (f + 1) last_count → o < 2 ^ 64 →
+        f < 2 ^ 64 → FailsToFetch (seen_behind old s o f) (seen_behind now s' o' f')
     fetch_failed one none s_is o_is f_is fits f_fits =
-        through r old now result tail FailsToFetch s o f s' o' f' told untold
-        (λ b new a h k t. (fetch_lost object stripe size _ _ a (at_fetch b new a h)
-        (is_other result 1 (first_byte_of a) one k) (is_other result 0 (first_byte_of a) none k)).1)
+        through _ old now result tail FailsToFetch s o f s' o' f' h
+        (λ b new a x k t. (lost_fetch one object stripe size none a x k).1)
         (record {
           held = refl;
           counts = record {
             store_faults = s_is;
             other_faults = omega (arith, o_is, fits);
-            fetches = f_is
-                ∙ one_more_is f f_fits;
+            fetches = f_is ∙ one_more_is f f_fits;
           };
           cause = λ less. omega (arith, o_is, fits);
         })
-
-    -- a fetch that failed otherwise than by a known answer leaves the link out of step
-    pub fetch_steps : option_eq eqb result (Some 1) ≡ false → option_eq eqb result (Some 0) ≡ false →
-        out_of_step now (not (option_eq eqb result (Some 2))) ≡ []
-    fetch_steps one none =
-        stepped r old now result tail _ told untold
-        (λ b new a h k. not_lost result (first_byte_of a) k
-        (fetch_lost object stripe size _ _ a (at_fetch b new a h)
-        (is_other result 1 (first_byte_of a) one k) (is_other result 0 (first_byte_of a) none k)).0)

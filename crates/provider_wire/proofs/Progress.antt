@@ -1,22 +1,8 @@
 -- How far a server has come, and how it ends.
-use Rattle.std.proofs.Common.{◌≡◌, ◌≢◌, ℕ, ◌+◌, ◌-◌, ◌<◌, ◌≤◌, true, false, List, [], ◌∷◌, ◌++◌, length, take, drop, Option, refl, sym, ap, subst, ◌∙◌, append_assoc, arith, inl, inr, length-append, length-take, length-drop, take-append-drop, Fits}
-use Rattle.std.specs.Prelude.{IfSome}
-use Rattle.std.specs.Int.{w64}
-use Rattle.std.proofs.Math.Seq.{take-take}
-use Rattle.std.proofs.lemmas.Bool.{cases_lt, and_from}
-use Rattle.std.proofs.lemmas.List.{append-nil, take_all, drop-take}
-use Rattle.std.proofs.lemmas.List.Folds.{list_all-append}
-use Rattle.device_defs.specs.Told.{told_then, then_told, TakesFront}
-use Rattle.device_defs.specs.Providers.{Provider}
-use Rattle.device_defs.proofs.Lasting.{told_then-nothing}
-use Rattle.wire_defs.specs.Requests.{Request, is_request, is_bad_request, request_bytes, requests_text, SpellsNoRequest, AreFrames}
-use Rattle.wire_defs.specs.Replies.{Reply, Serves, reply_bytes, replies_text}
-use Rattle.wire_defs.specs.Serving.{most_bytes, Finished, BadAt, TooMany, SourceFailed, SinkFailed, OutOfMemory, IsAtEnd, WritesPart, ServesAll, ServesPart, HasServed}
-use Rattle.stream_model.specs.declared.fault.WriteFault.{WriteFault}
+use Rattle.provider_wire.proofs.Words.{◌≡◌, ◌≢◌, ℕ, ◌+◌, ◌-◌, ◌<◌, ◌≤◌, true, false, List, [], ◌∷◌, ◌++◌, length, take, drop, refl, sym, ap, subst, ◌∙◌, append_assoc, arith, inl, inr, length-append, length-take, length-drop, take-append-drop, Fits, IfSome, w64, take-take, cases_lt, and_from, append-nil, take_all, drop-take, list_all-append, told_then, then_told, TakesFront, Provider, told_then-nothing, Request, is_request, is_bad_request, request_bytes, requests_text, SpellsNoRequest, AreFrames, Reply, Serves, reply_bytes, replies_text, most_bytes, Finished, BadAt, TooMany, SourceFailed, SinkFailed, OutOfMemory, IsAtEnd, WritesPart, ServesAll, ServesPart, HasServed, WriteFault, ServeEnd, end_of, end_after, told_then-append}
+use Rattle.std.proofs.Common.{Option}
 use Rattle.stream_model.specs.declared.fault.WriteFault.TheVariants as write_fault
-use Rattle.provider_wire.specs.declared.end.ServeEnd.{ServeEnd}
-use Rattle.provider_wire.specs.Ends.{end_of, end_after}
-use Rattle.stream_model.proofs.ToldLemmas.{told_then-append}
+use Rattle.wire_defs.specs.Serving.{End, EndsWith, WritesReplies}
 use Rattle.provider_wire.proofs.Takes.{spelling-some}
 use Rattle.provider_wire.proofs.Served.{nothing_told, then_told-append}
 
@@ -89,32 +75,39 @@ waiting_is_taken : {had left : Option (List ℕ)} {taken : ℕ} {waiting : List 
 waiting_is_taken {waiting = waiting} p =
     omega (arith, p.count, ap length p.parts, length-append p.front waiting)
 
-module _ (had left : Option (List ℕ)) (taken : ℕ) (waiting : List ℕ) (old mid : Provider)
-    (was then_ : Option (List ℕ)) (p : Progress had left taken waiting old mid was then_) where
+module _ {had left : Option (List ℕ)} {taken : ℕ} {waiting : List ℕ} {old mid : Provider}
+    {was then_ : Option (List ℕ)} (p : Progress had left taken waiting old mid was then_) where
   front_size : length p.front ≡ taken - length waiting
   front_size = omega (arith, p.count, ap length p.parts, length-append p.front waiting)
 
   text_size : length (requests_text p.requests) ≡ taken - length waiting
   text_size = ap length (sym p.frames.bytes_are) ∙ front_size
 
-  -- the source failed
-  pub source_failed : (left' : Option (List ℕ)) → left' ≡ left → taken ≤ most_bytes →
-      SpellsNoRequest waiting → is_bad_request waiting ≡ false →
-      HasServed SourceFailed had left' old mid was then_
-  source_failed left' same within none fine = record {
+  -- it ends where all that was answered was written
+  ends_so : (end : End) (left' : Option (List ℕ)) → left ≡ left' → taken ≤ most_bytes + 1 →
+      WritesReplies end was then_ p.replies → EndsWith end p.requests p.read waiting left' →
+      HasServed end had left' old mid was then_
+  ends_so end left' same few written ends = record {
     requests = p.requests;
     replies = p.replies;
     read = p.read;
     front = p.front;
     rest = waiting;
-    taken = p.took ∙ ap (then_told p.read) (sym same);
+    taken = p.took ∙ ap (then_told p.read) same;
     few = omega (arith, p.count);
     parts = p.parts;
     frames = p.frames;
     served = p.served;
-    written = p.written;
-    ends = (none, fine, omega (arith, p.count));
+    written = written;
+    ends = ends;
   }
+
+  -- the source failed
+  pub source_failed : (left' : Option (List ℕ)) → left' ≡ left → taken ≤ most_bytes →
+      SpellsNoRequest waiting → is_bad_request waiting ≡ false →
+      HasServed SourceFailed had left' old mid was then_
+  source_failed left' same within none fine =
+      ends_so SourceFailed left' (sym same) (omega arith) p.written (none, fine, omega (arith, p.count))
 
   ended_left : (left' : Option (List ℕ)) (part : List ℕ) → left ≡ then_told part left' → length part ≡ 0 →
       left ≡ left'
@@ -128,24 +121,8 @@ module _ (had left : Option (List ℕ)) (taken : ℕ) (waiting : List ℕ) (old 
       (nothing : length part ≡ 0) (end : IfSome left (λ xs. xs ≡ [])) (within : taken ≤ most_bytes) where
     -- the source ended where a request is due
     pub finished : length waiting ≡ 0 → HasServed Finished had left' old mid was then_
-    finished empty = record {
-      requests = p.requests;
-      replies = p.replies;
-      read = p.read;
-      front = p.front;
-      rest = waiting;
-      taken = p.took ∙ ap (then_told p.read) (ended_left left' part got nothing);
-      few = omega (arith, p.count);
-      parts = p.parts;
-      frames = p.frames;
-      served = p.served;
-      written = p.written;
-      ends = (
-        ended_at left' (ended_left left' part got nothing) end,
-        is_empty waiting empty,
-        omega (arith, p.count),
-      );
-    }
+    finished empty = ends_so Finished left' (ended_left left' part got nothing) (omega arith) p.written
+        (ended_at left' (ended_left left' part got nothing) end, is_empty waiting empty, omega (arith, p.count))
       where
         is_empty : (l : List ℕ) → length l ≡ 0 → l ≡ []
         is_empty [] e = refl
@@ -154,29 +131,17 @@ module _ (had left : Option (List ℕ)) (taken : ℕ) (waiting : List ℕ) (old 
     -- the source ended inside a request
     pub ended_inside : SpellsNoRequest waiting → 0 < length waiting →
         HasServed (BadAt (taken - length waiting)) had left' old mid was then_
-    ended_inside none some = record {
-      requests = p.requests;
-      replies = p.replies;
-      read = p.read;
-      front = p.front;
-      rest = waiting;
-      taken = p.took ∙ ap (then_told p.read) (ended_left left' part got nothing);
-      few = omega (arith, p.count);
-      parts = p.parts;
-      frames = p.frames;
-      served = p.served;
-      written = p.written;
-      ends = record {
-        place = sym text_size;
-        cause =
-            inr (
-              ended_at left' (ended_left left' part got nothing) end,
-              λ e. absurd (let z : length waiting ≡ 0 = ap length e in omega (arith, z, some)),
-              none,
-              omega (arith, p.count),
-            );
-      };
-    }
+    ended_inside none some =
+        ends_so (BadAt (taken - length waiting)) left' (ended_left left' part got nothing) (omega arith) p.written
+        (record {
+          place = sym text_size;
+          cause = inr (
+            ended_at left' (ended_left left' part got nothing) end,
+            λ e. absurd (let z : length waiting ≡ 0 = ap length e in omega (arith, z, some)),
+            none,
+            omega (arith, p.count),
+          );
+        })
 
     -- the same, with its place told otherwise
     pub ended_inside_at : SpellsNoRequest waiting → 0 < length waiting →
@@ -242,93 +207,55 @@ module _ (had left : Option (List ℕ)) (taken : ℕ) (waiting : List ℕ) (old 
 
   module _ (new : Provider) (now : Option (List ℕ)) (w done : ℕ) (fits : done ≤ length (take w waiting))
       (s : ServesPart (take done (take w waiting)) mid new then_ now) (few : taken ≤ most_bytes + 1) where
-    all_frames : AreFrames (p.front ++ take done waiting) (s.requests ++ p.requests)
-    all_frames = subst (λ (l : List ℕ). AreFrames (p.front ++ l) (s.requests ++ p.requests))
-        (inside w done fits) (AreFrames-append p.front
-        (take done (take w waiting)) s.requests p.requests p.frames s.frames)
-
-    all_parts : p.read ≡ (p.front ++ take done waiting) ++ drop done waiting
-    all_parts = p.parts ∙ ap (λ (l : List ℕ). p.front ++ l) (sym (take-append-drop done waiting))
-        ∙ sym (append_assoc p.front (take done waiting) (drop done waiting))
+    -- it ends where the last answer was written in part
+    ends_part : (end : End) → (WritesPart was now (s.replies ++ p.replies) →
+        WritesReplies end was now (s.replies ++ p.replies)) →
+        EndsWith end (s.requests ++ p.requests) p.read (drop done waiting) left →
+        HasServed end had left old new was now
+    ends_part end writes ends = record {
+      requests = s.requests ++ p.requests;
+      replies = s.replies ++ p.replies;
+      read = p.read;
+      front = p.front ++ take done waiting;
+      rest = drop done waiting;
+      taken = p.took;
+      few = omega (arith, p.count);
+      parts = p.parts ∙ ap (λ (l : List ℕ). p.front ++ l) (sym (take-append-drop done waiting))
+          ∙ sym (append_assoc p.front (take done waiting) (drop done waiting));
+      frames = subst (λ (l : List ℕ). AreFrames (p.front ++ l) (s.requests ++ p.requests)) (inside w done fits)
+          (AreFrames-append p.front (take done (take w waiting)) s.requests p.requests p.frames s.frames);
+      served = Serves-append s.requests p.requests s.replies p.replies old mid new p.served s.served;
+      written = writes (wrote_part new now s.requests s.replies s.some s.served s.written);
+      ends = ends;
+    }
 
     -- the sink failed
     pub sink_failed : HasServed SinkFailed had left old new was now
-    sink_failed = record {
-      requests = s.requests ++ p.requests;
-      replies = s.replies ++ p.replies;
-      read = p.read;
-      front = p.front ++ take done waiting;
-      rest = drop done waiting;
-      taken = p.took;
-      few = omega (arith, p.count);
-      parts = all_parts;
-      frames = all_frames;
-      served = Serves-append s.requests p.requests s.replies p.replies old mid new p.served s.served;
-      written = wrote_part new now s.requests s.replies s.some s.served s.written;
-      ends = not_empty s.requests p.requests s.some;
-    }
+    sink_failed = ends_part SinkFailed (λ part. part) (not_empty s.requests p.requests s.some)
 
     -- the sink found no memory
     pub out_of_memory : HasServed OutOfMemory had left old new was now
-    out_of_memory = record {
-      requests = s.requests ++ p.requests;
-      replies = s.replies ++ p.replies;
-      read = p.read;
-      front = p.front ++ take done waiting;
-      rest = drop done waiting;
-      taken = p.took;
-      few = omega (arith, p.count);
-      parts = all_parts;
-      frames = all_frames;
-      served = Serves-append s.requests p.requests s.replies p.replies old mid new p.served s.served;
-      written = wrote_part new now s.requests s.replies s.some s.served s.written;
-      ends = inr (not_empty s.requests p.requests s.some);
-    }
+    out_of_memory = ends_part OutOfMemory (λ part. part) (inr (not_empty s.requests p.requests s.some))
 
   -- what the rest has within the limit
   module _ (few : taken ≤ most_bytes + 1) where
     -- the rest begins no request
     pub broke : is_bad_request (take (most_bytes - (taken - length waiting)) waiting) ≡ true →
         HasServed (BadAt (taken - length waiting)) had left old mid was then_
-    broke bad = record {
-      requests = p.requests;
-      replies = p.replies;
-      read = p.read;
-      front = p.front;
-      rest = waiting;
-      taken = p.took;
-      few = omega (arith, p.count);
-      parts = p.parts;
-      frames = p.frames;
-      served = p.served;
-      written = p.written;
-      ends = record { place = sym text_size; cause = inl bad };
-    }
+    broke bad = ends_so (BadAt (taken - length waiting)) left refl few p.written
+        (record { place = sym text_size; cause = inl bad })
 
     -- the source gave too much
     pub exceeded : most_bytes < taken → taken ≤ length waiting + most_bytes →
         SpellsNoRequest (take (most_bytes - (taken - length waiting)) waiting) →
         is_bad_request (take (most_bytes - (taken - length waiting)) waiting) ≡ false →
         HasServed TooMany had left old mid was then_
-    exceeded more inside_ none fine = record {
-      requests = p.requests;
-      replies = p.replies;
-      read = p.read;
-      front = p.front;
-      rest = waiting;
-      taken = p.took;
-      few = omega (arith, p.count);
-      parts = p.parts;
-      frames = p.frames;
-      served = p.served;
-      written = p.written;
-      ends = record {
-        more = omega (arith, p.count);
-        within = omega (arith, text_size);
-        none = subst (λ (k : ℕ). SpellsNoRequest (take (most_bytes - k) waiting)) (sym text_size) none;
-        not_bad = ap (λ (k : ℕ). is_bad_request (take (most_bytes - k) waiting)) text_size ∙ fine;
-      };
-    }
+    exceeded more inside_ none fine = ends_so TooMany left refl few p.written (record {
+      more = omega (arith, p.count);
+      within = omega (arith, text_size);
+      none = subst (λ (k : ℕ). SpellsNoRequest (take (most_bytes - k) waiting)) (sym text_size) none;
+      not_bad = ap (λ (k : ℕ). is_bad_request (take (most_bytes - k) waiting)) text_size ∙ fine;
+    })
 
 -- what is left of the bytes within the limit, once whole requests are taken
 pub cut : (waiting : List ℕ) (taken w done : ℕ) → w ≡ length waiting - (taken - most_bytes) → done ≤ w →
@@ -355,7 +282,7 @@ pub grown_to : (had left left' : Option (List ℕ)) (taken n most : ℕ) (waitin
     (left ≡ then_told part left') → Progress had left' (taken + n) more old mid was then_
 grown_to had left left' taken n most waiting more old mid was then_ p given =
     subst (λ (l : List ℕ). Progress had left' (taken + n) l old mid was then_) (sym given.1)
-    (grown had left taken waiting old mid was then_ p left' given.0 n given.4 given.2)
+    (grown p left' given.0 n given.4 given.2)
 
 -- a write did nothing
 pub write_failed : (had left : Option (List ℕ)) (taken w : ℕ) (waiting bytes : List ℕ)
@@ -375,12 +302,12 @@ write_failed had left taken w waiting bytes old mid new was then_ now fault end 
 
     by_fault : (f : WriteFault) → HasServed (end_of (end_after f)) had left old new was now
     by_fault write_fault.Failed =
-        sink_failed had left taken waiting old mid was then_ p new now w s.0 fits part few
+        sink_failed p new now w s.0 fits part few
     by_fault write_fault.Memory =
-        out_of_memory had left taken waiting old mid was then_ p new now w s.0 fits part few
+        out_of_memory p new now w s.0 fits part few
 
-module _ (had left : Option (List ℕ)) (taken w done : ℕ) (waiting bytes : List ℕ) (old mid new : Provider)
-    (was then_ now : Option (List ℕ))
+module _ {had left : Option (List ℕ)} {taken : ℕ} (w done : ℕ) {waiting : List ℕ} (bytes : List ℕ)
+    {old mid new : Provider} {was then_ now : Option (List ℕ)}
     (p : Progress had left taken waiting old mid was then_) (is : bytes ≡ take w waiting)
     (w_is : w ≡ length waiting - (taken - most_bytes)) (few : taken ≤ most_bytes + 1)
     (some : 0 < length waiting) (fits : done ≤ length bytes)
@@ -393,7 +320,7 @@ module _ (had left : Option (List ℕ)) (taken w done : ℕ) (waiting bytes : Li
 
   -- the whole requests were answered
   pub turned : Progress had left taken (drop done waiting) old new was now
-  turned = served_on had left taken waiting old mid was then_ p new now w done short_front
+  turned = served_on p new now w done short_front
       (subst (λ (l : List ℕ). ServesAll (take done l) mid new then_ now) is s)
 
   rest_is : drop done bytes ≡ take (most_bytes - (taken - length (drop done waiting))) (drop done waiting)
@@ -407,13 +334,13 @@ module _ (had left : Option (List ℕ)) (taken w done : ℕ) (waiting bytes : Li
   turned_bad at at_is bad =
       subst (λ (k : ℕ). HasServed (BadAt k) had left old new was now)
       (ap (λ (k : ℕ). taken - k) rest_size ∙ sym at_is)
-      (broke had left taken (drop done waiting) old new was now turned few
+      (broke turned few
       (ap is_bad_request (sym rest_is) ∙ bad))
 
   turned_long : most_bytes < taken → SpellsNoRequest (drop done bytes) →
       is_bad_request (drop done bytes) ≡ false → HasServed TooMany had left old new was now
   turned_long more none fine =
-      exceeded had left taken (drop done waiting) old new was now turned few more
+      exceeded turned few more
       (omega (arith, rest_size, done_within, w_is)) (subst SpellsNoRequest rest_is none)
       (ap is_bad_request (sym rest_is) ∙ fine)
 
@@ -518,17 +445,13 @@ module _ {had left : Option (List ℕ)} (left' : Option (List ℕ)) {taken n siz
       -- so far a server has come then
       pub went_on : Progress had left' (taken + n) (drop done more) old new was now
       went_on =
-          turned had left' (taken + n) (size - over) done more
-          (take (size - over) slice) old mid new was then_ now
-          read_more front_is width_is few_read (some_wait some) fits s
+          turned (size - over) done (take (size - over) slice) read_more front_is width_is few_read (some_wait some) fits s
 
       -- the rest is bad
       pub bad_at : is_bad_request (drop done (take (size - over) slice)) ≡ true
           → HasServed (BadAt (taken + n - (size - done))) had left' old new was now
       bad_at bad =
-          turned_bad had left' (taken + n) (size - over) done more
-          (take (size - over) slice) old mid new was then_ now
-          read_more front_is width_is few_read (some_wait some) fits s
+          turned_bad (size - over) done (take (size - over) slice) read_more front_is width_is few_read (some_wait some) fits s
           (taken + n - (size - done)) (ap (λ (k : ℕ). taken + n - (k - done)) size_is) bad
 
       -- the source gave too much
@@ -536,16 +459,12 @@ module _ {had left : Option (List ℕ)} (left' : Option (List ℕ)) {taken n siz
           → is_bad_request (drop done (take (size - over) slice)) ≡ false →
           HasServed TooMany had left' old new was now
       too_long more_came none fine =
-          turned_long had left' (taken + n) (size - over) done more
-          (take (size - over) slice) old mid new was then_ now
-          read_more front_is width_is few_read (some_wait some) fits s more_came none fine
+          turned_long (size - over) done (take (size - over) slice) read_more front_is width_is few_read (some_wait some) fits s more_came none fine
 
       -- within the limit the rest is what waits for more
       pub rest_waits : taken + n ≤ 16777216 → drop done (take (size - over) slice) ≡ drop done more
       rest_waits less = ap (drop done)
-          (all_within had left' (taken + n) (size - over) done more
-          (take (size - over) slice) old mid new was then_ now
-          read_more front_is width_is few_read (some_wait some) fits s less)
+          (all_within (size - over) done (take (size - over) slice) read_more front_is width_is few_read (some_wait some) fits s less)
 
   -- nothing came, and the source is at its end
   module _ (none : n ≡ 0) (end : n ≡ 0 → 0 < 16777217 - taken → length waiting < 65536 →
@@ -563,14 +482,14 @@ module _ {had left : Option (List ℕ)} (left' : Option (List ℕ)) {taken n siz
     -- where nothing waits, a request was due
     pub finished_at : size ≡ 0 → HasServed Finished had left' old mid was then_
     finished_at empty =
-        finished had left taken waiting old mid was then_ p left' given.0 given.4 nothing at_end within
+        finished p left' given.0 given.4 nothing at_end within
         (sym same_size ∙ sym size_is ∙ empty)
 
     -- where something waits, it ended inside a request
     pub stopped_at : SpellsNoRequest waiting → size ≢ 0 →
         HasServed (BadAt (taken - size)) had left' old mid was then_
     stopped_at spells some =
-        ended_inside_at had left taken waiting old mid was then_ p left' given.0 given.4 nothing at_end within
+        ended_inside_at p left' given.0 given.4 nothing at_end within
         spells
         (omega (arith, same_size, size_is)) (taken - size) (ap (λ (k : ℕ). taken - k) (size_is ∙ same_size))
 

@@ -1,8 +1,6 @@
 -- What is received over a link that tells what is behind it.
-use Rattle.std.proofs.Common.{◌≡◌, ℕ, ◌+◌, ◌≤◌, List, [], ◌∷◌, ◌++◌, length, take, Option, Some, None, refl, sym, ap, subst, ◌∙◌, append_assoc, arith, length-append, get_or}
-use Rattle.std.proofs.lemmas.List.{append-nil}
-use Rattle.device_defs.specs.Told.{Goes}
-use Rattle.wire_defs.specs.Links.{Behind, Receives, provider_behind}
+use Rattle.provider_wire.proofs.Words.{◌≡◌, ℕ, ◌+◌, ◌≤◌, List, [], ◌∷◌, ◌++◌, length, take, refl, sym, ap, subst, ◌∙◌, append_assoc, arith, length-append, get_or, append-nil, Goes, Behind, Receives, provider_behind}
+use Rattle.std.proofs.Common.{Option, Some, None}
 
 -- a provider behind a link is known by what is seen of it
 pub same_behind : (old new : Behind) (rest : List ℕ) → provider_behind new ≡ provider_behind old →

@@ -1,17 +1,7 @@
 -- What a server has done with the requests that came so far.
-use Rattle.std.proofs.Common.{◌≡◌, ℕ, ◌+◌, ◌-◌, ◌<◌, ◌≤◌, List, [], ◌∷◌, ◌++◌, length, take, drop, Option, Some, None, false, refl, sym, ap, subst, ◌∙◌, append_assoc, arith, length-drop, length-take}
-use Rattle.std.specs.Prelude.{IfOk, IfErr, IsErr, Result, Ok, Err}
-use Rattle.std.proofs.lemmas.List.{take_rest}
-use Rattle.std.specs.List.{list_all}
-use Rattle.std.proofs.Math.Seq.{take-add}
-use Rattle.std.proofs.lemmas.Bool.{and_from}
-use Rattle.device_defs.specs.Told.{told_then, then_told, TakesFront}
-use Rattle.device_defs.specs.Providers.{Provider}
-use Rattle.device_defs.proofs.Lasting.{told_then-nothing}
-use Rattle.wire_defs.specs.Requests.{Request, is_request, is_bad_request, SpellsRequest, AreFrames}
-use Rattle.wire_defs.specs.Replies.{AnswersIn, reply_bytes, replies_text}
-use Rattle.wire_defs.specs.Serving.{ServesAll, ServesPart}
-use Rattle.stream_model.proofs.ToldLemmas.{told_then-append}
+use Rattle.provider_wire.proofs.Words.{◌≡◌, ℕ, ◌+◌, ◌-◌, ◌<◌, ◌≤◌, List, [], ◌∷◌, ◌++◌, length, take, drop, false, refl, sym, ap, subst, ◌∙◌, append_assoc, arith, length-drop, length-take, IfErr, IsErr, take_rest, list_all, take-add, and_from, told_then, then_told, TakesFront, Provider, told_then-nothing, Request, is_request, is_bad_request, SpellsRequest, AreFrames, AnswersIn, reply_bytes, replies_text, ServesAll, ServesPart, told_then-append}
+use Rattle.std.proofs.Common.{Option, Some, None}
+use Rattle.std.specs.Prelude.{IfOk, Result, Ok, Err}
 
 -- writing nothing leaves what a sink tells
 pub nothing_told : (told : Option (List ℕ)) → told ≡ then_told [] told

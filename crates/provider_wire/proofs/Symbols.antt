@@ -1,19 +1,7 @@
 -- The bytes of symbols, one after the other, and the symbols of bytes.
-use Rattle.std.proofs.Common.{◌≡◌, ℕ, zero, suc, ◌+◌, ◌*◌, ◌<◌, ◌≤◌, ◌^◌, List, [], ◌∷◌, ◌++◌, length, take, drop, get_or, set, refl, sym, ap, ◌∙◌, arith, append_assoc, add-one, length-append, length-take, length-drop, take-append-drop, mul-le-mul_right, le_of_suc-le-suc, pow-suc, Bool, true, false}
-use Rattle.std.specs.Prelude.{nat_lt, ◌&&◌}
-use Rattle.std.specs.List.{list_all}
-use Rattle.std.specs.Int.{w128, to_le_bytes, from_le_bytes, sum_through, byte_worth}
-use Rattle.std.proofs.Math.Seq.{take-add, take-suc, drop-cons}
+use Rattle.provider_wire.proofs.Words.{◌≡◌, ℕ, zero, suc, ◌+◌, ◌*◌, ◌<◌, ◌≤◌, ◌^◌, List, [], ◌∷◌, ◌++◌, length, take, drop, get_or, set, refl, sym, ap, ◌∙◌, arith, append_assoc, add-one, length-append, length-take, length-drop, take-append-drop, mul-le-mul_right, le_of_suc-le-suc, pow-suc, Bool, true, false, nat_lt, ◌&&◌, list_all, w128, to_le_bytes, from_le_bytes, sum_through, byte_worth, take-add, take-suc, drop-cons, take_more_set, take_all, take_at, drop_at, length-take-le, list_all-append, lt-ltb, nat_tests, bytes_of_symbols, bytes_of_symbols-push, bytes_of_symbols-more, length-bytes_of_symbols, IsBytes, IsBytes-take, IsBytes-drop, IsWide, symbols_read}
 use Rattle.std.proofs.lemmas.Grind.{flat_map-append}
-use Rattle.std.proofs.lemmas.List.{take_more_set, take_all, take_at, drop_at, length-take-le}
-use Rattle.std.proofs.lemmas.List.Folds.{list_all-append}
-use Rattle.std.proofs.lemmas.Bool.{lt-ltb}
-use Rattle.std.proofs.lemmas.Bool.Decides.{nat_tests}
-use Rattle.column_defs.specs.Objects.{bytes_of_symbols}
-use Rattle.column_defs.proofs.SymbolBytes.{bytes_of_symbols-push, bytes_of_symbols-more, length-bytes_of_symbols}
 use Rattle.hail_field.proofs.Bytes.{from_to, to_from}
-use Rattle.record_codec.proofs.Fields.{IsBytes, IsBytes-take, IsBytes-drop, IsWide}
-use Rattle.provider_wire.specs.Reading.{symbols_read}
 
 -- one symbol more was pushed
 pub pushed_more : (first mid now symbols piece : List ℕ) (i x : ℕ) → i < length symbols →

@@ -1,19 +1,6 @@
 -- What is read is spelled so, and what is spelled so is read.
-use Rattle.std.proofs.Common.{◌≡◌, ℕ, ◌*◌, ◌^◌, ◌<◌, ◌≤◌, Bool, true, false, cond, eqb, List, [], ◌∷◌, ◌++◌, length, take, drop, Option, Some, None, refl, sym, ap, subst, ◌∙◌, append_assoc, arith, length-append, length-take, take-append-drop, ⊎_elim}
-use Rattle.std.specs.Prelude.{◌&&◌, nat_lt, ◌==◌}
-use Rattle.std.specs.Int.{w32, w64, to_le_bytes}
-use Rattle.std.specs.List.{list_all}
-use Rattle.std.proofs.lemmas.Bool.{eqb-true, ltb-false, le-ltb, lt-ltb, and_from, and_parts}
-use Rattle.std.proofs.lemmas.Bool.Decides.{nat_tests}
-use Rattle.std.proofs.lemmas.List.{take_at, drop_at}
-use Rattle.algebra_laws.proofs.Options.{cond-cases}
-use Rattle.column_defs.specs.Challenges.{Challenge}
-use Rattle.column_defs.specs.Objects.{bytes_of_symbols}
-use Rattle.column_defs.proofs.SymbolBytes.{length-bytes_of_symbols}
-use Rattle.wire_defs.specs.Requests.{Request, Store, Fetch, Ask, Remove, is_within, is_block, is_challenge, is_request, place_bytes, block_bytes, challenge_bytes, request_bytes}
-use Rattle.record_codec.specs.Reading.{◌>>=◌, number_at}
-use Rattle.record_codec.proofs.Fields.{IsBytes, IsBytes-rest, IsBytes-take, IsBytes-drop, bind_some, passed, stopped, some_is, Takes, Takes-then, wide32, wide64, number_takes, number_again}
-use Rattle.provider_wire.specs.Reading.{symbols_read, within_at, block_read_at, store_at, fetch_at, seed_at, rows_at, challenge_read_at, ask_at, remove_at, request_at}
+use Rattle.provider_wire.proofs.Words.{◌≡◌, ℕ, ◌*◌, ◌^◌, ◌<◌, ◌≤◌, Bool, true, false, cond, eqb, List, [], ◌∷◌, ◌++◌, length, take, drop, refl, sym, ap, subst, ◌∙◌, append_assoc, arith, length-append, length-take, take-append-drop, ⊎_elim, ◌&&◌, nat_lt, ◌==◌, w32, w64, to_le_bytes, list_all, eqb-true, ltb-false, le-ltb, lt-ltb, and_from, and_parts, nat_tests, take_at, drop_at, cond-cases, Challenge, bytes_of_symbols, length-bytes_of_symbols, Request, Store, Fetch, Ask, Remove, is_within, is_block, is_challenge, is_request, place_bytes, block_bytes, challenge_bytes, request_bytes, ◌>>=◌, number_at, IsBytes, IsBytes-rest, IsBytes-take, IsBytes-drop, bind_some, passed, stopped, some_is, Takes, Takes-then, wide32, wide64, number_takes, number_again, symbols_read, within_at, block_read_at, store_at, fetch_at, seed_at, rows_at, challenge_read_at, ask_at, remove_at, request_at}
+use Rattle.std.proofs.Common.{Option, Some, None}
 use Rattle.provider_wire.proofs.Symbols.{bytes-symbols, length-symbols, symbols_small, symbols-bytes}
 
 abbrev Found : List ℕ → Request × List ℕ → Type 0

@@ -1,10 +1,8 @@
 -- Bytes that a read put behind others.
-use Rattle.std.proofs.Common.{◌≡◌, ℕ, ◌+◌, ◌-◌, ◌<◌, ◌≤◌, min, List, ◌++◌, length, take, drop, Option, Result, Ok, Err, IfOk, sym, ap, ◌∙◌, arith, take-append-drop, length-append, length-take, length-drop, Fits}
+use Rattle.provider_wire.proofs.Words.{◌≡◌, ℕ, ◌+◌, ◌-◌, ◌<◌, ◌≤◌, List, ◌++◌, length, take, drop, sym, ap, ◌∙◌, arith, take-append-drop, length-append, length-take, length-drop, Fits, take-put_mid_behind, then_told, w64}
+use Rattle.std.proofs.Common.{min, Option, Result, Ok, Err, IfOk}
 use Rattle.std.proofs.lemmas.Slice.{take-put_mid, drop-put_mid}
 use borrow.Rule.Slice.PartMut.{put_mid}
-use Rattle.algebra_laws.proofs.Lists.{take-put_mid_behind}
-use Rattle.device_defs.specs.Told.{then_told}
-use Rattle.std.specs.Int.{w64}
 
 -- what was written in the middle leaves the length
 pub part_length : (xs ys : List ℕ) (a k : ℕ) → length ys ≡ k → a + k ≤ length xs →

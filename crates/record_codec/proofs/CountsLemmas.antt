@@ -1,12 +1,7 @@
 -- A list of counts that is read is the one that was written, and what was written is read again.
-use Rattle.std.proofs.Common.{◌≡◌, ℕ, zero, suc, ◌+◌, ◌-◌, ◌^◌, ◌<◌, ◌≤◌, Bool, true, ◌&&◌, leb, ltb, List, [], ◌∷◌, ◌++◌, length, take, drop, replicate, Option, Some, None, refl, sym, ap, subst, ◌∙◌, append_assoc, arith, length-append}
-use Rattle.std.specs.Int.{w32, to_le_bytes}
-use Rattle.std.specs.List.{flat_map, list_all}
-use Rattle.std.proofs.lemmas.List.{drop-replicate, append-nil, take_at, drop_at, length-replicate}
-use Rattle.std.proofs.lemmas.Bool.{le-leb}
-use Rattle.std.proofs.lemmas.Bool.Decides.{nat_tests}
-use Rattle.record_defs.specs.Spellings.{counts_bytes}
-use Rattle.record_codec.specs.Reading.{◌>>=◌, number_at, numbers_at, counts_at}
+use Rattle.record_codec.proofs.Words.{◌≡◌, ℕ, zero, suc, ◌+◌, ◌-◌, ◌^◌, ◌<◌, ◌≤◌, Bool, true, leb, ltb, List, [], ◌∷◌, ◌++◌, length, take, drop, replicate, Option, Some, None, refl, sym, ap, subst, ◌∙◌, append_assoc, arith, w32, to_le_bytes, flat_map, list_all, drop-replicate, append-nil, take_at, length-replicate, le-leb, nat_tests, counts_bytes, ◌>>=◌, number_at, numbers_at, counts_at}
+use Rattle.std.proofs.Common.{◌&&◌, length-append}
+use Rattle.std.proofs.lemmas.List.{drop_at}
 use Rattle.record_codec.proofs.Fields.{IsBytes, IsBytes-rest, bind_some, passed_to, some_is, Takes, Takes-then, wide32, number_takes, number_again}
 
 -- numbers of four bytes

@@ -1,8 +1,5 @@
 -- The master key behind the numbers of a setup, by cases.
-use Rattle.std.proofs.Common.{◌≡◌, ◌≤◌, ℕ, true, false, List, length, take, drop, Some, None, refl}
-use Rattle.std.proofs.lemmas.Bool.{le-ltb}
-use Rattle.record_defs.specs.Records.{Setup, SetUp, is_setup}
-use Rattle.record_codec.specs.Reading.{keyed_at}
+use Rattle.record_codec.proofs.Words.{◌≡◌, ◌≤◌, ℕ, true, false, List, length, take, drop, Some, None, refl, le-ltb, Setup, SetUp, is_setup, keyed_at}
 
 -- a setup out of its limits is no record
 pub keyed_no_setup : (s : Setup) (bytes : List ℕ) → is_setup s ≡ false → None ≡ keyed_at s bytes

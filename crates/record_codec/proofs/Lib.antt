@@ -1,3 +1,4 @@
+mod Words
 pub mod Fields
 pub mod CountsLemmas
 pub mod Takes

@@ -1,15 +1,10 @@
 -- What is read is spelled so, and what is spelled so is read.
-use Rattle.std.proofs.Common.{◌≡◌, ℕ, suc, ◌^◌, ◌<◌, ◌≤◌, true, false, cond, ltb, eqb, leb, List, [], ◌∷◌, ◌++◌, length, take, drop, Option, Some, None, refl, sym, ap, subst, ◌∙◌, append_assoc, arith, length-append, length-take, take-append-drop, ⊎_elim, zero, Bool}
+use Rattle.record_codec.proofs.Words.{◌≡◌, ℕ, suc, ◌^◌, ◌<◌, ◌≤◌, true, false, cond, ltb, eqb, leb, List, [], ◌∷◌, ◌++◌, length, take, drop, Option, Some, None, refl, sym, ap, subst, ◌∙◌, append_assoc, arith, ⊎_elim, zero, Bool, w16, w32, w64, to_le_bytes, from_le_bytes, list_all, eqb-true, leb-true, ltb-false, le-ltb, lt-ltb, nat_tests, take_at, drop-front, Setup, SetUp, PutStart, PutDone, Drop, AuditStart, AuditDone, RepairDone, is_name, is_setup, is_master, is_byte, is_in_grammar, PutDoneIn, Version, Resume, InEffect, RepairDue, name_bytes, setup_bytes, counts_bytes, spelling, ◌>>=◌, number_at, name_at, counts_at, keyed_at, setup_at, put_start_at, put_done_at, audit_start_at, audit_done_at, repair_done_at, profile_at, object_at, put_done_in_at, version_at, resume_at, in_effect_at, repair_due_at, record_at}
+use Rattle.std.proofs.Common.{length-append, length-take, take-append-drop}
 use Rattle.std.specs.Prelude.{◌&&◌}
-use Rattle.std.specs.Int.{w16, w32, w64, to_le_bytes, from_le_bytes}
-use Rattle.std.specs.List.{list_all}
-use Rattle.std.proofs.lemmas.Bool.{eqb-true, leb-true, ltb-false, le-ltb, lt-ltb}
-use Rattle.std.proofs.lemmas.Bool.Decides.{nat_tests}
-use Rattle.std.proofs.lemmas.List.{take_at, drop_at as drop-front}
 use Rattle.algebra_laws.proofs.Options.{cond-cases}
-use Rattle.record_defs.specs.Records.{Setup, Record, SetUp, PutStart, PutDone, Drop, AuditStart, AuditDone, RepairDone, is_name, is_setup, is_master, is_byte, is_in_grammar, PutDoneIn, Version, Resume, InEffect, RepairDue}
-use Rattle.record_defs.specs.Spellings.{name_bytes, setup_bytes, counts_bytes, spelling}
-use Rattle.record_codec.specs.Reading.{◌>>=◌, number_at, name_at, counts_at, keyed_at, setup_at, put_start_at, put_done_at, drop_at, audit_start_at, audit_done_at, repair_done_at, profile_at, object_at, put_done_in_at, version_at, resume_at, in_effect_at, repair_due_at, record_at}
+use Rattle.record_defs.specs.Records.{Record}
+use Rattle.record_codec.specs.Reading.{drop_at}
 use Rattle.record_codec.proofs.Fields.{IsBytes, IsBytes-rest, IsBytes-take, IsBytes-drop, bind_some, passed, passed_to, stopped, some_is, Takes, Takes-then, wide16, wide32, wide64, number_takes, number_again, name_takes, name_again}
 use Rattle.record_codec.proofs.CountsLemmas.{counts_takes, counts_again}
 

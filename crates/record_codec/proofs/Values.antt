@@ -1,11 +1,9 @@
 -- A record of the program can be made again from its plain data.
-use Rattle.std.proofs.Common.{◌≡◌, ℕ, ◌-◌, ◌+◌, ◌*◌, subst, List, ◌++◌, length, take, replicate, refl, sym, ap, ◌∙◌, arith, length-take, take-append-drop}
-use Rattle.record_defs.specs.Records.{SetUp, PutStart, PutDone, Drop, AuditStart, AuditDone, RepairDone, PutDoneIn, Version, Resume, InEffect, RepairDue, record_size}
-use Rattle.record_defs.specs.Records.{Record as Entry}
+use Rattle.record_codec.proofs.Words.{◌≡◌, ℕ, ◌-◌, ◌+◌, ◌*◌, subst, List, ◌++◌, length, take, replicate, refl, sym, ap, ◌∙◌, arith, SetUp, PutStart, PutDone, Drop, AuditStart, AuditDone, RepairDone, PutDoneIn, Version, Resume, InEffect, RepairDue, record_size, Entry, entry_of, counted, IsPadded, HasPadding, IsInGrammar}
+use Rattle.std.proofs.Common.{length-take, take-append-drop}
 use Rattle.record_codec.specs.declared.counts.Counts.{Counts}
 use Rattle.record_codec.specs.declared.records.Record.{Record}
 use Rattle.record_codec.specs.declared.records.Record.TheVariants as kind
-use Rattle.record_codec.specs.Entries.{entry_of, counted, IsPadded, HasPadding, IsInGrammar}
 
 abbrev padded : List ℕ → Counts
 padded ks = record { n = length ks; by = ks ++ replicate (16 - length ks) 0 }

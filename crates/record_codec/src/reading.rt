@@ -11,10 +11,8 @@ use crate::counts::Counts;
 use crate::name::Name;
 use crate::records::Record;
 use crate::setup::Setup;
-
-const LARGEST_FILE: u32 = 1 << 22;
-
-const PROFILES: u8 = 5;
+use code_defs::PROFILES;
+use record_defs::LARGEST_FILE;
 
 fn u32_at(bytes: &[u8]) -> Option<(u32, &[u8])>
     ensures { option_map (λ x. (x.0, x.1.now)) result ≡ number_at w32 bytes.now }

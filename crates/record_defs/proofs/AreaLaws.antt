@@ -1,12 +1,6 @@
 -- Texts in the two areas of a disk.
-use Rattle.std.specs.Prelude.{◌≡◌, ◌⊎◌, ℕ, IsTrue, suc, List, [], ◌∷◌, ◌++◌, length, take, drop}
-use Rattle.std.proofs.Common.{refl, sym, ap, ◌∙◌, arith, inl, inr, append_assoc, take-append-drop}
-use Rattle.std.proofs.lemmas.List.{drop-drop}
-use Rattle.std.specs.List.{list_all}
-use Rattle.record_defs.specs.Records.{Record, is_in_grammar}
-use Rattle.record_defs.specs.Spellings.{spelling}
-use Rattle.record_defs.specs.Journal.{magic, before_gate, text, text_size}
-use Rattle.record_defs.specs.Areas.{Area, A, B, other_area, base_of, magic_front, area_of, entries, end_in, HoldsIn, StandsActive}
+use Rattle.record_defs.proofs.Words.{◌≡◌, ◌⊎◌, IsTrue, suc, List, [], ◌∷◌, ◌++◌, length, take, drop, refl, sym, ap, ◌∙◌, arith, inl, inr, append_assoc, take-append-drop, drop-drop, list_all, Record, is_in_grammar, spelling, magic, before_gate, text, text_size, Area, A, B, other_area, base_of, magic_front, area_of, entries, end_in, HoldsIn, StandsActive}
+use Rattle.std.specs.Prelude.{ℕ}
 
 -- what stands before the closing gate is the magic and then the entries
 pub before_gate-entries : (rs : List Record) → before_gate rs ≡ magic ++ entries rs

@@ -1,9 +1,6 @@
 -- The ordered list of files in effect has under each name the file that the records have in effect.
-use Rattle.std.specs.Prelude.{◌≡◌, ℕ, true, List, [], ◌∷◌, Option, Some, None, if◌then◌else◌, false}
-use Rattle.std.proofs.Common.{refl, arith}
-use Rattle.std.proofs.lemmas.Bool.Decides.{nat_tests}
-use Rattle.record_defs.specs.Records.{Record, SetUp, PutStart, PutDone, Drop, AuditStart, AuditDone, RepairDone, PutDoneIn, Version, Resume, InEffect, RepairDue}
-use Rattle.record_defs.specs.Table.{File, is_same_name, is_start_of, started_as, file_of, with_file, without_file, with_put, files_of, find_file, is_name_before, file_as, setup_of, profile_in}
+use Rattle.record_defs.proofs.Words.{◌≡◌, true, List, [], ◌∷◌, Option, Some, None, if◌then◌else◌, false, refl, arith, nat_tests, Record, SetUp, PutStart, PutDone, Drop, AuditStart, AuditDone, RepairDone, PutDoneIn, Version, Resume, InEffect, RepairDue, File, is_same_name, is_start_of, started_as, file_of, with_file, without_file, with_put, files_of, find_file, is_name_before, file_as, setup_of, profile_in}
+use Rattle.std.specs.Prelude.{ℕ}
 
 -- names that are the same are equal
 pub same-eq : (m n : List ℕ) → is_same_name m n ≡ true → m ≡ n

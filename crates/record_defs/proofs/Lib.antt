@@ -1,3 +1,4 @@
+mod Words
 pub mod Standing
 pub mod FilesLaws
 pub mod OrderLaws

@@ -1,11 +1,6 @@
 -- The list of files in effect ascends, and accepted records have few files.
-use Rattle.std.specs.Prelude.{◌≡◌, ◌≢◌, ℕ, ◌+◌, ◌-◌, ◌^◌, ◌≤◌, ◌<◌, true, false, Bool, List, [], ◌∷◌, length, Option, Some, None, nat_le, is_some, not, ◌&&◌}
-use Rattle.std.specs.List.{list_all}
-use Rattle.std.proofs.Common.{refl, arith}
-use Rattle.std.proofs.lemmas.Bool.Decides.{nat_tests}
-use Rattle.record_defs.specs.Records.{Record, SetUp, PutStart, PutDone, Drop, AuditStart, AuditDone, RepairDone, PutDoneIn, Version, Resume, InEffect, RepairDue, most_files}
-use Rattle.record_defs.specs.Table.{File, file_as, setup_of, profile_in, next_id, next_audit, is_same_name, is_name_before, started_as, with_file, without_file, with_put, files_of, find_file, are_ordered}
-use Rattle.record_defs.specs.Acceptance.{refused, AreAccepted}
+use Rattle.record_defs.proofs.Words.{◌≡◌, ◌≢◌, ◌+◌, ◌≤◌, ◌<◌, true, false, Bool, List, [], ◌∷◌, length, Option, Some, None, nat_le, is_some, not, ◌&&◌, list_all, refl, arith, nat_tests, Record, SetUp, PutStart, PutDone, Drop, AuditStart, AuditDone, RepairDone, PutDoneIn, Version, Resume, InEffect, RepairDue, most_files, File, file_as, setup_of, profile_in, next_id, next_audit, is_same_name, is_name_before, started_as, with_file, without_file, with_put, files_of, find_file, are_ordered, refused, AreAccepted}
+use Rattle.std.specs.Prelude.{ℕ, ◌-◌, ◌^◌}
 use Rattle.record_defs.proofs.FilesLaws.{same-refl, find-files_of, find-without}
 
 -- a name before a second one, which is before a third, is before the third

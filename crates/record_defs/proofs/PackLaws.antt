@@ -1,12 +1,6 @@
 -- The records of a packed journal are accepted, one after the other, and fold to a table that is alike.
-use Rattle.std.specs.Prelude.{◌≡◌, ℕ, ◌+◌, ◌^◌, ◌≤◌, ◌<◌, ◌==◌, true, false, Bool, not, ◌&&◌, List, [], ◌∷◌, ◌++◌, length, Option, Some, None, is_some, nat_lt, nat_le}
-use Rattle.std.specs.List.{list_all}
-use Rattle.std.proofs.Common.{refl, sym, ap, subst, ◌∙◌, arith, append_assoc, length-append}
-use Rattle.std.proofs.lemmas.Bool.Decides.{nat_tests}
-use Rattle.std.proofs.lemmas.List.{append-nil}
-use Rattle.record_defs.specs.Records.{Setup, Record, SetUp, Version, Resume, RepairDue, most_files}
-use Rattle.record_defs.specs.Table.{File, Due, setup_of, version_of, next_id, next_audit, started_as, is_same_name, is_name_before, file_of, files_of, find_file, with_file, without_file, with_put, are_ordered, running_audit, due_of, exceeds}
-use Rattle.record_defs.specs.Acceptance.{refused, AreAccepted, is_file_id, is_count_each}
+use Rattle.record_defs.proofs.Words.{◌≡◌, ◌+◌, ◌≤◌, ◌<◌, ◌==◌, true, false, Bool, not, ◌&&◌, List, [], ◌∷◌, ◌++◌, length, Option, Some, None, is_some, nat_lt, nat_le, list_all, refl, sym, ap, subst, ◌∙◌, arith, append_assoc, length-append, nat_tests, append-nil, Setup, Record, SetUp, Version, Resume, RepairDue, most_files, File, Due, setup_of, version_of, next_id, next_audit, started_as, is_same_name, is_name_before, file_of, files_of, find_file, with_file, without_file, with_put, are_ordered, running_audit, due_of, exceeds, refused, AreAccepted, is_file_id, is_count_each}
+use Rattle.std.specs.Prelude.{ℕ, ◌^◌}
 use Rattle.record_defs.specs.Packed.{AreAlike, as_record, with_files, with_due, with_setup, packed}
 use Rattle.record_defs.proofs.FilesLaws.{same-eq, same-refl, find-files_of}
 use Rattle.record_defs.proofs.OrderLaws.{ordered-files_of, few-files_of, next_id-fits, next_audit-fits}

@@ -1,12 +1,6 @@
 -- The length of a file in effect, by its number.
-use Rattle.std.specs.Prelude.{◌≡◌, ℕ, ◌==◌, ◌||◌, not, true, List, [], ◌∷◌, Some, if◌then◌else◌}
-use Rattle.std.specs.List.{list_all}
-use Rattle.std.proofs.Common.{sym, ap, subst, ◌∙◌, arith, inl, inr}
-use Rattle.std.proofs.lemmas.Bool.{cases_Bool, eqb-true}
-use Rattle.std.proofs.lemmas.Bool.Decides.{nat_tests}
-use Rattle.record_defs.specs.Records.{Record}
-use Rattle.record_defs.specs.Table.{File, file_of, files_of, find_file}
-use Rattle.record_defs.specs.Acceptance.{AreAccepted}
+use Rattle.record_defs.proofs.Words.{◌≡◌, ◌==◌, ◌||◌, not, true, List, [], ◌∷◌, Some, if◌then◌else◌, list_all, sym, ap, subst, ◌∙◌, arith, inl, inr, cases_Bool, eqb-true, nat_tests, Record, File, file_of, files_of, find_file, AreAccepted}
+use Rattle.std.specs.Prelude.{ℕ}
 use Rattle.record_defs.proofs.FilesLaws.{find-files_of}
 use Rattle.record_defs.proofs.OrderLaws.{ordered-files_of}
 use Rattle.record_defs.proofs.PackLaws.{all-found}

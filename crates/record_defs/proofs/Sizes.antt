@@ -1,13 +1,7 @@
 -- How long spellings are.
-use Rattle.std.specs.Prelude.{◌≡◌, ℕ, ◌+◌, ◌*◌, ◌≤◌, true, IsTrue, List, [], ◌∷◌, length}
+use Rattle.record_defs.proofs.Words.{◌≡◌, ◌+◌, ◌*◌, ◌≤◌, true, IsTrue, List, [], ◌∷◌, length, list_all, flat_map, refl, arith, length-append, nat_tests, Record, SetUp, PutStart, PutDone, Drop, AuditStart, AuditDone, RepairDone, PutDoneIn, Version, Resume, InEffect, RepairDue, is_name, is_in_grammar, record_size, spelling, before_gate, text, text_size, entries, entries_size}
+use Rattle.std.specs.Prelude.{ℕ}
 use Rattle.std.specs.Int.{w32, to_le_bytes}
-use Rattle.std.specs.List.{list_all, flat_map}
-use Rattle.std.proofs.Common.{refl, arith, length-append}
-use Rattle.std.proofs.lemmas.Bool.Decides.{nat_tests}
-use Rattle.record_defs.specs.Records.{Record, SetUp, PutStart, PutDone, Drop, AuditStart, AuditDone, RepairDone, PutDoneIn, Version, Resume, InEffect, RepairDue, is_name, is_in_grammar, record_size}
-use Rattle.record_defs.specs.Spellings.{spelling}
-use Rattle.record_defs.specs.Journal.{before_gate, text, text_size}
-use Rattle.record_defs.specs.Areas.{entries, entries_size}
 
 length-counts : (counts : List ℕ) → length (flat_map (to_le_bytes w32) counts) ≡ 4 * length counts
 length-counts [] = refl

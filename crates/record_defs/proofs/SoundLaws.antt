@@ -1,11 +1,6 @@
 -- What holds of records that were accepted one after the other.
-use Rattle.std.specs.Prelude.{◌≡◌, ℕ, suc, ◌<◌, ◌≤◌, ◌==◌, true, false, ◌⊎◌, List, [], ◌∷◌, length, Option, Some, None}
-use Rattle.std.proofs.Common.{refl, sym, ap, subst, ◌∙◌, arith, inl, inr}
-use Rattle.std.proofs.lemmas.Bool.Decides.{nat_tests}
-use Rattle.std.proofs.lemmas.Bool.{cases_Bool}
-use Rattle.record_defs.specs.Records.{Record, SetUp, PutStart, PutDone, Drop, AuditStart, AuditDone, RepairDone, PutDoneIn, Version, Resume, InEffect, RepairDue}
-use Rattle.record_defs.specs.Table.{File, Due, file_as, profile_in, setup_of, next_id, next_audit, started_as, is_same_name, is_start_of, file_of, files_of, find_file, running_audit, due_of, exceeds}
-use Rattle.record_defs.specs.Acceptance.{refused, AreAccepted, is_file_id, is_running, is_count_each}
+use Rattle.record_defs.proofs.Words.{◌≡◌, suc, ◌<◌, ◌≤◌, ◌==◌, true, false, ◌⊎◌, List, [], ◌∷◌, length, Option, Some, None, refl, sym, ap, subst, ◌∙◌, arith, inl, inr, nat_tests, cases_Bool, Record, SetUp, PutStart, PutDone, Drop, AuditStart, AuditDone, RepairDone, PutDoneIn, Version, Resume, InEffect, RepairDue, File, Due, file_as, profile_in, setup_of, next_id, next_audit, started_as, is_same_name, is_start_of, file_of, files_of, find_file, running_audit, due_of, exceeds, refused, AreAccepted, is_file_id, is_running, is_count_each}
+use Rattle.std.specs.Prelude.{ℕ}
 use Rattle.record_defs.proofs.FilesLaws.{same-eq, find-files_of}
 
 -- an audit whose repair is due

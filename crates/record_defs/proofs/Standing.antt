@@ -1,11 +1,6 @@
 -- What bytes that stand for records say of their length and of their front.
-use Rattle.std.specs.Prelude.{◌≡◌, ◌≢◌, ℕ, suc, ◌+◌, ◌-◌, ◌≤◌, ◌<◌, List, [], ◌∷◌, length, take, drop}
-use Rattle.std.proofs.Common.{refl, sym, ap, ◌∙◌, arith, length-append}
-use Rattle.std.proofs.lemmas.List.{length-take, length-drop, take-take, drop-take}
-use Rattle.record_defs.specs.Records.{Record}
-use Rattle.record_defs.specs.Spellings.{spelling}
-use Rattle.record_defs.specs.Journal.{StandsFor, text}
-use Rattle.record_defs.specs.Areas.{Area, A, B, base_of, entries, end_in, StandsActive}
+use Rattle.record_defs.proofs.Words.{◌≡◌, ◌≢◌, suc, ◌+◌, ◌≤◌, ◌<◌, List, [], ◌∷◌, length, take, drop, refl, sym, ap, ◌∙◌, arith, length-append, length-take, length-drop, take-take, drop-take, Record, spelling, StandsFor, text, Area, A, B, base_of, entries, end_in, StandsActive}
+use Rattle.std.specs.Prelude.{ℕ, ◌-◌}
 use Rattle.record_defs.proofs.Sizes.{length-entries}
 use Rattle.record_defs.proofs.AreaLaws.{Agree, active_again}
 

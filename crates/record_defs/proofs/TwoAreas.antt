@@ -1,11 +1,8 @@
 -- A disk with a text in each of its two areas.
-use Rattle.std.specs.Prelude.{◌≡◌, ◌≢◌, ℕ, ◌-◌, ◌^◌, List, [], ◌∷◌, ◌++◌, length, drop}
-use Rattle.std.proofs.Common.{refl, sym, ap, ◌∙◌, arith, append_assoc, length-append}
-use Rattle.record_defs.specs.Journal.{magic, text}
+use Rattle.record_defs.proofs.Words.{◌≡◌, ◌≢◌, List, [], ◌∷◌, ◌++◌, length, drop, refl, sym, ap, ◌∙◌, arith, append_assoc, length-append, magic, text, A, B, entries, HoldsIn, four_set_up, two_areas}
+use Rattle.std.specs.Prelude.{ℕ, ◌-◌, ◌^◌}
 use Rattle.record_defs.proofs.Sizes.{length-text}
 use Rattle.record_defs.proofs.AreaLaws.{before_gate-entries}
-use Rattle.record_defs.specs.Areas.{A, B, entries, HoldsIn}
-use Rattle.record_defs.specs.Examples.{four_set_up, two_areas}
 
 -- a closed gate
 open-not : ◌≢◌ {A = ℕ} 0 1

@@ -12,6 +12,7 @@
 -- Limits: largest_file (bytes of a file), largest_journal (bytes of a journal), most_files (files in effect).
 use Rattle.std.specs.Prelude.{ℕ, ◌+◌, ◌*◌, ◌^◌, ◌==◌, ◌&&◌, ◌||◌, Bool, true, false, List, length, nat_lt, nat_le}
 use Rattle.std.specs.List.{list_all}
+pub use Rattle.code_defs.specs.Profiles.{all_profiles}
 
 -- what a store is set up with: n providers, l of them primary, b of them bad at most, the numbers of its
 -- audits, and the master key
@@ -49,10 +50,6 @@ largest_file = 2 ^ 22
 -- the largest length of a journal, in bytes
 abbrev pub largest_journal : ℕ
 largest_journal = 2 ^ 24
-
--- how many profiles there are
-abbrev pub all_profiles : ℕ
-all_profiles = 5
 
 -- how many files can be in effect
 abbrev pub most_files : ℕ

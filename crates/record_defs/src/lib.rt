@@ -2,4 +2,7 @@
 #![tactic(auto)]
 
 pub mod laws;
+mod limits;
 pub mod rows;
+
+pub use limits::{LARGEST_FILE, LARGEST_JOURNAL, MOST_FILES, limits_are_defined};

@@ -1,21 +1,9 @@
 -- What was put is kept and got, told by events and outcomes alone.
-use Rattle.std.proofs.Common.{◌≡◌, ℕ, List, [], ◌∷◌, ◌++◌, length, Some, refl, ap, sym, subst, ◌∙◌, inl, inr}
-use Rattle.record_defs.specs.Table.{File, file_as}
-use Rattle.machine_defs.specs.Jobs.{Given, Job, job_of}
-use Rattle.machine_defs.specs.Answers.{Put, Got}
-use Rattle.machine_defs.specs.Events.{Step}
-use Rattle.machine_defs.specs.States.{State, IsStart, file_object, file_in}
-use Rattle.machine_defs.specs.Given.{blocks_given}
-use Rattle.machine_defs.specs.Runs.{Moment, now, first_moments, IsRun}
-use Rattle.machine_defs.specs.Heard.{heard_by, heard_in, given_to, HoldsForgery}
-use Rattle.machine_defs.specs.Halves.{EndsGet}
-use Rattle.machine_defs.specs.Survival.{EndsPut, IsKept}
-use Rattle.column_defs.specs.Forgeries.{IsForgery}
+use Rattle.run_laws.proofs.Words.{◌≡◌, ℕ, List, [], ◌∷◌, ◌++◌, length, Some, refl, ap, sym, subst, ◌∙◌, inl, inr, File, file_as, Given, Job, job_of, Put, Got, Step, State, IsStart, file_object, file_in, blocks_given, Moment, now, first_moments, IsRun, heard_by, heard_in, given_to, HoldsForgery, EndsGet, EndsPut, IsKept, IsForgery, run_back, none_under_way, put_is_kept}
 use Rattle.machine_defs.proofs.Damaged.{first_behind}
 use Rattle.machine_defs.proofs.Reports.{stays}
 use Rattle.machine_defs.proofs.Began.{is_begun, put_of, kind_of, ended_job}
 use Rattle.machine_defs.specs.Untouched.{Touches}
-use Rattle.machine_defs.proofs.Untouched.{run_back, none_under_way, put_is_kept}
 use Rattle.run_laws.specs.Stories.{Stored, IsKeptAs, GetEnds, GotRight}
 use Rattle.run_laws.proofs.PutBytes.{put_bytes_stay, put_is_got}
 

@@ -1,17 +1,8 @@
 -- What each event does to the records, the record in doubt, the kinds of jobs and the bytes of object
 -- numbers, told with the limits
 -- that a setup passed and the event that a job came of.
-use Rattle.std.proofs.Common.{◌≡◌, ℕ, true, false, ◌⊎◌, List, [], ◌∷◌, ◌++◌, Option, Some, None, refl, ap, sym, subst, ◌∙◌, inl, inr}
-use Rattle.std.specs.Prelude.{IsTrue, is_some}
-use Rattle.std.proofs.lemmas.Bool.{and_from, false≢true}
-use Rattle.algebra_laws.proofs.Options.{some-not-none}
-use Rattle.record_defs.specs.Records.{Record, Setup, SetUp, is_setup, is_master, is_in_grammar}
-use Rattle.record_defs.specs.Table.{setup_of}
-use Rattle.machine_defs.specs.Jobs.{PutJob, Job, job_of, with_job, without_job, advanced}
-use Rattle.machine_defs.specs.Events.{Event, Step, Outcome, IsSpelled, IsSpelledKind}
-use Rattle.machine_defs.specs.States.{State, Append, Doubt, Alone}
+use Rattle.run_laws.proofs.Words.{◌≡◌, ℕ, true, false, ◌⊎◌, List, [], ◌∷◌, ◌++◌, Option, Some, None, refl, ap, sym, subst, ◌∙◌, inl, inr, IsTrue, is_some, and_from, false≢true, some-not-none, Record, Setup, SetUp, is_setup, is_master, is_in_grammar, setup_of, PutJob, Job, job_of, with_job, without_job, advanced, Event, Step, Outcome, IsSpelled, IsSpelledKind, State, Append, Doubt, Alone, bytes_drawn}
 use Rattle.machine_defs.specs.Begins.{beginning}
-use Rattle.machine_defs.specs.Appends.{bytes_drawn}
 use Rattle.machine_defs.specs.Alone.{StepsAlone}
 use Rattle.machine_defs.specs.Openings.{LeavesDoubt}
 use Rattle.machine_defs.specs.Machine.{Happens}
@@ -153,8 +144,8 @@ module _ (old : State) where
         bytes = Bytes_are.same refl (was_moved a flight _);
         opened = λ h. inl h;
       };
-      begins_not = λ next none faults low spelled. ends _ refl refl refl refl (inl refl) refl;
-      gates_not = λ a next flight mine faults low spelled. ends _ refl refl refl refl (inr refl) refl;
+      begins_not = λ next none spelled. ends _ refl refl refl refl (inl refl) refl;
+      gates_not = λ a next flight mine spelled. ends _ refl refl refl refl (inr refl) refl;
       stores = λ j o s p next call spelled. calls (advanced job) _ refl refl refl refl refl refl refl refl;
       stores_not = λ j o s p how next call spelled. ends _ refl refl refl refl (inl refl) refl;
       fetches = λ j o s block p next call spelled. calls _ _ refl refl refl refl refl refl refl refl;

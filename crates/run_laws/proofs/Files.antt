@@ -1,26 +1,16 @@
 -- What seen blocks open to is the file, or they hold a forgery against it.
-use Rattle.std.proofs.Common.{◌≡◌, ℕ, zero, suc, ◌+◌, ◌*◌, ◌<◌, ◌≤◌, ◌⊎◌, List, length, take, get_or, ap, sym, subst, ◌∙◌, inl, inr, arith}
-use Rattle.std.specs.Prelude.{slice_index}
-use Rattle.std.proofs.lemmas.Bool.{cases_eq}
-use Rattle.std.proofs.lemmas.List.FromFn.{fill_by_all}
+use Rattle.run_laws.proofs.Words.{◌≡◌, ℕ, zero, suc, ◌+◌, ◌*◌, ◌<◌, ◌≤◌, ◌⊎◌, List, length, take, get_or, ap, sym, subst, ◌∙◌, inl, inr, arith, slice_index, cases_eq, fill_by_all, IsShape, value, upto, values_at, Object, stripes, stripe_symbols, symbol_of, symbols_in, bytes_of_symbols, kept_by, IsForgery, profile-room, AreBytes}
 use Rattle.std.proofs.lemmas.Option.{get_or_from_slice_get}
 use Rattle.algebra_laws.proofs.Lists.{flat_map-range_same, map-range_at, same_or_other}
 use Rattle.algebra_laws.proofs.ListPlaces.{IsPlace, place-of}
-use Rattle.hail_field.specs.Shape.{IsShape}
-use Rattle.code_defs.specs.Polynomials.{value}
-use Rattle.code_defs.specs.Points.{upto, values_at}
 use Rattle.code_defs.specs.Profiles.{profile_of}
 use Rattle.code_defs.specs.ServerCode.{codeword}
 use Rattle.code_defs.proofs.Profiles.{some_kept}
-use Rattle.column_defs.specs.Objects.{Object, stripes, stripe_symbols, symbol_of, symbols_in, bytes_of_symbols, kept_by}
 use Rattle.column_defs.specs.Columns.{primary_row}
 use Rattle.column_defs.specs.Opened.{SeenBlock, AcceptsSymbols, GivesSymbols, OpensFile}
-use Rattle.column_defs.specs.Forgeries.{IsForgery}
 use Rattle.column_defs.proofs.ForgeryLaws.{forgery-of_stripe}
-use Rattle.column_laws.proofs.UniqueLaws.{profile-room}
 use Rattle.column_laws.proofs.RightRows.{kept-symbol}
 use Rattle.column_laws.proofs.OtherRows.{forgery-of_other}
-use Rattle.machine_defs.specs.Events.{AreBytes}
 use Rattle.run_laws.proofs.SymbolBytes.{bytes_back}
 
 -- of so many numbers all are of one kind, or there is one of the other

@@ -1,22 +1,7 @@
 -- Every get that ended with bytes gave the file that was in effect at its begin, or what it fetched holds a
 -- forgery.
-use Rattle.std.proofs.Common.{◌≡◌, ℕ, true, List, [], ◌∷◌, length, Option, Some, None, refl, ap, sym, subst, ◌∙◌, inl, inr}
-use Rattle.std.specs.Prelude.{is_some, nat_le}
-use Rattle.std.proofs.lemmas.Bool.{cases_Bool, false≢true}
-use Rattle.hail_field.specs.Shape.{IsShape}
-use Rattle.record_defs.specs.Records.{Setup}
-use Rattle.record_defs.specs.Table.{setup_of}
-use Rattle.machine_defs.specs.Jobs.{Kind, GetJob, Job, job_of}
-use Rattle.machine_defs.specs.Setups.{setup_or_none}
+use Rattle.run_laws.proofs.Words.{◌≡◌, ℕ, true, List, [], ◌∷◌, length, Option, Some, None, refl, ap, sym, subst, ◌∙◌, inl, inr, is_some, nat_le, cases_Bool, false≢true, IsShape, Setup, setup_of, Kind, GetJob, Job, job_of, setup_or_none, Answer, Event, Step, Outcome, Ended, State, IsStart, setup_in, file_object, Moment, now, first_moments, IsRun, blocks_given, heard_by, given_to, IsRightGet, EndsRight, at_begin, KeepsFirstHalf, FirstHalf, FirstHalfHolds, EndsGet, cond_true, cond_false, number_of, found_none}
 use Rattle.machine_defs.specs.Answers as answer
-use Rattle.machine_defs.specs.Answers.{Answer}
-use Rattle.machine_defs.specs.Events.{Event, Step, Outcome, Ended}
-use Rattle.machine_defs.specs.States.{State, IsStart, setup_in, file_object}
-use Rattle.machine_defs.specs.Runs.{Moment, now, first_moments, IsRun}
-use Rattle.machine_defs.specs.Given.{blocks_given}
-use Rattle.machine_defs.specs.Heard.{heard_by, given_to}
-use Rattle.machine_defs.specs.Halves.{IsRightGet, EndsRight, at_begin, KeepsFirstHalf, FirstHalf, FirstHalfHolds, EndsGet}
-use Rattle.machine_defs.proofs.JobLists.{cond_true, cond_false, number_of, found_none}
 use Rattle.machine_defs.proofs.Gets.{got_is_opened}
 use Rattle.machine_defs.proofs.Held.{all}
 use Rattle.run_laws.proofs.InEffect.{valid_setup, valid_shape, held_file, facts}

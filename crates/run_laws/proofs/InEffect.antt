@@ -1,23 +1,6 @@
 -- What holds at each moment of a run of the setup in effect and of the bytes of files.
-use Rattle.std.proofs.Common.{◌≡◌, ℕ, ◌+◌, ◌<◌, ◌≤◌, ◌==◌, ◌&&◌, true, List, [], ◌∷◌, length, Some, None, refl, ap, sym, subst, ◌∙◌, inl, inr, arith}
-use Rattle.std.specs.Prelude.{is_some}
-use Rattle.std.proofs.lemmas.Bool.{cases_Bool, cases_eq, cases_lt, eq-eqb, and_from, and_parts, false≢true}
-use Rattle.algebra_laws.proofs.Options.{some-not-none}
-use Rattle.hail_field.specs.Shape.{IsShape}
-use Rattle.record_defs.specs.Records.{Record, Setup, SetUp, PutStart, PutDone, Drop, AuditStart, AuditDone, RepairDone, PutDoneIn, Version, Resume, InEffect, RepairDue, is_setup, is_master}
-use Rattle.record_defs.specs.Table.{File, file_as, profile_in, version_of, setup_of, next_id, started_as, is_start_of, is_same_name, file_of}
-use Rattle.machine_defs.specs.Jobs.{Kind, PutJob, GetJob, DropJob, AuditJob, RepairJob, UpgradeJob, Job, job_of}
-use Rattle.machine_defs.specs.Actions.{WriteBody, SyncGate}
-use Rattle.machine_defs.specs.Events.{AreBytes, IsSpelledKind}
-use Rattle.machine_defs.specs.States.{State, Append, Doubt, AreFirst, IsStart, file_in}
-use Rattle.machine_defs.specs.Appends.{Writes, done_record, is_first_append, bytes_drawn}
-use Rattle.machine_defs.specs.Steps.{next_action}
-use Rattle.machine_defs.specs.Runs.{Moment, now, IsRun}
-use Rattle.machine_defs.proofs.JobLists.{cond_true, cond_false, same_value, found_none, found_with, found_without, found_more}
+use Rattle.run_laws.proofs.Words.{◌≡◌, ℕ, ◌+◌, ◌<◌, ◌≤◌, ◌==◌, ◌&&◌, true, List, [], ◌∷◌, length, Some, None, refl, ap, sym, subst, ◌∙◌, inl, inr, arith, is_some, cases_Bool, cases_eq, cases_lt, eq-eqb, and_from, and_parts, false≢true, some-not-none, IsShape, Record, Setup, SetUp, PutStart, PutDone, Drop, AuditStart, AuditDone, RepairDone, PutDoneIn, Version, Resume, InEffect, RepairDue, is_setup, is_master, File, file_as, profile_in, version_of, setup_of, next_id, started_as, is_start_of, is_same_name, file_of, Kind, PutJob, GetJob, DropJob, AuditJob, RepairJob, UpgradeJob, Job, job_of, WriteBody, SyncGate, AreBytes, IsSpelledKind, State, Append, Doubt, AreFirst, IsStart, file_in, Writes, done_record, is_first_append, bytes_drawn, next_action, Moment, now, IsRun, cond_true, cond_false, same_value, found_none, found_with, found_without, found_more, IsPlain, Job_is, Append_is, Changes, changes, objects, Draws, HasNumber, next_of_records, at_three, first_above, first_below, drawn_later, drawn_first}
 use Rattle.machine_defs.proofs.Done.{by_version}
-use Rattle.machine_defs.proofs.Changes.{IsPlain, Job_is, Append_is, Changes}
-use Rattle.machine_defs.proofs.Events.{changes}
-use Rattle.machine_defs.proofs.Numbers.{objects, Draws, HasNumber, next_of_records, at_three, first_above, first_below, drawn_later, drawn_first}
 use Rattle.machine_defs.proofs.Numbers as num
 use Rattle.run_laws.proofs.Direct.{IsValid, Records_are, Doubt_was, Jobs_are, Bytes_are, Direct, direct}
 

@@ -1,3 +1,4 @@
+mod Words
 pub mod SymbolBytes
 pub mod Direct
 pub mod InEffect

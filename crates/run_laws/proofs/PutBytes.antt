@@ -1,24 +1,9 @@
 -- From the end of a put on, what states keep of its object number are its bytes.
-use Rattle.std.proofs.Common.{◌≡◌, ℕ, zero, suc, ◌<◌, ◌≤◌, ◌⊎◌, List, [], ◌∷◌, ◌++◌, length, Some, refl, ap, sym, subst, ◌∙◌, arith}
-use Rattle.record_defs.specs.Table.{File, next_id}
-use Rattle.machine_defs.specs.Jobs.{PutJob, Job}
-use Rattle.machine_defs.specs.Actions.{WriteBody, SyncBody, WriteGate, SyncGate, End}
+use Rattle.run_laws.proofs.Words.{◌≡◌, ℕ, zero, suc, ◌<◌, ◌≤◌, ◌⊎◌, List, [], ◌∷◌, ◌++◌, length, Some, refl, ap, sym, subst, ◌∙◌, arith, File, next_id, PutJob, Job, WriteBody, SyncBody, WriteGate, SyncGate, End, Event, Outcome, State, IsStart, file_object, file_in, next_action, Moment, now, first_moments, IsRun, heard_by, HoldsForgery, EndsGet, EndsPut, same_value, Changes, changes, objects, Draws, next_by, next_is_by, next_of_records, run_back}
 use Rattle.machine_defs.specs.Answers as answer
-use Rattle.machine_defs.specs.Events.{Event, Outcome}
-use Rattle.machine_defs.specs.States.{State, IsStart, file_object, file_in}
-use Rattle.machine_defs.specs.Steps.{next_action}
-use Rattle.machine_defs.specs.Runs.{Moment, now, first_moments, IsRun}
-use Rattle.machine_defs.specs.Heard.{heard_by, HoldsForgery}
-use Rattle.machine_defs.specs.Halves.{EndsGet}
-use Rattle.machine_defs.specs.Survival.{EndsPut}
-use Rattle.machine_defs.proofs.JobLists.{same_value}
-use Rattle.machine_defs.proofs.Changes.{Changes}
 use Rattle.machine_defs.proofs.Written.{IsWritten}
 use Rattle.machine_defs.proofs.StepEnds.{event_end}
-use Rattle.machine_defs.proofs.Events.{changes}
-use Rattle.machine_defs.proofs.Numbers.{objects, Draws, next_by, next_is_by, next_of_records}
 use Rattle.machine_defs.proofs.Numbers as num
-use Rattle.machine_defs.proofs.Untouched.{run_back}
 use Rattle.run_laws.proofs.InEffect.{facts}
 use Rattle.run_laws.proofs.FirstHalf.{first_run, got_right}
 

@@ -1,19 +1,9 @@
 -- The verdict of an audit on what it heard is one.
-use Rattle.std.proofs.Common.{◌≡◌, ℕ, ◌+◌, ◌*◌, ◌≤◌, cond, List, [], ◌∷◌, length, replicate, Option, refl, ap, sym, subst, ◌∙◌, inl, inr, arith}
-use Rattle.std.proofs.lemmas.List.FromFn.{length-map-range_with_len}
-use Rattle.hail_field.specs.Shape.{IsShape}
-use Rattle.code_defs.specs.Polynomials.{value, is_seen}
-use Rattle.column_defs.specs.Objects.{Object, point, points}
+use Rattle.run_laws.proofs.Words.{◌≡◌, ℕ, ◌+◌, ◌*◌, ◌≤◌, cond, List, [], ◌∷◌, length, replicate, Option, refl, ap, sym, subst, ◌∙◌, inl, inr, arith, length-map-range_with_len, IsShape, value, is_seen, Object, point, points, often_same, Setup, Pinned, Job, profiled, object_of, rounds_of, answers_given}
 use Rattle.column_defs.specs.Challenges.{Challenge, bare_answers}
 use Rattle.column_defs.specs.Verdicts.{Sums, Judges, counts_after}
 use Rattle.column_defs.proofs.PointLaws.{Apart-points}
-use Rattle.column_laws.proofs.UniqueLaws.{often_same}
-use Rattle.record_defs.specs.Records.{Setup}
-use Rattle.machine_defs.specs.Jobs.{Pinned, Job}
-use Rattle.machine_defs.specs.Setups.{profiled, object_of}
-use Rattle.machine_defs.specs.Actions.{rounds_of}
 use Rattle.machine_defs.specs.Audits.{challenge_in, JudgesRounds, JudgesFiles, HasSums}
-use Rattle.machine_defs.specs.Given.{answers_given}
 
 counted-same : (p q points : List ℕ) (heard : List (Option ℕ)) (counts : List ℕ) →
     ((x : ℕ) → value p x ≡ value q x) → counts_after p points heard counts

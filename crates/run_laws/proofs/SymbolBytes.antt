@@ -1,16 +1,11 @@
 -- The bytes of the symbols of a file are the file with zeros after it.
-use Rattle.std.proofs.Common.{◌≡◌, ℕ, zero, suc, ◌+◌, ◌-◌, ◌*◌, ◌/◌, ◌%◌, ◌<◌, ◌≤◌, List, [], ◌∷◌, ◌++◌, length, take, drop, map, get_or, refl, ap, sym, ◌∙◌, arith}
+use Rattle.run_laws.proofs.Words.{◌≡◌, ℕ, zero, suc, ◌+◌, ◌-◌, ◌*◌, ◌/◌, ◌%◌, ◌<◌, ◌≤◌, List, [], ◌∷◌, ◌++◌, length, take, drop, map, get_or, refl, ap, sym, ◌∙◌, arith, ltb-true, and_parts, is_byte, upto, Object, stripes, stripe_symbols, symbol_of, symbols_in, bytes_of_symbols, AreBytes}
 use Rattle.std.specs.List.{flat_map, range_with_len, list_all}
 use Rattle.std.specs.Int.{w128, from_le_bytes, to_le_bytes}
-use Rattle.std.proofs.lemmas.Bool.{ltb-true, and_parts}
 use Rattle.std.proofs.lemmas.List.{drop-drop}
 use Rattle.std.proofs.Math.Nat.{mul-le-mul, div-add-mod, mod-lt}
 use Rattle.algebra_laws.proofs.Numbers.{from_le_bytes-same}
 use Rattle.hail_field.proofs.Bytes.{to_from}
-use Rattle.record_defs.specs.Records.{is_byte}
-use Rattle.code_defs.specs.Points.{upto}
-use Rattle.column_defs.specs.Objects.{Object, stripes, stripe_symbols, symbol_of, symbols_in, bytes_of_symbols}
-use Rattle.machine_defs.specs.Events.{AreBytes}
 
 -- the first so many of a list, with zeros after it
 abbrev padded : ℕ → List ℕ → List ℕ

@@ -1,15 +1,6 @@
 -- What the words spell is read, and what is read is what they spell.
-use Rattle.std.proofs.Common.{◌≡◌, ℕ, false, List, [], ◌∷◌, Option, Some, None, refl, sym, ap, ◌∙◌, inl, inr, ◌⊎◌}
-use Rattle.std.specs.Prelude.{codes, ◌==◌, slice_index}
-use Rattle.std.proofs.lemmas.Bool.{eqb-true, eq-eqb}
-use Rattle.algebra_laws.proofs.Options.{cond-cases}
-use Rattle.record_defs.specs.Records.{Setup}
-use Rattle.record_codec.proofs.Fields.{bind_some}
-use Rattle.machine_defs.specs.Jobs.{PutJob, GetJob, DropJob, AuditJob, RepairJob, UpgradeJob}
-use Rattle.machine_defs.specs.Events.{Init, Begin, BeginAt, BeginScrub, BeginPack, Step, Alter, Lose, Stop, Reopen, Names, Continue}
-use Rattle.machine_defs.specs.Transcripts.{Instruction, Once, RunJob}
-use Rattle.schedule_text.specs.Grammar.{Word, IsNumber, IsHex, IsKey, SpellsCommand, SpellsInit, IsSkipped}
-use Rattle.schedule_text.specs.Reading.{setup_words_at, init_at, profile_at, put_at, get_at, drop_words_at, begun_at, begin_at, step_at, run_at, alter_at, lose_at, stop_at, apart_at, behind_at, line_at}
+use Rattle.schedule_text.proofs.Words.{◌≡◌, ℕ, false, List, [], ◌∷◌, Option, Some, None, refl, sym, ap, ◌∙◌, inl, inr, ◌⊎◌, codes, slice_index, eqb-true, eq-eqb, cond-cases, Setup, bind_some, PutJob, GetJob, DropJob, AuditJob, RepairJob, UpgradeJob, Init, Begin, BeginAt, BeginScrub, BeginPack, Step, Alter, Lose, Stop, Reopen, Names, Continue, Instruction, Once, RunJob, Word, IsNumber, IsHex, IsKey, SpellsCommand, SpellsInit, IsSkipped, setup_words_at, init_at, profile_at, put_at, get_at, drop_words_at, begun_at, begin_at, step_at, run_at, alter_at, lose_at, stop_at, apart_at, behind_at, line_at}
+use Rattle.std.specs.Prelude.{◌==◌}
 use Rattle.schedule_text.proofs.Fields.{numeral-again, number-again, profile-again, bytes-again, key-again}
 use Rattle.schedule_text.proofs.Forms.{behind-takes}
 

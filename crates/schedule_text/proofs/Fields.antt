@@ -1,20 +1,9 @@
 -- A field that was read is one word, which spells it; and what a word spells is read.
-use Rattle.std.proofs.Common.{◌≡◌, ℕ, ◌^◌, Bool, true, false, cond, ltb, List, [], ◌∷◌, length, Option, Some, None, refl, sym, ap, subst, ◌∙◌, inl, inr}
-use Rattle.std.specs.Prelude.{codes, ◌==◌, Result, Ok, Err}
-use Rattle.std.specs.Result.{IsErrAnd}
-use Rattle.std.specs.Str.{bytes_eq}
-use Rattle.std.proofs.lemmas.Bool.{eqb-true, lt-ltb, ltb-true, eq-eqb}
-use Rattle.std.proofs.lemmas.Slice.Eq.{bytes_eq-Decides}
-use Rattle.hex.specs.Hex.{decode_of}
-use Rattle.algebra_laws.proofs.Options.{cond-cases}
+use Rattle.schedule_text.proofs.Words.{◌≡◌, ℕ, ◌^◌, Bool, true, false, cond, ltb, List, [], ◌∷◌, length, Option, Some, None, refl, sym, ap, subst, ◌∙◌, inl, inr, codes, Result, Ok, Err, IsErrAnd, bytes_eq, eqb-true, lt-ltb, ltb-true, eq-eqb, bytes_eq-Decides, decode_of, cond-cases, bind_some, some_is, done, Instruction, IsNumberWord, Word, IsNumber, IsHex, IsKey, Gives, FailsToRead, only_if, found_in, word_at, only_command, number_in, bytes_in, key_in, numeral_at, number_word_at, profile_at, bytes_at, key_at}
+use Rattle.std.specs.Prelude.{◌==◌}
 use Rattle.record_codec.specs.Reading.{◌>>=◌}
-use Rattle.record_codec.proofs.Fields.{bind_some, some_is, done}
-use Rattle.machine_defs.specs.Transcripts.{Instruction}
-use Rattle.command_defs.specs.Words.{IsNumberWord}
 use Rattle.schedule_text.specs.declared.fault.LineFault.{LineFault}
 use Rattle.schedule_text.specs.declared.fault.LineFault.TheVariants as faults
-use Rattle.schedule_text.specs.Grammar.{Word, IsNumber, IsHex, IsKey}
-use Rattle.schedule_text.specs.Reading.{Gives, FailsToRead, only_if, found_in, word_at, only_command, number_in, bytes_in, key_in, numeral_at, number_word_at, profile_at, bytes_at, key_at}
 use Rattle.schedule_text.proofs.Numbers.{word-number_in, number_in-word}
 
 -- what passed a test is what was tested

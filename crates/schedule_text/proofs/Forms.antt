@@ -1,17 +1,5 @@
 -- What is read is what the words spell.
-use Rattle.std.proofs.Common.{◌≡◌, ℕ, true, List, [], ◌∷◌, ◌++◌, Option, Some, None, sym, ap, subst, ◌∙◌, inl, inr}
-use Rattle.std.specs.Prelude.{codes}
-use Rattle.std.specs.Str.{bytes_eq}
-use Rattle.std.proofs.lemmas.Slice.Eq.{bytes_eq-Decides}
-use Rattle.algebra_laws.proofs.Options.{cond-cases}
-use Rattle.record_defs.specs.Records.{Setup}
-use Rattle.record_codec.proofs.Fields.{bind_some, some_is}
-use Rattle.machine_defs.specs.Jobs.{GetJob, DropJob, AuditJob, RepairJob, UpgradeJob}
-use Rattle.machine_defs.specs.Events.{Init, Begin, BeginScrub, BeginPack, Step, Alter, Lose, Stop, Reopen, Names}
-use Rattle.machine_defs.specs.Transcripts.{Instruction, Once, RunJob}
-use Rattle.schedule_text.specs.Grammar.{Word, IsNumber, IsHex, SpellsCommand}
-use Rattle.schedule_text.specs.Events.{put_command}
-use Rattle.schedule_text.specs.Reading.{only_command, setup_words_at, init_at, put_at, get_at, drop_words_at, begun_at, begin_at, step_at, run_at, alter_at, lose_at, stop_at, apart_at, behind_at}
+use Rattle.schedule_text.proofs.Words.{◌≡◌, ℕ, true, List, [], ◌∷◌, ◌++◌, Option, Some, None, sym, ap, subst, ◌∙◌, inl, inr, codes, bytes_eq, bytes_eq-Decides, cond-cases, Setup, bind_some, some_is, GetJob, DropJob, AuditJob, RepairJob, UpgradeJob, Init, Begin, BeginScrub, BeginPack, Step, Alter, Lose, Stop, Reopen, Names, Instruction, Once, RunJob, Word, IsNumber, IsHex, SpellsCommand, put_command, only_command, setup_words_at, init_at, put_at, get_at, drop_words_at, begun_at, begin_at, step_at, run_at, alter_at, lose_at, stop_at, apart_at, behind_at}
 use Rattle.schedule_text.proofs.Fields.{TookProfile, word-took, ended-took, numeral-took, number-took, profile-took, bytes-took, key-took}
 
 -- ---- what was read is spelled

@@ -1,14 +1,7 @@
 -- Keys, as they are read.
-use Rattle.std.proofs.Common.{◌≡◌, ℕ, Bool, true, false, cond, List, length, Option, None, Some, refl, sym, ◌∙◌, ap}
-use Rattle.std.specs.Prelude.{◌↔◌, ◌==◌, Result, Ok, Err, IsSome, IfSome}
-use Rattle.std.specs.Result.{is_ok}
-use Rattle.std.specs.Option.{option_map}
-use Rattle.std.specs.List.{AllPass}
-use Rattle.std.proofs.lemmas.Bool.{eqb-true}
-use Rattle.hex.specs.Hex.{decode_of, decode_sized, is_hex_digit}
+use Rattle.schedule_text.proofs.Words.{◌≡◌, ℕ, Bool, true, false, cond, List, length, Option, None, Some, refl, sym, ◌∙◌, ap, ◌↔◌, Result, Ok, Err, IsSome, IfSome, is_ok, option_map, AllPass, eqb-true, decode_of, decode_sized, is_hex_digit, IsOk-decode_sized, key_in, found_in}
+use Rattle.std.specs.Prelude.{◌==◌}
 use Rattle.hex.specs.declared.error.FromHexError.{FromHexError}
-use Rattle.hex.proofs.HexLemmas.{IsOk-decode_sized}
-use Rattle.schedule_text.specs.Reading.{key_in, found_in}
 
 -- at 64 digits both decode the same
 sized : (word : List ℕ) → length word ≡ 64 → decode_sized word 32 ≡ decode_of word

@@ -1,3 +1,4 @@
+mod Words
 pub mod Pieces
 pub mod Lines
 pub mod Numbers

@@ -1,12 +1,8 @@
 -- The first line of a text.
-use Rattle.std.proofs.Common.{◌≡◌, ℕ, suc, ◌+◌, ◌-◌, ◌<◌, Bool, true, false, cond, List, [], ◌∷◌, ◌++◌, length, take, drop, refl, sym, ◌∙◌, ap, subst, arith, length-drop}
-use Rattle.std.specs.Prelude.{◌==◌, slice_index, ◌&&◌}
+use Rattle.schedule_text.proofs.Words.{◌≡◌, ℕ, suc, ◌+◌, ◌-◌, ◌<◌, Bool, true, false, cond, List, [], ◌∷◌, ◌++◌, length, take, drop, refl, sym, ◌∙◌, ap, subst, arith, length-drop, slice_index, take_all, Nowhere, Passes, pieces, without_returns, lines, without_return}
+use Rattle.std.specs.Prelude.{◌==◌, ◌&&◌}
 use Rattle.std.proofs.Math.Numerals.{add-one}
-use Rattle.std.proofs.lemmas.List.{take_all}
-use Rattle.memchr.specs.Find.{is_byte, Nowhere, Passes}
-use Rattle.schedule_text.specs.Grammar.{pieces}
-use Rattle.schedule_text.specs.Schedules.{without_returns, lines}
-use Rattle.schedule_text.specs.Answers.{without_return}
+use Rattle.memchr.specs.Find.{is_byte}
 use Rattle.schedule_text.proofs.Pieces.{Free, differ, free_before, free_from, around, pieces-free, pieces-append}
 
 -- a line by the place of its last byte

@@ -1,14 +1,6 @@
 -- Number words, by the test of reading.
-use Rattle.std.proofs.Common.{◌≡◌, ℕ, Bool, true, false, List, Option, None, Some, refl, sym, ap, subst, arith}
-use Rattle.std.specs.Prelude.{MatchOption}
-use Rattle.std.specs.Str.{all_ascii_digits, IsUtf8}
-use Rattle.std.specs.Str.Parse.{digits_value}
+use Rattle.schedule_text.proofs.Words.{◌≡◌, ℕ, Bool, true, false, List, Option, None, Some, refl, sym, ap, subst, arith, MatchOption, all_ascii_digits, IsUtf8, digits_value, IsAscii-from_digits, IsNumeralModel, numerals_by_value, tells_all_ascii_digits, nat_tests, IsNumberWord, is_number_word, number_in, only_if}
 use Rattle.std.proofs.lemmas.Str.{IsUtf8-from_ascii}
-use Rattle.std.proofs.lemmas.Fmt.{IsAscii-from_digits}
-use Rattle.std.proofs.lemmas.Str.Parse.{IsNumeralModel, numerals_by_value, tells_all_ascii_digits}
-use Rattle.std.proofs.lemmas.Bool.Decides.{nat_tests}
-use Rattle.command_defs.specs.Words.{IsNumberWord}
-use Rattle.schedule_text.specs.Reading.{is_number_word, number_in, only_if}
 
 digits : IsNumeralModel (λ ds. all_ascii_digits ds ≡ true) (digits_value 10)
 digits = numerals_by_value _ tells_all_ascii_digits

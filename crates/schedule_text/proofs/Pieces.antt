@@ -1,11 +1,7 @@
 -- The pieces, words and lines of joined lists.
-use Rattle.std.proofs.Common.{◌≡◌, ◌≢◌, ℕ, zero, suc, ◌<◌, ◌≤◌, Bool, true, false, cond, List, [], ◌∷◌, ◌++◌, length, take, drop, refl, sym, ◌∙◌, ap, arith, inl, inr, ◌⊎◌}
-use Rattle.std.specs.Prelude.{◌==◌, slice_index}
-use Rattle.std.specs.List.{filter}
-use Rattle.std.proofs.lemmas.Bool.{eqb-true, eq-eqb}
-use Rattle.std.proofs.lemmas.Bool.Decides.{nat_tests}
-use Rattle.memchr.specs.Find.{is_byte, Nowhere, Passes}
-use Rattle.schedule_text.specs.Grammar.{begun_piece, pieces, has_bytes, words}
+use Rattle.schedule_text.proofs.Words.{◌≡◌, ◌≢◌, ℕ, zero, suc, ◌<◌, ◌≤◌, Bool, true, false, cond, List, [], ◌∷◌, ◌++◌, length, take, drop, refl, sym, ◌∙◌, ap, arith, inl, inr, ◌⊎◌, slice_index, filter, eqb-true, eq-eqb, nat_tests, Nowhere, Passes, begun_piece, pieces, has_bytes, words}
+use Rattle.std.specs.Prelude.{◌==◌}
+use Rattle.memchr.specs.Find.{is_byte}
 
 -- no byte is c
 abbrev pub Free : ℕ → List ℕ → Type 0

@@ -1,20 +1,8 @@
 -- Words without a space and without a newline.
-use Rattle.std.proofs.Common.{◌≡◌, ◌≢◌, ℕ, zero, suc, ◌+◌, ◌/◌, ◌%◌, ◌^◌, ◌<◌, Bool, true, List, [], ◌∷◌, length, get_or, refl, arith, inl, inr, not, length-append}
-use Rattle.std.specs.Prelude.{codes, ◌==◌, ◌&&◌, slice_index, IsTrue}
-use Rattle.std.specs.List.{AllByRecursion, list_all}
-use Rattle.std.specs.Fmt.{decimal}
-use Rattle.std.specs.Str.Parse.{AllDigits}
-use Rattle.std.proofs.lemmas.Bool.Decides.{nat_tests}
-use Rattle.std.proofs.lemmas.Fmt.{decimal_is_IsNumeral_wide, decimal_by_steps_wide}
-use Rattle.std.proofs.lemmas.List.{get_or_append_left}
-use Rattle.std.proofs.lemmas.Str.Parse.{digit_from_value}
-use Rattle.hex.specs.Hex.{encode_with, encode_lower, lower_digits}
-use Rattle.hex.proofs.HexLemmas.{decode_of-encode_lower, length-encode_with}
-use Rattle.record_defs.specs.Records.{is_byte, is_master}
+use Rattle.schedule_text.proofs.Words.{◌≡◌, ◌≢◌, ℕ, zero, suc, ◌+◌, ◌/◌, ◌%◌, ◌^◌, ◌<◌, Bool, true, List, [], ◌∷◌, length, get_or, refl, arith, inl, inr, not, length-append, codes, slice_index, IsTrue, AllByRecursion, list_all, decimal, AllDigits, nat_tests, decimal_is_IsNumeral_wide, decimal_by_steps_wide, get_or_append_left, digit_from_value, encode_with, encode_lower, lower_digits, decode_of-encode_lower, length-encode_with, is_master, IsNumberWord, Word, IsNumber, IsHex, IsKey, IsInWord, IsName, hex_of}
+use Rattle.std.specs.Prelude.{◌==◌, ◌&&◌}
+use Rattle.record_defs.specs.Records.{is_byte}
 use Rattle.record_codec.proofs.Takes.{IsBytes-from_all}
-use Rattle.command_defs.specs.Words.{IsNumberWord}
-use Rattle.schedule_text.specs.Grammar.{Word, IsNumber, IsHex, IsKey}
-use Rattle.schedule_text.specs.Spelling.{IsInWord, IsName, hex_of}
 use Rattle.schedule_text.proofs.Pieces.{Free}
 
 -- a byte that is no space and no newline, by a test

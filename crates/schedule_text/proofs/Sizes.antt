@@ -1,11 +1,7 @@
 -- A text spells no more commands than it has bytes, and one more.
-use Rattle.std.proofs.Common.{◌≡◌, inl, inr, ℕ, ◌+◌, ◌==◌, ◌&&◌, ◌≤◌, List, [], ◌∷◌, length, refl, ap, sym, subst, arith}
-use Rattle.std.specs.Prelude.{slice_index}
-use Rattle.std.proofs.lemmas.Bool.{cases_Bool}
-use Rattle.machine_defs.specs.Transcripts.{Instruction}
+use Rattle.schedule_text.proofs.Words.{◌≡◌, inl, inr, ℕ, ◌+◌, ◌≤◌, List, [], ◌∷◌, length, refl, ap, sym, subst, arith, slice_index, cases_Bool, Instruction, begun_piece, pieces, without_returns, lines, AreLines, IsSchedule}
+use Rattle.std.proofs.Common.{◌==◌, ◌&&◌}
 use Rattle.machine_defs.proofs.JobLists.{cond_true, cond_false}
-use Rattle.schedule_text.specs.Grammar.{begun_piece, pieces}
-use Rattle.schedule_text.specs.Schedules.{without_returns, lines, AreLines, IsSchedule}
 
 begun-length : (b : ℕ) (ps : List (List ℕ)) → length (begun_piece b ps) ≡ length ps
 begun-length b [] = refl

@@ -1,16 +1,6 @@
 -- The spelling of commands is a schedule of them.
-use Rattle.std.proofs.Common.{◌≡◌, ℕ, ◌<◌, false, List, [], ◌∷◌, ◌++◌, length, refl, sym, ap, subst, ◌∙◌, arith, inl, inr, append_assoc}
-use Rattle.std.specs.Prelude.{codes, ◌==◌, slice_index}
-use Rattle.std.specs.List.{AllByRecursion, flat_map}
-use Rattle.std.specs.Fmt.{decimal}
-use Rattle.hex.specs.Hex.{encode_lower}
-use Rattle.record_defs.specs.Records.{Setup}
-use Rattle.machine_defs.specs.Jobs.{Kind, PutJob, GetJob, DropJob, AuditJob, RepairJob, UpgradeJob}
-use Rattle.machine_defs.specs.Events.{Init, Begin, BeginAt, BeginScrub, BeginPack, Step, Alter, Lose, Stop, Reopen, Names, Continue}
-use Rattle.machine_defs.specs.Transcripts.{Instruction, Once, RunJob}
-use Rattle.schedule_text.specs.Grammar.{Word, pieces, words, SpellsCommand}
-use Rattle.schedule_text.specs.Schedules.{without_returns, lines, AreLines, IsSchedule}
-use Rattle.schedule_text.specs.Spelling.{CanBeSpelled, hex_of, words_of, spaced, schedule_bytes}
+use Rattle.schedule_text.proofs.Words.{◌≡◌, ℕ, ◌<◌, false, List, [], ◌∷◌, ◌++◌, length, refl, sym, ap, subst, ◌∙◌, arith, inl, inr, append_assoc, codes, slice_index, AllByRecursion, flat_map, decimal, encode_lower, Setup, Kind, PutJob, GetJob, DropJob, AuditJob, RepairJob, UpgradeJob, Init, Begin, BeginAt, BeginScrub, BeginPack, Step, Alter, Lose, Stop, Reopen, Names, Continue, Instruction, Once, RunJob, Word, pieces, words, SpellsCommand, without_returns, lines, AreLines, IsSchedule, CanBeSpelled, hex_of, words_of, spaced, schedule_bytes}
+use Rattle.std.specs.Prelude.{◌==◌}
 use Rattle.schedule_text.proofs.Pieces.{Free, differ, pieces-append, words-append}
 use Rattle.schedule_text.proofs.Lines.{keep}
 use Rattle.schedule_text.proofs.Plain.{IsPlain, plain_by_test, plain-name, plain-decimal, plain-encode, plain-hex_of, number-decimal, hex-hex_of, key-encode, size-master}

@@ -1,16 +1,8 @@
 -- The lines of a text and the commands that they spell.
-use Rattle.std.proofs.Common.{◌≡◌, ℕ, suc, ◌+◌, ◌<◌, ◌≤◌, List, [], ◌∷◌, ◌++◌, length, Option, Some, None, refl, sym, ap, subst, ◌∙◌, arith, inl, inr, ◌⊎◌, append_assoc, length-append}
-use Rattle.std.specs.Prelude.{IfSome, IfOk, IfErr, MatchResult, Result, Ok, Err}
-use Rattle.std.specs.List.{AllByRecursion}
-use Rattle.std.proofs.lemmas.List.{map-append}
-use Rattle.machine_defs.specs.Transcripts.{Instruction}
-use Rattle.schedule_text.specs.Grammar.{words, SpellsCommand, IsSkipped}
-use Rattle.schedule_text.specs.Schedules.{lines, IsLine, AreLines, IsSchedule, IsFirstBadLine}
+use Rattle.schedule_text.proofs.Words.{◌≡◌, ℕ, suc, ◌+◌, ◌<◌, ◌≤◌, List, [], ◌∷◌, ◌++◌, length, Option, Some, None, refl, sym, ap, subst, ◌∙◌, arith, inl, inr, ◌⊎◌, append_assoc, length-append, IfSome, IfOk, IfErr, MatchResult, Result, Ok, Err, AllByRecursion, map-append, Instruction, words, SpellsCommand, IsSkipped, lines, IsLine, AreLines, IsSchedule, IsFirstBadLine, event_command, commands_of, lines_behind, IsCauseOf}
 use Rattle.schedule_text.specs.declared.event.Event.{Event}
 use Rattle.schedule_text.specs.declared.fault.ScheduleFault.{ScheduleFault}
 use Rattle.schedule_text.specs.declared.fault.ScheduleFault.TheVariants as faults
-use Rattle.schedule_text.specs.Events.{event_command, commands_of}
-use Rattle.schedule_text.specs.Answers.{lines_behind, IsCauseOf}
 use Rattle.schedule_text.proofs.Again.{spelled-not_skipped, Spells-once}
 
 -- lines spell one list of commands

@@ -1,12 +1,7 @@
 -- A vault that was just opened refuses no scrub.
-use Rattle.std.proofs.Common.{◌≡◌, ◌||◌, Bool, false, List, [], ◌∷◌, length, Option, None, ap, ◌∙◌}
-use Rattle.std.specs.Prelude.{is_some, nat_lt}
-use Rattle.machine_defs.specs.Alone.{alone_refusal}
-use Rattle.machine_defs.specs.Jobs.{Job}
+use Rattle.scrub_laws.proofs.Words.{◌≡◌, ◌||◌, Bool, false, List, [], ◌∷◌, length, Option, None, ap, ◌∙◌, is_some, nat_lt, alone_refusal, Job, State, Alone, IsOpenAtRest}
 use Rattle.machine_defs.specs.Refusals as refusal
 use Rattle.machine_defs.specs.Refusals.{Refusal, first_refusal}
-use Rattle.machine_defs.specs.States.{State, Alone}
-use Rattle.opening_defs.specs.Opened.{IsOpenAtRest}
 
 -- what is barred, runs or runs alone, in the order of the refusals
 abbrev refused_by : Bool → List Job → Option Alone → Option Refusal

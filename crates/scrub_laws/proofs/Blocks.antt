@@ -1,14 +1,7 @@
 -- A block that is not off is the column.
-use Rattle.std.proofs.Common.{◌≡◌, ℕ, zero, suc, ◌<◌, ◌==◌, ◌⊎◌, List, length, Option, None, Some, ap, sym, ◌∙◌, inl, inr, arith}
-use Rattle.std.proofs.lemmas.Bool.{cases_Bool, eqb-true}
+use Rattle.scrub_laws.proofs.Words.{◌≡◌, ℕ, zero, suc, ◌<◌, ◌==◌, ◌⊎◌, List, length, Option, None, Some, ap, sym, ◌∙◌, inl, inr, arith, cases_Bool, eqb-true, Object, column_of_symbols, sized, differs, differs-none, cond_true, cond_false}
 use Rattle.code_defs.specs.Profiles.{profile_of}
-use Rattle.column_defs.specs.Objects.{Object}
-use Rattle.column_defs.specs.Columns.{column_of_symbols}
 use Rattle.column_defs.proofs.ColumnLaws.{length-column_of_symbols}
-use Rattle.device_defs.specs.Providers.{sized}
-use Rattle.machine_defs.specs.Alone.{differs}
-use Rattle.machine_defs.proofs.Given.{differs-none}
-use Rattle.machine_defs.proofs.JobLists.{cond_true, cond_false}
 
 -- a block of the size is held whole
 sized-is : (size : ℕ) (held : Option (List ℕ)) (block : List ℕ) → Some block ≡ sized size held →
@@ -23,11 +16,8 @@ sized-is size (Some c) block h = elim (cases_Bool (length c == size)) [
 
 -- each profile has blocks of some symbols
 pub some-size : (profile : ℕ) → 0 < (profile_of profile).size
-some-size zero = omega arith
-some-size (suc zero) = omega arith
-some-size (suc (suc zero)) = omega arith
 some-size (suc (suc (suc zero))) = omega arith
-some-size (suc (suc (suc (suc more)))) = omega arith
+some-size profile = omega arith
 
 -- a block that was given as it is held, and differs in no place, is the column
 pub own-block : (object : Object) (given held : Option (List ℕ)) (symbols : List ℕ) (j t : ℕ) →

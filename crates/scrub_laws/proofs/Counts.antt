@@ -1,16 +1,5 @@
 -- What a scrub counts of places: it stays when other places are fetched and opened.
-use Rattle.std.proofs.Common.{◌≡◌, ℕ, ◌==◌, ◌&&◌, List, [], ◌∷◌, Option, refl, ap, ◌∙◌, inl, inr, arith, sum_by}
-use Rattle.std.specs.Prelude.{if◌then◌else◌}
-use Rattle.std.proofs.lemmas.Bool.{cases_Bool, eqb-true, and_parts}
-use Rattle.std.proofs.lemmas.List.Sums.{sum_by-cons}
-use Rattle.algebra_laws.specs.Lists.{Each}
-use Rattle.column_defs.specs.Objects.{Object}
-use Rattle.column_defs.specs.Columns.{column_of_symbols}
-use Rattle.machine_defs.specs.Alone.{differs}
-use Rattle.machine_defs.specs.Jobs.{Given, Fetched, Worked}
-use Rattle.machine_defs.specs.Given.{block_given, symbols_given}
-use Rattle.machine_defs.proofs.JobLists.{cond_false}
-use Rattle.command_defs.specs.Repairs.{Place}
+use Rattle.scrub_laws.proofs.Words.{◌≡◌, ℕ, ◌==◌, ◌&&◌, List, [], ◌∷◌, Option, refl, ap, ◌∙◌, inl, inr, arith, sum_by, if◌then◌else◌, cases_Bool, eqb-true, and_parts, sum_by-cons, Each, Object, column_of_symbols, differs, Given, Fetched, Worked, block_given, symbols_given, cond_false, Place}
 
 -- how many symbols of a provider's block of a place differ, as it is looked up
 abbrev pub off_given : (ℕ → Object) → List Given → ℕ → Place → ℕ

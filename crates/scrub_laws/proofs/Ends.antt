@@ -1,33 +1,8 @@
 -- How a scrub ends that ran alone, by its last step.
-use Rattle.std.proofs.Common.{◌≡◌, ℕ, ◌+◌, ◌<◌, ◌≤◌, ◌==◌, ◌⊎◌, List, [], ◌∷◌, ◌++◌, length, map, None, refl, ap, sym, subst, ◌∙◌, inl, inr, arith}
-use Rattle.std.specs.List.{flat_map}
-use Rattle.std.proofs.lemmas.Bool.{eq-eqb}
-use Rattle.std.proofs.lemmas.List.{append-nil}
-use Rattle.column_defs.specs.Objects.{Object}
-use Rattle.column_defs.specs.Opened.{LosesRow}
+use Rattle.scrub_laws.proofs.Words.{◌≡◌, ℕ, ◌+◌, ◌<◌, ◌≤◌, ◌==◌, ◌⊎◌, List, [], ◌∷◌, ◌++◌, length, map, None, refl, ap, sym, subst, ◌∙◌, inl, inr, arith, flat_map, eq-eqb, append-nil, Object, LosesRow, Provider, StoreCounts, Scrubs, StepsScrub, new_scrub, Action, WriteBody, SyncBody, WriteGate, SyncGate, Store, Fetch, Ask, Work, Remove, End, open_actions, Answer, Step, Ended, blocks_given, Happens, now, State, Scrub, setup_in, with_provider, cond_true, GoesOnTo, ran_from, Place, LosesAtPlace, everyone, ScrubGives, ScrubLeaves, RunsScrub, IsOpenAtRest, calls-at, Rises, rises-same, fetches_at, FetchesAll, OpensAll, made-rises}
 use Rattle.device_defs.specs.Faults.{Rose}
-use Rattle.device_defs.specs.Providers.{Provider}
-use Rattle.device_defs.specs.ProviderCalls.{StoreCounts}
 use Rattle.device_defs.proofs.Lasting.{rose-before}
-use Rattle.machine_defs.specs.Alone.{Scrubs, StepsScrub, new_scrub}
-use Rattle.machine_defs.specs.Actions.{Action, WriteBody, SyncBody, WriteGate, SyncGate, Store, Fetch, Ask, Work, Remove, End, open_actions}
 use Rattle.machine_defs.specs.Answers as answer
-use Rattle.machine_defs.specs.Answers.{Answer}
-use Rattle.machine_defs.specs.Events.{Step, Ended}
-use Rattle.machine_defs.specs.Given.{blocks_given}
-use Rattle.machine_defs.specs.Machine.{Happens}
-use Rattle.machine_defs.specs.Runs.{now}
-use Rattle.machine_defs.specs.States.{State, Scrub, setup_in, with_provider}
-use Rattle.machine_defs.proofs.JobLists.{cond_true}
-use Rattle.command_defs.specs.JobRuns.{GoesOnTo}
-use Rattle.command_defs.specs.Ran.{ran_from}
-use Rattle.command_defs.specs.Repairs.{Place, LosesAtPlace}
-use Rattle.command_defs.specs.Scrubs.{everyone, ScrubGives, ScrubLeaves, RunsScrub}
-use Rattle.opening_defs.specs.Opened.{IsOpenAtRest}
-use Rattle.job_laws.proofs.Providers.{calls-at, Rises, rises-same}
-use Rattle.job_laws.proofs.Places.{fetches_at}
-use Rattle.job_laws.proofs.PlaceFacts.{FetchesAll, OpensAll}
-use Rattle.job_laws.proofs.Truth.{made-rises}
 use Rattle.scrub_laws.specs.Ended.{IsPastScrub, IsOfScrub}
 use Rattle.scrub_laws.proofs.Leaving.{some-part, lost-at, sweeps-all, leaves-all}
 use Rattle.scrub_laws.proofs.Lines.{Part, part_place, part_actions, parts-open, parts-fetch}
@@ -74,8 +49,7 @@ module _ (start : State) (O : IsOpenAtRest start 1) where
       abbrev np : ℕ → Provider
       np = with_provider ps k q
 
-      at-one : (j : ℕ) → (np j ≡ ps j) ⊎
-          ((j ≡ k) × (((np j).held ≡ (ps j).held) × StoreCounts (ps j) (np j)))
+      at-one : (j : ℕ) → (np j ≡ ps j) ⊎ ((j ≡ k) × (((np j).held ≡ (ps j).held) × StoreCounts (ps j) (np j)))
       at-one j = calls-at ps k (λ a b. (b.held ≡ a.held) × StoreCounts a b) np j (q, (held, counts), refl)
 
       held-one : (j : ℕ) → (np j).held ≡ (ps j).held
@@ -140,15 +114,7 @@ module _ (start : State) (O : IsOpenAtRest start 1) where
     by-fetch : (p : Place) (a : Action) (left : List Action) (how : Answer) → IsFetchOf p a →
         Scrubs (at start O scrub ps) scrub a left (Ended how) new → Ended_by start new how
     by-fetch p (Fetch k o t) left how it h = absurd h
-    by-fetch p (Work o t) left how it h = absurd it
-    by-fetch p (Store k o t) left how it h = absurd it
-    by-fetch p (Ask k o r) left how it h = absurd it
-    by-fetch p (Remove k o) left how it h = absurd it
-    by-fetch p WriteBody left how it h = absurd it
-    by-fetch p SyncBody left how it h = absurd it
-    by-fetch p WriteGate left how it h = absurd it
-    by-fetch p SyncGate left how it h = absurd it
-    by-fetch p End left how it h = absurd it
+    by-fetch p a left how it h = absurd it
 
     module _ (p : Place) (rest : List Place) (parts : List Part) (stores : List Action)
         (places_are : sofar ≡ map part_place parts ++ p ∷ []) (split : all start O ≡ sofar ++ rest)
@@ -188,15 +154,7 @@ module _ (start : State) (O : IsOpenAtRest start 1) where
       by-store : (a : Action) (left : List Action) (how : Answer) → IsMine n p a →
           Scrubs (at start O scrub ps) scrub a left (Ended how) new → Ended_by start new how
       by-store (Store k o t) left how it h = failed k o t left how it.0 h
-      by-store (Fetch k o t) left how it h = absurd it
-      by-store (Work o t) left how it h = absurd it
-      by-store (Ask k o r) left how it h = absurd it
-      by-store (Remove k o) left how it h = absurd it
-      by-store WriteBody left how it h = absurd it
-      by-store SyncBody left how it h = absurd it
-      by-store WriteGate left how it h = absurd it
-      by-store SyncGate left how it h = absurd it
-      by-store End left how it h = absurd it
+      by-store a left how it h = absurd it
 
     by-end : (parts : List Part) (how : Answer) → sofar ≡ map part_place parts → all start O ≡ sofar →
         acts ≡ flat_map (part_actions (setup_in start)) parts → scrub.todo ≡ End ∷ [] →

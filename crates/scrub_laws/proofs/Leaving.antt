@@ -1,32 +1,8 @@
 -- What a scrub leaves that ran alone, by its last step.
-use Rattle.std.proofs.Common.{◌≡◌, ℕ, ◌<◌, ◌≤◌, ◌⊎◌, List, [], ◌∷◌, ◌++◌, length, map, Option, None, Some, refl, ap, sym, subst, ◌∙◌, inl, inr, arith, All, Contains, sum_by}
-use Rattle.std.specs.Prelude.{IfSome}
-use Rattle.std.specs.Option.{option_map}
-use Rattle.algebra_laws.specs.Lists.{Each, In}
-use Rattle.algebra_laws.proofs.Each.{in_contains}
-use Rattle.code_defs.specs.Points.{upto}
-use Rattle.column_defs.specs.Objects.{Object}
-use Rattle.column_defs.specs.Opened.{GivesSymbols, LosesRow}
-use Rattle.device_defs.specs.Providers.{Held, Provider, sized}
+use Rattle.scrub_laws.proofs.Words.{◌≡◌, ℕ, ◌<◌, ◌≤◌, ◌⊎◌, List, [], ◌∷◌, ◌++◌, length, map, Option, None, Some, refl, ap, sym, subst, ◌∙◌, inl, inr, arith, All, Contains, sum_by, IfSome, option_map, Each, In, in_contains, upto, Object, GivesSymbols, LosesRow, Held, Provider, sized, RepairJob, Given, Action, WriteBody, SyncBody, WriteGate, SyncGate, Store, Fetch, Ask, Work, Remove, End, Answer, block_given, blocks_given, symbols_given, pinned_profile, now, State, Scrub, Doubt, setup_in, Ran, ran_from, object_numbered, EachHeldGoes, Place, Gave, blocks_at, held_at, IsTruth, GivesPlace, RewrittenOn, PartlyRewrittenOn, IfFlagged, RewritesPart, RewritesSome, LosesAtPlace, everyone, SweepsAll, ScrubGives, ScrubLeaves, IsOpenAtRest, Made, object_made, Called, made-keeps, Rises, rises-more, IsBelow, called-below, all-each, each-parts, IsRepairing, column_at, after, after-either, after-none, after-some, Told, made-told, works-opened, FetchesAll, OpensAll, opens-fetches, told-places, lacks-places, gives-places, no-stores, made-rises}
 use Rattle.device_defs.specs.Told.{Goes}
-use Rattle.machine_defs.specs.Jobs.{RepairJob, Given}
-use Rattle.machine_defs.specs.Actions.{Action, WriteBody, SyncBody, WriteGate, SyncGate, Store, Fetch, Ask, Work, Remove, End}
-use Rattle.machine_defs.specs.Answers.{Answer}
-use Rattle.machine_defs.specs.Given.{block_given, blocks_given, symbols_given, pinned_profile}
-use Rattle.machine_defs.specs.Runs.{now}
-use Rattle.machine_defs.specs.States.{State, Scrub, Doubt, setup_in}
-use Rattle.command_defs.specs.Ran.{Ran, ran_from, object_numbered, EachHeldGoes}
-use Rattle.command_defs.specs.Repairs.{Place, Gave, blocks_at, held_at, IsTruth, GivesPlace, RewrittenOn, PartlyRewrittenOn, IfFlagged, RewritesPart, RewritesSome, LosesAtPlace}
-use Rattle.command_defs.specs.Scrubs.{everyone, SweepsAll, ScrubGives, ScrubLeaves}
 use Rattle.command_defs.specs.Truthful.{IsTruthful}
-use Rattle.opening_defs.specs.Opened.{IsOpenAtRest}
-use Rattle.lone_laws.specs.Made.{Made, object_made}
 use Rattle.job_laws.proofs.Profiles.{made-numbered}
-use Rattle.job_laws.proofs.Providers.{Called, made-keeps, Rises, rises-more, IsBelow, called-below}
-use Rattle.job_laws.proofs.Questions.{all-each, each-parts}
-use Rattle.job_laws.proofs.Rewritten.{IsRepairing, column_at, after, after-either, after-none, after-some, Told, made-told, works-opened}
-use Rattle.job_laws.proofs.PlaceFacts.{FetchesAll, OpensAll, opens-fetches, told-places, lacks-places, gives-places, no-stores}
-use Rattle.job_laws.proofs.Truth.{made-rises}
 use Rattle.scrub_laws.proofs.Blocks.{some-size, own-block}
 use Rattle.scrub_laws.proofs.Counts.{off_given, block_off}
 use Rattle.scrub_laws.proofs.Lines.{ordered-front}
@@ -61,12 +37,7 @@ module _ (start : State) (O : IsOpenAtRest start 1) (scrub : Scrub) (ps : ℕ �
       step (Store k o t) given now p q u (e, c, is) h = c.held ∙ ap (option_map _) h
       step (Ask k o r) given now p q u c h = absurd u
       step (Remove k o) given now p q u c h = absurd u
-      step (Work o t) given now p q u c h = absurd c
-      step WriteBody given now p q u c h = absurd c
-      step SyncBody given now p q u c h = absurd c
-      step WriteGate given now p q u c h = absurd c
-      step SyncGate given now p q u c h = absurd c
-      step End given now p q u c h = absurd c
+      step a given now p q u c h = absurd c
 
   told : (j : ℕ) (held : Held) → (start.providers j).held ≡ Some held →
       Told (x start O) refl scrub.given j held held acts (start.providers j) (ps j)

@@ -1,3 +1,4 @@
+mod Words
 pub mod Lines
 pub mod Counts
 pub mod Stores

@@ -1,21 +1,7 @@
 -- The line of actions of a scrub: those that it made, and those that it has to do. The opening of a place puts
 -- its stores into it.
-use Rattle.std.proofs.Common.{◌≡◌, ℕ, List, [], ◌∷◌, ◌++◌, map, refl, ap, sym, subst, ◌∙◌, inl, inr}
-use Rattle.std.specs.List.{flat_map}
-use Rattle.std.proofs.lemmas.List.{append_assoc}
-use Rattle.algebra_laws.specs.Lists.{Each, In}
-use Rattle.algebra_laws.proofs.Each.{each_append, each_mono}
-use Rattle.device_defs.specs.Providers.{Provider}
-use Rattle.record_defs.specs.Records.{Setup}
-use Rattle.machine_defs.specs.Jobs.{Given}
-use Rattle.machine_defs.specs.Actions.{Action, WriteBody, SyncBody, WriteGate, SyncGate, Store, Fetch, Ask, Work, Remove, End, open_actions}
-use Rattle.command_defs.specs.Repairs.{Place}
-use Rattle.lone_laws.specs.Made.{With, Did, Made}
+use Rattle.scrub_laws.proofs.Words.{◌≡◌, ℕ, List, [], ◌∷◌, ◌++◌, map, refl, ap, sym, subst, ◌∙◌, inl, inr, flat_map, append_assoc, Each, In, each_append, each_mono, Provider, Setup, Given, Action, WriteBody, SyncBody, WriteGate, SyncGate, Store, Fetch, Ask, Work, Remove, End, open_actions, Place, With, Did, Made, each-front, IsNoneOf, IsBefore, AreOrdered, fetches_at, FetchesAll, OpensAll}
 use Rattle.job_laws.proofs.Heard.{IsNot}
-use Rattle.job_laws.proofs.Questions.{each-front}
-use Rattle.job_laws.proofs.Rewritten.{IsNoneOf, IsBefore, AreOrdered}
-use Rattle.job_laws.proofs.Places.{fetches_at}
-use Rattle.job_laws.proofs.PlaceFacts.{FetchesAll, OpensAll}
 
 -- one more action was made
 pub made-more : (x : With) (xs : List Action) (a : Action) (old mid new : ℕ → Provider)
@@ -38,28 +24,13 @@ IsStoreOn o s (Store j p t) = (p ≡ o) × (t ≡ s)
 IsStoreOn o s action = ⊥
 
 on-none : (o s p t : ℕ) (y : Action) → IsStoreOn o s y → IsNoneOf p t y
-on-none o s p t (Store j q u) h = tt
 on-none o s p t (Fetch j q u) h = absurd h
 on-none o s p t (Work q u) h = absurd h
-on-none o s p t (Ask j q r) h = tt
-on-none o s p t (Remove j q) h = tt
-on-none o s p t WriteBody h = tt
-on-none o s p t SyncBody h = tt
-on-none o s p t WriteGate h = tt
-on-none o s p t SyncGate h = tt
-on-none o s p t End h = tt
+on-none o s p t y h = tt
 
 on-fetch : (o s k p t : ℕ) (y : Action) → IsStoreOn o s y → IsNot (Fetch k p t) y
 on-fetch o s k p t (Store j q u) h e = cc
-on-fetch o s k p t (Fetch j q u) h e = absurd h
-on-fetch o s k p t (Work q u) h e = absurd h
-on-fetch o s k p t (Ask j q r) h e = absurd h
-on-fetch o s k p t (Remove j q) h e = absurd h
-on-fetch o s k p t WriteBody h e = absurd h
-on-fetch o s k p t SyncBody h e = absurd h
-on-fetch o s k p t WriteGate h e = absurd h
-on-fetch o s k p t SyncGate h e = absurd h
-on-fetch o s k p t End h e = absurd h
+on-fetch o s k p t y h e = absurd h
 
 -- what holds of a line and of what is put in holds of the line then
 pub each-put : (P : Action → Type 0) (xs : List Action) (w : Action) (stores rest : List Action) →
@@ -70,14 +41,14 @@ each-put P (x ∷ xs) w stores rest h s = (h.0, each-put P xs w stores rest h.1 
 -- what is in a line is so still
 pub in-put : (a : Action) (xs : List Action) (w : Action) (stores rest : List Action) →
     In a (xs ++ w ∷ rest) → In a (xs ++ w ∷ (stores ++ rest))
-in-put a [] w stores rest (inl e) = inl e
 in-put a [] w stores rest (inr i) = inr (behind stores)
   where
     behind : (ys : List Action) → In a (ys ++ rest)
     behind [] = i
     behind (y ∷ ys) = inr (behind ys)
-in-put a (x ∷ xs) w stores rest (inl e) = inl e
 in-put a (x ∷ xs) w stores rest (inr i) = inr (in-put a xs w stores rest i)
+in-put a [] w stores rest (inl e) = inl e
+in-put a (x ∷ xs) w stores rest (inl e) = inl e
 
 -- what is put in is in it
 pub in-new : (a : Action) (xs : List Action) (w : Action) (stores rest : List Action) → In a stores →
@@ -99,13 +70,7 @@ module _ (o s : ℕ) (stores rest : List Action) (on : Each (IsStoreOn o s) stor
       (each_mono (IsStoreOn o s) (IsNoneOf p t) stores (λ y u. on-none o s p t y u) on)
   before-put (Store k p t) xs h = each-put (IsNoneOf p t) xs (Work o s) stores rest h
       (each_mono (IsStoreOn o s) (IsNoneOf p t) stores (λ y u. on-none o s p t y u) on)
-  before-put (Ask k p r) xs h = tt
-  before-put (Remove k p) xs h = tt
-  before-put WriteBody xs h = tt
-  before-put SyncBody xs h = tt
-  before-put WriteGate xs h = tt
-  before-put SyncGate xs h = tt
-  before-put End xs h = tt
+  before-put x xs h = tt
 
   stores-first : (ys : List Action) → Each (IsStoreOn o s) ys → Each (IsNoneOf o s) rest → AreOrdered rest →
       AreOrdered (ys ++ rest)
@@ -117,15 +82,7 @@ module _ (o s : ℕ) (stores rest : List Action) (on : Each (IsStoreOn o s) stor
         (each_mono (IsStoreOn o s) (IsNoneOf o s) ys (λ y u. on-none o s o s y u) h.1) none)),
     stores-first ys h.1 none r,
   )
-  stores-first (Fetch k p t ∷ ys) h none r = absurd h.0
-  stores-first (Work p t ∷ ys) h none r = absurd h.0
-  stores-first (Ask k p t ∷ ys) h none r = absurd h.0
-  stores-first (Remove k p ∷ ys) h none r = absurd h.0
-  stores-first (WriteBody ∷ ys) h none r = absurd h.0
-  stores-first (SyncBody ∷ ys) h none r = absurd h.0
-  stores-first (WriteGate ∷ ys) h none r = absurd h.0
-  stores-first (SyncGate ∷ ys) h none r = absurd h.0
-  stores-first (End ∷ ys) h none r = absurd h.0
+  stores-first ys h none r = absurd h.0
 
   -- a line in order is so still
   pub ordered-put : (xs : List Action) → AreOrdered (xs ++ Work o s ∷ rest) →
@@ -146,13 +103,7 @@ ordered-front (x ∷ xs) ys h = (front x xs h.0, ordered-front xs ys h.1)
     front (Fetch k p t) zs e = each-front (IsNot (Fetch k p t)) zs ys e
     front (Work p t) zs e = each-front (IsNoneOf p t) zs ys e
     front (Store k p t) zs e = each-front (IsNoneOf p t) zs ys e
-    front (Ask k p r) zs e = tt
-    front (Remove k p) zs e = tt
-    front WriteBody zs e = tt
-    front SyncBody zs e = tt
-    front WriteGate zs e = tt
-    front SyncGate zs e = tt
-    front End zs e = tt
+    front x zs e = tt
 
 -- ---- places that are done
 
@@ -181,8 +132,7 @@ parts-open s (p ∷ parts) ps acts h = (
 
 -- and fetch them
 pub parts-fetch : (s : Setup) (parts : List Part) (ps : List Place) (acts : List Action) →
-    FetchesAll s ps acts →
-    FetchesAll s (map part_place parts ++ ps) (flat_map (part_actions s) parts ++ acts)
+    FetchesAll s ps acts → FetchesAll s (map part_place parts ++ ps) (flat_map (part_actions s) parts ++ acts)
 parts-fetch s [] ps acts h = h
 parts-fetch s (p ∷ parts) ps acts h = (
   Work p.place.object p.place.stripe ∷ p.stores,

@@ -1,13 +1,5 @@
 -- The stores that an opening decides on: of each provider below a number whose block is off.
-use Rattle.std.proofs.Common.{◌≡◌, ℕ, zero, suc, ◌+◌, ◌<◌, ◌≤◌, ◌==◌, Bool, true, false, cond, List, [], ◌∷◌, refl, sym, subst, inl, inr, arith}
-use Rattle.std.specs.Prelude.{if◌then◌else◌}
-use Rattle.std.specs.List.{flat_map, range_with_len}
-use Rattle.std.proofs.lemmas.Bool.{cases_eq}
-use Rattle.algebra_laws.specs.Lists.{Each, In}
-use Rattle.algebra_laws.proofs.Each.{each_append, in_left, in_right}
-use Rattle.code_defs.specs.Points.{upto}
-use Rattle.machine_defs.specs.Actions.{Action, Store}
-use Rattle.machine_defs.proofs.JobLists.{cond_false}
+use Rattle.scrub_laws.proofs.Words.{◌≡◌, ℕ, zero, suc, ◌+◌, ◌<◌, ◌≤◌, ◌==◌, Bool, true, false, cond, List, [], ◌∷◌, refl, sym, subst, inl, inr, arith, if◌then◌else◌, flat_map, range_with_len, cases_eq, Each, In, each_append, in_left, in_right, upto, Action, Store, cond_false}
 
 module _ (off : ℕ → ℕ) (o t : ℕ) where
   abbrev store_if : ℕ → List Action

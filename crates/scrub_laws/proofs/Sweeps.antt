@@ -1,45 +1,13 @@
 -- A scrub that runs alone: what it has made and counted, and what it has to do, after each of its steps.
-use Rattle.std.proofs.Common.{◌≡◌, ℕ, ◌+◌, ◌<◌, ◌==◌, ◌⊎◌, false, cond, List, [], ◌∷◌, ◌++◌, length, length-append, map, Option, None, Some, refl, ap, sym, subst, ◌∙◌, inl, inr, arith, sum_by}
-use Rattle.std.specs.List.{flat_map}
-use Rattle.std.proofs.lemmas.Bool.{cases_Bool, eq-eqb, eqb-true}
+use Rattle.scrub_laws.proofs.Words.{◌≡◌, ℕ, ◌+◌, ◌<◌, ◌==◌, ◌⊎◌, false, cond, List, [], ◌∷◌, ◌++◌, length, length-append, map, Option, None, Some, refl, ap, sym, subst, ◌∙◌, inl, inr, arith, sum_by, flat_map, cases_Bool, eq-eqb, eqb-true, append_assoc, append-nil, map-append, sum_by_push, Each, In, each_append, each_flat, each_map, each_middle, each_mono, in_left, in_right, upto, Object, column_of_symbols, GivesSymbols, Provider, Fetches, Stores, Setup, differs, scrubbed_object, off_by, scrub_stores, opened_scrub, block_to_scrub, Scrubs, StepsScrub, scrub_actions, new_scrub, RepairJob, Pinned, Given, Fetched, Job, Action, WriteBody, SyncBody, WriteGate, SyncGate, Store, Fetch, Ask, Work, Remove, End, open_actions, on_each_stripe, rewrite_actions, Step, More, Outcome, block_given, blocks_given, symbols_given, pinned_profile, Happens, Moment, now, State, Scrub, Scrubbing, setup_in, with_provider, symbols_given-newest, AreSteps, Place, places, everyone, IsOpenAtRest, With, CallsOne, Made, object_made, IsBelow, each-upto, held-sizes, AreOrdered, IsRepairing, fetches_at, actions_at, repairs-places, IsElse, AreApart, all-apart, ordered-places, IsStoreOf, stores-wider}
 use Rattle.std.proofs.lemmas.Grind.{flat_map-append}
-use Rattle.std.proofs.lemmas.List.{append_assoc, append-nil, map-append}
-use Rattle.std.proofs.lemmas.List.Sums.{sum_by_push}
-use Rattle.algebra_laws.specs.Lists.{Each, In}
-use Rattle.algebra_laws.proofs.Each.{each_append, each_flat, each_map, each_middle, each_mono, in_left, in_right}
-use Rattle.code_defs.specs.Points.{upto}
-use Rattle.column_defs.specs.Objects.{Object}
-use Rattle.column_defs.specs.Columns.{column_of_symbols}
-use Rattle.column_defs.specs.Opened.{GivesSymbols}
-use Rattle.device_defs.specs.Providers.{Provider}
-use Rattle.device_defs.specs.ProviderCalls.{Fetches, Stores}
-use Rattle.record_defs.specs.Records.{Setup}
 use Rattle.record_defs.specs.Table.{files_of}
-use Rattle.machine_defs.specs.Alone.{differs, scrubbed_object, off_by, scrub_stores, opened_scrub, block_to_scrub, Scrubs, StepsScrub, scrub_actions, new_scrub}
-use Rattle.machine_defs.specs.Jobs.{RepairJob, Pinned, Given, Fetched, Job}
-use Rattle.machine_defs.specs.Actions.{Action, WriteBody, SyncBody, WriteGate, SyncGate, Store, Fetch, Ask, Work, Remove, End, open_actions, on_each_stripe, rewrite_actions}
 use Rattle.machine_defs.specs.Begins.{pin_all}
-use Rattle.machine_defs.specs.Events.{Step, More, Outcome}
-use Rattle.machine_defs.specs.Given.{block_given, blocks_given, symbols_given, pinned_profile}
-use Rattle.machine_defs.specs.Machine.{Happens}
-use Rattle.machine_defs.specs.Runs.{Moment, now}
 use Rattle.machine_defs.specs.Setups.{profiled, object_of}
-use Rattle.machine_defs.specs.States.{State, Scrub, Scrubbing, setup_in, with_provider}
 use Rattle.machine_defs.specs.Steps.{StepsOpen, Steps, StepsMine}
-use Rattle.machine_defs.proofs.Given.{symbols_given-newest}
-use Rattle.command_defs.specs.JobRuns.{AreSteps}
-use Rattle.command_defs.specs.Repairs.{Place, places}
-use Rattle.command_defs.specs.Scrubs.{everyone}
-use Rattle.opening_defs.specs.Opened.{IsOpenAtRest}
 use Rattle.state_laws.proofs.Pinning.{pins-ascend}
 use Rattle.state_laws.proofs.Resting.{rest-sound}
-use Rattle.lone_laws.specs.Made.{With, CallsOne, Made, object_made}
 use Rattle.lone_laws.specs.Walked.{with_job_of}
-use Rattle.job_laws.proofs.Providers.{IsBelow, each-upto}
-use Rattle.job_laws.proofs.Questions.{held-sizes}
-use Rattle.job_laws.proofs.Rewritten.{AreOrdered, IsRepairing}
-use Rattle.job_laws.proofs.Places.{fetches_at, actions_at, repairs-places, IsElse, AreApart, all-apart, ordered-places}
-use Rattle.job_laws.proofs.PlaceFacts.{IsStoreOf, stores-wider}
 use Rattle.scrub_laws.proofs.Counts.{off_given, block_off, IsElsewhere, off-fetched, off-worked, sums-same}
 use Rattle.scrub_laws.proofs.Lines.{made-more, IsStoreOn, each-put, in-put, in-new, ordered-put, Part, part_place, part_actions}
 use Rattle.scrub_laws.proofs.Stores.{stores_off, stores-each, stores-has}
@@ -403,8 +371,7 @@ module _ (start : State) (O : IsOpenAtRest start 1) where
       (F : Facts scrub ps acts sofar) (parts : List Part) (p : Place) (rest : List Place)
       (front back : List Action) (a : Action) (new : State) → IsFetchOf p a → sofar ≡ map part_place parts →
       all ≡ sofar ++ p ∷ rest → acts ≡ flat_map (part_actions s) parts ++ front →
-      fetches_at s p ≡ front ++ a ∷ back →
-      scrub.todo ≡ a ∷ (back ++ Work p.object p.stripe ∷ opens rest) →
+      fetches_at s p ≡ front ++ a ∷ back → scrub.todo ≡ a ∷ (back ++ Work p.object p.stripe ∷ opens rest) →
       Scrubs (at scrub ps) scrub a (back ++ Work p.object p.stripe ∷ opens rest) More new → Stepped new
   step-fetch scrub ps acts sofar F parts p rest front back (Fetch k o t) new it places_are split acts_are
       fetches todo (block, (q, call, is)) = record {
@@ -432,30 +399,13 @@ module _ (start : State) (O : IsOpenAtRest start 1) where
               (fetches ∙ sym (append_assoc front (Fetch k o t ∷ []) back)) refl;
         };
       }
-  step-fetch scrub ps acts sofar F parts p rest front back (Work o t) new it places_are split acts_are
-      fetches todo h = absurd it
-  step-fetch scrub ps acts sofar F parts p rest front back (Store k o t) new it places_are split acts_are
-      fetches todo h = absurd it
-  step-fetch scrub ps acts sofar F parts p rest front back (Ask k o r) new it places_are split acts_are
-      fetches todo h = absurd it
-  step-fetch scrub ps acts sofar F parts p rest front back (Remove k o) new it places_are split acts_are
-      fetches todo h = absurd it
-  step-fetch scrub ps acts sofar F parts p rest front back WriteBody new it places_are split acts_are
-      fetches todo h = absurd it
-  step-fetch scrub ps acts sofar F parts p rest front back SyncBody new it places_are split acts_are
-      fetches todo h = absurd it
-  step-fetch scrub ps acts sofar F parts p rest front back WriteGate new it places_are split acts_are
-      fetches todo h = absurd it
-  step-fetch scrub ps acts sofar F parts p rest front back SyncGate new it places_are split acts_are
-      fetches todo h = absurd it
-  step-fetch scrub ps acts sofar F parts p rest front back End new it places_are split acts_are
-      fetches todo h = absurd it
+  step-fetch scrub ps acts sofar F parts p rest front back a new it places_are split acts_are fetches todo h =
+      absurd it
 
   step-work : (scrub : Scrub) (ps : ℕ → Provider) (acts : List Action) (sofar : List Place)
       (F : Facts scrub ps acts sofar) (parts : List Part) (p : Place) (rest : List Place)
-      (front : List Action) (new : State) → sofar ≡ map part_place parts →
-      all ≡ sofar ++ p ∷ rest → acts ≡ flat_map (part_actions s) parts ++ front →
-      fetches_at s p ≡ front ++ [] →
+      (front : List Action) (new : State) → sofar ≡ map part_place parts → all ≡ sofar ++ p ∷ rest →
+      acts ≡ flat_map (part_actions s) parts ++ front → fetches_at s p ≡ front ++ [] →
       scrub.todo ≡ Work p.object p.stripe ∷ opens rest →
       Scrubs (at scrub ps) scrub (Work p.object p.stripe) (opens rest) More new → Stepped new
   unfolding setup_in
@@ -517,24 +467,8 @@ module _ (start : State) (O : IsOpenAtRest start 1) where
               (append_assoc (open_actions s p.object p.stripe) stores (Store k o t ∷ [])))) mine refl;
         };
       }
-  step-store scrub ps acts sofar F parts p rest stores (Fetch k o t) left new places_are split acts_are it
-      mine todo h = absurd it
-  step-store scrub ps acts sofar F parts p rest stores (Work o t) left new places_are split acts_are it
-      mine todo h = absurd it
-  step-store scrub ps acts sofar F parts p rest stores (Ask k o r) left new places_are split acts_are it
-      mine todo h = absurd it
-  step-store scrub ps acts sofar F parts p rest stores (Remove k o) left new places_are split acts_are it
-      mine todo h = absurd it
-  step-store scrub ps acts sofar F parts p rest stores WriteBody left new places_are split acts_are it
-      mine todo h = absurd it
-  step-store scrub ps acts sofar F parts p rest stores SyncBody left new places_are split acts_are it
-      mine todo h = absurd it
-  step-store scrub ps acts sofar F parts p rest stores WriteGate left new places_are split acts_are it
-      mine todo h = absurd it
-  step-store scrub ps acts sofar F parts p rest stores SyncGate left new places_are split acts_are it
-      mine todo h = absurd it
-  step-store scrub ps acts sofar F parts p rest stores End left new places_are split acts_are it
-      mine todo h = absurd it
+  step-store scrub ps acts sofar F parts p rest stores a left new places_are split acts_are it mine todo h =
+      absurd it
 
   -- the fetches of a place
   fetches-of : (p : Place) → Each (IsFetchOf p) (fetches_at s p)
@@ -592,8 +526,7 @@ module _ (start : State) (O : IsOpenAtRest start 1) where
   abbrev quiet : Job
   quiet = record job { flagged = λ j. false }
 
-  none-stored : (xs : List ℕ) (o t : ℕ) →
-      flat_map (λ j. cond false (Store j o t ∷ []) []) xs ≡ []
+  none-stored : (xs : List ℕ) (o t : ℕ) → flat_map (λ j. cond false (Store j o t ∷ []) []) xs ≡ []
   none-stored [] o t = refl
   none-stored (j ∷ xs) o t = none-stored xs o t
 

@@ -1,15 +1,8 @@
 -- From the run of a scrub, as its command tells it, to what it leaves.
-use Rattle.std.proofs.Common.{◌≡◌, List, [], length, None, refl, ap, subst}
-use Rattle.std.specs.Option.{option_map}
-use Rattle.record_defs.specs.Records.{Record}
-use Rattle.machine_defs.specs.Answers.{Answer}
-use Rattle.machine_defs.specs.States.{State, Doubt}
+use Rattle.scrub_laws.proofs.Words.{◌≡◌, List, [], length, None, refl, ap, subst, option_map, Record, Answer, State, Doubt, Ran, ran_from, ran_alone, ScrubLeaves, RanScrub, ScrubsAlone, ScrubbedAlone, IsJustOpened}
 use Rattle.command_defs.specs.Opens as opens
 use Rattle.command_defs.specs.Opens.{setup_in_effect}
-use Rattle.command_defs.specs.Ran.{Ran, ran_from, ran_alone}
-use Rattle.command_defs.specs.Scrubs.{ScrubLeaves, RanScrub, ScrubsAlone, ScrubbedAlone}
 use Rattle.command_defs.specs.Seen.{Seen, provider_at}
-use Rattle.opening_defs.specs.Opened.{IsJustOpened}
 use Rattle.job_laws.proofs.Telling.{opened_state, state-over, providers-seen}
 use Rattle.scrub_laws.proofs.Ends.{Ended_by, scrub-ends}
 

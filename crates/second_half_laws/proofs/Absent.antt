@@ -1,25 +1,11 @@
 -- Blocks that are absent take nothing from accepted rows: only wrong ones that are there could forge one.
-use Rattle.std.proofs.Common.{◌≡◌, ℕ, ◌+◌, ◌*◌, ◌<◌, ◌≤◌, ◌&&◌, true, List, length, Some, None, refl, ap, sym, ◌∙◌, inl, inr, arith}
-use Rattle.std.specs.Prelude.{is_some, slice_index}
-use Rattle.std.proofs.lemmas.Bool.{and_parts, and_from, false≢true}
-use Rattle.std.proofs.lemmas.Option.{get_or_from_slice_get}
-use Rattle.algebra_laws.proofs.Lists.{map-range_at, same_or_other}
-use Rattle.hail_field.specs.Shape.{IsShape}
+use Rattle.second_half_laws.proofs.Words.{◌*◌, ◌&&◌, true, refl, ap, sym, ◌∙◌, inl, inr, arith, is_some, slice_index, and_parts, and_from, false≢true, get_or_from_slice_get, map-range_at, same_or_other, IsShape, upto, values_at, profile_of, Object, stripes, symbols_in, kept_by, point, primary_row, is_wrong_block, SeenBlock, OpensTo, AllOpen, symbol_in, block_at, AcceptsRow, AcceptsSymbols, GivesSymbols, count_of, is_agreeing, IsRow, IsStripeForgery, profile-room, kept-symbol, count_of-within, opens-at, is_wrong_seen}
+use Rattle.std.proofs.Common.{◌≡◌, ℕ, ◌+◌, ◌<◌, ◌≤◌, List, length, Some, None}
 use Rattle.algebra_laws.specs.Poly.{is_seen as is_seen_over}
 use Rattle.code_defs.specs.Polynomials.{value, is_seen}
-use Rattle.code_defs.specs.Points.{upto, values_at}
-use Rattle.code_defs.specs.Profiles.{profile_of}
 use Rattle.code_defs.specs.ServerCode.{codeword}
-use Rattle.column_defs.specs.Objects.{Object, stripes, symbols_in, kept_by, point}
-use Rattle.column_defs.specs.Columns.{primary_row, is_wrong_block}
-use Rattle.column_defs.specs.Opened.{SeenBlock, OpensTo, AllOpen, symbol_in, block_at, AcceptsRow, AcceptsSymbols, GivesSymbols}
-use Rattle.column_defs.specs.Forgeries.{count_of, is_agreeing, IsRow, IsStripeForgery}
-use Rattle.column_laws.proofs.UniqueLaws.{profile-room}
-use Rattle.column_laws.proofs.RightRows.{kept-symbol}
-use Rattle.column_laws.proofs.Counts.{count_of-within, opens-at}
 use Rattle.column_laws.proofs.OtherRows.{forgery-of_other}
 use Rattle.run_laws.proofs.Files.{IsRightRow, right-symbols}
-use Rattle.second_half_laws.specs.FewWrong.{is_wrong_seen}
 
 -- a provider that agrees with a polynomial gave a block
 agrees_seen : (o : Object) (j stripe place v : ℕ) (seen opened : SeenBlock) → OpensTo o j stripe seen opened →

@@ -1,31 +1,8 @@
 -- Audits, what is due, repairs and the mark, in a calm run in which no audit missed damage.
-use Rattle.std.proofs.Common.{◌≡◌, ℕ, ◌+◌, ◌<◌, true, false, ◌⊎◌, List, ◌∷◌, length, Option, Some, None, refl, ap, sym, subst, ◌∙◌, inl, inr, arith}
-use Rattle.std.specs.Prelude.{slice_get}
-use Rattle.std.proofs.lemmas.Bool.{cases_Bool, cases_eq}
-use Rattle.algebra_laws.specs.Lists.{In}
-use Rattle.column_defs.specs.Verdicts.{is_flagged, flags_some}
-use Rattle.record_defs.specs.Records.{Record, Setup, SetUp, PutStart, PutDone, Drop, AuditStart, AuditDone, RepairDone, PutDoneIn, Version, Resume, InEffect, RepairDue}
-use Rattle.record_defs.specs.Table.{File, Due, setup_of, next_audit, file_of, due_of}
-use Rattle.machine_defs.specs.Jobs.{AuditJob, RepairJob, Job, job_of}
-use Rattle.machine_defs.specs.Actions.{Action, WriteBody, SyncGate, Store, actions_of}
-use Rattle.machine_defs.specs.Setups.{profiled, stripes_of}
-use Rattle.machine_defs.specs.States.{State, Doubt, IsStart, setup_in, file_in}
-use Rattle.machine_defs.specs.Begins.{refusal_of_begin, pinned_file, due_number, due_flags, beginning}
-use Rattle.machine_defs.specs.Appends.{subject_drawn}
-use Rattle.machine_defs.specs.Steps.{next_action, block_to_store}
-use Rattle.machine_defs.specs.Runs.{Moment, now, first_moments, is_replaced_since, came, IsRun}
-use Rattle.machine_defs.specs.Calm.{Mark, settled_by, mark_after, since}
-use Rattle.machine_defs.specs.Missed.{Misses, MissesNone}
-use Rattle.machine_defs.specs.Deeds.{told_block}
-use Rattle.machine_defs.proofs.JobLists.{cond_true, cond_false, same_value, number_of}
-use Rattle.machine_defs.proofs.Changes.{Job_is, Changes}
-use Rattle.machine_defs.proofs.Numbers.{audits}
+use Rattle.second_half_laws.proofs.Words.{true, ◌⊎◌, refl, ap, sym, subst, ◌∙◌, inl, inr, arith, slice_get, cases_Bool, cases_eq, In, is_flagged, flags_some, Record, Setup, SetUp, PutStart, PutDone, Drop, AuditStart, AuditDone, RepairDone, PutDoneIn, Version, Resume, InEffect, RepairDue, File, Due, setup_of, next_audit, file_of, due_of, AuditJob, RepairJob, Job, job_of, Action, WriteBody, SyncGate, Store, actions_of, profiled, stripes_of, State, Doubt, IsStart, setup_in, file_in, refusal_of_begin, pinned_file, due_number, due_flags, beginning, subject_drawn, next_action, block_to_store, Moment, now, first_moments, is_replaced_since, came, IsRun, Mark, settled_by, mark_after, since, Misses, MissesNone, told_block, cond_true, cond_false, same_value, number_of, Job_is, Changes, audits, Pins_is, pins_is, setup_same, All, first_more, first_all, IsBad, IsReplaced, WasWrong, WrongAt, Remains, IsFlaggedBy, Never, PrecedesPuts, IsClear}
+use Rattle.std.proofs.Common.{◌≡◌, ℕ, ◌+◌, ◌<◌, false, List, ◌∷◌, length, Option, Some, None}
 use Rattle.machine_defs.proofs.Numbers as num
-use Rattle.machine_defs.proofs.PinFacts.{Pins_is, pins_is, setup_same}
-use Rattle.machine_defs.proofs.Held.{All, first_more, first_all}
 use Rattle.run_laws.proofs.InEffect as eff
-use Rattle.second_half_laws.specs.Damage.{IsBad, IsReplaced}
-use Rattle.second_half_laws.specs.Marks.{WasWrong, WrongAt, Remains, IsFlaggedBy, Never, PrecedesPuts, IsClear}
 use Rattle.second_half_laws.proofs.Turns.{Doubt_now, Turns}
 use Rattle.second_half_laws.proofs.Blocks.{since_more, since_now, bad_wrong, due_done, none_flagged}
 use Rattle.second_half_laws.proofs.Places.{store_stands, gate_behind}
@@ -234,8 +211,7 @@ module _ (limit : ℕ) (mark : Mark) (start : State) (m : Moment) (ms : List Mom
     | Job_is.finished x a runs next_is flight mine is rec free ↦
         rest_on x j k SyncGate runs next_is (sym (ap (λ (y : Job). y.kind) is) ∙ kind) kind
         (ap (λ (y : Job). y.pinned) is) (ap (λ (y : Job). y.flagged) is) (ap (λ (y : Job). y.subject) is)
-        (ap (λ (y : Job). y.place) is)
-        (λ i o s b e told. absurd (let z : SyncGate ≡ Store i o s = e in cc))
+        (ap (λ (y : Job). y.place) is) (λ i o s b e told. absurd (let z : SyncGate ≡ Store i o s = e in cc))
   ]
 
   repair_doubt_step : (d : Doubt) (number : ℕ) → m.state.doubt ≡ Some d → d.entry ≡ RepairDone number →
@@ -395,16 +371,7 @@ module _ (limit : ℕ) (mark : Mark) (start : State) (m : Moment) (ms : List Mom
                 (settled_audit d number u c at e came_in f)
           ]
       by_entry d at (RepairDone number) e came_in = settled_repair d number at e
-      by_entry d at (SetUp s) e came_in = stays
-      by_entry d at (PutStart k name) e came_in = stays
-      by_entry d at (PutDone k size) e came_in = stays
-      by_entry d at (Drop name) e came_in = stays
-      by_entry d at (AuditStart number) e came_in = stays
-      by_entry d at (PutDoneIn k size profile) e came_in = stays
-      by_entry d at Version e came_in = stays
-      by_entry d at (Resume next audit) e came_in = stays
-      by_entry d at (InEffect k size profile kept) e came_in = stays
-      by_entry d at (RepairDue number counts) e came_in = stays
+      by_entry d at r e came_in = stays
 
       -- after an event all damage of files in effect is new since the begin of the last settled audit
       pub mark_clear : IsClear start (m ∷ ms) (since start (m ∷ ms)) Never

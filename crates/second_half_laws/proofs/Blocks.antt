@@ -1,28 +1,8 @@
 -- Lemmas on wrong blocks, on replacements and on what records fold to.
-use Rattle.std.proofs.Common.{◌≡◌, ℕ, suc, zero, ◌≤◌, ◌<◌, ◌==◌, Bool, true, false, cond, ◌⊎◌, ◌&&◌, List, [], ◌∷◌, length, Option, Some, None, refl, ap, sym, subst, ◌∙◌, inl, inr, arith}
-use Rattle.std.specs.Prelude.{nat_le, nat_lt, is_some}
-use Rattle.std.specs.Option.{option_map}
-use Rattle.std.proofs.lemmas.Bool.{cases_Bool, and_parts, and_from, or_cases, or_left, or_right, leb-true, le-leb, le-ltb, eq-eqb, false≢true}
-use Rattle.algebra_laws.proofs.Options.{some-not-none}
+use Rattle.second_half_laws.proofs.Words.{true, cond, ◌⊎◌, ◌&&◌, refl, ap, sym, subst, ◌∙◌, inl, inr, arith, nat_le, nat_lt, is_some, option_map, cases_Bool, and_parts, and_from, or_cases, or_left, or_right, leb-true, le-leb, le-ltb, eq-eqb, false≢true, some-not-none, Object, stripes, columns, is_wrong_block, is_flagged, flags_some, length-column_of_symbols, Record, Setup, SetUp, PutStart, PutDone, Drop, AuditStart, AuditDone, RepairDone, PutDoneIn, Version, Resume, InEffect, RepairDue, File, Due, file_as, setup_of, profile_in, started_as, is_start_of, is_same_name, file_of, due_of, exceeds, Held, sized, State, AreFirst, file_object, done_record, Moment, is_replacement, is_replaced_since, is_wrong_told, is_wrong_now, told_block, cond_true, cond_false, IsAppended, put_ended, done-ended, IsBad, IsReplaced, IsEndOfPut}
+use Rattle.std.proofs.Common.{◌≡◌, ℕ, suc, zero, ◌≤◌, ◌<◌, ◌==◌, Bool, false, List, [], ◌∷◌, length, Option, Some, None}
 use Rattle.code_defs.proofs.Codewords.{differences-same}
-use Rattle.column_defs.specs.Objects.{Object, stripes}
-use Rattle.column_defs.specs.Columns.{columns, is_wrong_block}
-use Rattle.column_defs.specs.Verdicts.{is_flagged, flags_some}
-use Rattle.column_defs.proofs.ColumnLaws.{length-column_of_symbols}
 use Rattle.column_defs.proofs.ForgeryLaws.{wrong-block}
-use Rattle.record_defs.specs.Records.{Record, Setup, SetUp, PutStart, PutDone, Drop, AuditStart, AuditDone, RepairDone, PutDoneIn, Version, Resume, InEffect, RepairDue}
-use Rattle.record_defs.specs.Table.{File, Due, file_as, setup_of, profile_in, started_as, is_start_of, is_same_name, file_of, due_of, exceeds}
-use Rattle.device_defs.specs.Providers.{Held, sized}
-use Rattle.machine_defs.specs.States.{State, AreFirst, file_object}
-use Rattle.machine_defs.specs.Appends.{done_record}
-use Rattle.machine_defs.specs.Runs.{Moment, is_replacement, is_replaced_since}
-use Rattle.machine_defs.specs.Missed.{is_wrong_told, is_wrong_now}
-use Rattle.machine_defs.specs.Deeds.{told_block}
-use Rattle.machine_defs.proofs.JobLists.{cond_true, cond_false}
-use Rattle.machine_defs.proofs.Written.{IsAppended}
-use Rattle.machine_defs.proofs.Done.{put_ended, done-ended}
-use Rattle.second_half_laws.specs.Damage.{IsBad, IsReplaced}
-use Rattle.second_half_laws.specs.Marks.{IsEndOfPut}
 
 -- ---- replacements
 
@@ -85,8 +65,7 @@ pub bad_wrong : (w : State) (f : File) (i s : ℕ) → s < stripes (file_object 
     IsBad w f.profile f.id i s → is_wrong_now w f i ≡ true
 bad_wrong w f i s below (b, told, wrong) =
     (let t = telling w i f.id s b told in
-    ap (is_wrong_told w f i) t.1
-    ∙ wrong-block (file_object w f) (w.bytes f.id) i s (t.0 f.id) below
+    ap (is_wrong_told w f i) t.1 ∙ wrong-block (file_object w f) (w.bytes f.id) i s (t.0 f.id) below
     (subst (λ x. is_wrong_block (file_object w f) (w.bytes f.id) i s x ≡ true) (sym t.2) wrong))
 
 -- ---- records
@@ -99,8 +78,7 @@ done_put false rest x f h = inl h
 
 -- a record that ends a put, of the first version and of the second
 ends_first : (rs : List Record) (k size : ℕ) (q : List ℕ) (f : File) →
-    file_as q k size (profile_in (setup_of rs)) ≡ f →
-    IsEndOfPut rs (PutDone k size) f.id f.size f.profile
+    file_as q k size (profile_in (setup_of rs)) ≡ f → IsEndOfPut rs (PutDone k size) f.id f.size f.profile
 ends_first rs k size q f e = subst (λ (x : File). IsEndOfPut rs (PutDone k size) x.id x.size x.profile) e
     (record { version = 1; entry_is = refl; profiled = λ first. refl })
 
@@ -117,9 +95,8 @@ ends_ended rs r id size profile e = ap put_ended e.entry_is ∙ done-ended e.ver
 
 -- its profile is told by the record, or by the setup
 pub same_profile : (rs : List Record) (v w a b size length p q : ℕ) →
-    done_record v a size p ≡ done_record w b length q →
-    ((v == 2) ≡ false → p ≡ profile_in (setup_of rs)) → ((w == 2) ≡ false → q ≡ profile_in (setup_of rs)) →
-    p ≡ q
+    done_record v a size p ≡ done_record w b length q → ((v == 2) ≡ false → p ≡ profile_in (setup_of rs)) →
+    ((w == 2) ≡ false → q ≡ profile_in (setup_of rs)) → p ≡ q
 same_profile rs v w a b size length p q e first second = elim (cases_Bool (v == 2)) [
   | inl t ↦ elim (cases_Bool (w == 2)) [
     | inl u ↦ (let same : PutDoneIn a size p ≡ PutDoneIn b length q =
@@ -141,8 +118,6 @@ same_profile rs v w a b size length p q e first second = elim (cases_Bool (v == 
 -- a file in effect was so before, or is that of a put's end
 pub file_done : (r : Record) (rs : List Record) (q : List ℕ) (f : File) → IsAppended r →
     file_of (r ∷ rs) q ≡ Some f → (file_of rs q ≡ Some f) ⊎ IsEndOfPut rs r f.id f.size f.profile
-file_done (SetUp s) rs q f good h = inl h
-file_done (PutStart k name) rs q f good h = inl h
 file_done (PutDone k size) rs q f good h =
     elim (done_put (is_start_of q (started_as rs k)) (file_of rs q)
     (file_as q k size (profile_in (setup_of rs))) f h)
@@ -152,34 +127,21 @@ file_done (Drop name) rs q f good h = elim (cases_Bool (is_same_name name q)) [
       (cond_true (is_same_name name q) None (file_of rs q) t))
   | inr o ↦ inl (sym (cond_false (is_same_name name q) None (file_of rs q) o) ∙ h)
 ]
-file_done (AuditStart number) rs q f good h = inl h
-file_done (AuditDone number undecided counts) rs q f good h = inl h
-file_done (RepairDone number) rs q f good h = inl h
 file_done (PutDoneIn k size profile) rs q f good h =
     elim (done_put (is_start_of q (started_as rs k)) (file_of rs q) (file_as q k size profile) f h) [
       | inl was ↦ inl was
       | inr e ↦ inr (ends_second rs k size profile q f e)
     ]
-file_done Version rs q f good h = inl h
 file_done (Resume next audit) rs q f good h = absurd good
 file_done (InEffect k size profile kept) rs q f good h = absurd good
 file_done (RepairDue number counts) rs q f good h = absurd good
+file_done r rs q f good h = inl h
 
 -- a record that is no setup leaves the setup
 pub setup_left : (r : Record) (rs : List Record) → ((s : Setup) → r ≡ SetUp s → ⊥) →
     setup_of (r ∷ rs) ≡ setup_of rs
 setup_left (SetUp s) rs other = absurd (other s refl)
-setup_left (PutStart k name) rs other = refl
-setup_left (PutDone k size) rs other = refl
-setup_left (Drop name) rs other = refl
-setup_left (AuditStart number) rs other = refl
-setup_left (AuditDone number undecided counts) rs other = refl
-setup_left (RepairDone number) rs other = refl
-setup_left (PutDoneIn k size profile) rs other = refl
-setup_left Version rs other = refl
-setup_left (Resume next audit) rs other = refl
-setup_left (InEffect k size profile kept) rs other = refl
-setup_left (RepairDue number counts) rs other = refl
+setup_left r rs other = refl
 
 -- where a file comes only with a setup, a setup is there already
 pub up_before : (r : Record) (rs : List Record) (q : List ℕ) (f : File) → IsAppended r →
@@ -191,26 +153,11 @@ up_before r rs q f good h old new = elim (file_done r rs q f good h)
 -- a setup that is in effect stays so with one more record
 pub up_more : (r : Record) (rs : List Record) → is_some (setup_of rs) ≡ true → setup_of (r ∷ rs) ≡ None → ⊥
 up_more (SetUp s) rs h e = (let f : Some s ≡ None = e in cc)
-up_more (PutStart id name) rs h e = false≢true (ap is_some (sym e) ∙ h)
-up_more (PutDone id size) rs h e = false≢true (ap is_some (sym e) ∙ h)
-up_more (Drop name) rs h e = false≢true (ap is_some (sym e) ∙ h)
-up_more (AuditStart number) rs h e = false≢true (ap is_some (sym e) ∙ h)
-up_more (AuditDone number undecided counts) rs h e = false≢true (ap is_some (sym e) ∙ h)
-up_more (RepairDone number) rs h e = false≢true (ap is_some (sym e) ∙ h)
-up_more (PutDoneIn k size profile) rs h e = false≢true (ap is_some (sym e) ∙ h)
-up_more Version rs h e = false≢true (ap is_some (sym e) ∙ h)
-up_more (Resume next audit) rs h e = false≢true (ap is_some (sym e) ∙ h)
-up_more (InEffect k size profile kept) rs h e = false≢true (ap is_some (sym e) ∙ h)
-up_more (RepairDue number counts) rs h e = false≢true (ap is_some (sym e) ∙ h)
+up_more r rs h e = false≢true (ap is_some (sym e) ∙ h)
 
 -- what is due was so before, or is what an audit's end flags
 pub due_done : (r : Record) (rs : List Record) (u : Due) → IsAppended r → due_of (r ∷ rs) ≡ Some u →
     (due_of rs ≡ Some u) ⊎ ((undecided : ℕ) × (r ≡ AuditDone u.number undecided u.counts))
-due_done (SetUp s) rs u good h = inl h
-due_done (PutStart k name) rs u good h = inl h
-due_done (PutDone k size) rs u good h = inl h
-due_done (Drop name) rs u good h = inl h
-due_done (AuditStart number) rs u good h = inl h
 due_done (AuditDone number undecided counts) rs u good h = elim (cases_Bool (exceeds (setup_of rs) counts)) [
   | inl t ↦ (let e : Some (record { number = number; counts = counts }) ≡ Some u =
       sym (cond_true (exceeds (setup_of rs) counts) (Some (record { number = number; counts = counts }))
@@ -221,11 +168,10 @@ due_done (AuditDone number undecided counts) rs u good h = elim (cases_Bool (exc
       (Some (record { number = number; counts = counts })) (due_of rs) f) ∙ h)
 ]
 due_done (RepairDone number) rs u good h = absurd (let e : None ≡ Some u = h in cc)
-due_done (PutDoneIn k size profile) rs u good h = inl h
-due_done Version rs u good h = inl h
 due_done (Resume next audit) rs u good h = absurd good
 due_done (InEffect k size profile kept) rs u good h = absurd good
 due_done (RepairDue number counts) rs u good h = absurd good
+due_done r rs u good h = inl h
 
 -- where no count exceeds the tolerance, no provider is flagged
 pub none_flagged : (tolerance : ℕ) (counts : List ℕ) (j : ℕ) → flags_some tolerance counts ≡ false →

@@ -1,19 +1,8 @@
 -- A put of one byte and a get of it are a run, the get computed from its turns, and what it writes.
-use Rattle.std.specs.Prelude.{◌≡◌, ℕ, zero, suc, ◌<◌, List, [], ◌∷◌, ◌++◌, take, drop, codes, Some}
-use Rattle.std.proofs.Common.{refl, arith}
+use Rattle.second_half_laws.proofs.Words.{drop, codes, refl, arith, PutJob, GetJob, actions_of, Got, Begin, Step, Reopen, Begun, Ended, Happens, Moment, IsRun, now, setup_in, Once, RunJob, CarriesOut, set_up, begun, not_more, fits_two, state_15, stored, stored_lines}
+use Rattle.std.specs.Prelude.{◌≡◌, ℕ, zero, suc, ◌<◌, List, [], ◌∷◌, ◌++◌, take, Some}
 use Rattle.std.specs.Fmt.{digits}
-use Rattle.machine_defs.specs.Jobs.{PutJob, GetJob}
-use Rattle.machine_defs.specs.Actions.{actions_of}
-use Rattle.machine_defs.specs.Answers.{Got}
-use Rattle.machine_defs.specs.Events.{Begin, Step, Reopen, Begun, Ended}
-use Rattle.machine_defs.specs.Machine.{Happens}
-use Rattle.machine_defs.specs.Runs.{Moment, IsRun, now}
-use Rattle.machine_defs.specs.States.{setup_in}
-use Rattle.machine_defs.specs.Transcripts.{Once, RunJob, CarriesOut}
-use Rattle.machine_defs.specs.Examples.{set_up}
-use Rattle.machine_defs.proofs.RunParts.{begun, not_more, fits_two}
-use Rattle.machine_defs.proofs.PutSteps.{state_15}
-use Rattle.machine_defs.proofs.PutRun.{moments as stored, is_run as is_stored, transcript as stored_lines}
+use Rattle.machine_defs.proofs.PutRun.{is_run as is_stored}
 use Rattle.made_runs.specs.Turns.{Turn, Works, Came, Gives, job_run}
 use Rattle.made_runs.specs.Instructions.{AreTurns}
 use Rattle.made_runs.proofs.Instructions.{turns-run}
@@ -102,8 +91,5 @@ transcript = (
 -- each provider was fetched from once
 pub fetched : (j : ℕ) → j < 4 → ((now set_up moments).providers j).fetches ≡ 1
 unfolding setup_in actions_of
-fetched zero l = refl
-fetched (suc zero) l = refl
-fetched (suc (suc zero)) l = refl
-fetched (suc (suc (suc zero))) l = refl
 fetched (suc (suc (suc (suc j)))) l = absurd (omega (arith, l))
+fetched j l = refl

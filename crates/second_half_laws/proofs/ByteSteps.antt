@@ -1,19 +1,6 @@
 -- What providers hold of one byte, and what a get of it makes of that.
 use Rattle.std.specs.Prelude.{◌≡◌, ℕ, ◌==◌, List, [], ◌∷◌, length, take, Some, None}
-use Rattle.std.specs.List.{flat_map}
-use Rattle.std.proofs.Common.{refl, arith, sym}
-use Rattle.code_defs.specs.Points.{upto}
-use Rattle.run_laws.proofs.SymbolBytes.{bytes_back}
-use Rattle.std.proofs.lemmas.Bool.{eq-eqb}
-use Rattle.column_defs.specs.Objects.{symbols_in, bytes_of_symbols}
-use Rattle.column_defs.specs.Columns.{columns}
-use Rattle.column_defs.specs.Opened.{GivesSymbols}
-use Rattle.column_defs.proofs.ColumnLaws.{length-column_of_symbols}
-use Rattle.device_defs.specs.Providers.{sized}
-use Rattle.machine_defs.specs.Setups.{object_of}
-use Rattle.record_defs.specs.Examples.{four}
-use Rattle.machine_defs.proofs.JobLists.{cond_true}
-use Rattle.second_half_laws.specs.Own.{own_blocks}
+use Rattle.second_half_laws.proofs.Words.{flat_map, refl, arith, sym, upto, bytes_back, eq-eqb, symbols_in, bytes_of_symbols, columns, GivesSymbols, length-column_of_symbols, sized, object_of, four, cond_true, own_blocks}
 use Rattle.second_half_laws.proofs.GivesRight.{own_give}
 
 -- the block that a provider holds of the byte

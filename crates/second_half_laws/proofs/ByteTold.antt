@@ -1,21 +1,7 @@
 -- The put of one byte and the get of it, told by events and outcomes alone.
-use Rattle.std.specs.Prelude.{◌≡◌, ℕ, List, [], ◌∷◌, drop, None, Some}
-use Rattle.std.proofs.Common.{refl, inl, inr, arith}
-use Rattle.machine_defs.specs.Jobs.{PutJob, GetJob}
-use Rattle.machine_defs.specs.Answers.{Put, Got}
-use Rattle.machine_defs.specs.Events.{Begin, Step, Reopen, Opened, Begun, Ended}
-use Rattle.machine_defs.specs.Actions.{actions_of}
-use Rattle.machine_defs.specs.States.{IsStart, setup_in}
-use Rattle.machine_defs.specs.Runs.{Moment, now}
-use Rattle.machine_defs.specs.Transcripts.{Once, RunJob, GoOn}
-use Rattle.machine_defs.specs.Examples.{set_up}
-use Rattle.record_defs.specs.Examples.{four}
-use Rattle.machine_defs.proofs.PutRun.{moments as stored, is_run as is_stored, steps as put_steps}
-use Rattle.machine_defs.proofs.PutSteps.{state_1, state_2, state_14, state_15}
-use Rattle.machine_defs.proofs.RunParts.{job_at}
-use Rattle.machine_defs.specs.Untouched.{given_up, ended, NoneAsksOn, NoneOn, IsUntouched}
-use Rattle.machine_defs.proofs.Untouched.{both_none, steps_begin_none}
-use Rattle.run_laws.specs.Stories.{Stored, GetEnds}
+use Rattle.second_half_laws.proofs.Words.{drop, refl, inl, inr, arith, PutJob, GetJob, Put, Got, Begin, Step, Reopen, Opened, Begun, Ended, actions_of, IsStart, setup_in, Moment, now, Once, RunJob, GoOn, set_up, four, stored, put_steps, state_1, state_2, state_14, state_15, job_at, given_up, ended, NoneAsksOn, NoneOn, IsUntouched, both_none, steps_begin_none, Stored, GetEnds}
+use Rattle.std.specs.Prelude.{◌≡◌, ℕ, List, [], ◌∷◌, None, Some}
+use Rattle.machine_defs.proofs.PutRun.{is_run as is_stored}
 use Rattle.second_half_laws.specs.Told.{IsTold}
 use Rattle.second_half_laws.proofs.ByteRun.{get_begin, get_end, moments, steps, is_run}
 

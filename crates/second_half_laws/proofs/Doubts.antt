@@ -1,25 +1,11 @@
 -- What stands of the job that wrote a record in doubt; and that setups stay.
-use Rattle.std.proofs.Common.{◌≡◌, ℕ, ◌<◌, ◌≤◌, List, [], ◌∷◌, ◌++◌, length, Some, None, refl, ap, sym, subst, ◌∙◌, arith}
-use Rattle.std.specs.Prelude.{slice_get}
-use Rattle.algebra_laws.specs.Lists.{In}
-use Rattle.record_defs.specs.Records.{Setup, Record, SetUp, PutStart, PutDone, Drop, AuditStart, AuditDone, RepairDone, PutDoneIn, Version, Resume, InEffect, RepairDue}
-use Rattle.record_defs.specs.Table.{setup_of}
-use Rattle.machine_defs.specs.Jobs.{Kind, PutJob, Given, Job, job_of, advanced}
-use Rattle.machine_defs.specs.Actions.{Action, actions_of}
-use Rattle.machine_defs.specs.States.{State, Append, Doubt, IsStart, setup_in}
-use Rattle.machine_defs.specs.Runs.{Moment, now, IsRun}
-use Rattle.machine_defs.proofs.Changes.{Records_is, Changes}
-use Rattle.machine_defs.proofs.Written.{IsWritten}
-use Rattle.machine_defs.proofs.Events.{changes}
-use Rattle.machine_defs.proofs.Numbers.{objects, Draws}
-use Rattle.machine_defs.proofs.PinFacts.{setup_same, wrote_setup}
-use Rattle.machine_defs.proofs.Held.{All, all}
+use Rattle.second_half_laws.proofs.Words.{refl, ap, sym, subst, ◌∙◌, slice_get, In, Setup, Record, SetUp, setup_of, Kind, PutJob, Given, Job, job_of, advanced, Action, actions_of, State, Append, Doubt, IsStart, setup_in, Moment, now, IsRun, Records_is, Changes, IsWritten, changes, objects, Draws, setup_same, wrote_setup, All, all, stands_by, WasMade}
+use Rattle.std.proofs.Common.{◌≡◌, ℕ, ◌<◌, ◌≤◌, List, [], ◌∷◌, ◌++◌, length, Some, None}
 use Rattle.machine_defs.proofs.PutProfiles as own
 use Rattle.run_laws.proofs.InEffect as eff
-use Rattle.run_laws.proofs.PutBytes.{Stands, stands_by}
-use Rattle.second_half_laws.specs.Made.{WasMade}
+use Rattle.run_laws.proofs.PutBytes.{Stands}
 use Rattle.second_half_laws.proofs.Walk.{Doubted, Walked, walked}
-use Rattle.second_half_laws.proofs.Passing.{Later, later_same}
+use Rattle.second_half_laws.proofs.Passing.{later_same, later_advanced}
 use Rattle.second_half_laws.proofs.MadeFacts as made
 use Rattle.second_half_laws.proofs.MadeFacts.{CameBy, HasGift, came_on, made_on}
 use Rattle.second_half_laws.proofs.Finals.{Final, Flights, flight_step, start_flights}
@@ -43,21 +29,6 @@ pub record Facts (start : State) (ms : List Moment) : Type 0 where
   pub made : made.Facts start ms
   pub flights : Flights start ms
   pub doubt : (d : Doubt) → (now start ms).doubt ≡ Some d → Standing start ms d
-
--- a job and the same with one more action made
-advanced_later : (x : Job) → Later x (advanced x)
-advanced_later x = record {
-  number = refl;
-  kind = refl;
-  profile = refl;
-  begun = refl;
-  pinned = refl;
-  flagged = refl;
-  subject = λ l. refl;
-  place = omega arith;
-  more = [];
-  given = refl;
-}
 
 done_on : (limit : ℕ) (start : State) (m : Moment) (ms : List Moment) (x : Job) (entry : Record) →
     IsWritten (now start ms) → Changes limit (length ms) (now start ms) m.event m.outcome m.state →
@@ -88,8 +59,8 @@ module _ (limit : ℕ) (start : State) (m : Moment) (ms : List Moment) (A : All 
             (F.flights a x flight (subst (λ n. job_of (now start ms).jobs n ≡ Some x) (sym mine) runs));
         made = λ p action l at. (let f = F.made.made x.number x p action runs l
             (subst (λ t. slice_get (actions_of t x) p ≡ Some action) setup at) in
-            (made_on start m ms x (advanced x) action (advanced_later x) f.0, f.1));
-        came = λ gift i. came_on start m ms x (advanced x) gift setup (advanced_later x)
+            (made_on start m ms x (advanced x) action (later_advanced x) f.0, f.1));
+        came = λ gift i. came_on start m ms x (advanced x) gift setup (later_advanced x)
             (F.made.came x.number x gift runs i);
         own = λ name bytes kind late.
             stands_by limit (length ms) (now start ms) m.event m.outcome m.state x.subject bytes
@@ -146,17 +117,7 @@ facts limit start clean (m ∷ ms) run =
 final_setup : (t : Setup) (x : Job) (entry : Record) (kind : Kind) (rs : List Record) → Final t x entry kind →
     setup_of (entry ∷ rs) ≡ setup_of rs
 final_setup t x (SetUp s) kind rs h = absurd h
-final_setup t x (PutStart id name) kind rs h = refl
-final_setup t x (PutDone id size) kind rs h = refl
-final_setup t x (Drop name) kind rs h = refl
-final_setup t x (AuditStart id) kind rs h = refl
-final_setup t x (AuditDone id undecided counts) kind rs h = refl
-final_setup t x (RepairDone id) kind rs h = refl
-final_setup t x (PutDoneIn id size profile) kind rs h = refl
-final_setup t x Version kind rs h = refl
-final_setup t x (Resume next audit) kind rs h = refl
-final_setup t x (InEffect id size profile kept) kind rs h = refl
-final_setup t x (RepairDue number counts) kind rs h = refl
+final_setup t x entry kind rs h = refl
 
 setup_step : (limit : ℕ) (start : State) (m : Moment) (ms : List Moment) (s : Setup) → All start ms →
     Facts start ms → Changes limit (length ms) (now start ms) m.event m.outcome m.state →

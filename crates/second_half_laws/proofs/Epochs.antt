@@ -1,38 +1,32 @@
 -- A mark may move to a later moment since which all damage is new, while no get and no repair runs.
-use Rattle.std.proofs.Common.{◌≡◌, ℕ, ◌≤◌, ◌<◌, true, List, [], ◌∷◌, ◌++◌, length, Some, refl, sym, subst, arith, append_assoc}
-use Rattle.std.specs.Prelude.{nat_le, IsTrue}
-use Rattle.std.proofs.lemmas.Bool.{le-leb, lt-leb}
-use Rattle.machine_defs.specs.Jobs.{Job, job_of}
-use Rattle.machine_defs.specs.States.{State, setup_in}
-use Rattle.machine_defs.specs.Runs.{Moment, now, first_moments, IsRun, is_replaced_since}
-use Rattle.machine_defs.specs.Calm.{Mark, relies, replaced_count, IsCalm}
-use Rattle.machine_defs.specs.Damaged.{DamagesOnly}
-use Rattle.machine_defs.specs.Untouched.{Relies, NoneRuns}
-use Rattle.machine_defs.proofs.JobLists.{cond_true, cond_false}
-use Rattle.machine_defs.proofs.Untouched.{begun_later}
-use Rattle.machine_defs.proofs.Damaged.{first_enough, first_fewer, among_since}
-use Rattle.second_half_laws.specs.Marks.{IsMark}
-use Rattle.second_half_laws.specs.MarkedRuns.{BeginsNoScrub, AreMarks, IsMarkedRun}
+use Rattle.second_half_laws.proofs.Words.{true, refl, sym, subst, arith, nat_le, IsTrue, le-leb, lt-leb, Job, job_of, State, setup_in, Moment, now, first_moments, IsRun, is_replaced_since, Mark, relies, replaced_count, IsCalm, DamagesOnly, Relies, NoneRuns, cond_true, cond_false, begun_later, first_enough, first_fewer, among_since, IsMark, BeginsNoScrub, AreMarks, IsMarkedRun}
+use Rattle.std.proofs.Common.{◌≡◌, ℕ, ◌≤◌, ◌<◌, List, [], ◌∷◌, ◌++◌, length, Some, append_assoc}
 use Rattle.second_half_laws.specs.Epochs.{moved_mark}
 use Rattle.second_half_laws.proofs.FewDamaged.{AreFew, few_now, few_before}
 use Rattle.second_half_laws.proofs.Finished.{unscrubbed}
 use Rattle.second_half_laws.proofs.InRuns.{mark_stays}
 
 module _ (k from : ℕ) (mark : Mark) where
-  moved : (ms : List Moment) → k ≤ length ms → moved_mark k from mark ms ≡ from
+  -- at that moment and behind it the mark is the new one, before it the old one
+  pub moved : (ms : List Moment) → k ≤ length ms → moved_mark k from mark ms ≡ from
   moved ms l = cond_true (nat_le k (length ms)) from (mark ms) (le-leb k (length ms) l)
 
   unmoved : (ms : List Moment) → length ms < k → moved_mark k from mark ms ≡ mark ms
   unmoved ms l = cond_false (nat_le k (length ms)) from (mark ms) (lt-leb k (length ms) l)
 
-  -- before, calm by the mark is calm by the moved one, and marks are marks
+  -- before, what is calm by the mark is calm by the moved one, and marks are marks
+  pub same_first : (m : Moment) (ms : List Moment) (begun : ℕ) → length (m ∷ ms) < k →
+      replaced_count m.state (mark (first_moments begun (m ∷ ms))) (m ∷ ms) ≤ (setup_in m.state).b →
+      replaced_count m.state (moved_mark k from mark (first_moments begun (m ∷ ms))) (m ∷ ms)
+      ≤ (setup_in m.state).b
+  same_first m ms begun l few = subst (λ n. replaced_count m.state n (m ∷ ms) ≤ (setup_in m.state).b)
+      (sym (unmoved (first_moments begun (m ∷ ms)) (let s = first_fewer begun (m ∷ ms) in omega arith))) few
+
   calm_same : (ms : List Moment) → length ms < k → IsCalm relies mark ms →
       IsCalm relies (moved_mark k from mark) ms
   calm_same [] l calm = tt
   calm_same (m ∷ ms) l calm = (
-    λ number job runs reads. subst (λ n. replaced_count m.state n (m ∷ ms) ≤ (setup_in m.state).b)
-        (sym (unmoved (first_moments job.begun (m ∷ ms))
-        (let s = first_fewer job.begun (m ∷ ms) in omega arith))) (calm.0 number job runs reads),
+    λ number job runs reads. same_first m ms job.begun l (calm.0 number job runs reads),
     calm_same ms (omega arith) calm.1,
   )
 
@@ -41,6 +35,38 @@ module _ (k from : ℕ) (mark : Mark) where
   marks_same start [] l marks = subst (IsMark start []) (sym (unmoved [] l)) marks
   marks_same start (m ∷ ms) l marks =
       (subst (IsMark start (m ∷ ms)) (sym (unmoved (m ∷ ms) l)) marks.0, marks_same start ms (omega arith) marks.1)
+
+module _ (limit : ℕ) (mark : Mark) (start : State) (base : List Moment) (from : ℕ)
+    (h : IsMarkedRun limit mark start base) (new : IsMark start base from)
+    (none : NoneRuns Relies (now start base)) where
+  calm_first : (xs : List Moment) → xs ≡ base → NoneRuns Relies (now start xs) → IsCalm relies mark xs →
+      IsCalm relies (moved_mark (length base) from mark) xs
+  calm_first [] is free calm = tt
+  calm_first (m ∷ xs) is free calm = (
+    λ number job runs reads. absurd (free number job runs reads),
+    calm_same (length base) from mark xs (subst (λ hs. length xs < length hs) is (omega arith)) calm.1,
+  )
+
+  marks_first : (xs : List Moment) → xs ≡ base → IsMark start xs from → AreMarks mark start xs →
+      AreMarks (moved_mark (length base) from mark) start xs
+  marks_first [] is moment marks =
+      subst (IsMark start []) (sym (moved (length base) from mark []
+      (subst (λ hs. length base ≤ length hs) (sym is) (omega arith)))) moment
+  marks_first (m ∷ xs) is moment marks = (
+    subst (IsMark start (m ∷ xs)) (sym (moved (length base) from mark (m ∷ xs)
+        (subst (λ hs. length base ≤ length hs) (sym is) (omega arith)))) moment,
+    marks_same (length base) from mark start xs (subst (λ hs. length xs < length hs) is (omega arith)) marks.1,
+  )
+
+  -- at the moment itself the run is calm by the moved mark
+  pub moved_now : IsMarkedRun limit (moved_mark (length base) from mark) start base
+  moved_now = record {
+    clean = h.clean;
+    tell = h.tell;
+    run = h.run;
+    calm = calm_first base refl none h.calm;
+    marks = marks_first base refl new h.marks;
+  }
 
 module _ (limit : ℕ) (mark : Mark) (start : State) (recent older : List Moment) (qs : List ℕ)
     (h : IsMarkedRun limit mark start (recent ++ older))
@@ -51,39 +77,6 @@ module _ (limit : ℕ) (mark : Mark) (start : State) (recent older : List Moment
 
   next : Mark
   next = moved_mark (length (recent ++ older)) (length older) mark
-
-  -- at the moment itself
-  calm_first : (xs : List Moment) → xs ≡ recent ++ older → NoneRuns Relies (now start xs) →
-      IsCalm relies mark xs → IsCalm relies next xs
-  unfolding next
-  calm_first [] is free calm = tt
-  calm_first (m ∷ xs) is free calm = (
-    λ number job runs reads. absurd (free number job runs reads),
-    calm_same (length (recent ++ older)) (length older) mark xs
-        (subst (λ hs. length xs < length hs) is (omega arith)) calm.1,
-  )
-
-  marks_first : (xs : List Moment) → xs ≡ recent ++ older → IsMark start xs (length older) →
-      AreMarks mark start xs → AreMarks next start xs
-  unfolding next
-  marks_first [] is moment marks =
-      subst (IsMark start []) (sym (moved (length (recent ++ older)) (length older) mark []
-      (subst (λ hs. length (recent ++ older) ≤ length hs) (sym is) (omega arith)))) moment
-  marks_first (m ∷ xs) is moment marks = (
-    subst (IsMark start (m ∷ xs)) (sym (moved (length (recent ++ older)) (length older) mark (m ∷ xs)
-        (subst (λ hs. length (recent ++ older) ≤ length hs) (sym is) (omega arith)))) moment,
-    marks_same (length (recent ++ older)) (length older) mark start xs
-        (subst (λ hs. length xs < length hs) is (omega arith)) marks.1,
-  )
-
-  first : IsMarkedRun limit next start (recent ++ older)
-  first = record {
-    clean = h.clean;
-    tell = h.tell;
-    run = h.run;
-    calm = calm_first (recent ++ older) refl none h.calm;
-    marks = marks_first (recent ++ older) refl new h.marks;
-  }
 
   no_fewer : (later : List Moment) → length (recent ++ older) ≤ length (later ++ (recent ++ older))
   no_fewer [] = omega arith
@@ -115,7 +108,8 @@ module _ (limit : ℕ) (mark : Mark) (start : State) (recent older : List Moment
       IsMarkedRun limit (moved_mark (length (recent ++ older)) (length older) mark) start
       (later ++ (recent ++ older)) × IsMark start (later ++ (recent ++ older)) (length older)
   unfolding next
-  goes_on [] run scrubs only few = (first, new)
+  goes_on [] run scrubs only few =
+      (moved_now limit mark start (recent ++ older) (length older) h new none, new)
   goes_on (m ∷ later) run scrubs only few =
       (let all = later ++ (recent ++ older) in
       let p = goes_on later run.2 scrubs.1 only.1 (few_before limit start m all qs h.clean run few) in

@@ -1,44 +1,14 @@
 -- What holds in every run of the record in doubt, of the begins of audits, and of moments before which no put
 -- began that works.
-use Rattle.std.proofs.Common.{◌≡◌, ℕ, suc, ◌+◌, ◌≤◌, ◌<◌, ◌==◌, true, false, ◌⊎◌, ◌&&◌, List, [], ◌∷◌, length, Option, Some, None, refl, ap, sym, subst, ◌∙◌, inl, inr, arith}
-use Rattle.std.specs.Prelude.{is_some}
-use Rattle.std.proofs.lemmas.Bool.{cases_Bool, cases_eq, cases_lt, and_right, and_from, eqb-true, eq-eqb, ne_eqb, false≢true}
-use Rattle.algebra_laws.specs.Lists.{In}
-use Rattle.algebra_laws.proofs.Options.{some-not-none}
-use Rattle.column_defs.specs.Columns.{columns}
-use Rattle.column_defs.specs.Verdicts.{flags_some}
-use Rattle.record_defs.specs.Records.{Record, Setup, SetUp, PutStart, PutDone, Drop, AuditStart, AuditDone, RepairDone, PutDoneIn, Version, Resume, InEffect, RepairDue}
-use Rattle.record_defs.specs.Table.{File, Due, setup_of, next_id, next_audit, started_as, file_of, due_of}
-use Rattle.machine_defs.specs.Jobs.{Kind, PutJob, GetJob, DropJob, AuditJob, RepairJob, UpgradeJob, aim_of, Pinned, Job, job_of, advanced}
-use Rattle.machine_defs.specs.Actions.{WriteBody, WriteGate, SyncGate, Store, Remove}
+use Rattle.second_half_laws.proofs.Words.{true, ◌⊎◌, ◌&&◌, refl, ap, sym, subst, ◌∙◌, inl, inr, arith, is_some, cases_Bool, cases_eq, cases_lt, and_right, and_from, eqb-true, eq-eqb, ne_eqb, false≢true, In, some-not-none, columns, flags_some, Record, Setup, SetUp, PutStart, PutDone, Drop, AuditStart, AuditDone, RepairDone, PutDoneIn, Version, Resume, InEffect, RepairDue, File, Due, setup_of, next_id, next_audit, started_as, file_of, due_of, Kind, PutJob, GetJob, DropJob, AuditJob, RepairJob, UpgradeJob, aim_of, Pinned, Job, job_of, advanced, WriteBody, WriteGate, SyncGate, Store, Remove, object_of, profiled, stripes_of, State, Append, Doubt, Scrub, Scrubbing, IsStart, setup_in, object_in, worked_object, file_in, aims_of, sight_of, is_put_or_check, is_shut, are_jobs_in_the_way, refusal_of_begin, pinned_file, due_number, beginning, pinned_profile, Writes, done_record, is_first_append, subject_drawn, audits_drawn, next_action, block_to_store, Moment, now, is_replaced_since, newest, came, IsRun, settled_by, mark_after, since, begun_of, told_block, cond_true, cond_false, same_value, number_of, found_none, IsPlain, IsGated, Job_is, Append_is, Records_is, Block_is, Changes, some_told, changes, objects, audits, Draws, HasNumber, next_of_records, at_three, first_above, first_below, drawn_later, drawn_first, put_ended, done-ended, not_busy, right_false, IsFair, HasPin, is_fair, store_place, any_aim, Wrote, pinned_stands, Pins_is, pins_is, stands_quiet, setup_same, All, all, store_kinds, remove_kinds, IsEndOfPut, PrecedesPuts}
+use Rattle.std.proofs.Common.{◌≡◌, ℕ, suc, ◌+◌, ◌≤◌, ◌<◌, ◌==◌, false, List, [], ◌∷◌, length, Option, Some, None}
 use Rattle.machine_defs.specs.Refusals as refusal
-use Rattle.machine_defs.specs.Setups.{object_of, profiled, stripes_of}
-use Rattle.machine_defs.specs.States.{State, Append, Doubt, Scrub, Scrubbing, IsStart, setup_in, object_in, worked_object, file_in}
-use Rattle.machine_defs.specs.Sights.{aims_of, sight_of, is_put_or_check, is_shut, are_jobs_in_the_way}
-use Rattle.machine_defs.specs.Begins.{refusal_of_begin, pinned_file, due_number, beginning}
-use Rattle.machine_defs.specs.Given.{pinned_profile}
-use Rattle.machine_defs.specs.Appends.{Writes, done_record, is_first_append, subject_drawn, audits_drawn}
-use Rattle.machine_defs.specs.Steps.{next_action, block_to_store}
-use Rattle.machine_defs.specs.Runs.{Moment, now, is_replaced_since, newest, came, IsRun}
-use Rattle.machine_defs.specs.Calm.{settled_by, mark_after, since}
-use Rattle.machine_defs.specs.Halves.{begun_of}
-use Rattle.machine_defs.specs.Deeds.{told_block}
-use Rattle.machine_defs.proofs.JobLists.{cond_true, cond_false, same_value, number_of, found_none}
-use Rattle.machine_defs.proofs.Changes.{IsPlain, IsGated, Job_is, Append_is, Records_is, Block_is, Changes}
-use Rattle.machine_defs.proofs.Events.{some_told, changes}
-use Rattle.machine_defs.proofs.Numbers.{objects, audits, Draws, HasNumber, next_of_records, at_three, first_above, first_below, drawn_later, drawn_first}
 use Rattle.machine_defs.proofs.Numbers as num
-use Rattle.machine_defs.proofs.Done.{put_ended, done-ended}
-use Rattle.machine_defs.proofs.Refused.{not_busy, right_false}
-use Rattle.machine_defs.proofs.Fair.{IsFair, HasPin, is_fair, store_place}
-use Rattle.machine_defs.proofs.Pins.{any_aim, Wrote, Stands, pinned_stands}
+use Rattle.machine_defs.proofs.Pins.{Stands}
 use Rattle.machine_defs.proofs.RecordFacts.{AreSound}
-use Rattle.machine_defs.proofs.PinFacts.{Pins_is, pins_is, stands_quiet, setup_same}
-use Rattle.machine_defs.proofs.Held.{All, all, store_kinds, remove_kinds}
 use Rattle.machine_defs.proofs.PutProfiles as prof
 use Rattle.run_laws.proofs.InEffect as eff
 use Rattle.second_half_laws.proofs.Places.{stored_before_gate}
-use Rattle.second_half_laws.specs.Marks.{IsEndOfPut, PrecedesPuts}
 use Rattle.second_half_laws.proofs.Turns.{Stay_is, Doubt_now, Audits_are, Turns, turns}
 use Rattle.second_half_laws.proofs.Scrubbing.{Scrub_is, scrub_is}
 use Rattle.second_half_laws.proofs.Blocks.{since_more, since_now, ends_ended, same_profile, file_done, setup_left, up_before, up_more, due_done, no_first_due}
@@ -129,18 +99,16 @@ ends_other v id size profile r e none =
 wrote_put : (job : Job) (kind : Kind) (entry : Record) (id : ℕ) → Wrote job kind entry →
     put_ended entry ≡ Some id → (name : List ℕ) × (bytes : List ℕ) × (kind ≡ PutJob name bytes) ×
     (4 ≤ job.place) × (job.subject ≡ id)
-wrote_put job (PutJob name bytes) entry id (inl h) e =
-    (let f : None ≡ Some id = sym (ap put_ended h.1) ∙ e in cc)
 wrote_put job (PutJob name bytes) entry id (inr h) e =
     (let f : Some job.subject ≡ Some id =
     sym (ap put_ended h.1.1 ∙ done-ended h.1.0 job.subject (length bytes) job.profile) ∙ e in
     (name, bytes, refl, h.0, (let g : job.subject ≡ id = cc in g)))
 wrote_put job (GetJob name) entry id h e = absurd h
 wrote_put job (DropJob name) entry id h e = (let f : None ≡ Some id = sym (ap put_ended h) ∙ e in cc)
-wrote_put job AuditJob entry id (inl h) e = (let f : None ≡ Some id = sym (ap put_ended h.1) ∙ e in cc)
 wrote_put job AuditJob entry id (inr h) e = (let f : None ≡ Some id = sym (ap put_ended h.3) ∙ e in cc)
 wrote_put job RepairJob entry id h e = (let f : None ≡ Some id = sym (ap put_ended h.1) ∙ e in cc)
 wrote_put job UpgradeJob entry id h e = (let f : None ≡ Some id = sym (ap put_ended h) ∙ e in cc)
+wrote_put job kind entry id (inl h) e = (let f : None ≡ Some id = sym (ap put_ended h.1) ∙ e in cc)
 
 wrote_audit : (job : Job) (kind : Kind) (entry : Record) (number u : ℕ) (c : List ℕ) → Wrote job kind entry →
     entry ≡ AuditDone number u c → kind ≡ AuditJob
@@ -226,11 +194,7 @@ drawn_other w job AuditJob number other = cond_false
     (is_first_append job && (number == next_audit w.records)) job.begun (w.audits number)
     (and_right (is_first_append job) (number == next_audit w.records)
     (ne_eqb number (next_audit w.records) other))
-drawn_other w job (PutJob name bytes) number other = refl
-drawn_other w job (GetJob name) number other = refl
-drawn_other w job (DropJob name) number other = refl
-drawn_other w job RepairJob number other = refl
-drawn_other w job UpgradeJob number other = refl
+drawn_other w job kind number other = refl
 
 -- one that is drawn has that of its audit
 drawn_begun : (w : State) (job : Job) (kind : Kind) (number : ℕ) → kind ≡ AuditJob →
@@ -500,8 +464,7 @@ module _ (limit : ℕ) (start : State) (m : Moment) (ms : List Moment) (A : All 
   -- a block that a put stores is the column
   put_column : (x : Job) (name bytes : List ℕ) (i o s : ℕ) (b : Option (List ℕ)) →
       job_of (now start ms).jobs x.number ≡ Some x → next_action (now start ms) x ≡ Some (Store i o s) →
-      x.kind ≡ PutJob name bytes → o ≡ x.subject →
-      b ≡ Some (block_to_store (now start ms) x x.kind i o s) →
+      x.kind ≡ PutJob name bytes → o ≡ x.subject → b ≡ Some (block_to_store (now start ms) x x.kind i o s) →
       b ≡ Some (columns (object_in (now start ms) x.profile o) ((now start ms).bytes o) i s)
   put_column x name bytes i o s b runs next_is kind o_is b_is =
       (let place = store_place (now start ms) x name bytes i o s kind next_is in
@@ -567,8 +530,7 @@ module _ (limit : ℕ) (start : State) (m : Moment) (ms : List Moment) (A : All 
   -- of the put whose record was in doubt before the event
   pub put_right : (d : Doubt) (id size p i s : ℕ) (b : Option (List ℕ)) → (now start ms).doubt ≡ Some d →
       IsEndOfPut (now start ms).records d.entry id size p → setup_in m.state ≡ setup_in (now start ms) →
-      i < (setup_in m.state).n →
-      s < stripes_of (profiled (setup_in m.state) p) (length (m.state.bytes id)) →
+      i < (setup_in m.state).n → s < stripes_of (profiled (setup_in m.state) p) (length (m.state.bytes id)) →
       is_replaced_since (begun_of d.maker) i (m ∷ ms) ≡ false → told_block m.state i id s ≡ Some b →
       b ≡ Some (columns (object_in m.state p id) (m.state.bytes id) i s)
   put_right d id size p i s b at e setup l k none told =
@@ -588,9 +550,8 @@ module _ (limit : ℕ) (start : State) (m : Moment) (ms : List Moment) (A : All 
   -- the profile of the put whose record comes into doubt
   gated_profile : (job : Job) (a : Append) (d : Doubt) (name bytes : List ℕ) (id size p : ℕ) →
       job_of (now start ms).jobs job.number ≡ Some job → (now start ms).append ≡ Some a → a.job ≡ job.number →
-      d.entry ≡ a.entry →
-      job.kind ≡ PutJob name bytes → 4 ≤ job.place → IsEndOfPut (now start ms).records d.entry id size p →
-      job.profile ≡ p
+      d.entry ≡ a.entry → job.kind ≡ PutJob name bytes → 4 ≤ job.place →
+      IsEndOfPut (now start ms).records d.entry id size p → job.profile ≡ p
   gated_profile job a d name bytes id size p runs flight mine entry_is kind late e =
       (let g = E.profiles.ended a job name bytes flight
       (subst (λ n. job_of (now start ms).jobs n ≡ Some job) (sym mine) runs) kind late in
@@ -870,8 +831,7 @@ module _ (limit : ℕ) (start : State) (m : Moment) (ms : List Moment) (A : All 
       | Job_is.begun kd wish is k_is allowed rec2 ↦ absurd (let l = A.numbers.holder b flight in omega arith)
       | Job_is.plain x action runs next_is is_plain goes rec2 st ↦
           carried b flight x goes.subject goes.begun (sym goes.kind ∙ kind)
-          (let e = goes.place in omega arith)
-          (subst (λ n. job_of (now start ms).jobs n ≡ Some x) job_is runs)
+          (let e = goes.place in omega arith) (subst (λ n. job_of (now start ms).jobs n ≡ Some x) job_is runs)
       | Job_is.drew x runs next_is free is rec2 ↦ absurd (some-not-none (now start ms).append b flight free)
       | Job_is.finished x c runs next_is flight_c mine is rec2 free ↦
           absurd (some-not-none m.state.append a h free)
@@ -889,8 +849,7 @@ module _ (limit : ℕ) (start : State) (m : Moment) (ms : List Moment) (A : All 
           | Audits_are.undrawn e no_new ↦ absurd (no_new a h free)
           | Audits_are.drew y runs_y free_y mine_y e ↦
               (let same : y ≡ x = same_value _ y x
-              (subst (λ n. job_of (now start ms).jobs n ≡ Some y) (sym (mine_y a h) ∙ mine) runs_y)
-              runs in
+              (subst (λ n. job_of (now start ms).jobs n ≡ Some y) (sym (mine_y a h) ∙ mine) runs_y) runs in
               ap (λ f. f j.subject) e
               ∙ (ap (λ (z : Job). audits_drawn (now start ms) z z.kind j.subject) same
               ∙ (drawn_begun (now start ms) x x.kind j.subject kx first subject ∙ sym begun)))
@@ -1277,16 +1236,7 @@ module _ (limit : ℕ) (start : State) (m : Moment) (ms : List Moment) (A : All 
             (moved number (E.audit_doubt d number u c at e)).1
       ]
       by_entry d at (RepairDone number) e = (moved number (E.repair_doubt d number at e)).1
-      by_entry d at (SetUp s) e = before_on (since start ms) E.mark
-      by_entry d at (PutStart k name) e = before_on (since start ms) E.mark
-      by_entry d at (PutDone k size) e = before_on (since start ms) E.mark
-      by_entry d at (Drop name) e = before_on (since start ms) E.mark
-      by_entry d at (AuditStart number) e = before_on (since start ms) E.mark
-      by_entry d at (PutDoneIn k size profile) e = before_on (since start ms) E.mark
-      by_entry d at Version e = before_on (since start ms) E.mark
-      by_entry d at (Resume next audit) e = before_on (since start ms) E.mark
-      by_entry d at (InEffect k size profile kept) e = before_on (since start ms) E.mark
-      by_entry d at (RepairDue number counts) e = before_on (since start ms) E.mark
+      by_entry d at r e = before_on (since start ms) E.mark
 
   always_step : ((scrub : Scrub) → m.state.alone ≡ Some (Scrubbing scrub) → m.state.is_open ≡ true) →
       ((scrub : Scrub) (d : Doubt) → m.state.alone ≡ Some (Scrubbing scrub) → m.state.doubt ≡ Some d → ⊥) →

@@ -1,29 +1,9 @@
 -- Blocks of files in effect that are the providers' own columns stay so, unless their providers are replaced,
 -- and a put brings in such blocks.
-use Rattle.std.proofs.Common.{◌≡◌, ℕ, ◌<◌, true, false, ◌⊎◌, List, ◌∷◌, length, Option, Some, None, refl, ap, sym, ◌∙◌, inl, inr}
-use Rattle.std.proofs.lemmas.Bool.{cases_Bool, false≢true}
-use Rattle.algebra_laws.specs.Lists.{In}
-use Rattle.column_defs.specs.Columns.{columns}
-use Rattle.record_defs.specs.Records.{Setup}
-use Rattle.record_defs.specs.Table.{File, started_as}
-use Rattle.machine_defs.specs.Jobs.{Pinned, Job, job_of}
-use Rattle.machine_defs.specs.Actions.{Store, Remove}
-use Rattle.machine_defs.specs.Setups.{object_of, profiled, stripes_of}
-use Rattle.machine_defs.specs.States.{State, IsStart, setup_in, object_in, file_object, file_in}
-use Rattle.machine_defs.specs.Alone.{block_to_scrub}
-use Rattle.machine_defs.specs.Steps.{next_action, block_to_store}
-use Rattle.machine_defs.specs.Runs.{Moment, now, is_replacement, is_replaced_since, IsRun}
-use Rattle.machine_defs.specs.Halves.{begun_of}
-use Rattle.machine_defs.specs.Deeds.{told_block}
-use Rattle.machine_defs.proofs.Changes.{Block_is, Changes}
-use Rattle.machine_defs.proofs.Events.{some_told}
-use Rattle.machine_defs.proofs.Numbers.{audits}
+use Rattle.second_half_laws.proofs.Words.{true, ◌⊎◌, refl, ap, sym, ◌∙◌, inl, inr, cases_Bool, false≢true, In, columns, Setup, File, started_as, Pinned, Job, job_of, Store, Remove, object_of, profiled, stripes_of, State, IsStart, setup_in, object_in, file_object, file_in, block_to_scrub, next_action, block_to_store, Moment, now, is_replacement, is_replaced_since, IsRun, begun_of, told_block, Block_is, Changes, some_told, audits, is_fair, setup_same, All, store_kinds, remove_kinds, replaced_before, PrecedesPuts}
+use Rattle.std.proofs.Common.{◌≡◌, ℕ, ◌<◌, false, List, ◌∷◌, length, Option, Some, None}
 use Rattle.machine_defs.proofs.Numbers as num
-use Rattle.machine_defs.proofs.Fair.{is_fair}
-use Rattle.machine_defs.proofs.PinFacts.{setup_same}
-use Rattle.machine_defs.proofs.Held.{All, store_kinds, remove_kinds, replaced_before}
 use Rattle.run_laws.proofs.InEffect as eff
-use Rattle.second_half_laws.specs.Marks.{PrecedesPuts}
 use Rattle.second_half_laws.proofs.Turns.{Turns}
 use Rattle.second_half_laws.proofs.Blocks.{since_now, since_earlier}
 use Rattle.second_half_laws.proofs.EveryRun as ev
@@ -67,8 +47,7 @@ module _ (limit : ℕ) (start : State) (m : Moment) (ms : List Moment) (clean : 
             x name bytes i o s runs kind next_is o_is none)
         | inr (repairs, pin) ↦
             pt.stored_column limit (λ hs. 0) start m ms clean run A U I E X T W x i o s b runs next_is repairs
-            b_is
-            ∙ ap (λ ob. Some (columns ob ((now start ms).bytes o) i s))
+            b_is ∙ ap (λ ob. Some (columns ob ((now start ms).bytes o) i s))
             (worked_is start ms E x o runs pin
             ∙ ap (λ q. object_in (now start ms) q o) (own pin.file pin.pinned pin.id_is))
       ]

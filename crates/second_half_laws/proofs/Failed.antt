@@ -1,26 +1,10 @@
 -- Failed calls are at most as many as the counts rose.
-use Rattle.std.proofs.Common.{◌≡◌, ℕ, zero, suc, ◌≤◌, ◌==◌, Bool, true, false, List, [], ◌∷◌, ◌++◌, length, Option, Some, None, refl, ap, sym, subst, ◌∙◌, inl, inr, arith}
-use Rattle.std.proofs.lemmas.Bool.{cases_lt, eq-eqb}
-use Rattle.device_defs.specs.Faults.{Rose, last_count}
-use Rattle.device_defs.specs.Providers.{Provider}
-use Rattle.device_defs.specs.ProviderCalls.{Removes}
-use Rattle.machine_defs.specs.Jobs.{Kind, PutJob, GetJob, DropJob, AuditJob, RepairJob, UpgradeJob, Job, Fetched, Answered, job_of, advanced, advanced_with}
-use Rattle.machine_defs.specs.Actions.{Action, WriteBody, SyncBody, WriteGate, SyncGate, Store, Fetch, Ask, Work, Remove, End}
+use Rattle.second_half_laws.proofs.Words.{true, refl, ap, sym, subst, ◌∙◌, inl, inr, arith, cases_lt, eq-eqb, Rose, last_count, Provider, Removes, Kind, PutJob, Job, Fetched, Answered, job_of, advanced, advanced_with, Action, WriteBody, SyncBody, WriteGate, SyncGate, Store, Fetch, Ask, Remove, End, Answer, Event, Init, Step, Reopen, Outcome, Refused, More, Ended, State, Append, Scrub, Pack, Alone, Scrubbing, Packing, with_provider, going_on, Moves, holder_of, Ends, FetchStep, AskStep, Acts, ActsOrWaits, StepsOn, StepsJob, StepsOne, StepsOpen, Steps, Scrubs, StepsScrub, Packs, StepsAlone, InitsBy, Inits, Reopens, Happens, Moment, now, IsRun, Makes, cond_true, found_itself, is_setup}
+use Rattle.std.proofs.Common.{◌≡◌, ℕ, zero, suc, ◌≤◌, ◌==◌, false, List, [], ◌∷◌, ◌++◌, length, Option, Some, None}
 use Rattle.machine_defs.specs.Refusals as refusal
 use Rattle.machine_defs.specs.Answers as answer
-use Rattle.machine_defs.specs.Answers.{Answer}
-use Rattle.machine_defs.specs.Events.{Event, Init, Step, Reopen, Outcome, Ready, Refused, Opened, Begun, More, Waiting, Ended, Replaced, NothingHeld, Stopped, Listed, Closed, Continued}
-use Rattle.machine_defs.specs.States.{State, Append, Scrub, Pack, Alone, Scrubbing, Packing, with_provider, going_on}
-use Rattle.machine_defs.specs.Appends.{Moves}
-use Rattle.machine_defs.specs.Steps.{next_action, holder_of, Ends, FetchStep, AskStep, Acts, ActsOrWaits, StepsOn, StepsJob, StepsMine, StepsOne, StepsOpen, Steps}
-use Rattle.machine_defs.specs.Alone.{number_alone, Scrubs, StepsScrub, Packs, StepsAlone}
-use Rattle.machine_defs.specs.Openings.{InitsBy, Inits, Reopens}
-use Rattle.machine_defs.specs.Machine.{Happens}
-use Rattle.machine_defs.specs.Runs.{Moment, now, IsRun}
-use Rattle.machine_defs.specs.Deeds.{Makes}
 use Rattle.machine_defs.specs.Failures.{Count, OfDisk, OfStores, OfOthers, count_in, IsDiskFault, IsStoreFault, GaveAmiss, IsFailure, HasFailures, RoseBy}
-use Rattle.machine_defs.proofs.JobLists.{cond_true, found_itself}
-use Rattle.record_defs.specs.Records.{is_setup}
+use Rattle.machine_defs.proofs.Cases.{IsStill, by_step}
 use Rattle.second_half_laws.proofs.Onward.{run_onward}
 
 -- a step by a job that makes an action is that action
@@ -48,19 +32,11 @@ module _ (old : State) where
   -- a disk call fails only with its cause
   ends_fault : (job : Job) (kind : Kind) → Ends old job kind answer.DiskFault → ⊥
   ends_fault job (PutJob name bytes) h = h
-  ends_fault job (GetJob name) h = h
-  ends_fault job (DropJob name) h = h
-  ends_fault job AuditJob h = h
-  ends_fault job RepairJob h = h
-  ends_fault job UpgradeJob h = h
+  ends_fault job kind h = h
 
   ends_store : (job : Job) (kind : Kind) (k : ℕ) → Ends old job kind (answer.ProviderFault k) → ⊥
   ends_store job (PutJob name bytes) k h = h
-  ends_store job (GetJob name) k h = h
-  ends_store job (DropJob name) k h = h
-  ends_store job AuditJob k h = h
-  ends_store job RepairJob k h = h
-  ends_store job UpgradeJob k h = h
+  ends_store job kind k h = h
 
   module _ (job : Job) where
     disk_moves : (action : Action) (flight : Option Append) (new : State) →
@@ -100,90 +76,22 @@ module _ (old : State) where
     store_acts End k new (ends, is) = absurd (ends_store job job.kind k ends)
     store_acts action k new h = absurd (store_moves action old.append k new h)
 
-    disk_or_waits : (action : Action) (holder : Option ℕ) (new : State) →
-        ActsOrWaits old job action holder (Ended answer.DiskFault) new → Rose old.disk_faults new.disk_faults
-    disk_or_waits action None new h = disk_acts action new h
-    disk_or_waits action (Some n) new h = absurd h
-
-    disk_on : (action : Option Action) (new : State) → StepsOn old job action (Ended answer.DiskFault) new →
-        Rose old.disk_faults new.disk_faults
-    disk_on None new h = absurd h
-    disk_on (Some action) new h = disk_or_waits action (holder_of old.append action) new h
-
-    store_or_waits : (action : Action) (holder : Option ℕ) (k : ℕ) (new : State) →
-        ActsOrWaits old job action holder (Ended (answer.ProviderFault k)) new →
-        Rose (old.providers k).store_faults (new.providers k).store_faults
-    store_or_waits action None k new h = store_acts action k new h
-    store_or_waits action (Some n) k new h = absurd h
-
-    store_on : (action : Option Action) (k : ℕ) (new : State) →
-        StepsOn old job action (Ended (answer.ProviderFault k)) new →
-        Rose (old.providers k).store_faults (new.providers k).store_faults
-    store_on None k new h = absurd h
-    store_on (Some action) k new h = store_or_waits action (holder_of old.append action) k new h
-
-  disk_job : (job : Option Job) (new : State) → StepsJob old job (Ended answer.DiskFault) new →
-      Rose old.disk_faults new.disk_faults
-  disk_job None new h = absurd h
-  disk_job (Some job) new h = disk_on job (next_action old job) new h
-
   disk_packs : (pack : Pack) (moves : ℕ) (new : State) → Packs old pack moves (Ended answer.DiskFault) new →
       Rose old.disk_faults new.disk_faults
-  disk_packs pack zero new (faults, low, rose, is) =
-      subst (Rose old.disk_faults) (sym (ap (λ (w : State). w.disk_faults) is)) rose
-  disk_packs pack (suc zero) new (faults, low, rose, is) =
-      subst (Rose old.disk_faults) (sym (ap (λ (w : State). w.disk_faults) is)) rose
-  disk_packs pack (suc (suc zero)) new (faults, low, rose, is) =
-      subst (Rose old.disk_faults) (sym (ap (λ (w : State). w.disk_faults) is)) rose
-  disk_packs pack (suc (suc (suc zero))) new (faults, low, rose, is) =
-      subst (Rose old.disk_faults) (sym (ap (λ (w : State). w.disk_faults) is)) rose
   disk_packs pack (suc (suc (suc (suc zero)))) new h = absurd h
   disk_packs pack (suc (suc (suc (suc (suc moves))))) new h = absurd h
+  disk_packs pack moves new (faults, low, rose, is) =
+      subst (Rose old.disk_faults) (sym (ap (λ (w : State). w.disk_faults) is)) rose
 
   disk_scrubs : (scrub : Scrub) (todo : List Action) (new : State) →
       StepsScrub old scrub todo (Ended answer.DiskFault) new → ⊥
-  disk_scrubs scrub [] new h = h
   disk_scrubs scrub (Fetch j o s ∷ rest) new h = h
-  disk_scrubs scrub (Work o s ∷ rest) new h = h
-  disk_scrubs scrub (Store j o s ∷ rest) new h = h
-  disk_scrubs scrub (End ∷ rest) new h = h
-  disk_scrubs scrub (WriteBody ∷ rest) new h = h
-  disk_scrubs scrub (SyncBody ∷ rest) new h = h
-  disk_scrubs scrub (WriteGate ∷ rest) new h = h
-  disk_scrubs scrub (SyncGate ∷ rest) new h = h
-  disk_scrubs scrub (Ask j o round ∷ rest) new h = h
-  disk_scrubs scrub (Remove j o ∷ rest) new h = h
+  disk_scrubs scrub todo new h = h
 
   disk_alone : (x : Alone) (new : State) → StepsAlone old x (Ended answer.DiskFault) new →
       Rose old.disk_faults new.disk_faults
   disk_alone (Scrubbing scrub) new h = absurd (disk_scrubs scrub scrub.todo new h)
   disk_alone (Packing pack) new h = disk_packs pack pack.moves new h
-
-  disk_mine : (number : ℕ) (x : Alone) (mine : Bool) (new : State) →
-      StepsMine old number x mine (Ended answer.DiskFault) new → Rose old.disk_faults new.disk_faults
-  disk_mine number x true new h = disk_alone x new h
-  disk_mine number x false new h = disk_job (job_of old.jobs number) new h
-
-  disk_one : (number : ℕ) (alone : Option Alone) (new : State) →
-      StepsOne old number alone (Ended answer.DiskFault) new → Rose old.disk_faults new.disk_faults
-  disk_one number None new h = disk_job (job_of old.jobs number) new h
-  disk_one number (Some x) new h = disk_mine number x (number_alone x == number) new h
-
-  disk_open : (number : ℕ) (is_barred : _) (new : State) →
-      StepsOpen old number is_barred (Ended answer.DiskFault) new → Rose old.disk_faults new.disk_faults
-  disk_open number true new h = absurd h
-  disk_open number false new h = disk_one number old.alone new h
-
-  disk_steps : (number : ℕ) (is_open : _) (new : State) →
-      Steps old number is_open (Ended answer.DiskFault) new → Rose old.disk_faults new.disk_faults
-  disk_steps number false new h = absurd h
-  disk_steps number true new h = disk_open number old.is_barred new h
-
-  store_job : (job : Option Job) (k : ℕ) (new : State) →
-      StepsJob old job (Ended (answer.ProviderFault k)) new →
-      Rose (old.providers k).store_faults (new.providers k).store_faults
-  store_job None k new h = absurd h
-  store_job (Some job) k new h = store_on job (next_action old job) k new h
 
   store_scrubs : (scrub : Scrub) (action : Action) (rest : List Action) (k : ℕ) (new : State) →
       Scrubs old scrub action rest (Ended (answer.ProviderFault k)) new →
@@ -203,41 +111,34 @@ module _ (old : State) where
 
   store_packs : (pack : Pack) (moves k : ℕ) (new : State) →
       Packs old pack moves (Ended (answer.ProviderFault k)) new → ⊥
-  store_packs pack zero k new h = h
-  store_packs pack (suc zero) k new h = h
-  store_packs pack (suc (suc zero)) k new h = h
-  store_packs pack (suc (suc (suc zero))) k new h = h
   store_packs pack (suc (suc (suc (suc zero)))) k new h = h
-  store_packs pack (suc (suc (suc (suc (suc moves))))) k new h = h
+  store_packs pack moves k new h = h
 
   store_alone : (x : Alone) (k : ℕ) (new : State) → StepsAlone old x (Ended (answer.ProviderFault k)) new →
       Rose (old.providers k).store_faults (new.providers k).store_faults
   store_alone (Scrubbing scrub) k new h = store_todo scrub scrub.todo k new h
   store_alone (Packing pack) k new h = absurd (store_packs pack pack.moves k new h)
 
-  store_mine : (number : ℕ) (x : Alone) (mine : Bool) (k : ℕ) (new : State) →
-      StepsMine old number x mine (Ended (answer.ProviderFault k)) new →
-      Rose (old.providers k).store_faults (new.providers k).store_faults
-  store_mine number x true k new h = store_alone x k new h
-  store_mine number x false k new h = store_job (job_of old.jobs number) k new h
+  disk_steps : (number : ℕ) (new : State) → Steps old number old.is_open (Ended answer.DiskFault) new →
+      Rose old.disk_faults new.disk_faults
+  disk_steps number new h = by_step old
+      (λ n r w. r ≡ Ended answer.DiskFault → Rose old.disk_faults w.disk_faults)
+      (λ n r still is. absurd (subst (IsStill (Step n)) is still))
+      (λ job runs is_open unbarred action r w next free made is.
+      disk_acts job action w (subst (λ o. Acts old job action o w) is made))
+      (λ n x r w at is_open unbarred made is. disk_alone x w (subst (λ o. StepsAlone old x o w) is made))
+      number old.is_open (Ended answer.DiskFault) new refl h refl
 
-  store_one : (number : ℕ) (alone : Option Alone) (k : ℕ) (new : State) →
-      StepsOne old number alone (Ended (answer.ProviderFault k)) new →
+  store_steps : (number k : ℕ) (new : State) →
+      Steps old number old.is_open (Ended (answer.ProviderFault k)) new →
       Rose (old.providers k).store_faults (new.providers k).store_faults
-  store_one number None k new h = store_job (job_of old.jobs number) k new h
-  store_one number (Some x) k new h = store_mine number x (number_alone x == number) k new h
-
-  store_open : (number : ℕ) (is_barred : _) (k : ℕ) (new : State) →
-      StepsOpen old number is_barred (Ended (answer.ProviderFault k)) new →
-      Rose (old.providers k).store_faults (new.providers k).store_faults
-  store_open number true k new h = absurd h
-  store_open number false k new h = store_one number old.alone k new h
-
-  store_steps : (number : ℕ) (is_open : _) (k : ℕ) (new : State) →
-      Steps old number is_open (Ended (answer.ProviderFault k)) new →
-      Rose (old.providers k).store_faults (new.providers k).store_faults
-  store_steps number false k new h = absurd h
-  store_steps number true k new h = store_open number old.is_barred k new h
+  store_steps number k new h = by_step old
+      (λ n r w. r ≡ Ended (answer.ProviderFault k) → Rose (old.providers k).store_faults (w.providers k).store_faults)
+      (λ n r still is. absurd (subst (IsStill (Step n)) is still))
+      (λ job runs is_open unbarred action r w next free made is.
+      store_acts job action k w (subst (λ o. Acts old job action o w) is made))
+      (λ n x r w at is_open unbarred made is. store_alone x k w (subst (λ o. StepsAlone old x o w) is made))
+      number old.is_open (Ended (answer.ProviderFault k)) new refl h refl
 
   disk_inits : (s : _) (is_open good : _) (new : State) → is_setup s ≡ good →
       Inits old s is_open (Refused refusal.DiskFault) new → Rose old.disk_faults new.disk_faults
@@ -258,7 +159,7 @@ module _ (old : State) where
   disk_rose : (limit moment : ℕ) (e : Event) (r : Outcome) (new : State) → IsDiskFault e r →
       Happens limit moment old e r new → Rose old.disk_faults new.disk_faults
   disk_rose limit moment (Step number) (Ended answer.DiskFault) new fault h =
-      disk_steps number old.is_open new h
+      disk_steps number new h
   disk_rose limit moment Reopen (Refused refusal.DiskFault) new fault h = disk_reopens new h
   disk_rose limit moment (Init s) (Refused refusal.DiskFault) new fault h =
       disk_inits s old.is_open (is_setup s) new refl h
@@ -268,7 +169,7 @@ module _ (old : State) where
       Happens limit moment old e r new → Rose (old.providers j).store_faults (new.providers j).store_faults
   store_rose limit moment j (Step number) (Ended (answer.ProviderFault k)) new fault h =
       subst (λ n. Rose (old.providers n).store_faults (new.providers n).store_faults) fault
-      (store_steps number old.is_open k new h)
+      (store_steps number k new h)
   store_rose limit moment j e r new fault h = absurd fault
 
   -- a call that gave or left something else failed
@@ -312,42 +213,22 @@ module _ (old : State) where
         Rose (old.providers j).other_faults (m.state.providers j).other_faults
     fetched k o s More is h amiss =
         fetch_rose j m job runs o s (subst (λ n. FetchStep old job n o s m.state) is h) amiss
-    fetched k o s Ready is h amiss = absurd h
-    fetched k o s (Refused why) is h amiss = absurd h
-    fetched k o s Opened is h amiss = absurd h
-    fetched k o s (Begun n) is h amiss = absurd h
-    fetched k o s (Waiting n) is h amiss = absurd h
     fetched k o s (Ended how) is h amiss = absurd (no_end how h)
       where
         no_end : (a : Answer) → Acts old job (Fetch k o s) (Ended a) m.state → ⊥
         no_end a g = g
-    fetched k o s Replaced is h amiss = absurd h
-    fetched k o s NothingHeld is h amiss = absurd h
-    fetched k o s Stopped is h amiss = absurd h
-    fetched k o s (Listed files) is h amiss = absurd h
-    fetched k o s Closed is h amiss = absurd h
-    fetched k o s Continued is h amiss = absurd h
+    fetched k o s r is h amiss = absurd h
 
     asked : (k o s : ℕ) (r : Outcome) → k ≡ j → Acts old job (Ask k o s) r m.state →
         GaveAmiss old m job j (Ask j o s) →
         Rose (old.providers j).other_faults (m.state.providers j).other_faults
     asked k o s More is h amiss =
         ask_rose j m job runs o s (subst (λ n. AskStep old job n o s m.state) is h) amiss
-    asked k o s Ready is h amiss = absurd h
-    asked k o s (Refused why) is h amiss = absurd h
-    asked k o s Opened is h amiss = absurd h
-    asked k o s (Begun n) is h amiss = absurd h
-    asked k o s (Waiting n) is h amiss = absurd h
     asked k o s (Ended how) is h amiss = absurd (no_end how h)
       where
         no_end : (a : Answer) → Acts old job (Ask k o s) (Ended a) m.state → ⊥
         no_end a g = g
-    asked k o s Replaced is h amiss = absurd h
-    asked k o s NothingHeld is h amiss = absurd h
-    asked k o s Stopped is h amiss = absurd h
-    asked k o s (Listed files) is h amiss = absurd h
-    asked k o s Closed is h amiss = absurd h
-    asked k o s Continued is h amiss = absurd h
+    asked k o s r is h amiss = absurd h
 
     removed : (k o : ℕ) (r : Outcome) → k ≡ j → Acts old job (Remove k o) r m.state →
         GaveAmiss old m job j (Remove j o) →
@@ -355,21 +236,11 @@ module _ (old : State) where
     removed k o More is (p, call, e) amiss = remove_rose j m job runs o p
         (e ∙ ap (λ n. record (going_on old (advanced job)) { providers = with_provider old.providers n p })
         is) (subst (λ n. Removes o (old.providers n) p) is call) amiss
-    removed k o Ready is h amiss = absurd h
-    removed k o (Refused why) is h amiss = absurd h
-    removed k o Opened is h amiss = absurd h
-    removed k o (Begun n) is h amiss = absurd h
-    removed k o (Waiting n) is h amiss = absurd h
     removed k o (Ended how) is h amiss = absurd (no_end how h)
       where
         no_end : (a : Answer) → Acts old job (Remove k o) (Ended a) m.state → ⊥
         no_end a g = g
-    removed k o Replaced is h amiss = absurd h
-    removed k o NothingHeld is h amiss = absurd h
-    removed k o Stopped is h amiss = absurd h
-    removed k o (Listed files) is h amiss = absurd h
-    removed k o Closed is h amiss = absurd h
-    removed k o Continued is h amiss = absurd h
+    removed k o r is h amiss = absurd h
 
     other_acts : (action : Action) → Acts old job action m.outcome m.state → GaveAmiss old m job j action →
         Rose (old.providers j).other_faults (m.state.providers j).other_faults
@@ -423,8 +294,7 @@ failures_rose limit start (m ∷ later) ms count n run (inl has) =
 failures_rose limit start (m ∷ later) ms count n run (inr (fewer, is, fails, has)) =
     subst (RoseBy (count_in count (now start ms)) (count_in count m.state)) (sym is)
     (one_rose (count_in count (now start ms)) (count_in count (now start (later ++ ms)))
-    (count_in count m.state) fewer
-    (failures_rose limit start later ms count fewer run.2 has)
+    (count_in count m.state) fewer (failures_rose limit start later ms count fewer run.2 has)
     (never_falls limit start count m (later ++ ms) run)
     (failure_rose limit (length (later ++ ms)) count (now start (later ++ ms)) m
     (subst (λ (w : State). IsFailure count w m) (after_more start later ms) fails) run.1))

@@ -1,36 +1,11 @@
 -- Steps left fall.
-use Rattle.std.proofs.Common.{◌≡◌, ◌⊎◌, ℕ, zero, suc, ◌+◌, ◌-◌, ◌<◌, ◌≤◌, ◌&&◌, Bool, true, false, cond, List, [], ◌∷◌, ◌++◌, length, map, Option, Some, None, refl, ap, sym, subst, ◌∙◌, inl, inr, arith}
-use Rattle.std.specs.Prelude.{slice_get, drop, count_by, nat_lt}
-use Rattle.std.specs.List.{flat_map}
-use Rattle.std.proofs.lemmas.Bool.{cases_Bool, and_parts, and_from, lt-ltb, ltb-true, false≢true}
+use Rattle.second_half_laws.proofs.Words.{◌⊎◌, ◌-◌, ◌&&◌, true, cond, refl, ap, sym, subst, ◌∙◌, inl, inr, arith, slice_get, drop, count_by, nat_lt, flat_map, cases_Bool, and_parts, and_from, lt-ltb, ltb-true, false≢true, Each, each_get, get_behind, upto, Setup, File, Kind, PutJob, GetJob, DropJob, AuditJob, RepairJob, UpgradeJob, aim_of, Given, Job, job_of, advanced, advanced_with, profiled, stripes_of, Action, WriteBody, SyncBody, WriteGate, SyncGate, Store, Fetch, Ask, Work, Remove, End, append_actions, on_each_provider, on_each_stripe, store_actions, read_actions, repair_actions, ask_actions, remove_actions, actions_by, actions_of, ends_append, Step, More, State, IsStart, setup_in, file_in, is_pinned, removable, is_first_append, subject_drawn, taken_out, next_action, Moment, now, IsRun, cond_true, cond_false, same_value, found_none, split_get, Changes, changes, setup_stays, first_above, first_below, All, all, actions_are, PutAt, put_at, gate_is_last, actions_by-advanced}
+use Rattle.std.proofs.Common.{◌≡◌, ℕ, zero, suc, ◌+◌, ◌<◌, ◌≤◌, Bool, false, List, [], ◌∷◌, ◌++◌, length, map, Option, Some, None}
 use Rattle.std.proofs.lemmas.List.{length-append, length-map, map-append, drop-map, length-drop}
 use Rattle.std.proofs.lemmas.List.FromFn.{length-map-range_with_len}
 use Rattle.std.proofs.lemmas.List.Sums.{sum_by-cons}
 use Rattle.std.proofs.Math.Seq.{drop-append-add}
-use Rattle.algebra_laws.specs.Lists.{Each}
-use Rattle.algebra_laws.proofs.Each.{each_get}
-use Rattle.algebra_laws.proofs.Lists.{get_behind}
-use Rattle.code_defs.specs.Points.{upto}
-use Rattle.record_defs.specs.Records.{Setup}
-use Rattle.record_defs.specs.Table.{File}
-use Rattle.machine_defs.specs.Jobs.{Kind, PutJob, GetJob, DropJob, AuditJob, RepairJob, UpgradeJob, aim_of, Given, Job, job_of, advanced, advanced_with}
-use Rattle.machine_defs.specs.Setups.{profiled, stripes_of}
-use Rattle.machine_defs.specs.Actions.{Action, WriteBody, SyncBody, WriteGate, SyncGate, Store, Fetch, Ask, Work, Remove, End, append_actions, on_each_provider, on_each_stripe, store_actions, read_actions, repair_actions, ask_actions, remove_actions, actions_by, actions_of, ends_append}
 use Rattle.machine_defs.specs.Left.{removes_older, is_undecided, most_left}
-use Rattle.machine_defs.specs.Events.{Step, More}
-use Rattle.machine_defs.specs.States.{State, IsStart, setup_in, file_in}
-use Rattle.machine_defs.specs.Appends.{is_pinned, removable, is_first_append, subject_drawn, taken_out}
-use Rattle.machine_defs.specs.Steps.{next_action}
-use Rattle.machine_defs.specs.Runs.{Moment, now, IsRun}
-use Rattle.machine_defs.proofs.JobLists.{cond_true, cond_false, same_value, found_none}
-use Rattle.machine_defs.proofs.ActionLists.{split_get}
-use Rattle.machine_defs.proofs.Changes.{Changes}
-use Rattle.machine_defs.proofs.Events.{changes}
-use Rattle.machine_defs.proofs.PinFacts.{setup_stays}
-use Rattle.machine_defs.proofs.Numbers.{first_above, first_below}
-use Rattle.machine_defs.proofs.Held.{All, all, actions_are}
-use Rattle.machine_defs.proofs.Fair.{PutAt, put_at, gate_is_last}
-use Rattle.machine_defs.proofs.NextActions.{actions_by-advanced}
 use Rattle.second_half_laws.specs.Skips.{SkipsRemovals}
 use Rattle.second_half_laws.proofs.Walk.{IsGift, IsSilent, Passed, Went, Walked, walked}
 use Rattle.second_half_laws.proofs.Places.{by_kind, tail_all}
@@ -127,8 +102,7 @@ left_next t x j action at place same =
 -- an action that ends no append
 plain_falls : (t : Setup) (x j : Job) (action : Action) → slice_get (actions_of t x) x.place ≡ Some action →
     j.place ≡ x.place + 1 → x.kind ≡ j.kind → shape (actions_of t j) ≡ shape (actions_of t x) →
-    ends_append action ≡ false →
-    (most_left t x ≡ suc (most_left t j)) × (is_undecided t x ≡ is_undecided t j)
+    ends_append action ≡ false → (most_left t x ≡ suc (most_left t j)) × (is_undecided t x ≡ is_undecided t j)
 plain_falls t x j action at place kind same no_gate =
     (let l = left_next t x j action at place same in
     let count : count_by ends_append (left_of t x) ≡ count_by ends_append (left_of t j) =
@@ -394,10 +368,7 @@ module _ (w : State) (x : Job) (next_at : slice_get (actions_of (setup_in w) x) 
   finish : (kind : Kind) (l : List ℕ) → x.kind ≡ kind → l ≡ taken_out w x kind → Falls t x (with_older x l)
   finish (PutJob name bytes) l kind is = finish_put name bytes l kind is
   finish (DropJob name) l kind is = finish_drop name l kind is
-  finish (GetJob name) l kind is = finish_rest (GetJob name) l kind refl refl
-  finish AuditJob l kind is = finish_rest AuditJob l kind refl refl
-  finish RepairJob l kind is = finish_rest RepairJob l kind refl refl
-  finish UpgradeJob l kind is = finish_rest UpgradeJob l kind refl refl
+  finish h l kind is = finish_rest h l kind refl refl
 
 -- ---- a number drawn leaves the shape
 
@@ -437,11 +408,7 @@ subject_shape : (t : Setup) (x : Job) (n : ℕ) (kind : Kind) →
     shape (actions_by t (with_subject x n) kind) ≡ shape (actions_by t x kind)
 subject_shape t x n (PutJob name bytes) = ap (λ l. false ∷ false ∷ false ∷ true ∷ l)
     (stores_shape t x.profile n x.subject bytes (append_actions ++ (remove_actions t x ++ End ∷ [])))
-subject_shape t x n (GetJob name) = refl
-subject_shape t x n (DropJob name) = refl
-subject_shape t x n AuditJob = refl
-subject_shape t x n RepairJob = refl
-subject_shape t x n UpgradeJob = refl
+subject_shape t x n kind = refl
 
 -- ---- a step that goes on
 
@@ -450,25 +417,14 @@ gift_plain : (old : State) (x : Job) (new : State) (action : Action) (gift : Giv
 gift_plain old x new (Fetch i o s) gift g = refl
 gift_plain old x new (Ask i o r) gift g = refl
 gift_plain old x new (Work o s) gift g = refl
-gift_plain old x new (Store i o s) gift g = absurd g
-gift_plain old x new (Remove i o) gift g = absurd g
-gift_plain old x new WriteBody gift g = absurd g
-gift_plain old x new SyncBody gift g = absurd g
-gift_plain old x new WriteGate gift g = absurd g
-gift_plain old x new SyncGate gift g = absurd g
-gift_plain old x new End gift g = absurd g
+gift_plain old x new action gift g = absurd g
 
 silent_plain : (action : Action) → IsSilent action → ends_append action ≡ false
 silent_plain (Store i o s) h = refl
 silent_plain (Remove i o) h = refl
 silent_plain SyncBody h = refl
 silent_plain WriteGate h = refl
-silent_plain (Fetch i o s) h = absurd h
-silent_plain (Ask i o r) h = absurd h
-silent_plain (Work o s) h = absurd h
-silent_plain WriteBody h = absurd h
-silent_plain SyncGate h = absurd h
-silent_plain End h = absurd h
+silent_plain action h = absurd h
 
 -- one step of a job
 one_step : (old : State) (x : Job) (action : Action) (new : State) (j : Job) →

@@ -1,18 +1,6 @@
 -- What a fetch gives a job is what its provider holds then, or none where a count rose.
-use Rattle.std.proofs.Common.{◌≡◌, ℕ, ◌==◌, true, false, List, ◌∷◌, length, Option, Some, None, refl, sym, subst, inl, inr}
-use Rattle.std.proofs.lemmas.Bool.{eq-eqb}
-use Rattle.device_defs.specs.Providers.{Provider}
-use Rattle.device_defs.specs.ProviderCalls.{FailsToGive}
-use Rattle.machine_defs.specs.Jobs.{Job, Fetched, job_of, advanced_with}
-use Rattle.machine_defs.specs.Actions.{Action, Fetch}
-use Rattle.machine_defs.specs.Answers.{Answer}
-use Rattle.machine_defs.specs.Events.{Event, Outcome, Ready, Refused, Opened, Begun, More, Waiting, Ended, Replaced, NothingHeld, Stopped, Listed, Closed, Continued}
-use Rattle.machine_defs.specs.States.{State, Alone}
-use Rattle.machine_defs.specs.Steps.{next_action, holder_of, Acts, ActsOrWaits, StepsOn, StepsJob, StepsOne, StepsOpen, Steps, FetchStep}
-use Rattle.machine_defs.specs.Machine.{Happens}
-use Rattle.machine_defs.specs.Runs.{Moment, now, IsRun}
-use Rattle.machine_defs.specs.Deeds.{Makes}
-use Rattle.machine_defs.proofs.JobLists.{cond_true, found_itself}
+use Rattle.second_half_laws.proofs.Words.{true, refl, sym, subst, inl, inr, eq-eqb, Provider, FailsToGive, Job, Fetched, job_of, advanced_with, Action, Fetch, Answer, Event, Outcome, Ready, Refused, Opened, Begun, More, Waiting, Ended, Replaced, NothingHeld, Stopped, Listed, Closed, Continued, State, Alone, next_action, holder_of, Acts, ActsOrWaits, StepsOn, StepsJob, StepsOne, StepsOpen, Steps, FetchStep, Happens, Moment, now, IsRun, Makes, cond_true, found_itself}
+use Rattle.std.proofs.Common.{◌≡◌, ℕ, ◌==◌, false, List, ◌∷◌, length, Option, Some, None}
 use Rattle.second_half_laws.specs.Fetching.{GaveFetched}
 
 module _ (old : State) (job : Job) (j object stripe : ℕ) where
@@ -32,21 +20,11 @@ module _ (old : State) (job : Job) (j object stripe : ℕ) where
   acts : (r : Outcome) (new : State) → job_of old.jobs job.number ≡ Some job →
       Acts old job (Fetch j object stripe) r new → GaveFetched old new job j object stripe
   acts More new runs h = from_step new runs h
-  acts Ready new runs h = absurd h
-  acts (Refused why) new runs h = absurd h
-  acts Opened new runs h = absurd h
-  acts (Begun n) new runs h = absurd h
-  acts (Waiting n) new runs h = absurd h
   acts (Ended how) new runs h = absurd (ended how h)
     where
       ended : (a : Answer) → Acts old job (Fetch j object stripe) (Ended a) new → ⊥
       ended a g = g
-  acts Replaced new runs h = absurd h
-  acts NothingHeld new runs h = absurd h
-  acts Stopped new runs h = absurd h
-  acts (Listed files) new runs h = absurd h
-  acts Closed new runs h = absurd h
-  acts Continued new runs h = absurd h
+  acts r new runs h = absurd h
 
   waits : (holder : Option ℕ) → holder ≡ None → (r : Outcome) (new : State) →
       job_of old.jobs job.number ≡ Some job → ActsOrWaits old job (Fetch j object stripe) holder r new →

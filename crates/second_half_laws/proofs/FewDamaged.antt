@@ -1,24 +1,6 @@
 -- Runs whose events name few providers for damage are calm.
-use Rattle.std.proofs.Common.{◌≡◌, ℕ, zero, suc, ◌+◌, ◌≤◌, ◌<◌, ◌==◌, ◌⊎◌, Bool, true, false, cond, List, [], ◌∷◌, length, Option, Some, None, refl, ap, sym, subst, ◌∙◌, inl, inr, arith}
-use Rattle.std.specs.Prelude.{◌||◌}
-use Rattle.std.specs.List.{range_with_len}
-use Rattle.std.proofs.lemmas.Bool.{cases_Bool, or_left, or_right, eqb-true, eq-eqb, ne_eqb}
-use Rattle.algebra_laws.specs.Lists.{In}
-use Rattle.code_defs.specs.Points.{upto}
-use Rattle.column_defs.specs.Forgeries.{count_of}
-use Rattle.column_laws.proofs.Counts.{count_of-within}
-use Rattle.record_defs.specs.Records.{Setup}
-use Rattle.record_defs.specs.Table.{setup_of}
-use Rattle.machine_defs.specs.Setups.{no_setup, setup_or_none}
-use Rattle.machine_defs.specs.States.{State, IsStart, setup_in}
-use Rattle.machine_defs.specs.Runs.{Moment, now, first_moments, IsRun, is_replaced_since}
-use Rattle.machine_defs.specs.Calm.{Mark, relies, replaced_count, IsCalm}
-use Rattle.machine_defs.specs.Scrubs.{AreScrubsCalm}
-use Rattle.machine_defs.specs.Halves.{AllTell}
-use Rattle.machine_defs.specs.Damaged.{DamagesOnly}
-use Rattle.machine_defs.proofs.Damaged.{among_all}
-use Rattle.machine_defs.proofs.PinFacts.{setup_same}
-use Rattle.second_half_laws.specs.MarkedRuns.{IsMarkedRun}
+use Rattle.second_half_laws.proofs.Words.{◌⊎◌, true, cond, refl, ap, sym, subst, ◌∙◌, inl, inr, arith, ◌||◌, range_with_len, cases_Bool, or_left, or_right, eqb-true, eq-eqb, ne_eqb, In, upto, count_of, count_of-within, Setup, setup_of, no_setup, setup_or_none, State, IsStart, setup_in, Moment, now, first_moments, IsRun, is_replaced_since, Mark, relies, replaced_count, IsCalm, AreScrubsCalm, AllTell, DamagesOnly, among_all, setup_same, IsMarkedRun}
+use Rattle.std.proofs.Common.{◌≡◌, ℕ, zero, suc, ◌+◌, ◌≤◌, ◌<◌, ◌==◌, Bool, false, List, [], ◌∷◌, length, Option, Some, None}
 use Rattle.second_half_laws.proofs.Doubts.{setups_stay}
 use Rattle.second_half_laws.proofs.InRuns.{start_marked}
 
@@ -36,8 +18,7 @@ one_of p a (suc n) = elim (cases_Bool (p == a)) [
   | inr f ↦ (let h = one_of p (a + 1) n in rw f (omega (arith, h)))
 ]
 
-count_of-or : (p q : ℕ → Bool) (js : List ℕ) →
-    count_of (λ j. p j || q j) js ≤ count_of p js + count_of q js
+count_of-or : (p q : ℕ → Bool) (js : List ℕ) → count_of (λ j. p j || q j) js ≤ count_of p js + count_of q js
 count_of-or p q [] = omega arith
 count_of-or p q (j ∷ js) = go (p j) (q j) (count_of-or p q js)
   where

@@ -1,17 +1,6 @@
 -- Every file in effect is among those that an audit or a repair works on.
-use Rattle.std.proofs.Common.{◌≡◌, ℕ, Bool, true, false, cond, List, [], ◌∷◌, Option, Some, None, refl, ap, sym, subst, ◌∙◌, inl, inr}
-use Rattle.std.specs.Prelude.{nat_lt}
-use Rattle.std.proofs.lemmas.Bool.{cases_Bool, false≢true}
-use Rattle.algebra_laws.specs.Lists.{In}
-use Rattle.algebra_laws.proofs.Options.{some-not-none}
-use Rattle.record_defs.specs.Records.{Record, SetUp, PutStart, PutDone, Drop, AuditStart, AuditDone, RepairDone, PutDoneIn, Version, Resume, InEffect, RepairDue}
-use Rattle.record_defs.specs.Table.{File, started_as, is_same_name, is_name_before, is_start_of, file_of, files_of, with_put, with_file, without_file, file_as, setup_of, profile_in}
-use Rattle.record_defs.proofs.FilesLaws.{same-eq, same-refl}
-use Rattle.machine_defs.specs.Jobs.{Pinned}
-use Rattle.machine_defs.specs.States.{State, file_in}
-use Rattle.machine_defs.specs.Actions.{machine_pins}
-use Rattle.machine_defs.specs.Begins.{pinned_file, pin_by, pin_all}
-use Rattle.machine_defs.proofs.JobLists.{cond_true, cond_false}
+use Rattle.second_half_laws.proofs.Words.{true, cond, refl, ap, sym, subst, ◌∙◌, inl, inr, nat_lt, cases_Bool, false≢true, In, some-not-none, Record, SetUp, PutStart, PutDone, Drop, AuditStart, AuditDone, RepairDone, PutDoneIn, Version, Resume, InEffect, RepairDue, File, started_as, is_same_name, is_name_before, is_start_of, file_of, files_of, with_put, with_file, without_file, file_as, setup_of, profile_in, same-eq, same-refl, Pinned, State, file_in, machine_pins, pinned_file, pin_by, pin_all, cond_true, cond_false}
+use Rattle.std.proofs.Common.{◌≡◌, ℕ, Bool, false, List, [], ◌∷◌, Option, Some, None}
 
 -- a file that a record brings in has the name, or the one before has
 named_put : (b : Bool) (name : List ℕ) (k size profile : ℕ) (rest : Option File) (f : File) →

@@ -1,30 +1,8 @@
 -- What stands of the job whose append is in flight.
-use Rattle.std.proofs.Common.{◌≡◌, ℕ, ◌+◌, ◌≤◌, ◌==◌, Bool, false, cond, List, [], ◌∷◌, ◌++◌, length, Option, Some, None, refl, ap, sym, subst, ◌∙◌, inl, inr, arith}
-use Rattle.std.specs.Prelude.{slice_get, replicate}
-use Rattle.std.specs.List.{flat_map}
-use Rattle.code_defs.specs.Points.{upto}
-use Rattle.std.proofs.lemmas.Bool.{cases_lt, cases_Bool}
-use Rattle.column_defs.specs.Challenges.{challenge_of}
-use Rattle.column_defs.specs.Verdicts.{Sums, Judges}
-use Rattle.record_defs.specs.Records.{Setup, Record, SetUp, PutStart, PutDone, Drop, AuditStart, AuditDone, RepairDone, PutDoneIn, Version, Resume, InEffect, RepairDue}
-use Rattle.record_defs.specs.Table.{version_of, next_id}
-use Rattle.machine_defs.specs.Jobs.{Kind, PutJob, GetJob, DropJob, AuditJob, RepairJob, UpgradeJob, Pinned, Given, Job, job_of, advanced, advanced_with}
-use Rattle.machine_defs.specs.Setups.{object_of, profiled}
-use Rattle.machine_defs.specs.Actions.{Action, WriteBody, SyncBody, WriteGate, SyncGate, Store, Fetch, Ask, Work, Remove, End, on_each_provider, on_each_stripe, open_actions, store_actions, repair_actions, rounds_of, ask_actions, actions_of}
-use Rattle.machine_defs.specs.States.{State, Append, IsStart, setup_in}
-use Rattle.machine_defs.specs.Given.{answers_given}
-use Rattle.machine_defs.specs.Audits.{JudgesRound, JudgesRounds, JudgesFiles, HasSums}
-use Rattle.machine_defs.specs.Appends.{done_record, is_first_append, subject_drawn, taken_out, Writes}
-use Rattle.machine_defs.specs.Steps.{next_action, holder_of}
-use Rattle.machine_defs.specs.Runs.{Moment, now}
-use Rattle.machine_defs.proofs.JobLists.{cond_true, cond_false, same_value, found_none}
-use Rattle.machine_defs.proofs.Changes.{Append_is, Changes}
-use Rattle.machine_defs.proofs.Numbers.{first_above, first_below, drawn_later}
-use Rattle.machine_defs.proofs.Held.{All}
+use Rattle.second_half_laws.proofs.Words.{cond, refl, ap, sym, subst, ◌∙◌, inl, inr, arith, slice_get, replicate, flat_map, upto, cases_lt, cases_Bool, challenge_of, Sums, Judges, Setup, Record, SetUp, PutStart, PutDone, Drop, AuditStart, AuditDone, RepairDone, PutDoneIn, Version, Resume, InEffect, RepairDue, version_of, next_id, Kind, PutJob, GetJob, DropJob, AuditJob, RepairJob, UpgradeJob, Pinned, Given, Job, job_of, advanced, advanced_with, object_of, profiled, Action, WriteBody, SyncBody, WriteGate, SyncGate, Store, Fetch, Ask, Work, Remove, End, on_each_provider, on_each_stripe, open_actions, store_actions, repair_actions, rounds_of, ask_actions, actions_of, State, Append, IsStart, setup_in, answers_given, JudgesRound, JudgesRounds, JudgesFiles, HasSums, done_record, is_first_append, subject_drawn, taken_out, Writes, next_action, holder_of, Moment, now, cond_true, cond_false, same_value, found_none, Append_is, Changes, first_above, first_below, drawn_later, All, next_stands, setup_stays}
+use Rattle.std.proofs.Common.{◌≡◌, ℕ, ◌+◌, ◌≤◌, ◌==◌, Bool, false, List, [], ◌∷◌, ◌++◌, length, Option, Some, None}
 use Rattle.machine_defs.proofs.PutProfiles.{setup_profile}
 use Rattle.machine_defs.proofs.PutProfiles as own
-use Rattle.machine_defs.proofs.NextActions.{next_stands}
-use Rattle.machine_defs.proofs.PinFacts.{setup_stays}
 use Rattle.second_half_laws.proofs.Walk.{IsGift, Passed, Went, Walked}
 use Rattle.second_half_laws.proofs.Places.{put_late, move_behind, audit_late, audit_mute, IsMute}
 use Rattle.second_half_laws.proofs.Passing.{list_now}
@@ -157,11 +135,7 @@ final_put t x y id size profile (PutJob name bytes) a h = (
       h.3 in let p = a.place in
       subst (λ k. 4 + k ≤ y.place) (sym e) (omega (arith, l, p))),
 )
-final_put t x y id size profile (GetJob name) a h = h
-final_put t x y id size profile (DropJob name) a h = h
-final_put t x y id size profile AuditJob a h = h
-final_put t x y id size profile RepairJob a h = h
-final_put t x y id size profile UpgradeJob a h = h
+final_put t x y id size profile kind a h = h
 
 final_audit : (t : Setup) (x y : Job) (id undecided : ℕ) (counts : List ℕ) (kind : Kind) → kind ≡ x.kind →
     Alike t x y → FinalAudit t x id undecided counts kind → FinalAudit t y id undecided counts kind
@@ -173,11 +147,7 @@ final_audit t x y id undecided counts AuditJob is a h = (
   sums_same t x y (record { counts = counts; undecided = undecided }) a.pinned a.subject
       (a.given id undecided counts AuditJob h is) h.2,
 )
-final_audit t x y id undecided counts (PutJob name bytes) is a h = h
-final_audit t x y id undecided counts (GetJob name) is a h = h
-final_audit t x y id undecided counts (DropJob name) is a h = h
-final_audit t x y id undecided counts RepairJob is a h = h
-final_audit t x y id undecided counts UpgradeJob is a h = h
+final_audit t x y id undecided counts kind is a h = h
 
 final_repair : (t : Setup) (x y : Job) (id : ℕ) (kind : Kind) → Alike t x y → FinalRepair t x id kind →
     FinalRepair t y id kind
@@ -189,27 +159,20 @@ final_repair t x y id RepairJob a h = (
       let l = h.1 in let p = a.place in
       subst (λ k. k ≤ y.place) (sym e) (omega (arith, l, p))),
 )
-final_repair t x y id (PutJob name bytes) a h = h
-final_repair t x y id (GetJob name) a h = h
-final_repair t x y id (DropJob name) a h = h
-final_repair t x y id AuditJob a h = h
-final_repair t x y id UpgradeJob a h = h
+final_repair t x y id kind a h = h
 
 final_alike : (t : Setup) (x y : Job) (entry : Record) (kind : Kind) → kind ≡ x.kind → Alike t x y →
     Final t x entry kind → Final t y entry kind
 final_alike t x y (SetUp s) kind is a h = h
-final_alike t x y (PutStart id name) kind is a h = tt
 final_alike t x y (PutDone id size) kind is a h = final_put t x y id size t.profile kind a h
-final_alike t x y (Drop name) kind is a h = tt
-final_alike t x y (AuditStart id) kind is a h = tt
 final_alike t x y (AuditDone id undecided counts) kind is a h =
     final_audit t x y id undecided counts kind is a h
 final_alike t x y (RepairDone id) kind is a h = final_repair t x y id kind a h
 final_alike t x y (PutDoneIn id size profile) kind is a h = final_put t x y id size profile kind a h
-final_alike t x y Version kind is a h = tt
 final_alike t x y (Resume next audit) kind is a h = h
 final_alike t x y (InEffect id size profile kept) kind is a h = h
 final_alike t x y (RepairDue number counts) kind is a h = h
+final_alike t x y entry kind is a h = tt
 
 final_is : (t : Setup) (x y j : Job) (entry : Record) → j ≡ y → y.kind ≡ x.kind → Alike t x y →
     Final t x entry x.kind → Final t j entry j.kind
@@ -222,29 +185,18 @@ not_mute : (old : State) (x : Job) (new : State) (action : Action) (gift : Given
 not_mute old x new (Fetch i o s) gift g m = m
 not_mute old x new (Ask i o r) gift g m = m
 not_mute old x new (Work o s) gift g m = m
-not_mute old x new (Store i o s) gift g m = g
-not_mute old x new (Remove i o) gift g m = g
-not_mute old x new WriteBody gift g m = g
-not_mute old x new SyncBody gift g m = g
-not_mute old x new WriteGate gift g m = g
-not_mute old x new SyncGate gift g m = g
-not_mute old x new End gift g m = g
+not_mute old x new action gift g m = g
 
 audit_is_mute : (t : Setup) (x : Job) (action : Action) (n u : ℕ) (c : List ℕ) (kind : Kind) →
     slice_get (actions_of t x) x.place ≡ Some action → FinalAudit t x n u c kind → kind ≡ x.kind →
     IsMute action
 audit_is_mute t x action n u c AuditJob at h is = audit_mute t x x.place action (sym is) at h.1
-audit_is_mute t x action n u c (PutJob name bytes) at h is = absurd h
-audit_is_mute t x action n u c (GetJob name) at h is = absurd h
-audit_is_mute t x action n u c (DropJob name) at h is = absurd h
-audit_is_mute t x action n u c RepairJob at h is = absurd h
-audit_is_mute t x action n u c UpgradeJob at h is = absurd h
+audit_is_mute t x action n u c kind at h is = absurd h
 
 -- while an append is in flight its job keeps what it had done
 final_on : (old : State) (x : Job) (action : Action) (new : State) (j : Job) (b : Append) →
     old.append ≡ Some b → holder_of old.append action ≡ None → next_action old x ≡ Some action →
-    Passed old x action new j →
-    Final (setup_in old) x b.entry x.kind → Final (setup_in old) j b.entry j.kind
+    Passed old x action new j → Final (setup_in old) x b.entry x.kind → Final (setup_in old) j b.entry j.kind
 final_on old x action new j b flight free next_is (Passed.silent quiet is rec) h =
     final_is (setup_in old) x (advanced x) j b.entry is refl
     (record {
@@ -340,8 +292,7 @@ Flights start ms = (a : Append) (j : Job) → (now start ms).append ≡ Some a �
 pub flight_step : (limit : ℕ) (start : State) (m : Moment) (ms : List Moment) (A : All start ms) →
     own.Facts start ms → made.Facts start ms → Flights start ms →
     (X : Changes limit (length ms) (now start ms) m.event m.outcome m.state) →
-    Walked (length ms) (now start ms) m.event m.outcome m.state →
-    Flights start (m ∷ ms)
+    Walked (length ms) (now start ms) m.event m.outcome m.state → Flights start (m ∷ ms)
 flight_step limit start m ms A V M F X W a j h hj =
     subst (λ t. Final t j a.entry j.kind) (sym (setup_stays limit start m ms A.numbers A.pins X a.job j hj))
     (elim (X.append a h) [

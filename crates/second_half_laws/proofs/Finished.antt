@@ -1,43 +1,10 @@
 -- A finished scrub is a mark, and so the second half holds of runs that are calm counted from finished
 -- scrubs; who was not replaced since its begin holds the own columns; where no scrub begins, scrubs are calm.
-use Rattle.std.proofs.Common.{◌≡◌, ℕ, ◌<◌, ◌==◌, Bool, true, false, ◌⊎◌, List, [], ◌∷◌, ◌++◌, length, Option, Some, None, refl, ap, sym, subst, ◌∙◌, inl, inr, arith}
-use Rattle.std.specs.Prelude.{IsSome, nat_lt}
-use Rattle.std.specs.Option.{option_map}
-use Rattle.std.proofs.lemmas.Bool.{false≢true}
-use Rattle.algebra_laws.specs.Lists.{In}
-use Rattle.algebra_laws.proofs.Options.{some-not-none}
-use Rattle.column_defs.specs.Objects.{stripes}
-use Rattle.column_defs.specs.Columns.{columns, is_wrong_block}
-use Rattle.record_defs.specs.Records.{Setup, is_setup}
-use Rattle.record_defs.specs.Table.{File}
-use Rattle.device_defs.specs.Providers.{Held, with_symbol, without_block, HasPlace}
-use Rattle.machine_defs.specs.Jobs.{Job, job_of}
-use Rattle.machine_defs.specs.Actions.{Action, Store, Work, End}
-use Rattle.machine_defs.specs.Setups.{pinned_stripes}
+use Rattle.second_half_laws.proofs.Words.{true, ◌⊎◌, refl, ap, sym, subst, ◌∙◌, inl, inr, arith, IsSome, nat_lt, option_map, false≢true, In, some-not-none, stripes, columns, is_wrong_block, Setup, is_setup, File, Held, with_symbol, without_block, HasPlace, Job, job_of, Action, Store, Work, End, pinned_stripes, Event, Init, Begin, BeginAt, BeginScrub, BeginPack, Step, Alter, Lose, Stop, Reopen, Names, Continue, Outcome, Ended, State, Scrub, Alone, Scrubbing, Packing, IsStart, setup_in, file_object, file_in, pinned_file, unalone, Scrubs, StepsScrub, StepsJob, StepsMine, StepsOne, StepsOpen, Steps, InitsBy, Inits, ReplacesIf, Lists, Happens, Moment, now, IsRun, Mark, relies, IsCalm, scrub_begun, mark_scrubbed, scrubbed, AreScrubsCalm, IsScrubCalm, AllTell, SecondHalf, told_block, found_none, IsLone, changes, all, IsBad, IsReplaced, PrecedesPuts, IsMark, IsExact, AreMarks, IsMarkedRun, BeginsNoScrub}
+use Rattle.std.proofs.Common.{◌≡◌, ℕ, ◌<◌, ◌==◌, Bool, false, List, [], ◌∷◌, ◌++◌, length, Option, Some, None}
 use Rattle.machine_defs.specs.Answers as answer
-use Rattle.machine_defs.specs.Events.{Event, Init, Begin, BeginAt, BeginScrub, BeginPack, Step, Alter, Lose, Stop, Reopen, Names, Continue, Outcome, Ended}
-use Rattle.machine_defs.specs.States.{State, Scrub, Alone, Scrubbing, Packing, IsStart, setup_in, file_object, file_in}
-use Rattle.machine_defs.specs.Begins.{pinned_file}
-use Rattle.machine_defs.specs.Alone.{unalone, Scrubs, StepsScrub}
-use Rattle.machine_defs.specs.Steps.{StepsJob, StepsMine, StepsOne, StepsOpen, Steps}
-use Rattle.machine_defs.specs.Openings.{InitsBy, Inits}
-use Rattle.machine_defs.specs.Replacements.{ReplacesIf}
-use Rattle.machine_defs.specs.Machine.{Lists, Happens}
-use Rattle.machine_defs.specs.Runs.{Moment, now, IsRun}
-use Rattle.machine_defs.specs.Calm.{Mark, relies, IsCalm}
-use Rattle.machine_defs.specs.Scrubs.{scrub_begun, mark_scrubbed, scrubbed, AreScrubsCalm, IsScrubCalm}
-use Rattle.machine_defs.specs.Halves.{AllTell, SecondHalf}
-use Rattle.machine_defs.specs.Deeds.{told_block}
-use Rattle.machine_defs.proofs.JobLists.{found_none}
-use Rattle.machine_defs.proofs.Changes.{IsLone}
-use Rattle.machine_defs.proofs.Events.{changes}
-use Rattle.machine_defs.proofs.Held.{all}
 use Rattle.run_laws.proofs.InEffect as eff
 use Rattle.second_half_laws.proofs.Onward.{all_tell}
-use Rattle.second_half_laws.specs.Damage.{IsBad, IsReplaced}
-use Rattle.second_half_laws.specs.Marks.{PrecedesPuts, IsMark}
-use Rattle.second_half_laws.specs.Own.{IsExact}
-use Rattle.second_half_laws.specs.MarkedRuns.{AreMarks, IsMarkedRun, BeginsNoScrub}
 use Rattle.second_half_laws.proofs.Scrubbing.{Scrub_is}
 use Rattle.second_half_laws.proofs.Blocks.{since_more, right_block, no_first_file}
 use Rattle.second_half_laws.proofs.EveryRun.{always}
@@ -112,10 +79,6 @@ module _ (moment : ℕ) (old new : State) (lone : IsLone old) (scrub : Scrub)
   scrub_ends : (limit : ℕ) (e : Event) → Happens limit moment old e (Ended (answer.Scrubbed a xs ys)) new →
       HasEnded old new scrub
   scrub_ends limit (Init s) h = inits s old.is_open h
-  scrub_ends limit (Begin kind) h = absurd h
-  scrub_ends limit (BeginAt profile name bytes) h = absurd h
-  scrub_ends limit BeginScrub h = absurd h
-  scrub_ends limit BeginPack h = absurd h
   scrub_ends limit (Step number) h = steps number old.is_open h
   scrub_ends limit (Alter j object stripe place symbol) h =
       replaces_if (nat_lt j old.handed) j (λ held. HasPlace (held object stripe) place)
@@ -123,10 +86,8 @@ module _ (moment : ℕ) (old new : State) (lone : IsLone old) (scrub : Scrub)
   scrub_ends limit (Lose j object stripe) h =
       replaces_if (nat_lt j old.handed) j (λ held. IsSome (held object stripe))
       (without_block object stripe) h
-  scrub_ends limit (Stop picks) h = absurd h
-  scrub_ends limit Reopen h = absurd h
   scrub_ends limit Names h = lists old.is_open h
-  scrub_ends limit Continue h = absurd h
+  scrub_ends limit e h = absurd h
 
 -- ---- then its begin is a mark
 
@@ -243,8 +204,7 @@ module _ (limit : ℕ) (start : State) (m : Moment) (ms : List Moment) (clean : 
       clear : (q : List ℕ) (f : File) (i s : ℕ) → file_in (now start ms) q ≡ Some f →
           i < (setup_in (now start ms)).n →
           s < pinned_stripes (setup_in (now start ms)) (pinned_file (now start ms) f) →
-          IsBad (now start ms) f.profile f.id i s →
-          IsReplaced scrub.begun i (m ∷ ms) ⊎ ⊥
+          IsBad (now start ms) f.profile f.id i s → IsReplaced scrub.begun i (m ∷ ms) ⊎ ⊥
       clear q f i s h l k (block, told, wrong) = elim (swept q f i s block h l k told) [
         | inl own ↦ absurd (right_block (file_object (now start ms) f) ((now start ms).bytes f.id) i s
             (subst (λ y. is_wrong_block (file_object (now start ms) f) ((now start ms).bytes f.id) i s y
@@ -254,11 +214,10 @@ module _ (limit : ℕ) (start : State) (m : Moment) (ms : List Moment) (clean : 
 
   by_alone : (x : Option Alone) → (now start ms).alone ≡ x → (a : ℕ) (xs ys : List ℕ) →
       m.outcome ≡ Ended (answer.Scrubbed a xs ys) → Since start (m ∷ ms) (scrub_begun x (scrubbed start ms))
-  by_alone None at a xs ys is = stays
-  by_alone (Some (Packing pack)) at a xs ys is = stays
   by_alone (Some (Scrubbing scrub)) at a xs ys is = finished scrub at
       (scrub_ends (length ms) (now start ms) m.state lone scrub at a xs ys limit m.event
       (subst (λ r. Happens limit (length ms) (now start ms) m.event r m.state) is run.1))
+  by_alone x at a xs ys is = stays
 
   by_outcome : (r : Outcome) → m.outcome ≡ r →
       Since start (m ∷ ms) (mark_scrubbed (now start ms).alone r (scrubbed start ms))

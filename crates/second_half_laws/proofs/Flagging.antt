@@ -1,40 +1,9 @@
 -- Where the one audit of a run flags who was damaged, it missed nobody.
-use Rattle.std.proofs.Common.{◌≡◌, ℕ, ◌≤◌, ◌<◌, ◌⊎◌, true, List, [], ◌∷◌, ◌++◌, length, Option, Some, None, refl, ap, sym, subst, ◌∙◌, inl, inr, append_assoc}
-use Rattle.std.specs.Prelude.{is_some, nat_le}
-use Rattle.std.proofs.lemmas.Bool.{cases_Bool, false≢true}
-use Rattle.algebra_laws.specs.Lists.{In}
-use Rattle.algebra_laws.proofs.Options.{some-not-none}
-use Rattle.column_defs.specs.Verdicts.{Sums, is_flagged}
-use Rattle.record_defs.specs.Records.{Record, Setup, SetUp, AuditDone}
-use Rattle.record_defs.specs.Table.{File, setup_of}
-use Rattle.machine_defs.specs.Jobs.{Kind, AuditJob, Job, job_of}
-use Rattle.machine_defs.specs.Actions.{WriteGate, End}
-use Rattle.machine_defs.specs.Answers.{Audited}
-use Rattle.machine_defs.specs.Events.{Begin, Step, Begun, Ended}
-use Rattle.machine_defs.specs.Audits.{HasSums}
-use Rattle.machine_defs.specs.States.{State, Append, Doubt, IsStart, setup_in, file_in}
-use Rattle.machine_defs.specs.Steps.{Ends, next_action}
-use Rattle.machine_defs.specs.Runs.{Moment, now, first_moments, came, IsRun}
-use Rattle.machine_defs.specs.Missed.{Misses, MissesNone, NoneMissed, is_wrong_now}
+use Rattle.second_half_laws.proofs.Words.{◌⊎◌, true, refl, ap, sym, subst, ◌∙◌, inl, inr, is_some, nat_le, cases_Bool, false≢true, In, some-not-none, Sums, is_flagged, Record, Setup, SetUp, AuditDone, File, setup_of, Kind, AuditJob, Job, job_of, WriteGate, End, Audited, Begin, Step, Begun, Ended, HasSums, State, Append, Doubt, IsStart, setup_in, file_in, Ends, next_action, Moment, now, first_moments, came, IsRun, Misses, MissesNone, NoneMissed, is_wrong_now, AllTell, NoneBegan, NoneBeganFor, NoneRuns, DamagesOnly, cond_true, cond_false, found_none, changes, all, event_end, next_stands, audits, setup_same, among_all, run_back, none_ran, none_on, none_left, only_its, ended_of_kind, valid_shape, shape_in}
+use Rattle.std.proofs.Common.{◌≡◌, ℕ, ◌≤◌, ◌<◌, List, [], ◌∷◌, ◌++◌, length, Option, Some, None, append_assoc}
 use Rattle.machine_defs.proofs.Survive.{came_none, came_one}
-use Rattle.machine_defs.specs.Halves.{AllTell}
-use Rattle.machine_defs.specs.Began.{NoneBegan}
-use Rattle.machine_defs.specs.Untouched.{NoneBeganFor, NoneRuns}
-use Rattle.machine_defs.specs.Damaged.{DamagesOnly}
-use Rattle.machine_defs.proofs.JobLists.{cond_true, cond_false, found_none}
-use Rattle.machine_defs.proofs.Events.{changes}
-use Rattle.machine_defs.proofs.Held.{all}
-use Rattle.machine_defs.proofs.StepEnds.{event_end}
-use Rattle.machine_defs.proofs.NextActions.{next_stands}
-use Rattle.machine_defs.proofs.Numbers.{audits}
 use Rattle.machine_defs.proofs.Numbers as num
-use Rattle.machine_defs.proofs.PinFacts.{setup_same}
-use Rattle.machine_defs.proofs.Damaged.{among_all}
-use Rattle.machine_defs.proofs.Untouched.{run_back, none_ran, none_on, none_left, only_its}
-use Rattle.machine_defs.proofs.Lone.{ended_of_kind}
-use Rattle.run_laws.proofs.InEffect.{valid_shape}
 use Rattle.run_laws.proofs.InEffect as eff
-use Rattle.run_laws.proofs.FirstHalf.{shape_in}
 use Rattle.run_laws.proofs.Sums.{sums-one}
 use Rattle.second_half_laws.specs.Flagging.{IsAudit, FindsAll}
 use Rattle.second_half_laws.proofs.Turns.{Doubt_now, turns}
@@ -219,8 +188,7 @@ module _ (limit : ℕ) (start : State) (clean : IsStart start) (tolerance : ℕ)
         (subst (λ hs. job_of (now start hs).jobs k ≡ Some x.0) whole x.1) in
         let s = setup_in (now start ms) in
         let whole_setup : setup_in (now start (auditing ++ b ∷ older)) ≡ s =
-        ap (λ hs. setup_in (now start hs)) whole
-        ∙ setup_same (now start (front ++ ms)) (now start ms)
+        ap (λ hs. setup_in (now start hs)) whole ∙ setup_same (now start (front ++ ms)) (now start ms)
         (setups_stay limit start front ms up.0 clean run_whole up.1 ∙ sym up.1) in
         let own = audit_running limit start clean ms run_ms g.append g.job g.job.number n u c g.flies g.runs g.mine
         g.entry in

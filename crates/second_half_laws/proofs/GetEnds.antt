@@ -1,46 +1,8 @@
 -- How gets end, and that few wrong blocks leave a get its file.
-use Rattle.std.proofs.Common.{◌≡◌, ℕ, ◌<◌, ◌≤◌, Bool, true, false, List, [], ◌∷◌, ◌++◌, length, take, Option, Some, None, refl, ap, sym, subst, ◌∙◌, arith}
-use Rattle.std.specs.Prelude.{slice_get}
-use Rattle.algebra_laws.specs.Lists.{Each}
-use Rattle.algebra_laws.proofs.Each.{each_get, each_append, each_map, each_flat}
-use Rattle.algebra_laws.proofs.Lists.{flat_map-range_same}
-use Rattle.hail_field.specs.Shape.{IsShape}
-use Rattle.code_defs.specs.Points.{upto}
+use Rattle.second_half_laws.proofs.Words.{true, refl, ap, sym, subst, ◌∙◌, arith, slice_get, Each, each_get, each_append, each_map, each_flat, flat_map-range_same, IsShape, upto, Object, stripes, symbols_in, bytes_of_symbols, row_polynomial, is_wrong_block, GivesSymbols, LosesRow, OpensFile, block_at, count_of, count_of-within, profile-room, row-right, symbols-right, Setup, File, setup_of, Kind, GetJob, Pinned, Given, Job, job_of, object_of, profiled, pinned_stripes, Action, WriteBody, SyncBody, WriteGate, SyncGate, Store, Fetch, Ask, Work, Remove, End, on_each_provider, on_each_stripe, open_actions, read_actions, Answer, Event, Step, Outcome, Ended, State, Alone, IsStart, setup_in, object_in, file_object, pinned_object, file_in, refusal_of_begin, pinned_file, pin_found, pinned_for, block_given, blocks_given, next_action, holder_of, Ends, Acts, ActsOrWaits, StepsOn, StepsJob, StepsOne, StepsOpen, Steps, Happens, Moment, now, first_moments, IsRun, heard_by, given_to, same_value, found_none, IsLone, Changes, changes, next_by, next_is_by, Pins_is, pins_is, setup_same, setup_kept, All, all, first_more, first_all, HasFile, own_profile, got_is_opened, heard_blocks, get_file, block_at-given, bytes_back, valid_setup, valid_shape, held_file, first_run, shape_in, IsFewWrong}
+use Rattle.std.proofs.Common.{◌≡◌, ℕ, ◌<◌, ◌≤◌, Bool, false, List, [], ◌∷◌, ◌++◌, length, take, Option, Some, None}
 use Rattle.code_defs.proofs.Profiles.{some_kept}
-use Rattle.column_defs.specs.Objects.{Object, stripes, symbols_in, bytes_of_symbols}
-use Rattle.column_defs.specs.Columns.{row_polynomial, is_wrong_block}
-use Rattle.column_defs.specs.Opened.{GivesSymbols, LosesRow, OpensFile, block_at}
-use Rattle.column_defs.specs.Forgeries.{count_of}
-use Rattle.column_laws.proofs.Counts.{count_of-within}
-use Rattle.column_laws.proofs.UniqueLaws.{profile-room}
-use Rattle.column_laws.proofs.RightRows.{row-right, symbols-right}
-use Rattle.record_defs.specs.Records.{Setup}
-use Rattle.record_defs.specs.Table.{File, setup_of}
-use Rattle.machine_defs.specs.Jobs.{Kind, GetJob, Pinned, Given, Job, job_of}
-use Rattle.machine_defs.specs.Setups.{object_of, profiled, pinned_stripes}
-use Rattle.machine_defs.specs.Actions.{Action, WriteBody, SyncBody, WriteGate, SyncGate, Store, Fetch, Ask, Work, Remove, End, on_each_provider, on_each_stripe, open_actions, read_actions}
 use Rattle.machine_defs.specs.Answers as answer
-use Rattle.machine_defs.specs.Answers.{Answer}
-use Rattle.machine_defs.specs.Events.{Event, Step, Outcome, Ended}
-use Rattle.machine_defs.specs.States.{State, Alone, IsStart, setup_in, object_in, file_object, pinned_object, file_in}
-use Rattle.machine_defs.specs.Begins.{refusal_of_begin, pinned_file, pin_found, pinned_for}
-use Rattle.machine_defs.specs.Given.{block_given, blocks_given}
-use Rattle.machine_defs.specs.Steps.{next_action, holder_of, Ends, Acts, ActsOrWaits, StepsOn, StepsJob, StepsOne, StepsOpen, Steps}
-use Rattle.machine_defs.specs.Machine.{Happens}
-use Rattle.machine_defs.specs.Runs.{Moment, now, first_moments, IsRun}
-use Rattle.machine_defs.specs.Heard.{heard_by, given_to}
-use Rattle.machine_defs.proofs.JobLists.{same_value, found_none}
-use Rattle.machine_defs.proofs.Changes.{IsLone, Changes}
-use Rattle.machine_defs.proofs.Events.{changes}
-use Rattle.machine_defs.proofs.Numbers.{next_by, next_is_by}
-use Rattle.machine_defs.proofs.PinFacts.{Pins_is, pins_is, setup_same, setup_kept}
-use Rattle.machine_defs.proofs.Held.{All, all, first_more, first_all}
-use Rattle.machine_defs.proofs.Gets.{HasFile, own_profile, got_is_opened, heard_blocks, get_file}
-use Rattle.machine_defs.proofs.Given.{block_at-given}
-use Rattle.run_laws.proofs.SymbolBytes.{bytes_back}
-use Rattle.run_laws.proofs.InEffect.{valid_setup, valid_shape, held_file}
-use Rattle.run_laws.proofs.FirstHalf.{first_run, shape_in}
-use Rattle.second_half_laws.specs.FewWrong.{IsFewWrong}
 
 -- ---- a get has one file, that of its name at its begin
 
@@ -150,17 +112,7 @@ module _ (old : State) (job : Job) (name : List ℕ) (f : Pinned) (new : State) 
     where
       by_answer : (a : Answer) → Ends old job (GetJob name) a → Get_ends old job f a
       by_answer (answer.Got bytes) g = Get_ends.with_bytes bytes refl
-      by_answer answer.Put g = absurd g
-      by_answer answer.Dropped g = absurd g
-      by_answer (answer.Audited number undecided counts) g = absurd g
-      by_answer (answer.Repaired number) g = absurd g
-      by_answer (answer.Lost s row) g = absurd g
-      by_answer (answer.ProviderFault p) g = absurd g
-      by_answer answer.DiskFault g = absurd g
-      by_answer answer.Memory g = absurd g
-      by_answer answer.Upgraded g = absurd g
-      by_answer (answer.Scrubbed t symbols blocks) g = absurd g
-      by_answer (answer.Packed before after) g = absurd g
+      by_answer a g = absurd g
 
   at_work : (o s : ℕ) → o ≡ f.id → next_action old job ≡ Some (Work o s) → (how : Answer) →
       Acts old job (Work o s) (Ended how) new → Get_ends old job f how
@@ -173,44 +125,18 @@ module _ (old : State) (job : Job) (name : List ℕ) (f : Pinned) (new : State) 
       o_is
       (subst (λ p. LosesRow (object_in old p o) s (blocks_given job.given (setup_in old).n o s) row)
       (own_profile (setup_in old).profile job.pinned f o pinned o_is) lost)))
-  at_work o s o_is next_is (answer.Got bytes) h = absurd h
-  at_work o s o_is next_is answer.Put h = absurd h
-  at_work o s o_is next_is answer.Dropped h = absurd h
-  at_work o s o_is next_is (answer.Audited number undecided counts) h = absurd h
-  at_work o s o_is next_is (answer.Repaired number) h = absurd h
-  at_work o s o_is next_is (answer.ProviderFault p) h = absurd h
-  at_work o s o_is next_is answer.DiskFault h = absurd h
-  at_work o s o_is next_is answer.Memory h = absurd h
-  at_work o s o_is next_is answer.Upgraded h = absurd h
-  at_work o s o_is next_is (answer.Scrubbed t symbols blocks) h = absurd h
-  at_work o s o_is next_is (answer.Packed before after) h = absurd h
+  at_work o s o_is next_is how h = absurd h
 
   at_fetch : (i o s : ℕ) (how : Answer) → Acts old job (Fetch i o s) (Ended how) new → ⊥
   at_fetch i o s (answer.Lost t row) h = h
-  at_fetch i o s (answer.Got bytes) h = h
-  at_fetch i o s answer.Put h = h
-  at_fetch i o s answer.Dropped h = h
-  at_fetch i o s (answer.Audited number undecided counts) h = h
-  at_fetch i o s (answer.Repaired number) h = h
-  at_fetch i o s (answer.ProviderFault p) h = h
-  at_fetch i o s answer.DiskFault h = h
-  at_fetch i o s answer.Memory h = h
-  at_fetch i o s answer.Upgraded h = h
-  at_fetch i o s (answer.Scrubbed t symbols blocks) h = h
-  at_fetch i o s (answer.Packed before after) h = h
+  at_fetch i o s how h = h
 
   acts : (action : Action) → IsOfGet f.id action → next_action old job ≡ Some action → (how : Answer) →
       Acts old job action (Ended how) new → Get_ends old job f how
   acts End of next_is how h = at_end job.kind kind how h.0
   acts (Work o s) of next_is how h = at_work o s of next_is how h
   acts (Fetch i o s) of next_is how h = absurd (at_fetch i o s how h)
-  acts (Store i o s) of next_is how h = absurd of
-  acts (Ask i o s) of next_is how h = absurd of
-  acts (Remove i o) of next_is how h = absurd of
-  acts WriteBody of next_is how h = absurd of
-  acts SyncBody of next_is how h = absurd of
-  acts WriteGate of next_is how h = absurd of
-  acts SyncGate of next_is how h = absurd of
+  acts action of next_is how h = absurd of
 
   waits : (action : Action) (holder : Option ℕ) (how : Answer) → next_action old job ≡ Some action →
       ActsOrWaits old job action holder (Ended how) new → Get_ends old job f how

@@ -1,26 +1,7 @@
 -- What a get was given that a step ended.
-use Rattle.std.proofs.Common.{◌≡◌, ℕ, ◌<◌, List, [], ◌∷◌, length, Some, refl, ap, sym, subst, ◌∙◌, inl, arith}
-use Rattle.algebra_laws.specs.Lists.{In}
-use Rattle.column_defs.specs.Objects.{stripes}
-use Rattle.record_defs.specs.Records.{Setup}
-use Rattle.record_defs.specs.Table.{File}
-use Rattle.machine_defs.specs.Jobs.{GetJob, Fetched, Job, job_of}
-use Rattle.machine_defs.specs.Setups.{profiled, stripes_of}
-use Rattle.machine_defs.specs.Actions.{Fetch, Work}
-use Rattle.machine_defs.specs.Answers.{Got, Lost}
-use Rattle.machine_defs.specs.Events.{Step, Ended}
-use Rattle.machine_defs.specs.States.{State, IsStart, setup_in, file_object, file_in}
-use Rattle.machine_defs.specs.Begins.{pinned_file}
-use Rattle.machine_defs.specs.Given.{block_given}
-use Rattle.machine_defs.specs.Steps.{next_action}
-use Rattle.machine_defs.specs.Runs.{Moment, now, first_moments, IsRun}
-use Rattle.machine_defs.proofs.JobLists.{same_value}
-use Rattle.machine_defs.proofs.StepEnds.{event_end}
-use Rattle.machine_defs.proofs.Held.{all}
-use Rattle.machine_defs.proofs.PinFacts.{setup_same}
-use Rattle.machine_defs.proofs.NextActions.{next_stands}
+use Rattle.second_half_laws.proofs.Words.{refl, ap, sym, subst, ◌∙◌, inl, arith, In, stripes, Setup, File, GetJob, Fetched, Job, job_of, profiled, stripes_of, Fetch, Work, Got, Lost, Step, Ended, State, IsStart, setup_in, file_object, file_in, pinned_file, block_given, next_action, Moment, now, first_moments, IsRun, same_value, event_end, all, setup_same, next_stands, WasFetched}
+use Rattle.std.proofs.Common.{◌≡◌, ℕ, ◌<◌, List, [], ◌∷◌, length, Some}
 use Rattle.second_half_laws.proofs.GetEnds.{begin_of, have_files, Get_ends, get_ends}
-use Rattle.second_half_laws.specs.Gave.{WasFetched}
 use Rattle.second_half_laws.proofs.Places.{fetched_before_end}
 use Rattle.second_half_laws.proofs.MadeFacts.{facts, fetched_at, given_block}
 
@@ -57,10 +38,9 @@ got_fetched limit start m ms job name bytes file j stripe clean run event outcom
 -- a get that is lost at a stripe had fetched this stripe from each provider
 pub lost_fetched : (limit : ℕ) (start : State) (m : Moment) (ms : List Moment) (job : Job) (name : List ℕ)
     (file : File) (j stripe row : ℕ) → IsStart start → IsRun limit start (m ∷ ms) →
-    m.event ≡ Step job.number →
-    m.outcome ≡ Ended (Lost stripe row) → job_of (now start ms).jobs job.number ≡ Some job →
-    job.kind ≡ GetJob name → file_in (now start (first_moments job.begun ms)) name ≡ Some file →
-    j < (setup_in (now start ms)).n →
+    m.event ≡ Step job.number → m.outcome ≡ Ended (Lost stripe row) →
+    job_of (now start ms).jobs job.number ≡ Some job → job.kind ≡ GetJob name →
+    file_in (now start (first_moments job.begun ms)) name ≡ Some file → j < (setup_in (now start ms)).n →
     WasFetched start ms job j file.id stripe (block_given job.given file.id stripe j)
 lost_fetched limit start m ms job name file j stripe row clean run event outcome runs kind in_effect k =
     (let H = have_files limit start clean ms run.2 job.number job name runs kind in

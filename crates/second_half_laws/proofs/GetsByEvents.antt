@@ -1,22 +1,7 @@
 -- What a get of a stored file gives, told by events.
-use Rattle.std.proofs.Common.{◌≡◌, ℕ, ◌⊎◌, List, ◌∷◌, ◌++◌, Some, ap, sym, subst, ◌∙◌, inl, inr}
-use Rattle.record_defs.specs.Table.{File}
-use Rattle.machine_defs.specs.Jobs.{GetJob, job_of}
-use Rattle.machine_defs.specs.Answers.{Answer, Got}
-use Rattle.machine_defs.specs.Refusals.{Refusal}
-use Rattle.machine_defs.specs.Events.{Begin, Step, Refused}
-use Rattle.machine_defs.specs.States.{State, IsStart, file_in}
-use Rattle.machine_defs.specs.Runs.{Moment, now, first_moments, IsRun}
-use Rattle.machine_defs.specs.Calm.{Mark}
-use Rattle.machine_defs.specs.Halves.{IsGetRefusal}
-use Rattle.machine_defs.proofs.JobLists.{same_value}
-use Rattle.machine_defs.proofs.Damaged.{first_behind}
-use Rattle.machine_defs.proofs.Untouched.{run_back}
-use Rattle.machine_defs.proofs.Lone.{ended_of_kind}
-use Rattle.run_laws.specs.Stories.{Stored, GetEnds}
+use Rattle.second_half_laws.proofs.Words.{◌⊎◌, ap, sym, subst, ◌∙◌, inl, inr, File, GetJob, job_of, Answer, Got, Refusal, Begin, Step, Refused, State, IsStart, file_in, Moment, now, first_moments, IsRun, Mark, IsGetRefusal, same_value, first_behind, run_back, ended_of_kind, Stored, GetEnds, IsMarkedRun, IsLostByFaults, GivesOrIsLost}
+use Rattle.std.proofs.Common.{◌≡◌, ℕ, List, ◌∷◌, ◌++◌, Some}
 use Rattle.run_laws.proofs.ByEvents.{stored_is_kept}
-use Rattle.second_half_laws.specs.MarkedRuns.{IsMarkedRun}
-use Rattle.second_half_laws.specs.Sharp.{IsLostByFaults, GivesOrIsLost}
 use Rattle.second_half_laws.proofs.Names.{begins_stored}
 use Rattle.second_half_laws.proofs.SecondHalf.{marked_facts, get_sharply}
 

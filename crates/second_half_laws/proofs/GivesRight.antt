@@ -1,17 +1,7 @@
 -- The own blocks of all providers give a stripe's symbols.
-use Rattle.std.specs.Prelude.{◌≡◌, ℕ, zero, suc, ◌+◌, ◌<◌, ◌≤◌, Bool, false, List, map, Option, Some, option_and_then}
-use Rattle.std.specs.List.{range_with_len}
-use Rattle.std.proofs.Common.{arith, ap, refl, ◌∙◌}
-use Rattle.hail_field.specs.Shape.{IsShape}
-use Rattle.code_defs.specs.Points.{upto}
-use Rattle.code_defs.specs.Profiles.{profile_of}
-use Rattle.column_defs.specs.Objects.{Object, symbols_in}
-use Rattle.column_defs.specs.Columns.{columns, is_wrong_block}
-use Rattle.column_defs.specs.Opened.{SeenBlock, bare, AllOpen, GivesSymbols, block_at}
-use Rattle.column_defs.specs.Forgeries.{count_of}
-use Rattle.column_laws.proofs.RightRows.{given-right}
+use Rattle.second_half_laws.proofs.Words.{option_and_then, range_with_len, arith, ap, refl, ◌∙◌, IsShape, upto, profile_of, Object, symbols_in, columns, is_wrong_block, SeenBlock, bare, AllOpen, GivesSymbols, block_at, count_of, given-right, own_blocks}
+use Rattle.std.specs.Prelude.{◌≡◌, ℕ, zero, suc, ◌+◌, ◌<◌, ◌≤◌, Bool, false, List, map, Option, Some}
 use Rattle.column_laws.proofs.Worked.{column-right, opens-own}
-use Rattle.second_half_laws.specs.Own.{own_blocks}
 use Rattle.second_half_laws.proofs.Lists.{get_map_upto}
 
 -- the blocks open to the columns without masks

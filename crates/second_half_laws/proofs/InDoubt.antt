@@ -1,36 +1,10 @@
 -- What an audit or a repair whose record is in doubt worked on, whether its job runs on or has ended.
-use Rattle.std.proofs.Common.{◌≡◌, ℕ, suc, ◌+◌, ◌≤◌, ◌<◌, true, false, ◌⊎◌, List, [], ◌∷◌, length, Option, Some, refl, ap, sym, subst, ◌∙◌, inl, inr, arith}
-use Rattle.std.specs.Prelude.{slice_get}
-use Rattle.std.proofs.lemmas.Bool.{cases_Bool, cases_lt, false≢true}
-use Rattle.algebra_laws.specs.Lists.{In}
-use Rattle.algebra_laws.proofs.Options.{some-not-none}
-use Rattle.column_defs.specs.Columns.{columns}
-use Rattle.record_defs.specs.Records.{Setup}
-use Rattle.record_defs.specs.Table.{setup_of, next_id, started_as}
-use Rattle.machine_defs.specs.Jobs.{AuditJob, RepairJob, aim_of, Pinned, Job, job_of, advanced}
-use Rattle.machine_defs.specs.Actions.{WriteGate, Store, Remove, actions_of}
-use Rattle.machine_defs.specs.Setups.{object_of, profiled}
-use Rattle.machine_defs.specs.Given.{pinned_profile}
-use Rattle.machine_defs.specs.States.{State, Doubt, Scrubbing, IsStart, setup_in, object_among, worked_object}
-use Rattle.machine_defs.specs.Sights.{is_check}
-use Rattle.machine_defs.specs.Steps.{next_action}
-use Rattle.machine_defs.specs.Runs.{Moment, now, first_moments, is_replacement, is_replaced_since, IsRun}
-use Rattle.machine_defs.specs.Calm.{Mark, IsCalm, relies}
-use Rattle.machine_defs.specs.Halves.{AllTell}
-use Rattle.machine_defs.specs.Deeds.{told_block, HasMadeStore}
-use Rattle.machine_defs.proofs.JobLists.{same_value, found_none}
-use Rattle.machine_defs.proofs.Changes.{Block_is, Changes}
-use Rattle.machine_defs.proofs.Events.{changes}
-use Rattle.machine_defs.proofs.Numbers.{audits}
+use Rattle.second_half_laws.proofs.Words.{true, ◌⊎◌, refl, ap, sym, subst, ◌∙◌, inl, inr, arith, slice_get, cases_Bool, cases_lt, false≢true, In, some-not-none, columns, Setup, setup_of, next_id, started_as, AuditJob, RepairJob, aim_of, Pinned, Job, job_of, advanced, WriteGate, Store, Remove, actions_of, object_of, profiled, pinned_profile, State, Doubt, Scrubbing, IsStart, setup_in, object_among, worked_object, is_check, next_action, Moment, now, first_moments, is_replacement, is_replaced_since, IsRun, Mark, IsCalm, relies, AllTell, told_block, HasMadeStore, same_value, found_none, Block_is, Changes, changes, audits, is_fair, store_place, setup_same, All, all, actions_are, first_more, replaced_before, store_kinds, remove_kinds, next_stands, actions_by-advanced, AreMarks}
+use Rattle.std.proofs.Common.{◌≡◌, ℕ, suc, ◌+◌, ◌≤◌, ◌<◌, false, List, [], ◌∷◌, length, Option, Some}
 use Rattle.machine_defs.proofs.Numbers as num
-use Rattle.machine_defs.proofs.Fair.{is_fair, store_place}
-use Rattle.machine_defs.proofs.PinFacts.{setup_same}
-use Rattle.machine_defs.proofs.Held.{All, all, actions_are, first_more, replaced_before, store_kinds, remove_kinds}
-use Rattle.machine_defs.proofs.NextActions.{next_stands, actions_by-advanced}
 use Rattle.run_laws.proofs.InEffect as eff
 use Rattle.second_half_laws.proofs.Onward.{run_onward, all_tell}
 use Rattle.second_half_laws.proofs.Walk.{walked}
-use Rattle.second_half_laws.specs.MarkedRuns.{AreMarks}
 use Rattle.second_half_laws.proofs.Turns.{Doubt_now, Turns, turns}
 use Rattle.second_half_laws.proofs.Quiet.{IsAtRest, quiet_blocks}
 use Rattle.second_half_laws.proofs.Blocks.{since_now}

@@ -1,28 +1,8 @@
 -- What holds in runs that are calm, for the laws.
-use Rattle.std.proofs.Common.{◌≡◌, ℕ, zero, suc, ◌+◌, ◌<◌, Bool, true, false, ◌⊎◌, List, [], ◌∷◌, length, Option, Some, None, refl, ap, sym, subst, inl, inr, arith}
-use Rattle.std.specs.List.{list_any, range_with_len}
-use Rattle.std.specs.Option.{option_map}
-use Rattle.std.proofs.lemmas.Bool.{or_cases, false≢true}
-use Rattle.column_defs.specs.Objects.{Object, stripes}
-use Rattle.column_defs.specs.Columns.{columns, is_wrong, is_wrong_block}
-use Rattle.record_defs.specs.Records.{Record}
-use Rattle.record_defs.specs.Table.{File}
-use Rattle.device_defs.specs.Providers.{Held}
-use Rattle.machine_defs.specs.States.{State, Doubt, IsStart, setup_in, object_in, file_object, file_in}
-use Rattle.machine_defs.specs.Runs.{Moment, IsRun, now, is_replaced_since, came}
-use Rattle.machine_defs.specs.Calm.{Mark, since, relies, IsCalm}
-use Rattle.machine_defs.specs.Missed.{is_wrong_told, is_wrong_now}
-use Rattle.machine_defs.specs.Scrubs.{AreScrubsCalm}
-use Rattle.machine_defs.specs.Halves.{begun_of, AllTell}
-use Rattle.machine_defs.specs.Deeds.{told_block}
-use Rattle.machine_defs.proofs.Numbers.{audits}
+use Rattle.second_half_laws.proofs.Words.{true, ◌⊎◌, refl, ap, sym, subst, inl, inr, arith, list_any, range_with_len, option_map, or_cases, false≢true, Object, stripes, columns, is_wrong, is_wrong_block, Record, File, Held, State, Doubt, IsStart, setup_in, object_in, file_object, file_in, Moment, IsRun, now, is_replaced_since, came, Mark, since, relies, IsCalm, is_wrong_told, is_wrong_now, AreScrubsCalm, begun_of, AllTell, told_block, audits, changes, all, IsBad, IsReplaced, IsEndOfPut, Never, PrecedesPuts, IsClear, IsMark, AreMarks, IsMarkedRun, IsCalmRun}
+use Rattle.std.proofs.Common.{◌≡◌, ℕ, zero, suc, ◌+◌, ◌<◌, Bool, false, List, [], ◌∷◌, length, Option, Some, None}
 use Rattle.machine_defs.proofs.Numbers as num
-use Rattle.machine_defs.proofs.Events.{changes}
-use Rattle.machine_defs.proofs.Held.{all}
 use Rattle.run_laws.proofs.InEffect as eff
-use Rattle.second_half_laws.specs.Damage.{IsBad, IsReplaced}
-use Rattle.second_half_laws.specs.Marks.{IsEndOfPut, Never, PrecedesPuts, IsClear, IsMark}
-use Rattle.second_half_laws.specs.MarkedRuns.{AreMarks, IsMarkedRun, IsCalmRun}
 use Rattle.second_half_laws.proofs.Turns.{turns}
 use Rattle.second_half_laws.proofs.Blocks.{ends_ended}
 use Rattle.second_half_laws.proofs.Points as pt
@@ -86,9 +66,8 @@ wrong_bad w f j h = by_told (w.providers j).held refl h
 -- some stripe
 pub clears : (start : State) (ms : List Moment) (from : ℕ) (Ex : ℕ → ℕ → ℕ → Type 0) (E : Type 0) →
     IsClear start ms from Ex → (name : List ℕ) (file : File) (j : ℕ) →
-    file_in (now start ms) name ≡ Some file →
-    j < (setup_in (now start ms)).n → is_wrong_now (now start ms) file j ≡ true →
-    ((s : ℕ) → Ex j file.id s → E) → IsReplaced from j ms ⊎ E
+    file_in (now start ms) name ≡ Some file → j < (setup_in (now start ms)).n →
+    is_wrong_now (now start ms) file j ≡ true → ((s : ℕ) → Ex j file.id s → E) → IsReplaced from j ms ⊎ E
 clears start ms from Ex E clear name file j h l wrong out = (let q = wrong_bad (now start ms) file j wrong in
     elim (clear name file j q.0 h l q.1 q.2) [ inl r ↦ inl r | inr x ↦ inr (out q.0 x) ])
 

@@ -1,12 +1,6 @@
 -- An init of an empty store comes to ready.
 use Rattle.std.specs.Prelude.{[], ◌∷◌}
-use Rattle.std.proofs.Common.{refl, inl, arith}
-use Rattle.record_defs.specs.Records.{SetUp}
-use Rattle.record_defs.specs.Examples.{four}
-use Rattle.machine_defs.specs.Events.{Init, Ready}
-use Rattle.machine_defs.specs.States.{State, IsStart, brought}
-use Rattle.machine_defs.specs.Runs.{Moment, IsRun}
-use Rattle.machine_defs.specs.Examples.{set_up}
+use Rattle.second_half_laws.proofs.Words.{refl, inl, arith, SetUp, four, Init, Ready, State, IsStart, brought, Moment, IsRun, set_up}
 
 -- the store before it
 abbrev pub unset : State

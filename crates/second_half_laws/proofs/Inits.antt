@@ -1,20 +1,11 @@
 -- The setup in effect is that of the init that came to ready.
-use Rattle.std.proofs.Common.{◌≡◌, ℕ, Bool, true, false, List, ◌∷◌, ◌++◌, length, Some, ap, subst}
-use Rattle.record_defs.specs.Records.{Setup, is_setup}
-use Rattle.record_defs.specs.Table.{setup_of}
-use Rattle.machine_defs.specs.Setups.{setup_or_none}
-use Rattle.machine_defs.specs.Events.{Event, Init, Outcome, Ready}
-use Rattle.machine_defs.specs.States.{State, IsStart, setup_in}
-use Rattle.machine_defs.specs.Openings.{InitsBy, Inits}
-use Rattle.machine_defs.specs.Machine.{Happens}
-use Rattle.machine_defs.specs.Runs.{Moment, now, IsRun}
-use Rattle.machine_defs.proofs.Untouched.{run_back}
+use Rattle.second_half_laws.proofs.Words.{true, ap, subst, Setup, is_setup, setup_of, setup_or_none, Event, Init, Outcome, Ready, State, IsStart, setup_in, InitsBy, Inits, Happens, Moment, now, IsRun, run_back}
+use Rattle.std.proofs.Common.{◌≡◌, ℕ, Bool, false, List, ◌∷◌, ◌++◌, length, Some}
 use Rattle.second_half_laws.proofs.Doubts.{setups_stay}
 
 inits_by : (old : State) (s : Setup) (good : Bool) (new : State) → InitsBy old s good Ready new →
     setup_of new.records ≡ Some s
-inits_by old s true new (mid, settles, nothing, (faults, low, is)) =
-    ap (λ (w : State). setup_of w.records) is
+inits_by old s true new (mid, settles, nothing, (faults, low, is)) = ap (λ (w : State). setup_of w.records) is
 inits_by old s false new h = absurd h
 
 inits : (old : State) (s : Setup) (is_open : Bool) (new : State) → Inits old s is_open Ready new →

@@ -1,20 +1,7 @@
 -- Blocks of files in effect, and of those that jobs work on, change only by replacements and by the stores of
 -- repairs.
-use Rattle.std.proofs.Common.{◌≡◌, ◌⊎◌, ℕ, List, ◌∷◌, length, Some, None, refl, ap, sym, ◌∙◌, inl, inr, arith}
-use Rattle.std.specs.Option.{option_map}
-use Rattle.std.specs.List.{Contains}
-use Rattle.algebra_laws.specs.Lists.{In}
-use Rattle.record_defs.specs.Table.{File, started_as}
-use Rattle.machine_defs.specs.Jobs.{Pinned, Job, job_of}
-use Rattle.machine_defs.specs.Actions.{Store, Remove}
-use Rattle.machine_defs.specs.States.{State, Scrubbing, IsStart, file_in}
-use Rattle.machine_defs.specs.Steps.{block_to_store}
-use Rattle.machine_defs.specs.Runs.{Moment, now, IsRun}
-use Rattle.machine_defs.proofs.JobLists.{found_none}
-use Rattle.machine_defs.proofs.Changes.{Block_is, Changes}
-use Rattle.machine_defs.proofs.Events.{changes}
-use Rattle.machine_defs.proofs.Fair.{is_fair, store_place}
-use Rattle.machine_defs.proofs.Held.{contains_in, All, all, store_kinds, remove_kinds}
+use Rattle.second_half_laws.proofs.Words.{◌⊎◌, refl, ap, sym, ◌∙◌, inl, inr, arith, option_map, Contains, In, File, started_as, Pinned, Job, job_of, Store, Remove, State, Scrubbing, IsStart, file_in, block_to_store, Moment, now, IsRun, found_none, Block_is, Changes, changes, is_fair, store_place, contains_in, All, all, store_kinds, remove_kinds}
+use Rattle.std.proofs.Common.{◌≡◌, ℕ, List, ◌∷◌, length, Some, None}
 use Rattle.second_half_laws.specs.Stays.{IsScrubbed, Stays}
 
 module _ (limit : ℕ) (start : State) (m : Moment) (ms : List Moment) (A : All start ms)
@@ -64,9 +51,8 @@ module _ (limit : ℕ) (start : State) (m : Moment) (ms : List Moment) (A : All 
 
 -- a block of a file in effect stays, or is replaced, or a repair or a scrub stores it
 pub effect_stays : (limit : ℕ) (start : State) (m : Moment) (ms : List Moment) (name : List ℕ) (file : File)
-    (j stripe : ℕ) → IsStart start → IsRun limit start (m ∷ ms) →
-    file_in (now start ms) name ≡ Some file → Stays (now start ms) m j file.id stripe ⊎
-    IsScrubbed (now start ms) m j file.id stripe
+    (j stripe : ℕ) → IsStart start → IsRun limit start (m ∷ ms) → file_in (now start ms) name ≡ Some file →
+    Stays (now start ms) m j file.id stripe ⊎ IsScrubbed (now start ms) m j file.id stripe
 effect_stays limit start m ms name file j stripe clean run h =
     (let A = all limit start clean ms run.2 in
     in_effect_stays limit start m ms A

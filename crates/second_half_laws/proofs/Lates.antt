@@ -1,22 +1,8 @@
 -- Behind its asks an audit hears nothing more: its verdict is the same at each later moment.
-use Rattle.std.proofs.Common.{◌≡◌, ℕ, ◌+◌, ◌≤◌, List, [], ◌∷◌, ◌++◌, length, Some, ap, sym, subst, ◌∙◌, arith}
-use Rattle.std.specs.Prelude.{slice_get}
-use Rattle.record_defs.specs.Records.{Setup}
-use Rattle.record_defs.specs.Table.{setup_of}
-use Rattle.machine_defs.specs.Jobs.{AuditJob, Job, job_of}
-use Rattle.machine_defs.specs.Actions.{Action, ask_actions, actions_by}
-use Rattle.machine_defs.specs.States.{State, IsStart, setup_in}
-use Rattle.machine_defs.specs.Steps.{next_action}
-use Rattle.machine_defs.specs.Runs.{Moment, now, IsRun}
-use Rattle.machine_defs.specs.Began.{NoneBegan}
-use Rattle.machine_defs.proofs.JobLists.{same_value}
-use Rattle.machine_defs.proofs.Changes.{Gave, Job_is}
-use Rattle.machine_defs.proofs.Events.{changes}
-use Rattle.machine_defs.proofs.Held.{all}
+use Rattle.second_half_laws.proofs.Words.{ap, sym, subst, ◌∙◌, arith, slice_get, Setup, setup_of, AuditJob, Job, job_of, Action, ask_actions, actions_by, State, IsStart, setup_in, next_action, Moment, now, IsRun, NoneBegan, same_value, Gave, Job_is, changes, all, objects, next_by, next_is_by, first_above, drawn_later, setup_same}
+use Rattle.std.proofs.Common.{◌≡◌, ℕ, ◌+◌, ◌≤◌, List, [], ◌∷◌, ◌++◌, length, Some}
 use Rattle.machine_defs.proofs.Began.{Came, came_all}
-use Rattle.machine_defs.proofs.Numbers.{objects, next_by, next_is_by, first_above, drawn_later}
 use Rattle.machine_defs.proofs.Numbers as num
-use Rattle.machine_defs.proofs.PinFacts.{setup_same}
 use Rattle.second_half_laws.proofs.Places.{of_kind, audit_mute, IsMute}
 use Rattle.second_half_laws.proofs.Doubts.{setups_stay}
 

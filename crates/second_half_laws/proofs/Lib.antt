@@ -1,3 +1,4 @@
+mod Words
 pub mod Names
 pub mod GetEnds
 pub mod Kept

@@ -1,15 +1,6 @@
 -- Where elements stand in lists that are put together of others.
-use Rattle.std.proofs.Common.{◌≡◌, ℕ, zero, suc, ◌+◌, ◌-◌, ◌<◌, ◌≤◌, List, [], ◌∷◌, ◌++◌, length, map, Some, None, refl, ap, sym, subst, ◌∙◌, inl, inr, arith}
-use Rattle.std.specs.Prelude.{slice_get}
-use Rattle.std.specs.List.{flat_map, range_with_len}
-use Rattle.std.proofs.lemmas.Option.{slice_get_within}
-use Rattle.std.proofs.lemmas.Bool.{cases_eq}
-use Rattle.algebra_laws.specs.Lists.{Each, In}
-use Rattle.algebra_laws.proofs.Each.{each_get}
-use Rattle.algebra_laws.proofs.Lists.{get_behind, get-map_range}
-use Rattle.code_defs.specs.Points.{upto}
-use Rattle.machine_defs.proofs.ActionLists.{split_get}
-use Rattle.machine_defs.proofs.Stripes.{get_left}
+use Rattle.second_half_laws.proofs.Words.{◌-◌, refl, ap, sym, subst, ◌∙◌, inl, inr, arith, slice_get, flat_map, range_with_len, slice_get_within, cases_eq, Each, In, each_get, get_behind, get-map_range, upto, split_get, get_left}
+use Rattle.std.proofs.Common.{◌≡◌, ℕ, zero, suc, ◌+◌, ◌<◌, ◌≤◌, List, [], ◌∷◌, ◌++◌, length, map, Some, None}
 
 -- the only element of a list
 pub only : {X : Type 0} (w x : X) (k : ℕ) → slice_get (w ∷ []) k ≡ Some x → w ≡ x

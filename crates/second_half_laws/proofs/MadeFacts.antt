@@ -1,36 +1,7 @@
 -- What running jobs have made, and what it gave them.
-use Rattle.std.proofs.Common.{◌≡◌, ◌⊎◌, ℕ, suc, ◌<◌, ◌≤◌, ◌==◌, true, false, ◌&&◌, List, [], ◌∷◌, ◌++◌, length, Option, Some, refl, ap, sym, subst, ◌∙◌, inl, inr, arith}
-use Rattle.std.specs.Prelude.{slice_get}
-use Rattle.std.proofs.lemmas.Bool.{cases_Bool, cases_lt, and_parts, and_from, eqb-true, eq-eqb, false≢true}
+use Rattle.second_half_laws.proofs.Words.{◌⊎◌, true, ◌&&◌, refl, ap, sym, subst, ◌∙◌, inl, inr, arith, slice_get, cases_Bool, cases_lt, and_parts, and_from, eqb-true, eq-eqb, false≢true, In, each_get, each_append, honest_answer, challenge_of, SeenBlock, GivesSymbols, block_at, Held, AskGives, Setup, Kind, PutJob, GetJob, DropJob, AuditJob, RepairJob, UpgradeJob, Pinned, Given, Fetched, Answered, Worked, Job, job_of, object_of, profiled, Action, WriteBody, SyncBody, WriteGate, SyncGate, Store, Remove, Fetch, Ask, Work, End, append_actions, store_actions, read_actions, repair_actions, ask_actions, remove_actions, actions_by, actions_of, Step, State, IsStart, setup_in, block_given, blocks_given, answer_given, symbols_given, pinned_size, pinned_profile, next_action, Moment, now, IsRun, Makes, cond_true, cond_false, same_value, found_none, split_get, Changes, changes, setup_stays, All, all, block_at-given, next_stands, IsHeldThen, IsEarlier, WasMade, WasFetched, WasAsked, WasOpened, IsAnsweredThen, HasMade}
+use Rattle.std.proofs.Common.{◌≡◌, ℕ, suc, ◌<◌, ◌≤◌, ◌==◌, false, List, [], ◌∷◌, ◌++◌, length, Option, Some}
 use Rattle.std.proofs.lemmas.List.{append_assoc}
-use Rattle.algebra_laws.specs.Lists.{In}
-use Rattle.algebra_laws.proofs.Each.{each_get, each_append}
-use Rattle.column_defs.specs.Challenges.{honest_answer, challenge_of}
-use Rattle.column_defs.specs.Opened.{SeenBlock, GivesSymbols, block_at}
-use Rattle.device_defs.specs.Providers.{Held}
-use Rattle.device_defs.specs.ProviderCalls.{AskGives}
-use Rattle.record_defs.specs.Records.{Setup}
-use Rattle.machine_defs.specs.Jobs.{Kind, PutJob, GetJob, DropJob, AuditJob, RepairJob, UpgradeJob, Pinned, Given, Fetched, Answered, Worked, Job, job_of}
-use Rattle.machine_defs.specs.Setups.{object_of, profiled}
-use Rattle.machine_defs.specs.Actions.{Action, WriteBody, SyncBody, WriteGate, SyncGate, Store, Remove, Fetch, Ask, Work, End, append_actions, store_actions, read_actions, repair_actions, ask_actions, remove_actions, actions_by, actions_of}
-use Rattle.machine_defs.specs.Events.{Step}
-use Rattle.machine_defs.specs.States.{State, IsStart, setup_in}
-use Rattle.machine_defs.specs.Given.{block_given, blocks_given, answer_given, symbols_given, pinned_size, pinned_profile}
-use Rattle.machine_defs.specs.Steps.{next_action}
-use Rattle.machine_defs.specs.Runs.{Moment, now, IsRun}
-use Rattle.machine_defs.specs.Deeds.{Makes}
-use Rattle.machine_defs.proofs.JobLists.{cond_true, cond_false, same_value, found_none}
-use Rattle.machine_defs.proofs.ActionLists.{split_get}
-use Rattle.machine_defs.proofs.Changes.{Changes}
-use Rattle.machine_defs.proofs.Events.{changes}
-use Rattle.machine_defs.proofs.PinFacts.{setup_stays}
-use Rattle.machine_defs.proofs.Held.{All, all}
-use Rattle.machine_defs.proofs.Given.{block_at-given}
-use Rattle.machine_defs.proofs.NextActions.{next_stands}
-use Rattle.second_half_laws.specs.Origins.{IsHeldThen}
-use Rattle.second_half_laws.specs.Made.{IsEarlier, WasMade}
-use Rattle.second_half_laws.specs.Gave.{WasFetched, WasAsked, WasOpened, IsAnsweredThen}
-use Rattle.second_half_laws.specs.Behind.{HasMade}
 use Rattle.second_half_laws.proofs.Places.{fetch_before_work, by_kind, moves_all, stores_all, tail_all, reads_all, repairs_all}
 use Rattle.second_half_laws.proofs.Walk.{IsGift, IsSilent, Passed, Goes, Went, Walked, walked}
 use Rattle.second_half_laws.proofs.Passing.{Later, later_same, passed_later, passed_place, list_before, list_now}
@@ -156,38 +127,21 @@ gift_more (Ask i o r) more given now_given is h =
     (h.0, subst (In (Answered i o r h.0)) (sym is) (in_more more given (Answered i o r h.0) h.1))
 gift_more (Work o s) more given now_given is h =
     (h.0, subst (In (Worked o s h.0)) (sym is) (in_more more given (Worked o s h.0) h.1))
-gift_more (Store i o s) more given now_given is h = tt
-gift_more (Remove i o) more given now_given is h = tt
-gift_more WriteBody more given now_given is h = tt
-gift_more SyncBody more given now_given is h = tt
-gift_more WriteGate more given now_given is h = tt
-gift_more SyncGate more given now_given is h = tt
-gift_more End more given now_given is h = tt
+gift_more action more given now_given is h = tt
 
 gift_now : (old : State) (x : Job) (action : Action) (new : State) (gift : Given) →
     IsGift old x new action gift → HasGift action (gift ∷ x.given)
 gift_now old x (Fetch i o s) new gift h = (h.0, inl (sym h.1))
 gift_now old x (Ask i o r) new gift h = (h.0, inl (sym h.1))
 gift_now old x (Work o s) new gift h = (h.0, inl (sym h.1))
-gift_now old x (Store i o s) new gift h = absurd h
-gift_now old x (Remove i o) new gift h = absurd h
-gift_now old x WriteBody new gift h = absurd h
-gift_now old x SyncBody new gift h = absurd h
-gift_now old x WriteGate new gift h = absurd h
-gift_now old x SyncGate new gift h = absurd h
-gift_now old x End new gift h = absurd h
+gift_now old x action new gift h = absurd h
 
 silent_gift : (action : Action) (given : List Given) → IsSilent action → HasGift action given
 silent_gift (Store i o s) given h = tt
 silent_gift (Remove i o) given h = tt
 silent_gift SyncBody given h = tt
 silent_gift WriteGate given h = tt
-silent_gift (Fetch i o s) given h = absurd h
-silent_gift (Ask i o r) given h = absurd h
-silent_gift (Work o s) given h = absurd h
-silent_gift WriteBody given h = absurd h
-silent_gift SyncGate given h = absurd h
-silent_gift End given h = absurd h
+silent_gift action given h = absurd h
 
 passed_gift : (old : State) (x : Job) (action : Action) (new : State) (j : Job) → Passed old x action new j →
     HasGift action j.given
@@ -526,13 +480,7 @@ module _ (limit : ℕ) (start : State) (m : Moment) (ms : List Moment) (A : All 
             (sym (block_at-given x.given (setup_in (now start ms)).n o s i n_old))
             (fetched_on start m ms x j i o s (block_given x.given o s i) l c));
       })
-  came_now k x j (Store i o s) gift g h is_gift = absurd is_gift
-  came_now k x j (Remove i o) gift g h is_gift = absurd is_gift
-  came_now k x j WriteBody gift g h is_gift = absurd is_gift
-  came_now k x j SyncBody gift g h is_gift = absurd is_gift
-  came_now k x j WriteGate gift g h is_gift = absurd is_gift
-  came_now k x j SyncGate gift g h is_gift = absurd is_gift
-  came_now k x j End gift g h is_gift = absurd is_gift
+  came_now k x j action gift g h is_gift = absurd is_gift
 
   came_step : (k : ℕ) (j : Job) (gift : Given) → job_of m.state.jobs k ≡ Some j → In gift j.given →
       CameBy start (m ∷ ms) j gift

@@ -1,27 +1,7 @@
 -- The begin of an audit is a mark at the end of its repair.
-use Rattle.std.proofs.Common.{◌≡◌, ℕ, ◌≤◌, ◌<◌, List, [], ◌∷◌, ◌++◌, length, Some, refl, ap, sym, subst, ◌∙◌, inl, inr, arith}
-use Rattle.std.specs.Prelude.{slice_get}
-use Rattle.algebra_laws.proofs.Each.{each_get}
-use Rattle.record_defs.specs.Table.{next_audit}
-use Rattle.machine_defs.specs.Jobs.{AuditJob, RepairJob, Job, job_of}
-use Rattle.machine_defs.specs.Actions.{Action, Store, End, append_actions, ask_actions, actions_by, actions_of}
-use Rattle.machine_defs.specs.Answers.{Answer, Audited, Repaired}
-use Rattle.machine_defs.specs.Events.{Begin, Step, Begun, Ended}
-use Rattle.machine_defs.specs.Began.{NoneBegan}
-use Rattle.machine_defs.specs.States.{State, IsStart, setup_in}
-use Rattle.machine_defs.specs.Steps.{Ends, next_action}
-use Rattle.machine_defs.specs.Runs.{Moment, now, IsRun}
-use Rattle.machine_defs.specs.Calm.{since}
-use Rattle.machine_defs.proofs.ActionLists.{split_get}
-use Rattle.machine_defs.proofs.StepEnds.{HasFailed, IsItsEnd, event_end}
-use Rattle.machine_defs.proofs.Lone.{ended_of_kind}
-use Rattle.machine_defs.proofs.Events.{changes}
-use Rattle.machine_defs.proofs.Held.{all}
-use Rattle.machine_defs.proofs.Untouched.{run_back}
-use Rattle.machine_defs.proofs.Numbers.{audits, Draws, next_of_records, next_by, next_is_by}
+use Rattle.second_half_laws.proofs.Words.{refl, ap, sym, subst, ◌∙◌, inl, inr, arith, slice_get, each_get, next_audit, AuditJob, RepairJob, Job, job_of, Action, Store, End, append_actions, ask_actions, actions_by, actions_of, Answer, Audited, Repaired, Begin, Step, Begun, Ended, NoneBegan, State, IsStart, setup_in, Ends, next_action, Moment, now, IsRun, since, split_get, HasFailed, IsItsEnd, event_end, ended_of_kind, changes, all, run_back, audits, Draws, next_of_records, next_by, next_is_by, IsMark, IsCalmRun}
+use Rattle.std.proofs.Common.{◌≡◌, ℕ, ◌≤◌, ◌<◌, List, [], ◌∷◌, ◌++◌, length, Some}
 use Rattle.machine_defs.proofs.Numbers as num
-use Rattle.second_half_laws.specs.Marks.{IsMark}
-use Rattle.second_half_laws.specs.MarkedRuns.{IsCalmRun}
 use Rattle.second_half_laws.specs.Mended.{IsMended}
 use Rattle.second_half_laws.proofs.Turns.{turns}
 use Rattle.second_half_laws.proofs.Places.{of_kind, move_behind, store_within}

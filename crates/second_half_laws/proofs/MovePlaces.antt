@@ -1,28 +1,6 @@
 -- Where moves and works stand in the lists of actions of puts and repairs.
-use Rattle.std.proofs.Common.{◌≡◌, ℕ, zero, suc, ◌+◌, ◌-◌, ◌<◌, ◌≤◌, ◌==◌, ◌&&◌, Bool, true, false, cond, List, [], ◌∷◌, ◌++◌, length, Some, None, refl, ap, sym, subst, ◌∙◌, inl, inr, arith}
-use Rattle.std.specs.Prelude.{not, is_some, slice_get}
-use Rattle.std.proofs.lemmas.Bool.{and_left, ne_eqb, false≢true}
-use Rattle.std.specs.List.{flat_map}
-use Rattle.algebra_laws.specs.Lists.{Each, In}
-use Rattle.algebra_laws.proofs.Each.{each_get, each_append, each_map, each_flat, each_flat_in}
-use Rattle.algebra_laws.proofs.Lists.{get_behind}
-use Rattle.code_defs.specs.Points.{upto}
-use Rattle.record_defs.specs.Records.{Setup}
-use Rattle.record_defs.specs.Table.{setup_of, file_of}
-use Rattle.machine_defs.specs.Jobs.{Kind, PutJob, GetJob, DropJob, AuditJob, RepairJob, UpgradeJob, Pinned, Job, advanced}
-use Rattle.machine_defs.specs.Actions.{Action, WriteBody, SyncBody, WriteGate, SyncGate, Store, Fetch, Work, Remove, End, append_actions, on_each_provider, on_each_stripe, open_actions, store_actions, read_actions, remove_actions, repair_actions, ask_actions, actions_by, actions_of}
-use Rattle.machine_defs.specs.Setups.{profiled, pinned_stripes}
-use Rattle.machine_defs.specs.States.{State, setup_in, file_in}
-use Rattle.machine_defs.specs.Steps.{next_action, is_idle_drop}
-use Rattle.machine_defs.specs.Calm.{relies}
-use Rattle.machine_defs.proofs.ActionLists.{split_get}
-use Rattle.machine_defs.proofs.Numbers.{next_by, next_is_by}
-use Rattle.machine_defs.proofs.Fair.{stores_count, PutAt, put_next}
-use Rattle.machine_defs.proofs.Held.{actions_are}
-use Rattle.machine_defs.proofs.JobLists.{cond_false}
-use Rattle.machine_defs.proofs.PinFacts.{setup_same}
-use Rattle.machine_defs.proofs.Stripes.{get_left}
-use Rattle.machine_defs.proofs.NextActions.{next_stands, actions_by-advanced}
+use Rattle.second_half_laws.proofs.Words.{◌-◌, ◌&&◌, true, cond, refl, ap, sym, subst, ◌∙◌, inl, inr, arith, not, is_some, slice_get, and_left, ne_eqb, false≢true, flat_map, Each, In, each_get, each_append, each_map, each_flat, each_flat_in, get_behind, upto, Setup, setup_of, file_of, Kind, PutJob, GetJob, DropJob, AuditJob, RepairJob, UpgradeJob, Pinned, Job, advanced, Action, WriteBody, SyncBody, WriteGate, SyncGate, Store, Fetch, Work, Remove, End, append_actions, on_each_provider, on_each_stripe, open_actions, store_actions, read_actions, remove_actions, repair_actions, ask_actions, actions_by, actions_of, profiled, pinned_stripes, State, setup_in, file_in, next_action, is_idle_drop, relies, split_get, next_by, next_is_by, stores_count, PutAt, put_next, actions_are, cond_false, setup_same, get_left, next_stands, actions_by-advanced}
+use Rattle.std.proofs.Common.{◌≡◌, ℕ, zero, suc, ◌+◌, ◌<◌, ◌≤◌, ◌==◌, Bool, false, List, [], ◌∷◌, ◌++◌, length, Some, None}
 use Rattle.second_half_laws.proofs.Lists.{upto_in}
 use Rattle.second_half_laws.proofs.Places.{by_kind, reads_all, repairs_all, stores_all, asks_all, tail_all}
 
@@ -119,10 +97,7 @@ pub works_within : (w : State) (job : Job) (o s : ℕ) (kind : Kind) → job.kin
     (s < pinned_stripes (setup_in w) f)
 works_within w job o s (GetJob name) is reads h = read_within w job name o s is h
 works_within w job o s RepairJob is reads h = work_within w job o s is h
-works_within w job o s (PutJob name bytes) is reads h = absurd (false≢true reads)
-works_within w job o s (DropJob name) is reads h = absurd (false≢true reads)
-works_within w job o s AuditJob is reads h = absurd (false≢true reads)
-works_within w job o s UpgradeJob is reads h = absurd (false≢true reads)
+works_within w job o s kind is reads h = absurd (false≢true reads)
 
 -- the actions of a repair hang on its files and on what it flags
 abbrev repair_list : Setup → (ℕ → Bool) → List Pinned → List Action
@@ -201,26 +176,20 @@ followed_by t job UpgradeJob =
 
 -- a job that has made an action is no idle drop
 not_idle : (w : State) (job : Job) (kind : Kind) → is_idle_drop w (advanced job) kind ≡ false
-not_idle w job (PutJob name bytes) = refl
-not_idle w job (GetJob name) = refl
 not_idle w job (DropJob name) = and_left (job.place + 1 == 0) (not (is_some (file_in w name)))
     (ne_eqb (job.place + 1) 0 (λ e. omega arith))
-not_idle w job AuditJob = refl
-not_idle w job RepairJob = refl
-not_idle w job UpgradeJob = refl
+not_idle w job kind = refl
 
 -- behind a third move comes the fourth
 pub gate_next : (w : State) (job : Job) → next_action w job ≡ Some WriteGate →
     next_action w (advanced job) ≡ Some SyncGate
 gate_next w job h =
     (let here : slice_get (actions_by (setup_in w) job job.kind) job.place ≡ Some WriteGate =
-    by_kind (setup_in w) job job.kind job.place WriteGate refl
-    (next_stands w job WriteGate h (λ e. cc)) in
+    by_kind (setup_in w) job job.kind job.place WriteGate refl (next_stands w job WriteGate h (λ e. cc)) in
     let one : suc job.place ≡ job.place + 1 = omega arith in
     next_is_by w (advanced job)
     ∙ (cond_false (is_idle_drop w (advanced job) job.kind) (Some End)
-    (slice_get (actions_by (setup_in w) (advanced job) job.kind) (job.place + 1))
-    (not_idle w job job.kind)
+    (slice_get (actions_by (setup_in w) (advanced job) job.kind) (job.place + 1)) (not_idle w job job.kind)
     ∙ (ap (λ l. slice_get l (job.place + 1)) (actions_by-advanced (setup_in w) job job.kind)
     ∙ subst (λ n. slice_get (actions_by (setup_in w) job job.kind) n ≡ Some SyncGate) one
     (followed_by (setup_in w) job job.kind job.place here))))
@@ -228,20 +197,14 @@ gate_next w job h =
 -- the next action hangs on the records alone
 same_by : (v w : State) (job : Job) (kind : Kind) (place : ℕ) → v.records ≡ w.records →
     next_by v job kind place ≡ next_by w job kind place
-same_by v w job (PutJob name bytes) place e =
-    ap (λ t. slice_get (actions_by t job (PutJob name bytes)) place) (setup_same v w (ap setup_of e))
-same_by v w job (GetJob name) place e =
-    ap (λ t. slice_get (actions_by t job (GetJob name)) place) (setup_same v w (ap setup_of e))
 same_by v w job (DropJob name) place e =
     ap (λ rs. cond ((job.place == 0) && not (is_some (file_of rs name))) (Some End)
     (slice_get (actions_by (setup_in v) job (DropJob name)) place)) e
     ∙ ap (λ t. cond ((job.place == 0) && not (is_some (file_in w name))) (Some End)
     (slice_get (actions_by t job (DropJob name)) place)) (setup_same v w (ap setup_of e))
-same_by v w job AuditJob place e =
-    ap (λ t. slice_get (actions_by t job AuditJob) place) (setup_same v w (ap setup_of e))
-same_by v w job RepairJob place e =
-    ap (λ t. slice_get (actions_by t job RepairJob) place) (setup_same v w (ap setup_of e))
 same_by v w job UpgradeJob place e = refl
+same_by v w job kind place e =
+    ap (λ t. slice_get (actions_by t job kind) place) (setup_same v w (ap setup_of e))
 
 -- a job has the same next action wherever the records are the same
 pub next_same : (v w : State) (job : Job) → v.records ≡ w.records → next_action v job ≡ next_action w job

@@ -1,27 +1,9 @@
 -- Names in effect are names of the grammar, so a get of one is not refused for its name.
-use Rattle.std.proofs.Common.{◌≡◌, ℕ, ◌==◌, Bool, true, false, cond, List, [], ◌∷◌, length, Option, Some, None, refl, ap, sym, subst, ◌∙◌, inl, inr}
-use Rattle.std.specs.Prelude.{IsTrue, not, is_some}
-use Rattle.std.proofs.lemmas.Bool.{cases_Bool, false≢true}
-use Rattle.record_defs.specs.Records.{Record, SetUp, PutStart, PutDone, Drop, AuditStart, AuditDone, RepairDone, PutDoneIn, Version, Resume, InEffect, RepairDue, is_name}
-use Rattle.record_defs.specs.Table.{File, version_of, started_as, is_start_of, is_same_name, file_of, next_id}
-use Rattle.record_defs.proofs.FilesLaws.{same-eq}
-use Rattle.machine_defs.specs.Jobs.{Kind, PutJob, GetJob, DropJob, AuditJob, RepairJob, UpgradeJob, aim_of, Job, job_of}
+use Rattle.second_half_laws.proofs.Words.{true, cond, refl, ap, sym, subst, ◌∙◌, inl, inr, IsTrue, not, is_some, cases_Bool, false≢true, Record, SetUp, PutStart, PutDone, Drop, AuditStart, AuditDone, RepairDone, PutDoneIn, Version, Resume, InEffect, RepairDue, is_name, File, version_of, started_as, is_start_of, is_same_name, file_of, next_id, same-eq, Kind, PutJob, GetJob, DropJob, AuditJob, RepairJob, UpgradeJob, aim_of, Job, job_of, Refusal, Event, Begin, Outcome, Refused, State, Append, Doubt, AreFirst, IsStart, file_in, sight_of, is_busy, refusal_of_begin, begin_refusal, Begins, Writes, done_record, is_first_append, Happens, Moment, now, IsRun, IsGetRefusal, cond_true, cond_false, same_value, found_none, by_version, Job_is, Append_is, Records_is, Doubt_is, Changes, changes, objects}
+use Rattle.std.proofs.Common.{◌≡◌, ℕ, ◌==◌, Bool, false, List, [], ◌∷◌, length, Option, Some, None}
 use Rattle.machine_defs.specs.Refusals as refusal
-use Rattle.machine_defs.specs.Refusals.{Refusal}
-use Rattle.machine_defs.specs.Events.{Event, Begin, Outcome, Refused}
-use Rattle.machine_defs.specs.States.{State, Append, Doubt, AreFirst, IsStart, file_in}
-use Rattle.machine_defs.specs.Sights.{sight_of, is_busy, is_stored}
-use Rattle.machine_defs.specs.Begins.{refusal_of_begin, begin_refusal, Begins}
-use Rattle.machine_defs.specs.Appends.{Writes, done_record, is_first_append}
-use Rattle.machine_defs.specs.Machine.{Happens}
-use Rattle.machine_defs.specs.Runs.{Moment, now, IsRun}
-use Rattle.machine_defs.specs.Halves.{IsGetRefusal}
+use Rattle.machine_defs.specs.Sights.{is_stored}
 use Rattle.machine_defs.proofs.Sights.{stored-file}
-use Rattle.machine_defs.proofs.JobLists.{cond_true, cond_false, same_value, found_none}
-use Rattle.machine_defs.proofs.Done.{by_version}
-use Rattle.machine_defs.proofs.Changes.{Job_is, Append_is, Records_is, Doubt_is, Changes}
-use Rattle.machine_defs.proofs.Events.{changes}
-use Rattle.machine_defs.proofs.Numbers.{objects}
 use Rattle.machine_defs.proofs.Numbers as num
 
 -- a put's start and a packed file name a name of the grammar
@@ -117,13 +99,11 @@ writes_named w job (PutJob name bytes) entry named h = elim (cases_Bool (is_firs
       (by_version (version_of w.records) job.subject (length bytes) job.profile IsNamed tt tt)
 ]
 writes_named w job (GetJob name) entry named h = absurd h
-writes_named w job (DropJob name) entry named h = subst IsNamed (sym h) tt
 writes_named w job AuditJob entry named h = elim (cases_Bool (is_first_append job)) [
   | inl t ↦ subst IsNamed (sym (let g = rw t at h in g)) tt
   | inr f ↦ (let g = rw f at h in subst IsNamed (sym g.2) tt)
 ]
-writes_named w job RepairJob entry named h = subst IsNamed (sym h) tt
-writes_named w job UpgradeJob entry named h = subst IsNamed (sym h) tt
+writes_named w job kind entry named h = subst IsNamed (sym h) tt
 
 -- a refusal that comes is not the none of a begin
 some_none : {X : Type 0} (o : Option X) (x : X) → o ≡ None → o ≡ Some x → ⊥
@@ -142,11 +122,7 @@ begun_named limit w (PutJob name bytes) wish h =
     go false true ok rest e = absurd (some_none _ refusal.Busy e refl)
     go false false false rest e = absurd (some_none _ refusal.BadName e refl)
     go false false true rest e = refl
-begun_named limit w (GetJob name) wish h = tt
-begun_named limit w (DropJob name) wish h = tt
-begun_named limit w AuditJob wish h = tt
-begun_named limit w RepairJob wish h = tt
-begun_named limit w UpgradeJob wish h = tt
+begun_named limit w kind wish h = tt
 
 record Facts (w : State) : Type 0 where
   records : AreNamed w.records
@@ -232,9 +208,8 @@ get_refusal limit w name file why named h e = go w.is_barred
 
 -- a get of a name in effect is refused for MustReopen, Busy or Memory alone
 pub begins_stored : (limit : ℕ) (start : State) (m : Moment) (ms : List Moment) (name : List ℕ) (file : File)
-    (why : Refusal) → IsStart start → IsRun limit start (m ∷ ms) →
-    m.event ≡ Begin (GetJob name) → m.outcome ≡ Refused why → file_in (now start ms) name ≡ Some file →
-    IsGetRefusal why
+    (why : Refusal) → IsStart start → IsRun limit start (m ∷ ms) → m.event ≡ Begin (GetJob name) →
+    m.outcome ≡ Refused why → file_in (now start ms) name ≡ Some file → IsGetRefusal why
 begins_stored limit start m ms name file why clean run event outcome h =
     (let g : Begins limit (length ms) (now start ms) (GetJob name) (Refused why) m.state =
     subst (λ (x : Event). Happens limit (length ms) (now start ms) x (Refused why) m.state) event

@@ -1,22 +1,7 @@
 -- No fetched row of a get is a forgery in a run that is calm by a mark.
-use Rattle.std.proofs.Common.{◌≡◌, ℕ, List, [], ◌∷◌, Some, refl, ap, sym, subst, ◌∙◌, inl}
-use Rattle.std.specs.Prelude.{IsTrue, ◌≤◌}
-use Rattle.algebra_laws.specs.Lists.{In}
-use Rattle.column_defs.specs.Opened.{SeenBlock, AllOpen}
-use Rattle.record_defs.specs.Records.{Setup}
-use Rattle.record_defs.specs.Table.{File}
-use Rattle.machine_defs.specs.Jobs.{GetJob, Job, job_of}
-use Rattle.machine_defs.specs.Setups.{object_of, profiled}
-use Rattle.machine_defs.specs.States.{State, IsStart, setup_in, file_object, file_in}
-use Rattle.machine_defs.specs.Begins.{pinned_file}
-use Rattle.machine_defs.specs.Given.{blocks_given}
-use Rattle.machine_defs.specs.Runs.{Moment, now, IsRun}
-use Rattle.machine_defs.specs.Calm.{Mark, relies, replaced_count}
-use Rattle.machine_defs.specs.Heard.{heard_by, HoldsForgery}
-use Rattle.machine_defs.proofs.JobLists.{same_value}
-use Rattle.machine_defs.proofs.Gets.{HasFile, heard_blocks}
-use Rattle.machine_defs.proofs.PinFacts.{setup_same}
-use Rattle.run_laws.proofs.FirstHalf.{runs_shape}
+use Rattle.second_half_laws.proofs.Words.{refl, ap, sym, subst, ◌∙◌, inl, IsTrue, In, SeenBlock, AllOpen, Setup, File, GetJob, Job, job_of, object_of, profiled, State, IsStart, setup_in, file_object, file_in, pinned_file, blocks_given, Moment, now, IsRun, Mark, relies, replaced_count, heard_by, HoldsForgery, same_value, HasFile, heard_blocks, setup_same, runs_shape}
+use Rattle.std.proofs.Common.{◌≡◌, ℕ, List, [], ◌∷◌, Some}
+use Rattle.std.specs.Prelude.{◌≤◌}
 use Rattle.second_half_laws.proofs.Absent.{own_row}
 use Rattle.second_half_laws.proofs.GetEnds.{have_files}
 use Rattle.second_half_laws.proofs.EveryRun.{always}

@@ -1,20 +1,7 @@
 -- Counts of devices never fall, and a provider that tells what it holds goes on telling.
-use Rattle.std.proofs.Common.{◌≡◌, ℕ, ◌≤◌, ◌==◌, Bool, true, false, List, [], ◌∷◌, length, Option, Some, None, refl, sym, subst, inl, inr, arith}
-use Rattle.std.specs.Prelude.{IsSome}
-use Rattle.std.specs.Option.{option_map}
-use Rattle.std.proofs.lemmas.Bool.{cases_Bool, eqb-true, false≢true}
+use Rattle.second_half_laws.proofs.Words.{true, refl, sym, subst, inl, inr, arith, IsSome, option_map, cases_Bool, eqb-true, false≢true, Held, Provider, LosesPart, with_block, without_object, Stores, FailsToStore, FindsNoMemory, Fetches, Asks, Removes, Replaces, Job, Event, Outcome, State, Alone, with_provider, Happens, Moment, now, IsRun, AllTell, Answer, IsUnstored, Acting, Beside, Cases, by_alone, by_event, cond_true, cond_false}
+use Rattle.std.proofs.Common.{◌≡◌, ℕ, ◌≤◌, ◌==◌, Bool, false, List, [], ◌∷◌, length, Option, Some, None}
 use Rattle.device_defs.specs.Told.{Goes}
-use Rattle.device_defs.specs.Providers.{Held, Provider, LosesPart, with_block, without_object}
-use Rattle.device_defs.specs.ProviderCalls.{Stores, FailsToStore, FindsNoMemory, Fetches, Asks, Removes, Replaces}
-use Rattle.machine_defs.specs.Jobs.{Job}
-use Rattle.machine_defs.specs.Events.{Event, Outcome}
-use Rattle.machine_defs.specs.States.{State, Alone, with_provider}
-use Rattle.machine_defs.specs.Machine.{Happens}
-use Rattle.machine_defs.specs.Runs.{Moment, now, IsRun}
-use Rattle.machine_defs.specs.Halves.{AllTell}
-use Rattle.machine_defs.specs.Answers.{Answer}
-use Rattle.machine_defs.proofs.Cases.{IsUnstored, Acting, Beside, Cases, by_alone, by_event}
-use Rattle.machine_defs.proofs.JobLists.{cond_true, cond_false}
 
 -- what is seen of a provider, from one moment to a later one
 pub record Onward (p q : Provider) : Type 0 where
@@ -150,8 +137,8 @@ module _ (old : State) where
     finishes = λ a next flight mine faults low. quiet _ refl low;
     bars = λ action plain next mine faults low rose. quiet _ refl low;
     bars_gated = λ a next flight mine faults low rose. quiet _ refl low;
-    begins_not = λ next none faults low. quiet _ refl low;
-    gates_not = λ a next flight mine faults low. quiet _ refl low;
+    begins_not = λ next none. quiet _ refl (omega arith);
+    gates_not = λ a next flight mine. quiet _ refl (omega arith);
     stores = λ j o s p next call. called j p _ (stored (old.providers j) p o s _ call) refl refl;
     stores_not = λ j o s p how next call. called j p _ (not_stored j p how call) refl refl;
     fetches = λ j o s block p next call. called j p _ (fetched (old.providers j) p _ o s block call) refl refl;

@@ -1,20 +1,6 @@
 -- Each block that a running job was given came of a fetch since its begin.
-use Rattle.std.proofs.Common.{◌≡◌, ℕ, ◌≤◌, ◌==◌, List, [], ◌∷◌, ◌++◌, length, Option, Some, None, refl, ap, sym, subst, ◌∙◌, inl, inr, arith}
-use Rattle.std.proofs.lemmas.Bool.{eq-eqb}
-use Rattle.algebra_laws.specs.Lists.{In}
-use Rattle.device_defs.specs.Providers.{Provider}
-use Rattle.device_defs.specs.ProviderCalls.{FailsToGive, Fetches}
-use Rattle.machine_defs.specs.Jobs.{Kind, PutJob, Pinned, Job, Given, Fetched, Answered, Worked, job_of, with_job, without_job, advanced, advanced_with}
-use Rattle.machine_defs.specs.Events.{Event, Outcome}
-use Rattle.machine_defs.specs.States.{State, IsStart, worked_object, with_provider, going_on}
-use Rattle.machine_defs.specs.Begins.{beginning}
-use Rattle.machine_defs.specs.Machine.{Happens}
-use Rattle.machine_defs.specs.Runs.{Moment, now, IsRun}
-use Rattle.machine_defs.proofs.Asides.{steps_aside}
-use Rattle.machine_defs.proofs.Cases.{Acting, Cases, by_event}
-use Rattle.machine_defs.proofs.JobLists.{cond_true, found_with, found_without, found_more, found_none}
-use Rattle.machine_defs.proofs.Held.{all}
-use Rattle.second_half_laws.specs.Origins.{IsHeldThen, CameOf}
+use Rattle.second_half_laws.proofs.Words.{refl, ap, sym, subst, ◌∙◌, inl, inr, arith, eq-eqb, In, Provider, FailsToGive, Fetches, Kind, PutJob, Pinned, Job, Given, Fetched, Answered, Worked, job_of, with_job, without_job, advanced, advanced_with, Event, Outcome, State, IsStart, worked_object, with_provider, going_on, beginning, Happens, Moment, now, IsRun, steps_aside, Acting, Cases, by_event, cond_true, found_with, found_without, found_more, found_none, all, IsHeldThen, CameOf}
+use Rattle.std.proofs.Common.{◌≡◌, ℕ, ◌≤◌, ◌==◌, List, [], ◌∷◌, ◌++◌, length, Option, Some, None}
 
 -- a gift that is a block was held by its provider
 abbrev IsFound : State → State → List Pinned → Given → Type 0
@@ -83,8 +69,8 @@ module _ (old : State) where
       finishes = λ a next flight mine faults low. goes_on _ _ refl refl refl refl refl;
       bars = λ action plain next mine faults low rose. ends _ refl;
       bars_gated = λ a next flight mine faults low rose. ends _ refl;
-      begins_not = λ next none faults low. ends _ refl;
-      gates_not = λ a next flight mine faults low. ends _ refl;
+      begins_not = λ next none. ends _ refl;
+      gates_not = λ a next flight mine. ends _ refl;
       stores = λ j o s p next call. goes_on _ (advanced job) refl refl refl refl refl;
       stores_not = λ j o s p how next call. ends _ refl;
       fetches = λ j o s block p next call.

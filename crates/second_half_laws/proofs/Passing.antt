@@ -1,19 +1,6 @@
 -- What stays of a job, and of its list of actions, when it makes one of them.
-use Rattle.std.proofs.Common.{◌≡◌, ℕ, zero, suc, ◌+◌, ◌-◌, ◌<◌, ◌≤◌, ◌⊎◌, List, [], ◌∷◌, ◌++◌, length, Some, refl, ap, sym, subst, ◌∙◌, inl, inr, arith}
-use Rattle.std.specs.Prelude.{slice_get}
-use Rattle.std.proofs.lemmas.Bool.{cases_lt}
-use Rattle.algebra_laws.proofs.Each.{each_get}
-use Rattle.record_defs.specs.Records.{Setup}
-use Rattle.machine_defs.specs.Jobs.{Kind, PutJob, GetJob, DropJob, AuditJob, RepairJob, UpgradeJob, Given, Job, advanced, advanced_with}
-use Rattle.machine_defs.specs.Actions.{Action, WriteBody, SyncGate, End, append_actions, store_actions, remove_actions, actions_by, actions_of}
-use Rattle.machine_defs.specs.States.{State, setup_in}
-use Rattle.machine_defs.specs.Appends.{subject_drawn, taken_out}
-use Rattle.machine_defs.specs.Steps.{next_action}
-use Rattle.machine_defs.proofs.Numbers.{first_above, drawn_later}
-use Rattle.machine_defs.proofs.ActionLists.{split_get}
-use Rattle.machine_defs.proofs.Held.{actions_are}
-use Rattle.machine_defs.proofs.Fair.{PutAt, put_next}
-use Rattle.machine_defs.proofs.NextActions.{next_stands, actions_by-advanced}
+use Rattle.second_half_laws.proofs.Words.{◌-◌, ◌⊎◌, refl, ap, sym, subst, ◌∙◌, inl, inr, arith, slice_get, cases_lt, each_get, Setup, Kind, PutJob, DropJob, Given, Job, advanced, advanced_with, Action, WriteBody, SyncGate, End, append_actions, store_actions, remove_actions, actions_by, actions_of, State, setup_in, subject_drawn, taken_out, next_action, first_above, drawn_later, split_get, actions_are, PutAt, put_next, next_stands, actions_by-advanced}
+use Rattle.std.proofs.Common.{◌≡◌, ℕ, zero, suc, ◌+◌, ◌<◌, ◌≤◌, List, [], ◌∷◌, ◌++◌, length, Some}
 use Rattle.second_half_laws.proofs.Walk.{IsGift, IsSilent, Passed}
 use Rattle.second_half_laws.proofs.Places.{by_kind, tail_all}
 
@@ -30,20 +17,30 @@ pub record Later (x j : Job) : Type 0 where
   pub more : List Given
   pub given : j.given ≡ more ++ x.given
 
--- each job is itself, at a later moment
-pub later_same : (x : Job) → Later x x
-later_same x = record {
+-- what a job is with more given to it, at a later place
+pub later_by : (x : Job) (subject : ℕ) (older : List ℕ) (place : ℕ) (more : List Given) → x.place ≤ place →
+    (4 ≤ x.place → x.subject ≡ subject) →
+    Later x (record x { subject = subject; older = older; place = place; given = more ++ x.given })
+later_by x subject older place more l same = record {
   number = refl;
   kind = refl;
   profile = refl;
   begun = refl;
   pinned = refl;
   flagged = refl;
-  subject = λ l. refl;
-  place = omega arith;
-  more = [];
+  subject = same;
+  place = l;
+  more = more;
   given = refl;
 }
+
+-- each job is itself, at a later moment
+pub later_same : (x : Job) → Later x x
+later_same x = later_by x x.subject x.older x.place [] (omega arith) (λ l. refl)
+
+-- it is the same job with one more action made
+pub later_advanced : (x : Job) → Later x (advanced x)
+later_advanced x = later_by x x.subject x.older (x.place + 1) [] (omega arith) (λ l. refl)
 
 on_to : (x y j : Job) → j ≡ y → Later x y → Later x j
 on_to x y j is h = subst (Later x) (sym is) h
@@ -51,61 +48,16 @@ on_to x y j is h = subst (Later x) (sym is) h
 -- a job that has made an action is the same job, later
 pub passed_later : (old : State) (x : Job) (action : Action) (new : State) (j : Job) →
     Passed old x action new j → Later x j
-passed_later old x action new j (Passed.silent quiet is rec) =
-    on_to x (advanced x) j is
-    (record {
-      number = refl;
-      kind = refl;
-      profile = refl;
-      begun = refl;
-      pinned = refl;
-      flagged = refl;
-      subject = λ l. refl;
-      place = omega arith;
-      more = [];
-      given = refl;
-    })
-passed_later old x action new j (Passed.gave gift is_gift is rec) =
-    on_to x (advanced_with x gift) j is
-    (record {
-      number = refl;
-      kind = refl;
-      profile = refl;
-      begun = refl;
-      pinned = refl;
-      flagged = refl;
-      subject = λ l. refl;
-      place = omega arith;
-      more = gift ∷ [];
-      given = refl;
-    })
+passed_later old x action new j (Passed.silent quiet is rec) = on_to x (advanced x) j is (later_advanced x)
+passed_later old x action new j (Passed.gave gift is_gift is rec) = on_to x (advanced_with x gift) j is
+    (later_by x x.subject x.older (x.place + 1) (gift ∷ []) (omega arith) (λ l. refl))
 passed_later old x action new j (Passed.drew act is rec) =
-    on_to x (record (advanced x) { subject = subject_drawn old x x.kind }) j is (record {
-      number = refl;
-      kind = refl;
-      profile = refl;
-      begun = refl;
-      pinned = refl;
-      flagged = refl;
-      subject = λ l. sym (drawn_later old x x.kind (first_above x l));
-      place = omega arith;
-      more = [];
-      given = refl;
-    })
+    on_to x (record (advanced x) { subject = subject_drawn old x x.kind }) j is
+    (later_by x (subject_drawn old x x.kind) x.older (x.place + 1) [] (omega arith)
+    (λ l. sym (drawn_later old x x.kind (first_above x l))))
 passed_later old x action new j (Passed.finished a act flight mine is rec) =
     on_to x (record (advanced x) { older = taken_out old x x.kind }) j is
-    (record {
-      number = refl;
-      kind = refl;
-      profile = refl;
-      begun = refl;
-      pinned = refl;
-      flagged = refl;
-      subject = λ l. refl;
-      place = omega arith;
-      more = [];
-      given = refl;
-    })
+    (later_by x x.subject (taken_out old x x.kind) (x.place + 1) [] (omega arith) (λ l. refl))
 
 -- a job that has made an action stands at the next place
 pub passed_place : (old : State) (x : Job) (action : Action) (new : State) (j : Job) →
@@ -153,11 +105,7 @@ eight_same ss ys zs p l = same_front append_actions (ss ++ (append_actions ++ ys
 pub same_given : (s : Setup) (x : Job) (gift : Given) (kind : Kind) →
     actions_by s (advanced_with x gift) kind ≡ actions_by s x kind
 same_given s x gift (PutJob name bytes) = refl
-same_given s x gift (GetJob name) = refl
-same_given s x gift (DropJob name) = refl
-same_given s x gift AuditJob = refl
-same_given s x gift RepairJob = refl
-same_given s x gift UpgradeJob = refl
+same_given s x gift kind = refl
 
 -- a job with a number drawn
 abbrev with_subject : Job → ℕ → Job
@@ -170,11 +118,7 @@ with_older x l = record (advanced x) { older = l }
 subject_first : (s : Setup) (x : Job) (n p : ℕ) (kind : Kind) → p < 4 →
     slice_get (actions_by s (with_subject x n) kind) p ≡ slice_get (actions_by s x kind) p
 subject_first s x n p (PutJob name bytes) l = four_same _ _ p l
-subject_first s x n p (GetJob name) l = refl
-subject_first s x n p (DropJob name) l = refl
-subject_first s x n p AuditJob l = refl
-subject_first s x n p RepairJob l = refl
-subject_first s x n p UpgradeJob l = refl
+subject_first s x n p kind l = refl
 
 subject_same : (s : Setup) (x : Job) (n p : ℕ) (kind : Kind) → n ≡ x.subject →
     slice_get (actions_by s (with_subject x n) kind) p ≡ slice_get (actions_by s x kind) p
@@ -185,11 +129,8 @@ subject_same s x n p kind e =
 older_first : (s : Setup) (x : Job) (l : List ℕ) (p : ℕ) (kind : Kind) → p < 4 →
     slice_get (actions_by s (with_older x l) kind) p ≡ slice_get (actions_by s x kind) p
 older_first s x l p (PutJob name bytes) k = four_same _ _ p k
-older_first s x l p (GetJob name) k = refl
 older_first s x l p (DropJob name) k = four_same _ _ p k
-older_first s x l p AuditJob k = refl
-older_first s x l p RepairJob k = refl
-older_first s x l p UpgradeJob k = refl
+older_first s x l p kind k = refl
 
 -- where the fourth moves of a put and a drop stand
 gate_within : (w : State) (x : Job) (name bytes : List ℕ) → x.kind ≡ PutJob name bytes →
@@ -222,15 +163,12 @@ older_same w x l p (PutJob name bytes) kind h k = elim (gate_within w x name byt
   | inl a ↦ older_first (setup_in w) x l p (PutJob name bytes) (omega (arith, a, k))
   | inr b ↦ eight_same (store_actions (setup_in w) x bytes) _ _ p (omega (arith, b, k))
 ]
-older_same w x l p (GetJob name) kind h k = refl
 older_same w x l p (DropJob name) kind h k =
     (let at = by_kind (setup_in w) x (DropJob name) x.place SyncGate kind
     (next_stands w x SyncGate h (λ e. cc)) in
     let a = drop_gate (setup_in w) x name x.place at in
     older_first (setup_in w) x l p (DropJob name) (omega (arith, a, k)))
-older_same w x l p AuditJob kind h k = refl
-older_same w x l p RepairJob kind h k = refl
-older_same w x l p UpgradeJob kind h k = refl
+older_same w x l p g kind h k = refl
 
 -- the actions of a job are those of its kind
 pub list_is : (s : Setup) (x : Job) → actions_of s x ≡ actions_by s x x.kind

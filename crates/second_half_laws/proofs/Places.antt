@@ -1,26 +1,6 @@
 -- What stands before what in the list of actions of a job.
-use Rattle.std.proofs.Common.{◌≡◌, ℕ, ◌+◌, ◌-◌, ◌<◌, ◌≤◌, Bool, true, false, cond, List, [], ◌∷◌, ◌++◌, length, Some, refl, ap, sym, subst, ◌∙◌, inl, inr, arith}
-use Rattle.std.specs.Prelude.{slice_get}
-use Rattle.std.specs.List.{flat_map}
-use Rattle.std.proofs.lemmas.Option.{slice_get_within}
-use Rattle.algebra_laws.specs.Lists.{Each, In}
-use Rattle.algebra_laws.proofs.Each.{each_get, each_append, each_map, each_flat, each_flat_in}
-use Rattle.algebra_laws.proofs.Lists.{get_behind}
-use Rattle.code_defs.specs.Points.{upto}
-use Rattle.record_defs.specs.Records.{Setup}
-use Rattle.machine_defs.specs.Jobs.{Kind, PutJob, GetJob, DropJob, AuditJob, RepairJob, UpgradeJob, Pinned, Job}
-use Rattle.machine_defs.specs.Setups.{profiled, pinned_stripes, put_stripes}
-use Rattle.machine_defs.specs.Actions.{Action, WriteBody, SyncBody, WriteGate, SyncGate, Store, Fetch, Ask, Work, Remove, End, append_actions, on_each_provider, on_each_stripe, store_actions, open_actions, read_actions, rewrite_actions, repair_actions, rounds_of, ask_actions, remove_actions, actions_by, actions_of}
-use Rattle.machine_defs.specs.States.{State, setup_in}
-use Rattle.machine_defs.specs.Steps.{next_action, is_idle_drop}
-use Rattle.machine_defs.specs.Deeds.{HasMadeStore}
-use Rattle.machine_defs.proofs.JobLists.{cond_true, cond_false}
-use Rattle.machine_defs.proofs.ActionLists.{split_get}
-use Rattle.machine_defs.proofs.Stripes.{get_left}
-use Rattle.machine_defs.proofs.Held.{actions_are}
-use Rattle.machine_defs.proofs.Fair.{stores_count, PutAt, put_at}
-use Rattle.machine_defs.proofs.NextActions.{next_stands}
-use Rattle.second_half_laws.specs.Behind.{HasMade}
+use Rattle.second_half_laws.proofs.Words.{◌-◌, true, cond, refl, ap, sym, subst, ◌∙◌, inl, inr, arith, slice_get, flat_map, slice_get_within, Each, In, each_get, each_append, each_map, each_flat, each_flat_in, get_behind, upto, Setup, Kind, PutJob, GetJob, DropJob, AuditJob, RepairJob, UpgradeJob, Pinned, Job, profiled, pinned_stripes, put_stripes, Action, WriteBody, SyncBody, WriteGate, SyncGate, Store, Fetch, Ask, Work, Remove, End, append_actions, on_each_provider, on_each_stripe, store_actions, open_actions, read_actions, rewrite_actions, repair_actions, rounds_of, ask_actions, remove_actions, actions_by, actions_of, State, setup_in, next_action, is_idle_drop, HasMadeStore, cond_true, cond_false, split_get, get_left, actions_are, stores_count, PutAt, put_at, next_stands, HasMade}
+use Rattle.std.proofs.Common.{◌≡◌, ℕ, ◌+◌, ◌<◌, ◌≤◌, Bool, false, List, [], ◌∷◌, ◌++◌, length, Some}
 use Rattle.second_half_laws.proofs.Lists.{only, Stands, stands_left, stands_right, stands_map, stands_flat, in_upto, upto_in, Behind, behind_none, behind_append, behind_flat, stands_before}
 
 -- what stands at a place of a job's list stands there in the list of its kind
@@ -187,8 +167,7 @@ work_behind t job (PutJob name bytes) i o s l = behind_none (Fetch i o s) (Work 
 work_behind t job (GetJob name) i o s l =
     behind_append (Fetch i o s) (Work o s) (read_actions t job.pinned) (End ∷ [])
     (behind_flat (Fetch i o s) (Work o s)
-    (λ (f : Pinned). on_each_stripe (profiled t f.profile) (length f.bytes) (open_actions t f.id))
-    job.pinned
+    (λ (f : Pinned). on_each_stripe (profiled t f.profile) (length f.bytes) (open_actions t f.id)) job.pinned
     (λ f in_f. behind_flat (Fetch i o s) (Work o s) (open_actions t f.id) (upto (pinned_stripes t f))
     (λ st in_st. open_behind t f.id st i o s l)))
     (behind_none (Fetch i o s) (Work o s) (End ∷ [])
@@ -264,8 +243,7 @@ get_stands w job name action kind h =
 -- a get that comes to its end has fetched each stripe of its file from each provider
 pub fetched_before_end : (w : State) (job : Job) (name : List ℕ) (f : Pinned) (s i : ℕ) →
     job.kind ≡ GetJob name → next_action w job ≡ Some End → In f job.pinned →
-    s < pinned_stripes (setup_in w) f → i < (setup_in w).n →
-    HasMade (setup_in w) job (Fetch i f.id s)
+    s < pinned_stripes (setup_in w) f → i < (setup_in w).n → HasMade (setup_in w) job (Fetch i f.id s)
 fetched_before_end w job name f s i kind h in_f l k =
     (let r = stands_before (read_actions (setup_in w) job.pinned) (End ∷ []) (Fetch i f.id s) End job.place
     (fetch_stands (setup_in w) job name f s i in_f l k)
@@ -452,8 +430,7 @@ put_late w job name bytes action kind h late none other =
 -- a put that comes to the third move of its second append has made each store
 pub stored_before_gate : (w : State) (job : Job) (name bytes : List ℕ) (i s : ℕ) →
     job.kind ≡ PutJob name bytes → next_action w job ≡ Some WriteGate → 4 ≤ job.place → i < (setup_in w).n →
-    s < put_stripes (setup_in w) job bytes →
-    HasMadeStore (setup_in w) job i job.subject s
+    s < put_stripes (setup_in w) job bytes → HasMadeStore (setup_in w) job i job.subject s
 stored_before_gate w job name bytes i s kind h late k l =
     put_stores (setup_in w) job name bytes i s kind
     (put_late w job name bytes WriteGate kind h late (λ z. z) (λ e. cc)) k l

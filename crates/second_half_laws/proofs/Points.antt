@@ -1,34 +1,9 @@
 -- What holds in a run that is calm by a mark: blocks that are stored are right, and a moment since which all
 -- damage is new stays one.
-use Rattle.std.proofs.Common.{◌≡◌, ℕ, ◌≤◌, ◌<◌, true, false, ◌⊎◌, List, ◌∷◌, length, Option, Some, None, refl, ap, sym, subst, ◌∙◌, inl, inr, arith}
-use Rattle.std.proofs.lemmas.Bool.{cases_Bool}
-use Rattle.algebra_laws.specs.Lists.{In}
-use Rattle.column_defs.specs.Objects.{symbols_in}
-use Rattle.column_defs.specs.Columns.{columns, column_of_symbols, is_wrong_block}
-use Rattle.algebra_laws.proofs.Options.{some-not-none}
-use Rattle.record_defs.specs.Table.{File, next_id, started_as}
-use Rattle.machine_defs.specs.Jobs.{PutJob, RepairJob, Pinned, Fetched, Worked, Job, job_of}
-use Rattle.machine_defs.specs.Actions.{Action, Store, Remove}
-use Rattle.machine_defs.specs.Setups.{object_of, profiled, stripes_of}
-use Rattle.machine_defs.specs.States.{State, Doubt, Scrub, Scrubbing, IsStart, setup_in, object_in, file_object, pinned_object, worked_object, file_in}
-use Rattle.machine_defs.specs.Alone.{block_to_scrub}
-use Rattle.machine_defs.specs.Given.{symbols_given}
-use Rattle.machine_defs.specs.Steps.{next_action, block_to_store}
-use Rattle.machine_defs.specs.Runs.{Moment, now, first_moments, is_replacement, is_replaced_since, IsRun}
-use Rattle.machine_defs.specs.Calm.{Mark, relies}
-use Rattle.machine_defs.specs.Halves.{begun_of}
-use Rattle.machine_defs.specs.Deeds.{told_block, HasMadeStore}
-use Rattle.machine_defs.proofs.Changes.{Block_is, Changes}
-use Rattle.machine_defs.proofs.Events.{some_told}
-use Rattle.machine_defs.proofs.Numbers.{audits}
+use Rattle.second_half_laws.proofs.Words.{true, ◌⊎◌, refl, ap, sym, subst, ◌∙◌, inl, inr, arith, cases_Bool, In, symbols_in, columns, column_of_symbols, is_wrong_block, some-not-none, File, next_id, started_as, PutJob, RepairJob, Pinned, Fetched, Worked, Job, job_of, Action, Store, Remove, object_of, profiled, stripes_of, State, Doubt, Scrub, Scrubbing, IsStart, setup_in, object_in, file_object, pinned_object, worked_object, file_in, block_to_scrub, symbols_given, next_action, block_to_store, Moment, now, first_moments, is_replacement, is_replaced_since, IsRun, Mark, relies, begun_of, told_block, HasMadeStore, Block_is, Changes, some_told, audits, is_fair, store_place, found_none, setup_same, All, store_kinds, remove_kinds, IsBad, IsReplaced, RoseSince, IsEndOfPut, Never, PrecedesPuts, IsClear, IsMark}
+use Rattle.std.proofs.Common.{◌≡◌, ℕ, ◌≤◌, ◌<◌, false, List, ◌∷◌, length, Option, Some, None}
 use Rattle.machine_defs.proofs.Numbers as num
-use Rattle.machine_defs.proofs.Fair.{is_fair, store_place}
-use Rattle.machine_defs.proofs.JobLists.{found_none}
-use Rattle.machine_defs.proofs.PinFacts.{setup_same}
-use Rattle.machine_defs.proofs.Held.{All, store_kinds, remove_kinds}
 use Rattle.run_laws.proofs.InEffect as eff
-use Rattle.second_half_laws.specs.Damage.{IsBad, IsReplaced, RoseSince}
-use Rattle.second_half_laws.specs.Marks.{IsEndOfPut, Never, PrecedesPuts, IsClear, IsMark}
 use Rattle.second_half_laws.proofs.Turns.{Turns}
 use Rattle.second_half_laws.proofs.Blocks.{since_more, since_now, since_earlier, right_block}
 use Rattle.second_half_laws.proofs.Places.{worked_before_store}
@@ -114,8 +89,7 @@ module _ (limit : ℕ) (mark : Mark) (start : State) (m : Moment) (ms : List Mom
   -- a block that a repair stores is the column
   pub stored_column : RowsRight (now start ms) → (x : Job) (i o s : ℕ) (b : Option (List ℕ)) →
       job_of (now start ms).jobs x.number ≡ Some x → next_action (now start ms) x ≡ Some (Store i o s) →
-      x.kind ≡ RepairJob →
-      b ≡ Some (block_to_store (now start ms) x x.kind i o s) →
+      x.kind ≡ RepairJob → b ≡ Some (block_to_store (now start ms) x x.kind i o s) →
       b ≡ Some (columns (worked_object (now start ms) x o) ((now start ms).bytes o) i s)
   stored_column W x i o s b runs next_is repairs b_is =
       (let g = made_work_gave limit start clean ms run x.number x o s runs
@@ -204,9 +178,8 @@ module _ (limit : ℕ) (mark : Mark) (start : State) (m : Moment) (ms : List Mom
   -- of the put whose record was in doubt
   put_bad : (d : Doubt) (id size p i s : ℕ) → (now start ms).doubt ≡ Some d →
       IsEndOfPut (now start ms).records d.entry id size p → setup_in m.state ≡ setup_in (now start ms) →
-      i < (setup_in m.state).n →
-      s < stripes_of (profiled (setup_in m.state) p) (length (m.state.bytes id)) → IsBad m.state p id i s →
-      IsReplaced (begun_of d.maker) i (m ∷ ms)
+      i < (setup_in m.state).n → s < stripes_of (profiled (setup_in m.state) p) (length (m.state.bytes id)) →
+      IsBad m.state p id i s → IsReplaced (begun_of d.maker) i (m ∷ ms)
   put_bad d id size p i s at e setup l k (b, told, wrong) =
       elim (cases_Bool (is_replaced_since (begun_of d.maker) i (m ∷ ms))) [
         | inl t ↦ t

@@ -1,52 +1,12 @@
 -- What gets and repairs read, in a calm run in which no audit missed damage.
-use Rattle.std.proofs.Common.{◌≡◌, ℕ, suc, ◌+◌, ◌≤◌, ◌<◌, ◌==◌, true, false, ◌⊎◌, ◌&&◌, List, [], ◌∷◌, length, Option, Some, None, refl, ap, sym, subst, ◌∙◌, inl, inr, arith}
-use Rattle.std.specs.Prelude.{IsTrue, IsSome, slice_get}
-use Rattle.std.specs.Option.{option_map}
-use Rattle.std.proofs.lemmas.Bool.{cases_Bool, cases_lt, and_parts, eqb-true, false≢true}
-use Rattle.algebra_laws.specs.Lists.{In}
-use Rattle.algebra_laws.proofs.Each.{each_get}
-use Rattle.code_defs.specs.Points.{upto}
-use Rattle.algebra_laws.proofs.Options.{some-not-none}
-use Rattle.column_defs.specs.Objects.{Object, symbols_in}
-use Rattle.column_defs.specs.Columns.{columns, is_wrong_block}
-use Rattle.column_defs.specs.Opened.{GivesSymbols, block_at}
-use Rattle.column_defs.specs.Forgeries.{count_of}
-use Rattle.column_laws.proofs.Counts.{count_of-within}
-use Rattle.record_defs.specs.Records.{Setup}
-use Rattle.record_defs.specs.Table.{next_id, started_as}
-use Rattle.device_defs.specs.Faults.{Rose, last_count}
-use Rattle.device_defs.specs.Providers.{Held}
-use Rattle.device_defs.specs.ProviderCalls.{FetchGives}
-use Rattle.machine_defs.specs.Jobs.{RepairJob, Pinned, Given, Fetched, Answered, Worked, Job, job_of}
-use Rattle.machine_defs.specs.Actions.{Action, WriteBody, SyncGate, Store, Work, Remove, actions_by, actions_of, Fetch, Ask}
-use Rattle.machine_defs.specs.Setups.{object_of, profiled, stripes_of, pinned_stripes}
-use Rattle.machine_defs.specs.States.{State, Scrubbing, IsStart, setup_in, object_in, object_among, pinned_object, worked_object}
-use Rattle.machine_defs.specs.Given.{block_given, blocks_given, pinned_profile}
-use Rattle.machine_defs.specs.Steps.{next_action, block_to_store}
-use Rattle.machine_defs.specs.Runs.{Moment, now, first_moments, is_replaced_since, IsRun}
-use Rattle.machine_defs.specs.Calm.{Mark, relies, replaced_count}
-use Rattle.machine_defs.specs.Halves.{AllTell}
-use Rattle.machine_defs.proofs.JobLists.{cond_true, cond_false, same_value, number_of}
-use Rattle.machine_defs.proofs.Changes.{Gave, Job_is, Block_is, Changes}
-use Rattle.machine_defs.specs.Deeds.{told_block, HasMadeStore}
-use Rattle.machine_defs.proofs.Events.{some_told}
-use Rattle.machine_defs.proofs.Numbers.{audits}
+use Rattle.second_half_laws.proofs.Words.{true, ◌⊎◌, ◌&&◌, refl, ap, sym, subst, ◌∙◌, inl, inr, arith, IsTrue, IsSome, slice_get, option_map, cases_Bool, cases_lt, and_parts, eqb-true, false≢true, In, each_get, upto, some-not-none, Object, symbols_in, columns, is_wrong_block, GivesSymbols, block_at, count_of, count_of-within, Setup, next_id, started_as, Rose, last_count, Held, FetchGives, RepairJob, Pinned, Given, Fetched, Answered, Worked, Job, job_of, Action, WriteBody, SyncGate, Store, Work, Remove, actions_by, actions_of, Fetch, Ask, object_of, profiled, stripes_of, pinned_stripes, State, Scrubbing, IsStart, setup_in, object_in, object_among, pinned_object, worked_object, block_given, blocks_given, pinned_profile, next_action, block_to_store, Moment, now, first_moments, is_replaced_since, IsRun, Mark, relies, replaced_count, AllTell, cond_true, cond_false, same_value, number_of, Gave, Job_is, Block_is, Changes, told_block, HasMadeStore, some_told, audits, HasPin, IsFair, fair, is_fair, pinned_stands, Pins_is, pins_is, setup_stays, All, first_more, first_all, store_kinds, remove_kinds, none_lone, block_at-given, runs_shape, is_wrong_seen, IsHeldThen, IsBad, IsReplaced, RoseSince}
+use Rattle.std.proofs.Common.{◌≡◌, ℕ, suc, ◌+◌, ◌≤◌, ◌<◌, ◌==◌, false, List, [], ◌∷◌, length, Option, Some, None}
 use Rattle.machine_defs.proofs.Numbers as num
-use Rattle.machine_defs.proofs.Fair.{HasPin, IsFair, fair, is_fair}
-use Rattle.machine_defs.proofs.Pins.{pinned_stands}
-use Rattle.machine_defs.proofs.PinFacts.{Pins_is, pins_is, setup_stays}
-use Rattle.machine_defs.proofs.Held.{All, first_more, first_all, store_kinds, remove_kinds}
-use Rattle.machine_defs.proofs.Refused.{none_lone}
-use Rattle.machine_defs.proofs.Given.{block_at-given}
 use Rattle.run_laws.proofs.InEffect as eff
-use Rattle.run_laws.proofs.FirstHalf.{runs_shape}
-use Rattle.second_half_laws.specs.FewWrong.{is_wrong_seen}
-use Rattle.second_half_laws.specs.Origins.{IsHeldThen}
 use Rattle.second_half_laws.proofs.Absent.{own_symbols}
 use Rattle.second_half_laws.proofs.Onward.{AllOnward}
 use Rattle.second_half_laws.proofs.Places.{by_kind}
 use Rattle.second_half_laws.proofs.Walk.{IsGift, Passed, Went, Walked}
-use Rattle.second_half_laws.specs.Damage.{IsBad, IsReplaced, RoseSince}
 use Rattle.second_half_laws.proofs.Turns.{Turns}
 use Rattle.second_half_laws.proofs.Blocks.{since_more, since_now, sized_wrong}
 use Rattle.second_half_laws.proofs.MovePlaces.{works_within, next_repairs, same_actions}
@@ -481,8 +441,7 @@ module _ (limit : ℕ) (mark : Mark) (start : State) (m : Moment) (ms : List Mom
   -- what a repair stored before an event is still the file's own after it, but for replacements
   pub carry : (k : ℕ) (x : Job) (i o s : ℕ) (b : Option (List ℕ)) → job_of (now start ms).jobs k ≡ Some x →
       x.kind ≡ RepairJob → HasMadeStore (setup_in (now start ms)) x i o s →
-      is_replaced_since x.begun i (m ∷ ms) ≡ false →
-      told_block m.state i o s ≡ Some b →
+      is_replaced_since x.begun i (m ∷ ms) ≡ false → told_block m.state i o s ≡ Some b →
       b ≡ Some (columns (worked_object (now start ms) x o) ((now start ms).bytes o) i s)
   carry k x i o s b runs kind made none told = elim (X.block i o s) [
     | Block_is.same e ↦ F.rewrote k x i o s b runs kind made (replaced_less x.begun i none) (sym e ∙ told)
@@ -535,8 +494,7 @@ module _ (limit : ℕ) (mark : Mark) (start : State) (m : Moment) (ms : List Mom
     | Job_is.finished x a runs next_is flight mine is rec free ↦
         by_place x SyncGate runs next_is (sym (ap (λ (y : Job). y.kind) is) ∙ kind)
         (ap (λ (y : Job). y.pinned) is) (ap (λ (y : Job). y.flagged) is) (ap (λ (y : Job). y.begun) is)
-        (ap (λ (y : Job). y.place) is)
-        (λ p q r c e t. absurd (let z : SyncGate ≡ Store p q r = e in cc))
+        (ap (λ (y : Job). y.place) is) (λ p q r c e t. absurd (let z : SyncGate ≡ Store p q r = e in cc))
   ]
     where
       setup : setup_in m.state ≡ setup_in (now start ms)
@@ -550,8 +508,7 @@ module _ (limit : ℕ) (mark : Mark) (start : State) (m : Moment) (ms : List Mom
           b ≡ Some (columns (worked_object m.state j o) (m.state.bytes o) i s)
       columns_on l x pinned runs p e =
           (let below : o < next_id (now start ms).records =
-          subst (λ n. n < next_id (now start ms).records) p.id_is
-          (A.pins.pins l x p.file runs p.pinned).0 in
+          subst (λ n. n < next_id (now start ms).records) p.id_is (A.pins.pins l x p.file runs p.pinned).0 in
           e ∙ (ap (λ ps. Some (columns (object_among (now start ms) ps o) ((now start ms).bytes o) i s))
           (sym pinned)
           ∙ (ap (λ y. Some (columns (object_among (now start ms) j.pinned o) y i s)) (sym (X.bytes o below))

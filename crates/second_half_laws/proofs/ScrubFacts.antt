@@ -1,47 +1,13 @@
 -- What holds of a scrub while it runs, where at most b providers were replaced since the mark at its begin:
 -- it reads new damage alone,
 -- opens each stripe to the file's own symbols, and stores the providers' own columns.
-use Rattle.std.proofs.Common.{◌≡◌, ℕ, ◌≤◌, ◌<◌, ◌==◌, Bool, true, false, cond, ◌⊎◌, List, [], ◌∷◌, length, Option, Some, None, refl, ap, sym, subst, ◌∙◌, inl, inr, arith}
-use Rattle.std.specs.Prelude.{IsSome}
-use Rattle.std.specs.Option.{option_map}
-use Rattle.std.specs.List.{flat_map}
-use Rattle.std.proofs.lemmas.Bool.{false≢true}
-use Rattle.algebra_laws.specs.Lists.{Each, In}
-use Rattle.algebra_laws.proofs.Each.{each_append, each_map, each_flat, each_flat_in}
-use Rattle.algebra_laws.proofs.Options.{some-not-none}
-use Rattle.hail_field.specs.Shape.{IsShape}
-use Rattle.code_defs.specs.Points.{upto}
-use Rattle.column_defs.specs.Objects.{Object, symbols_in}
-use Rattle.column_defs.specs.Columns.{columns, column_of_symbols, is_wrong_block}
-use Rattle.column_defs.specs.Opened.{GivesSymbols}
-use Rattle.record_defs.specs.Records.{Setup}
-use Rattle.record_defs.specs.Table.{setup_of, file_of, File}
-use Rattle.device_defs.specs.Providers.{Held}
-use Rattle.device_defs.specs.ProviderCalls.{FetchGives}
-use Rattle.machine_defs.specs.Jobs.{Pinned, Given, Fetched, Worked}
-use Rattle.machine_defs.specs.Actions.{Action, Store, Fetch, Work, End, on_each_provider, on_each_stripe, open_actions}
-use Rattle.machine_defs.specs.Setups.{object_of, profiled, stripes_of, pinned_stripes}
-use Rattle.machine_defs.specs.States.{State, Scrub, Scrubbing, setup_in, object_in, pinned_object, file_in}
-use Rattle.machine_defs.specs.Begins.{pinned_file}
-use Rattle.machine_defs.specs.Given.{blocks_given, symbols_given}
-use Rattle.machine_defs.specs.Alone.{scrub_actions, scrubbed_object, off_by, scrub_stores, opened_scrub, new_scrub, block_to_scrub}
-use Rattle.machine_defs.specs.Runs.{Moment, now, first_moments, is_replacement}
-use Rattle.machine_defs.specs.Calm.{Mark, replaced_count}
-use Rattle.machine_defs.specs.Halves.{AllTell}
-use Rattle.machine_defs.proofs.JobLists.{found_none}
-use Rattle.machine_defs.proofs.Changes.{Block_is, Changes}
-use Rattle.machine_defs.proofs.Events.{some_told}
-use Rattle.machine_defs.proofs.Pins.{Stands, in_effect_all}
-use Rattle.machine_defs.proofs.PinFacts.{setup_same}
-use Rattle.machine_defs.proofs.Held.{All, first_more, first_all}
-use Rattle.run_laws.proofs.InEffect.{valid_shape}
+use Rattle.second_half_laws.proofs.Words.{true, cond, ◌⊎◌, refl, ap, sym, subst, ◌∙◌, inl, inr, arith, IsSome, option_map, flat_map, false≢true, Each, In, each_append, each_map, each_flat, each_flat_in, some-not-none, IsShape, upto, Object, symbols_in, columns, column_of_symbols, is_wrong_block, GivesSymbols, Setup, setup_of, file_of, File, Held, FetchGives, Pinned, Given, Fetched, Worked, Action, Store, Fetch, Work, End, on_each_provider, on_each_stripe, open_actions, object_of, profiled, stripes_of, pinned_stripes, State, Scrub, Scrubbing, setup_in, object_in, pinned_object, file_in, pinned_file, blocks_given, symbols_given, scrub_actions, scrubbed_object, off_by, scrub_stores, opened_scrub, new_scrub, block_to_scrub, Moment, now, first_moments, is_replacement, Mark, replaced_count, AllTell, found_none, Block_is, Changes, some_told, in_effect_all, setup_same, All, first_more, first_all, valid_shape, shape_in, IsBad, IsReplaced, IsMark}
+use Rattle.std.proofs.Common.{◌≡◌, ℕ, ◌≤◌, ◌<◌, ◌==◌, Bool, false, List, [], ◌∷◌, length, Option, Some, None}
+use Rattle.machine_defs.proofs.Pins.{Stands}
 use Rattle.run_laws.proofs.InEffect as eff
-use Rattle.run_laws.proofs.FirstHalf.{shape_in}
 use Rattle.second_half_laws.proofs.Absent.{own_symbols}
 use Rattle.second_half_laws.proofs.Lists.{upto_in}
 use Rattle.second_half_laws.proofs.MadeFacts.{given_symbols}
-use Rattle.second_half_laws.specs.Damage.{IsBad, IsReplaced}
-use Rattle.second_half_laws.specs.Marks.{IsMark}
 use Rattle.second_half_laws.proofs.Scrubbing.{Beside, Scrub_goes, Scrub_is}
 use Rattle.second_half_laws.proofs.Blocks.{since_more, since_now, right_block, sized_wrong}
 use Rattle.second_half_laws.proofs.EveryRun.{stands_once, profile_of}

@@ -1,52 +1,15 @@
 -- The second half of the main theorem.
-use Rattle.std.proofs.Common.{◌≡◌, ℕ, zero, suc, ◌≤◌, ◌<◌, true, ◌⊎◌, List, [], ◌∷◌, length, Option, Some, None, refl, ap, sym, subst, ◌∙◌, inl, inr, arith}
-use Rattle.std.specs.Prelude.{IsTrue}
-use Rattle.std.proofs.lemmas.Bool.{cases_lt}
-use Rattle.algebra_laws.specs.Lists.{In}
-use Rattle.algebra_laws.proofs.Options.{some-not-none}
-use Rattle.code_defs.specs.Points.{upto}
-use Rattle.column_defs.specs.Objects.{stripes}
-use Rattle.column_defs.specs.Columns.{is_wrong_block}
-use Rattle.column_defs.specs.Forgeries.{count_of}
-use Rattle.column_laws.proofs.Counts.{count_of-within}
-use Rattle.record_defs.specs.Records.{Setup}
-use Rattle.record_defs.specs.Table.{File}
-use Rattle.device_defs.specs.Faults.{Rose, last_count}
-use Rattle.machine_defs.specs.Jobs.{Kind, PutJob, GetJob, DropJob, AuditJob, RepairJob, UpgradeJob, Pinned, Job, job_of}
-use Rattle.machine_defs.specs.Actions.{Fetch, Work}
+use Rattle.second_half_laws.proofs.Words.{true, ◌⊎◌, refl, ap, sym, subst, ◌∙◌, inl, inr, arith, IsTrue, cases_lt, In, some-not-none, upto, stripes, is_wrong_block, count_of, count_of-within, Setup, File, Rose, last_count, Kind, PutJob, GetJob, DropJob, AuditJob, RepairJob, UpgradeJob, Pinned, Job, job_of, Fetch, Work, Answer, Event, Begin, Step, Outcome, Refused, Ended, next_action, object_of, profiled, stripes_of, pinned_stripes, State, Scrub, Scrubbing, IsStart, setup_in, file_object, file_in, pinned_file, block_given, Moment, now, first_moments, is_replaced_since, came, IsRun, Mark, relies, replaced_count, since, IsCalm, MissesNone, NoneMissed, AreScrubsCalm, begun_of, CountRose, GivesOrRose, EndsWell, KeepsSecondHalf, SecondHalf, AllTell, SecondHalfHolds, number_of, found_none, changes, audits, setup_same, all, is_wrong_given, IsFewWrong, event_end, IsLone, HasMade, RoseSince, IsMark, AreMarks, IsLostByFaults, GivesOrIsLost, got_right}
+use Rattle.std.proofs.Common.{◌≡◌, ℕ, zero, suc, ◌≤◌, ◌<◌, List, [], ◌∷◌, length, Option, Some, None}
 use Rattle.machine_defs.specs.Answers as answer
-use Rattle.machine_defs.specs.Answers.{Answer}
-use Rattle.machine_defs.specs.Events.{Event, Begin, Step, Outcome, Refused, Ended}
-use Rattle.machine_defs.specs.Steps.{next_action}
-use Rattle.machine_defs.specs.Setups.{object_of, profiled, stripes_of, pinned_stripes}
-use Rattle.machine_defs.specs.States.{State, Scrub, Scrubbing, IsStart, setup_in, file_object, file_in}
-use Rattle.machine_defs.specs.Begins.{pinned_file}
-use Rattle.machine_defs.specs.Given.{block_given}
-use Rattle.machine_defs.specs.Runs.{Moment, now, first_moments, is_replaced_since, came, IsRun}
-use Rattle.machine_defs.specs.Calm.{Mark, relies, replaced_count, since, IsCalm}
-use Rattle.machine_defs.specs.Missed.{MissesNone, NoneMissed}
-use Rattle.machine_defs.specs.Scrubs.{AreScrubsCalm}
-use Rattle.machine_defs.specs.Halves.{begun_of, CountRose, GivesOrRose, EndsWell, KeepsSecondHalf, SecondHalf, AllTell, SecondHalfHolds}
-use Rattle.machine_defs.proofs.JobLists.{number_of, found_none}
-use Rattle.machine_defs.proofs.Events.{changes}
-use Rattle.machine_defs.proofs.Numbers.{audits}
 use Rattle.machine_defs.proofs.Numbers as num
-use Rattle.machine_defs.proofs.PinFacts.{setup_same}
-use Rattle.machine_defs.proofs.Held.{all}
 use Rattle.run_laws.proofs.InEffect as eff
-use Rattle.second_half_laws.specs.FewWrong.{is_wrong_given, IsFewWrong}
 use Rattle.second_half_laws.proofs.GetEnds.{have_files, Get_ends, get_ends, few_give, few_not_lost}
 use Rattle.second_half_laws.proofs.Names.{begins_stored}
 use Rattle.second_half_laws.proofs.Onward.{run_onward, all_tell}
 use Rattle.second_half_laws.proofs.Places.{fetched_before_work, fetched_before_end}
 use Rattle.second_half_laws.proofs.MadeFacts.{given_block, made_fetch_gave}
 use Rattle.second_half_laws.proofs.Walk.{walked}
-use Rattle.machine_defs.proofs.StepEnds.{event_end}
-use Rattle.machine_defs.proofs.Changes.{IsLone}
-use Rattle.second_half_laws.specs.Behind.{HasMade}
-use Rattle.second_half_laws.specs.Damage.{RoseSince}
-use Rattle.second_half_laws.specs.Marks.{IsMark}
-use Rattle.second_half_laws.specs.MarkedRuns.{AreMarks}
 use Rattle.second_half_laws.proofs.Turns.{turns}
 use Rattle.second_half_laws.proofs.Blocks.{no_first_file, no_first_due}
 use Rattle.second_half_laws.proofs.MovePlaces.{read_within}
@@ -54,12 +17,10 @@ use Rattle.second_half_laws.proofs.EveryRun.{always}
 use Rattle.second_half_laws.proofs.Points.{Facts, begin_of, mark_of}
 use Rattle.second_half_laws.proofs.Audits.{Audited}
 use Rattle.second_half_laws.proofs.Audits as aud
-use Rattle.second_half_laws.specs.Sharp.{IsLostByFaults, GivesOrIsLost}
 use Rattle.second_half_laws.proofs.Scrubbing.{Scrub_is, scrub_is}
 use Rattle.second_half_laws.proofs.ScrubFacts.{scrub_mark, Scrubbed, scrubs_right, scrubbed_step}
 use Rattle.second_half_laws.proofs.Readers as rd
 use Rattle.second_half_laws.proofs.NoForgery.{no_forgery}
-use Rattle.run_laws.proofs.FirstHalf.{got_right}
 
 -- ---- the facts, at each moment
 
@@ -131,8 +92,7 @@ scrub_on limit mark start m ms clean tell run calm moment K =
 -- in a run whose scrubs are calm by a mark which at each moment is one
 pub marked_scrubs : (limit : ℕ) (mark : Mark) (start : State) → IsStart start → AllTell start →
     (ms : List Moment) → IsRun limit start ms → AreScrubsCalm mark ms → AreMarks mark start ms →
-    (scrub : Scrub) → (now start ms).alone ≡ Some (Scrubbing scrub) →
-    Scrubbed mark start ms scrub
+    (scrub : Scrub) → (now start ms).alone ≡ Some (Scrubbing scrub) → Scrubbed mark start ms scrub
 marked_scrubs limit mark start clean tell [] run calm marks =
     λ scrub h. absurd (some-not-none start.alone (Scrubbing scrub) h clean.none_alone)
 marked_scrubs limit mark start clean tell (m ∷ ms) run calm marks =
@@ -189,8 +149,7 @@ pub record Both (start : State) (ms : List Moment) : Type 0 where
 
 both_step : (limit : ℕ) (start : State) (m : Moment) (ms : List Moment) → IsStart start → AllTell start →
     IsRun limit start (m ∷ ms) → IsCalm relies (since start) ms → AreScrubsCalm (since start) ms →
-    MissesNone start ms m.state (came (now start ms) m.state) →
-    Both start ms → Both start (m ∷ ms)
+    MissesNone start ms m.state (came (now start ms) m.state) → Both start ms → Both start (m ∷ ms)
 both_step limit start m ms clean tell run calm calm_scrubs missed B =
     (let A = all limit start clean ms run.2 in
     let U = num.facts audits limit start clean ms run.2 in
@@ -464,11 +423,7 @@ module _ (limit : ℕ) (mark : Mark) (start : State) (m : Moment) (ms : List Mom
       by_kind job runs (GetJob name) is = (let n = number_of (now start ms).jobs number job runs in
           get_gives job name how (subst (λ z. job_of (now start ms).jobs z ≡ Some job) (sym n) runs) is
           (event ∙ ap Step (sym n)) outcome)
-      by_kind job runs (PutJob name bytes) is = tt
-      by_kind job runs (DropJob name) is = tt
-      by_kind job runs AuditJob is = tt
-      by_kind job runs RepairJob is = tt
-      by_kind job runs UpgradeJob is = tt
+      by_kind job runs kd is = tt
 
       go : (found : Option Job) → job_of (now start ms).jobs number ≡ found →
           EndsWell (now start (first_moments (begun_of found) ms)) m.state found how

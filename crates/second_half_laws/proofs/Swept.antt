@@ -1,40 +1,9 @@
 -- What a scrub has swept: of a stripe that it has opened and rewritten, each provider holds its own column, or
 -- was replaced since the scrub's begin.
-use Rattle.std.proofs.Common.{◌≡◌, ℕ, zero, suc, ◌≤◌, ◌<◌, ◌==◌, Bool, true, false, cond, ◌⊎◌, List, [], ◌∷◌, ◌++◌, length, Option, Some, None, refl, ap, sym, subst, ◌∙◌, inl, inr, arith}
-use Rattle.std.specs.List.{flat_map}
-use Rattle.std.proofs.lemmas.Bool.{cases_Bool, eqb-true, false≢true}
-use Rattle.algebra_laws.specs.Lists.{Each, In}
-use Rattle.algebra_laws.proofs.Each.{each_append, each_map, each_flat, in_left, in_right, in_flat}
-use Rattle.code_defs.specs.Points.{upto}
-use Rattle.code_defs.specs.Profiles.{profile_of}
-use Rattle.column_defs.specs.Objects.{Object}
-use Rattle.column_defs.specs.Opened.{GivesSymbols}
-use Rattle.column_defs.specs.Columns.{columns, column_of_symbols}
-use Rattle.column_defs.proofs.ColumnLaws.{length-column_of_symbols}
-use Rattle.record_defs.specs.Records.{Setup}
-use Rattle.record_defs.specs.Table.{File, setup_of, file_of}
-use Rattle.device_defs.specs.Providers.{Held, sized}
-use Rattle.device_defs.specs.ProviderCalls.{FetchGives}
-use Rattle.machine_defs.specs.Jobs.{Pinned, Fetched, Worked}
-use Rattle.machine_defs.specs.Actions.{Action, Store, Fetch, Work, End, on_each_provider, on_each_stripe, open_actions}
-use Rattle.machine_defs.specs.Setups.{object_of, profiled, pinned_stripes}
-use Rattle.machine_defs.specs.States.{State, Scrub, Scrubbing, setup_in, pinned_object, file_in}
-use Rattle.machine_defs.specs.Begins.{pinned_file}
-use Rattle.machine_defs.specs.Given.{block_given, blocks_given}
-use Rattle.machine_defs.specs.Alone.{scrub_actions, scrubbed_object, differs, off_by, scrub_stores, opened_scrub, new_scrub, block_to_scrub}
-use Rattle.machine_defs.specs.Runs.{Moment, now, is_replaced_since}
-use Rattle.machine_defs.specs.Calm.{Mark, replaced_count}
-use Rattle.machine_defs.specs.Halves.{AllTell}
-use Rattle.machine_defs.specs.Deeds.{told_block}
-use Rattle.machine_defs.proofs.JobLists.{cond_true, cond_false, found_none}
-use Rattle.machine_defs.proofs.Changes.{Block_is, Changes}
-use Rattle.machine_defs.proofs.Events.{some_told}
-use Rattle.machine_defs.proofs.Given.{differs-none}
-use Rattle.machine_defs.proofs.PinFacts.{setup_same}
-use Rattle.machine_defs.proofs.Held.{All, replaced_before}
+use Rattle.second_half_laws.proofs.Words.{true, cond, ◌⊎◌, refl, ap, sym, subst, ◌∙◌, inl, inr, arith, flat_map, cases_Bool, eqb-true, false≢true, Each, In, each_append, each_map, each_flat, in_left, in_right, in_flat, upto, profile_of, Object, GivesSymbols, columns, column_of_symbols, length-column_of_symbols, Setup, File, setup_of, file_of, Held, sized, FetchGives, Pinned, Fetched, Worked, Action, Store, Fetch, Work, End, on_each_provider, on_each_stripe, open_actions, object_of, profiled, pinned_stripes, State, Scrub, Scrubbing, setup_in, pinned_object, file_in, pinned_file, block_given, blocks_given, scrub_actions, scrubbed_object, differs, off_by, scrub_stores, opened_scrub, new_scrub, block_to_scrub, Moment, now, is_replaced_since, Mark, replaced_count, AllTell, told_block, cond_true, cond_false, found_none, Block_is, Changes, some_told, differs-none, setup_same, All, replaced_before, IsReplaced}
+use Rattle.std.proofs.Common.{◌≡◌, ℕ, zero, suc, ◌≤◌, ◌<◌, ◌==◌, Bool, false, List, [], ◌∷◌, ◌++◌, length, Option, Some, None}
 use Rattle.run_laws.proofs.InEffect as eff
 use Rattle.second_half_laws.proofs.Lists.{in_upto}
-use Rattle.second_half_laws.specs.Damage.{IsReplaced}
 use Rattle.second_half_laws.proofs.Scrubbing.{Beside, Scrub_goes, Scrub_is}
 use Rattle.second_half_laws.proofs.Blocks.{since_more, since_now, telling}
 use Rattle.second_half_laws.proofs.Files.{all_pinned}
@@ -113,11 +82,8 @@ sized_is size (Some x) c h = elim (cases_Bool (length x == size)) [
 
 -- each profile's blocks have symbols
 some_size : (number : ℕ) → (profile_of number).size ≡ 0 → ⊥
-some_size zero h = omega (arith, h)
-some_size (suc zero) h = omega (arith, h)
-some_size (suc (suc zero)) h = omega (arith, h)
 some_size (suc (suc (suc zero))) h = omega (arith, h)
-some_size (suc (suc (suc (suc more)))) h = omega (arith, h)
+some_size number h = omega (arith, h)
 
 -- ---- what a scrub has swept
 
@@ -346,8 +312,7 @@ module _ (limit : ℕ) (mark : Mark) (start : State) (m : Moment) (ms : List Mom
       same_block : (f : Pinned) (j t : ℕ) (block : Option (List ℕ)) → In f scrub.files →
           t < pinned_stripes (setup_in (now start ms)) f → f.id ≡ o → t ≡ s →
           (off_by (now start ms) scrub f.id t symbols j == 0) ≡ true →
-          is_replaced_since scrub.begun j ms ≡ false →
-          told_block (now start ms) j f.id t ≡ Some block →
+          is_replaced_since scrub.begun j ms ≡ false → told_block (now start ms) j f.id t ≡ Some block →
           block ≡ Some (columns (pinned_object (now start ms) f) ((now start ms).bytes f.id) j t)
       same_block f j t block in_f k fo ts off unreplaced told =
           by_given (block_given scrub.given f.id t j) refl

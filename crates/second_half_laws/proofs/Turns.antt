@@ -1,22 +1,7 @@
 -- What each event does to the record in doubt and its maker, to the begins of audit numbers, and which jobs
 -- run on.
-use Rattle.std.proofs.Common.{◌≡◌, ℕ, ◌==◌, true, false, cond, ◌⊎◌, List, [], ◌∷◌, Option, Some, None, refl, ap, sym, subst, ◌∙◌, inl, inr}
-use Rattle.std.proofs.lemmas.Bool.{ne_eqb, cases_eq, cases_Bool, eqb-true, false≢true}
-use Rattle.algebra_laws.proofs.Options.{some-not-none, is_some-none}
-use Rattle.record_defs.specs.Records.{Setup, SetUp}
-use Rattle.record_defs.specs.Table.{setup_of}
-use Rattle.machine_defs.specs.Jobs.{PutJob, Job, job_of, with_job, without_job, advanced}
-use Rattle.machine_defs.specs.Actions.{Action, WriteBody, SyncBody, WriteGate, SyncGate, Store, Fetch, Ask, Work, Remove}
-use Rattle.machine_defs.specs.Events.{Event, Outcome}
-use Rattle.machine_defs.specs.States.{State, Append, Doubt}
-use Rattle.machine_defs.specs.Begins.{beginning}
-use Rattle.machine_defs.specs.Appends.{audits_drawn}
-use Rattle.machine_defs.specs.Steps.{next_action}
-use Rattle.machine_defs.specs.Openings.{LeavesDoubt}
-use Rattle.machine_defs.specs.Machine.{Happens}
-use Rattle.machine_defs.proofs.Cases.{IsLast, Acting, Cases, by_event}
-use Rattle.machine_defs.proofs.JobLists.{cond_true, cond_false, same_value, found_itself, still_found}
-use Rattle.machine_defs.proofs.Asides.{steps_aside}
+use Rattle.second_half_laws.proofs.Words.{true, cond, ◌⊎◌, refl, ap, sym, subst, ◌∙◌, inl, inr, ne_eqb, cases_eq, cases_Bool, eqb-true, false≢true, some-not-none, is_some-none, Setup, SetUp, setup_of, PutJob, Job, job_of, with_job, without_job, advanced, Action, WriteBody, SyncBody, WriteGate, SyncGate, Store, Fetch, Ask, Work, Remove, Event, Outcome, State, Append, Doubt, beginning, audits_drawn, next_action, LeavesDoubt, Happens, IsLast, Acting, Cases, by_event, cond_true, cond_false, same_value, found_itself, still_found, steps_aside}
+use Rattle.std.proofs.Common.{◌≡◌, ℕ, ◌==◌, false, List, [], ◌∷◌, Option, Some, None}
 use Rattle.run_laws.proofs.Direct.{was_moved, first_job}
 
 -- the jobs of other numbers stay
@@ -214,9 +199,9 @@ module _ (old : State) where
         opened = λ d h. now_barred;
         stay = stay_by WriteGate _ next (λ e. absurd (no_sync WriteGate tt e)) (left_out _ refl);
       };
-      begins_not = λ next none faults low. ends_so WriteBody _ next
+      begins_not = λ next none. ends_so WriteBody _ next
           (λ e. absurd (no_sync WriteBody tt e)) refl refl refl refl (inl refl) same_open;
-      gates_not = λ a next flight mine faults low. ends_so WriteGate _ next
+      gates_not = λ a next flight mine. ends_so WriteGate _ next
           (λ e. absurd (no_sync WriteGate tt e)) refl refl refl refl (inr refl) same_open;
       stores = λ j o s p next call.
           goes_on (Store j o s) _ (advanced job) next tt refl refl refl refl refl no_new same_open;

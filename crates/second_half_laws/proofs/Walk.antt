@@ -1,34 +1,10 @@
 -- What each event does to the jobs that run, and to what is in doubt.
-use Rattle.std.proofs.Common.{◌≡◌, ℕ, ◌+◌, ◌==◌, true, false, List, [], ◌∷◌, ◌++◌, Option, Some, None, refl, ap, sym, subst, ◌∙◌, inl, inr}
-use Rattle.std.proofs.lemmas.Bool.{eq-eqb}
-use Rattle.algebra_laws.proofs.Options.{is_some-none}
-use Rattle.column_defs.specs.Opened.{GivesSymbols}
-use Rattle.record_defs.specs.Records.{Setup, SetUp}
-use Rattle.record_defs.specs.Table.{setup_of}
-use Rattle.device_defs.specs.Providers.{Provider}
-use Rattle.device_defs.specs.ProviderCalls.{FailsToGive, Asks}
-use Rattle.column_defs.specs.Challenges.{honest_answer}
-use Rattle.machine_defs.specs.Jobs.{Kind, PutJob, Job, Given, Fetched, Answered, Worked, job_of, with_job, without_job, advanced, advanced_with}
-use Rattle.machine_defs.specs.Actions.{Action, WriteBody, SyncBody, WriteGate, SyncGate, Store, Fetch, Ask, Work, Remove}
+use Rattle.second_half_laws.proofs.Words.{true, refl, ap, sym, subst, ◌∙◌, inl, inr, eq-eqb, is_some-none, GivesSymbols, Setup, SetUp, setup_of, Provider, FailsToGive, Asks, honest_answer, Kind, PutJob, Job, Given, Fetched, Answered, Worked, job_of, with_job, without_job, advanced, advanced_with, Action, WriteBody, SyncBody, WriteGate, SyncGate, Store, Fetch, Ask, Work, Remove, Event, Init, Begin, BeginAt, BeginScrub, BeginPack, Step, Stop, Reopen, Continue, Outcome, Ready, Refused, Opened, Begun, More, Ended, Replaced, NothingHeld, Stopped, Continued, State, Append, Doubt, worked_object, setup_in, with_provider, going_on, beginning, blocks_given, asked_challenge, subject_drawn, taken_out, next_action, holder_of, LeavesDoubt, Happens, steps_aside, IsLone, cond_true, found_with, found_without, found_more, found_none, IsHeldThen, IsStill, Acting, Cases, by_event, IsAnsweredThen}
+use Rattle.std.proofs.Common.{◌≡◌, ℕ, ◌+◌, ◌==◌, false, List, [], ◌∷◌, ◌++◌, Option, Some, None}
 use Rattle.machine_defs.specs.Refusals as refusal
 use Rattle.machine_defs.specs.Answers as answer
-use Rattle.machine_defs.specs.Events.{Event, Init, Begin, BeginAt, BeginScrub, BeginPack, Step, Stop, Reopen, Continue, Outcome, Ready, Refused, Opened, Begun, More, Ended, Replaced, NothingHeld, Stopped, Continued}
-use Rattle.machine_defs.specs.States.{State, Append, Doubt, worked_object, setup_in, with_provider, going_on}
-use Rattle.machine_defs.specs.Begins.{beginning}
-use Rattle.machine_defs.specs.Given.{blocks_given}
-use Rattle.machine_defs.specs.Audits.{asked_challenge}
-use Rattle.machine_defs.specs.Appends.{subject_drawn, taken_out}
-use Rattle.machine_defs.specs.Steps.{next_action, holder_of}
-use Rattle.machine_defs.specs.Openings.{LeavesDoubt}
-use Rattle.machine_defs.specs.Machine.{Happens}
-use Rattle.machine_defs.proofs.Asides.{steps_aside}
-use Rattle.machine_defs.proofs.Changes.{IsLone}
-use Rattle.machine_defs.proofs.JobLists.{cond_true, found_with, found_without, found_more, found_none}
-use Rattle.second_half_laws.specs.Origins.{IsHeldThen}
 use Rattle.second_half_laws.proofs.GetEnds.{none_beside}
 use Rattle.second_half_laws.proofs.Origin.{found_by}
-use Rattle.machine_defs.proofs.Cases.{IsStill, Acting, Cases, by_event}
-use Rattle.second_half_laws.specs.Gave.{IsAnsweredThen}
 
 -- what an action gave
 abbrev pub IsGift : State → Job → State → Action → Given → Type 0
@@ -103,9 +79,8 @@ IsNoBody action = Unit {0}
 
 -- only the begin of an append waits for another one
 unheld : (flight : Option Append) (action : Action) → IsNoBody action → holder_of flight action ≡ None
-unheld None action h = refl
 unheld (Some a) WriteBody h = absurd h
-unheld (Some a) action h = refl
+unheld flight action h = refl
 
 none_now : (d : Doubt) → None ≡ Some d → ⊥
 none_now d h = cc
@@ -155,8 +130,7 @@ module _ (moment : ℕ) (old : State) where
 
     goes_on : (action : Action) (y : Job) (new : State) → next_action old job ≡ Some action →
         holder_of old.append action ≡ None → y.number ≡ job.number → new.jobs ≡ with_job old.jobs y →
-        Passed old job action new y →
-        ((d : Doubt) → new.doubt ≡ Some d → Doubted old new d) → Result More new
+        Passed old job action new y → ((d : Doubt) → new.doubt ≡ Some d → Doubted old new d) → Result More new
     goes_on action y new next_is free number jobs passed doubt = record {
       job = λ k j h. elim (found_with old.jobs y k j (ap (λ l. job_of l k) (sym jobs) ∙ h)) [
         | inl p ↦ (let at : job.number ≡ k = sym (p.0 ∙ number) in Went.went job action (record {
@@ -194,8 +168,7 @@ module _ (moment : ℕ) (old : State) where
     -- what a call of a provider gave
     answered_by : (j o round : ℕ) (symbol : Option ℕ) (p : Provider) (new : State) →
         Asks (honest_answer (asked_challenge (setup_in old) job o round)) o (old.providers j) symbol p →
-        new.providers ≡ with_provider old.providers j p →
-        IsAnsweredThen old job old new j o round symbol
+        new.providers ≡ with_provider old.providers j p → IsAnsweredThen old job old new j o round symbol
     answered_by j o round symbol p new call providers = elim call.gives [
       | inl g ↦ inl g
       | inr f ↦ inr (subst (λ (x : Provider). FailsToGive (old.providers j) symbol x)
@@ -224,8 +197,8 @@ module _ (moment : ℕ) (old : State) where
       bars = λ action plain next mine faults low rose. ends_so answer.DiskFault _ refl (stay _ refl refl);
       bars_gated = λ a next flight mine faults low rose.
           ends_so answer.DiskFault _ refl (in_doubt a _ next flight mine.0 refl refl);
-      begins_not = λ next none faults low. ends_so answer.Memory _ refl (stay _ refl refl);
-      gates_not = λ a next flight mine faults low. ends_so answer.Memory _ refl (stay _ refl refl);
+      begins_not = λ next none. ends_so answer.Memory _ refl (stay _ refl refl);
+      gates_not = λ a next flight mine. ends_so answer.Memory _ refl (stay _ refl refl);
       stores = λ j o s p next call.
           makes (Store j o s) (advanced job) _ next tt refl refl (Passed.silent tt refl refl) refl refl;
       stores_not = λ j o s p how next call. ends_so how _ refl (stay _ refl refl);

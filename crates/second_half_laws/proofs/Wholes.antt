@@ -1,30 +1,8 @@
 -- Puts, repairs and audits have done all by the time of their last record.
-use Rattle.std.proofs.Common.{◌≡◌, ℕ, suc, ◌+◌, ◌<◌, ◌≤◌, ◌==◌, false, cond, List, [], ◌∷◌, ◌++◌, length, Option, Some, None, refl, ap, sym, subst, ◌∙◌, arith}
-use Rattle.std.specs.Prelude.{slice_get}
-use Rattle.std.proofs.lemmas.Bool.{eq-eqb, ne_eqb}
-use Rattle.std.proofs.lemmas.Option.{slice_get_within}
-use Rattle.algebra_laws.specs.Lists.{In}
-use Rattle.record_defs.specs.Records.{Setup, Record, SetUp, PutDone, AuditDone, RepairDone, PutDoneIn}
-use Rattle.machine_defs.specs.Jobs.{Kind, PutJob, GetJob, DropJob, AuditJob, RepairJob, UpgradeJob, Given, Answered, Job, job_of, advanced}
-use Rattle.machine_defs.specs.Actions.{Action, Store, Ask, Work, End, append_actions, store_actions, repair_actions, rounds_of, ask_actions, actions_of}
-use Rattle.machine_defs.specs.Setups.{profiled}
-use Rattle.machine_defs.specs.States.{State, Append, Doubt, IsStart, setup_in}
-use Rattle.machine_defs.specs.Appends.{done_record}
-use Rattle.machine_defs.specs.Given.{answer_given}
-use Rattle.machine_defs.specs.Audits.{HasSums}
-use Rattle.machine_defs.specs.Runs.{Moment, now, IsRun, newest, came}
-use Rattle.machine_defs.proofs.JobLists.{cond_true, cond_false}
-use Rattle.machine_defs.proofs.Stripes.{get_left}
-use Rattle.machine_defs.proofs.Done.{by_version}
-use Rattle.machine_defs.proofs.Changes.{Records_is}
-use Rattle.machine_defs.proofs.Events.{changes}
-use Rattle.machine_defs.proofs.Numbers.{objects, Draws}
-use Rattle.machine_defs.proofs.Held.{contains_in, actions_are, all}
-use Rattle.machine_defs.proofs.Untouched.{run_back}
-use Rattle.machine_defs.proofs.NextActions.{actions_by-advanced}
+use Rattle.second_half_laws.proofs.Words.{cond, refl, ap, sym, subst, ◌∙◌, arith, slice_get, eq-eqb, ne_eqb, slice_get_within, In, Setup, Record, SetUp, PutDone, AuditDone, RepairDone, PutDoneIn, Kind, PutJob, GetJob, DropJob, AuditJob, RepairJob, UpgradeJob, Given, Answered, Job, job_of, advanced, Action, Store, Ask, Work, End, append_actions, store_actions, repair_actions, rounds_of, ask_actions, actions_of, profiled, State, Append, Doubt, IsStart, setup_in, done_record, answer_given, HasSums, Moment, now, IsRun, newest, came, cond_true, cond_false, get_left, by_version, Records_is, changes, objects, Draws, contains_in, actions_are, all, run_back, actions_by-advanced, stands_on, stands_later, WasMade}
+use Rattle.std.proofs.Common.{◌≡◌, ℕ, suc, ◌+◌, ◌<◌, ◌≤◌, ◌==◌, false, List, [], ◌∷◌, ◌++◌, length, Option, Some, None}
 use Rattle.run_laws.proofs.InEffect as eff
-use Rattle.run_laws.proofs.PutBytes.{Stands, stands_on, stands_later}
-use Rattle.second_half_laws.specs.Made.{WasMade}
+use Rattle.run_laws.proofs.PutBytes.{Stands}
 use Rattle.second_half_laws.specs.Whole.{PutIsWhole, RepairIsWhole, AuditIsWhole}
 use Rattle.second_half_laws.proofs.Places.{of_kind, store_in_repair, worked_before_store, put_store_at, put_stores, ask_at}
 use Rattle.second_half_laws.proofs.Passing.{list_is}
@@ -95,11 +73,7 @@ put_of start ms job id size profile bound (PutJob name bytes) is low made late o
     (put_whole start ms job name bytes is (omega (arith, l, low))
     (made_less start ms job bound (4 + length (store_actions (setup_in (now start ms)) job bytes)) l
     made) (own name bytes refl)))))
-put_of start ms job id size profile bound (GetJob name) is low made late own h = absurd h
-put_of start ms job id size profile bound (DropJob name) is low made late own h = absurd h
-put_of start ms job id size profile bound AuditJob is low made late own h = absurd h
-put_of start ms job id size profile bound RepairJob is low made late own h = absurd h
-put_of start ms job id size profile bound UpgradeJob is low made late own h = absurd h
+put_of start ms job id size profile bound kind is low made late own h = absurd h
 
 put_bound : (t : Setup) (x : Job) (id size profile : ℕ) (kind : Kind) (name bytes : List ℕ) →
     FinalPut t x id size profile kind → kind ≡ PutJob name bytes →
@@ -109,11 +83,7 @@ put_bound t x id size profile kind name bytes h is = (subst (λ k. FinalPut t x 
 put_moved : (t : Setup) (x : Job) (id size profile : ℕ) (kind : Kind) → FinalPut t x id size profile kind →
     FinalPut t (advanced x) id size profile kind
 put_moved t x id size profile (PutJob name bytes) h = (h.0, h.1, h.2, (let l = h.3 in omega (arith, l)))
-put_moved t x id size profile (GetJob name) h = h
-put_moved t x id size profile (DropJob name) h = h
-put_moved t x id size profile AuditJob h = h
-put_moved t x id size profile RepairJob h = h
-put_moved t x id size profile UpgradeJob h = h
+put_moved t x id size profile kind h = h
 
 -- ---- repairs
 
@@ -160,11 +130,7 @@ module _ (limit : ℕ) (start : State) (clean : IsStart start) (ms : List Moment
       subst (RepairIsWhole start ms job) h.0
       (repair_whole job is (omega (arith, l, low))
       (made_less start ms job bound (length (repair_actions (setup_in (now start ms)) job)) l made)))
-  repair_of job id bound (PutJob name bytes) is low made late h = absurd h
-  repair_of job id bound (GetJob name) is low made late h = absurd h
-  repair_of job id bound (DropJob name) is low made late h = absurd h
-  repair_of job id bound AuditJob is low made late h = absurd h
-  repair_of job id bound UpgradeJob is low made late h = absurd h
+  repair_of job id bound kind is low made late h = absurd h
 
 repair_bound : (t : Setup) (x : Job) (id : ℕ) (kind : Kind) → FinalRepair t x id kind → kind ≡ RepairJob →
     length (repair_actions t x) ≤ x.place
@@ -173,11 +139,7 @@ repair_bound t x id kind h is = (subst (λ k. FinalRepair t x id k) is h).1
 repair_moved : (t : Setup) (x : Job) (id : ℕ) (kind : Kind) → FinalRepair t x id kind →
     FinalRepair t (advanced x) id kind
 repair_moved t x id RepairJob h = (h.0, (let l = h.1 in omega (arith, l)))
-repair_moved t x id UpgradeJob h = h
-repair_moved t x id (PutJob name bytes) h = h
-repair_moved t x id (GetJob name) h = h
-repair_moved t x id (DropJob name) h = h
-repair_moved t x id AuditJob h = h
+repair_moved t x id kind h = h
 
 -- ---- audits
 
@@ -209,11 +171,7 @@ audit_of start ms job id undecided counts bound AuditJob is made came late h =
     (audit_whole start ms job undecided counts is
     (made_less start ms job bound (4 + length (ask_actions (setup_in (now start ms)) job))
     (late refl) made) came h.2)
-audit_of start ms job id undecided counts bound (PutJob name bytes) is made came late h = absurd h
-audit_of start ms job id undecided counts bound (GetJob name) is made came late h = absurd h
-audit_of start ms job id undecided counts bound (DropJob name) is made came late h = absurd h
-audit_of start ms job id undecided counts bound RepairJob is made came late h = absurd h
-audit_of start ms job id undecided counts bound UpgradeJob is made came late h = absurd h
+audit_of start ms job id undecided counts bound kind is made came late h = absurd h
 
 audit_bound : (t : Setup) (x : Job) (id undecided : ℕ) (counts : List ℕ) (kind : Kind) →
     FinalAudit t x id undecided counts kind → kind ≡ AuditJob → 4 + length (ask_actions t x) ≤ x.place
@@ -227,11 +185,7 @@ audit_moved t x id undecided counts AuditJob h = (
   sums_same t x (advanced x)
       (record { counts = counts; undecided = undecided }) refl refl refl h.2,
 )
-audit_moved t x id undecided counts (PutJob name bytes) h = h
-audit_moved t x id undecided counts (GetJob name) h = h
-audit_moved t x id undecided counts (DropJob name) h = h
-audit_moved t x id undecided counts RepairJob h = h
-audit_moved t x id undecided counts UpgradeJob h = h
+audit_moved t x id undecided counts kind h = h
 
 -- ---- the record that came into effect
 
@@ -324,8 +278,7 @@ module _ (limit : ℕ) (start : State) (clean : IsStart start) (ms : List Moment
   -- an audit whose last record is in flight has made each ask, and has these sums
   pub audit_running : (a : Append) (x : Job) (k id undecided : ℕ) (counts : List ℕ) →
       (now start ms).append ≡ Some a → job_of (now start ms).jobs k ≡ Some x → a.job ≡ k →
-      a.entry ≡ AuditDone id undecided counts →
-      AuditIsWhole start ms x id undecided counts
+      a.entry ≡ AuditDone id undecided counts → AuditIsWhole start ms x id undecided counts
   audit_running a x k id undecided counts flight runs mine is =
       (let f = final_of a x k (AuditDone id undecided counts) flight runs mine is in
       audit_of start ms x id undecided counts x.place x.kind refl (made_running k x runs)

@@ -1,19 +1,6 @@
 -- The basis of the additive transform: its coefficients under a node give a polynomial that takes the values.
-use Rattle.std.proofs.Common.{◌≡◌, ◌≤◌, ◌<◌, ◌+◌, ◌*◌, ◌-◌, ◌++◌, ◌⊎◌, inl, inr, ℕ, zero, suc, Bool, true, ◌&&◌, ◌==◌, sym, ap, ap₂, ◌∙◌, refl, arith, eqb-true, List, [], ◌∷◌, length, take, drop, get_or, bit_xor, length-append}
-use Rattle.std.proofs.lemmas.List.{take_at, drop_at, get_or-take, get_or-drop}
-use Rattle.std.proofs.lemmas.Nat.{xor_lt}
-use Rattle.std.proofs.lemmas.Bool.{cases_lt, and_parts}
-use Rattle.algebra_laws.specs.Poly.{value as value_over, plus as plus_over, scale as scale_over}
-use Rattle.algebra_laws.proofs.Solve.{solve, v, o, i as one, ◌⊞◌, ◌⊡◌}
-use Rattle.algebra_laws.proofs.Values.{value-plus, value-times}
-use Rattle.algebra_laws.proofs.Roots.{length-plus}
-use Rattle.algebra_laws.proofs.Interpolate.{length-scale, length-times}
-use Rattle.hail_field.specs.Nim.{nim, nim_add, nim_mul, product}
+use Rattle.server_code.proofs.Words.{◌≡◌, ◌≤◌, ◌<◌, ◌+◌, ◌*◌, ◌-◌, ◌++◌, ◌⊎◌, inl, inr, ℕ, zero, suc, Bool, true, ◌&&◌, ◌==◌, sym, ap, ap₂, ◌∙◌, refl, arith, eqb-true, List, [], ◌∷◌, length, take, drop, get_or, bit_xor, length-append, take_at, drop_at, get_or-take, get_or-drop, xor_lt, cases_lt, and_parts, value_over, plus_over, scale_over, solve, v, o, one, ◌⊞◌, ◌⊡◌, value-plus, value-times, length-plus, length-scale, length-times, nim, nim_add, nim_mul, product, nim_laws, nim_ring, nim_mul_at, holds_below, at_each, value, plus, scale, times, places, twiddle, joined, inverse}
 use Rattle.hail_field.proofs.Products.{product-lt}
-use Rattle.hail_field.proofs.AllNumbers.{nim_laws, nim_ring, nim_mul_at}
-use Rattle.hail_field.proofs.Table.{holds_below, at_each}
-use Rattle.code_defs.specs.Polynomials.{value, plus, scale, times}
-use Rattle.server_code.specs.Transform.{places, twiddle, joined, inverse}
 use Rattle.server_code.proofs.Halves.{get_or-plus, get_or-scale, length-even, length-front, length-back}
 
 -- 2^i is not 0

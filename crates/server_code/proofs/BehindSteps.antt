@@ -1,20 +1,7 @@
 -- The steps of decoding by the symbols behind the kept ones.
-use Rattle.std.proofs.Common.{◌≡◌, ◌≢◌, ◌≤◌, ◌<◌, ◌+◌, ◌-◌, ◌++◌, inr, ℕ, sym, ◌∙◌, ap, subst, refl, arith, List, [], ◌∷◌, length, take, drop, add-one, zero-add, add-zero}
-use Rattle.std.specs.List.{range_with_len}
-use Rattle.std.proofs.Math.Seq.{drop-append_seam}
-use Rattle.std.proofs.lemmas.List.{take_all, length-drop}
-use Rattle.std.proofs.lemmas.List.FromFn.{length-range_with_len}
-use Rattle.algebra_laws.proofs.Lists.{take-front}
+use Rattle.server_code.proofs.Words.{◌≡◌, ◌≢◌, ◌≤◌, ◌<◌, ◌+◌, ◌-◌, ◌++◌, inr, ℕ, sym, ◌∙◌, ap, subst, refl, arith, List, [], ◌∷◌, length, take, drop, add-one, zero-add, add-zero, range_with_len, drop-append_seam, take_all, length-range_with_len, take-front, v, o, ◌⊞◌, ◌⊡◌, solve, nim, nim_add, nim_mul, nim_laws, nim_ring, value_over, root_times_over, vanish_over, value-vanish, vanish_else, value-trim, value, vanish, trim, root_times, upto, one_not_zero, Each-outside, Apart-range, range_with_len-append}
+use Rattle.std.proofs.lemmas.List.{length-drop}
 use Rattle.algebra_laws.specs.Field.{Apart}
-use Rattle.algebra_laws.proofs.Solve.{v, o, ◌⊞◌, ◌⊡◌, solve}
-use Rattle.hail_field.specs.Nim.{nim, nim_add, nim_mul}
-use Rattle.hail_field.proofs.AllNumbers.{nim_laws, nim_ring}
-use Rattle.algebra_laws.specs.Poly.{value as value_over, root_times as root_times_over, vanish as vanish_over}
-use Rattle.algebra_laws.proofs.Interpolate.{value-vanish, vanish_else}
-use Rattle.algebra_laws.proofs.Trim.{value-trim}
-use Rattle.code_defs.specs.Polynomials.{value, vanish, trim, root_times}
-use Rattle.code_defs.specs.Points.{upto}
-use Rattle.code_defs.proofs.Points.{one_not_zero, Each-outside, Apart-range, range_with_len-append}
 
 -- the value of x + r times a polynomial
 pub value-root_times : (r c : ℕ) (p : List ℕ) (x : ℕ) →

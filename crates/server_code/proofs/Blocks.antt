@@ -1,16 +1,5 @@
 -- What a code makes of the kept symbols and of blocks.
-use Rattle.std.proofs.Common.{◌≡◌, ◌≤◌, ◌<◌, ◌+◌, ◌-◌, ◌++◌, ◌⊎◌, inl, inr, ℕ, List, length, get_or, sym, ap, ◌∙◌, arith, length-append}
-use Rattle.std.proofs.lemmas.List.{get_or_append_left, get_or-append_right}
-use Rattle.std.proofs.lemmas.List.FromFn.{fill_by_all, length-map-range_with_len, length-range_with_len}
-use Rattle.std.proofs.lemmas.Bool.{cases_lt}
-use Rattle.code_defs.specs.Polynomials.{value, interpolate}
-use Rattle.code_defs.specs.Points.{upto, values_at}
-use Rattle.code_defs.specs.Profiles.{Profile}
-use Rattle.code_defs.specs.Sums.{dot}
-use Rattle.code_defs.specs.ServerCode.{codeword, differences, Opens}
-use Rattle.code_defs.proofs.Codewords.{agree-differences}
-use Rattle.code_defs.proofs.Generators.{value-kept, get_or-codeword}
-use Rattle.server_code.specs.Generator.{row_at, sums, IsGenerator}
+use Rattle.server_code.proofs.Words.{◌≡◌, ◌≤◌, ◌<◌, ◌+◌, ◌-◌, ◌++◌, ◌⊎◌, inl, inr, ℕ, List, length, get_or, sym, ap, ◌∙◌, arith, length-append, get_or_append_left, get_or-append_right, fill_by_all, length-map-range_with_len, length-range_with_len, cases_lt, value, interpolate, upto, values_at, Profile, dot, codeword, differences, Opens, agree-differences, value-kept, get_or-codeword, row_at, sums, IsGenerator}
 use Rattle.server_code.proofs.RowSteps.{get_or-sums}
 
 -- the kept symbols and their sums are the codeword

@@ -1,11 +1,6 @@
 -- A block whose other symbols are the sums of its first is a codeword, and only such a block.
-use Rattle.std.proofs.Common.{◌≡◌, ◌≤◌, ◌-◌, ◌++◌, ℕ, List, length, take, drop, sym, ap, subst, ◌∙◌, arith}
-use Rattle.std.proofs.Math.Seq.{drop-append_seam}
-use Rattle.std.proofs.lemmas.List.{take-append-drop, length-take}
-use Rattle.code_defs.specs.Profiles.{Profile}
-use Rattle.code_defs.specs.ServerCode.{codeword, IsCodeword, IsNear, Opens}
-use Rattle.code_defs.proofs.Codewords.{near_itself}
-use Rattle.server_code.specs.Generator.{sums, IsGenerator}
+use Rattle.server_code.proofs.Words.{◌≡◌, ◌≤◌, ◌-◌, ◌++◌, ℕ, List, length, take, drop, sym, ap, subst, ◌∙◌, arith, drop-append_seam, length-take, Profile, codeword, IsCodeword, IsNear, Opens, near_itself, sums, IsGenerator}
+use Rattle.std.proofs.lemmas.List.{take-append-drop}
 use Rattle.server_code.proofs.Blocks.{extended_is_codeword}
 use Rattle.server_code.proofs.Linear.{codeword_is, codeword_of_front}
 

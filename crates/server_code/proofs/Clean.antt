@@ -1,11 +1,5 @@
 -- Codewords are the blocks whose syndromes are all 0.
-use Rattle.std.proofs.Common.{◌≡◌, ◌≤◌, ◌+◌, ◌-◌, ℕ, List, length, sym, ◌∙◌, arith}
-use Rattle.std.proofs.lemmas.List.FromFn.{length-range_with_len}
-use Rattle.algebra_laws.specs.Lists.{Each}
-use Rattle.code_defs.specs.Points.{upto}
-use Rattle.code_defs.specs.Profiles.{Profile}
-use Rattle.code_defs.specs.ServerCode.{IsCodeword}
-use Rattle.code_defs.proofs.Points.{Apart-range}
+use Rattle.server_code.proofs.Words.{◌≡◌, ◌≤◌, ◌+◌, ◌-◌, ℕ, List, length, sym, ◌∙◌, arith, length-range_with_len, Each, upto, Profile, IsCodeword, Apart-range}
 use Rattle.hail_syndrome.specs.Syndromes.{syndromes_of}
 use Rattle.hail_syndrome.proofs.ZeroLaw.{values_from_zero, zero_from_values}
 

@@ -1,7 +1,5 @@
 -- The steps of counting differences.
-use Rattle.std.proofs.Common.{◌≡◌, ◌≤◌, ◌<◌, ◌+◌, ℕ, suc, List, ◌∷◌, length, drop, get_or, cond, nat_eq, Bool, true, false, refl, ◌∙◌, arith}
-use Rattle.std.proofs.lemmas.List.{drop_all, drop_more}
-use Rattle.code_defs.specs.ServerCode.{differences}
+use Rattle.server_code.proofs.Words.{◌≡◌, ◌≤◌, ◌<◌, ◌+◌, ℕ, suc, List, ◌∷◌, length, drop, get_or, cond, nat_eq, Bool, true, false, refl, ◌∙◌, arith, drop_all, drop_more, differences}
 
 -- one place counts or not
 differences-cons : (x w : ℕ) (xs ws : List ℕ) → differences (x ∷ xs) (w ∷ ws)

@@ -1,15 +1,6 @@
 -- Lists of two halves, which a loop makes pair by pair, and sums and multiples of lists.
-use Rattle.std.proofs.Common.{◌≡◌, ◌≤◌, ◌<◌, ◌+◌, ◌-◌, ◌++◌, ◌⊎◌, inl, inr, ℕ, zero, suc, sym, ap, ap₂, ◌∙◌, refl, arith, List, [], ◌∷◌, length, take, drop, get_or, length-append}
-use Rattle.std.proofs.lemmas.List.{ext_get_or, get_or-take, get_or-drop, get_or_append_left, get_or-append_right, length-take-le, length-drop}
-use Rattle.std.proofs.lemmas.Bool.{cases_lt}
-use Rattle.algebra_laws.specs.Poly.{plus as plus_over, scale as scale_over}
-use Rattle.algebra_laws.proofs.Ring.{zero_add}
-use Rattle.algebra_laws.proofs.Roots.{length-plus}
-use Rattle.algebra_laws.proofs.Interpolate.{length-scale}
-use Rattle.hail_field.specs.Nim.{nim, nim_add, nim_mul}
-use Rattle.hail_field.proofs.AllNumbers.{nim_laws, nim_ring}
-use Rattle.code_defs.specs.Polynomials.{plus, scale}
-use Rattle.server_code.specs.Transform.{joined, parted}
+use Rattle.server_code.proofs.Words.{◌≡◌, ◌≤◌, ◌<◌, ◌+◌, ◌-◌, ◌++◌, ◌⊎◌, inl, inr, ℕ, zero, suc, sym, ap, ap₂, ◌∙◌, refl, arith, List, [], ◌∷◌, length, take, drop, get_or, length-append, ext_get_or, get_or-take, get_or-drop, get_or_append_left, get_or-append_right, length-take-le, cases_lt, plus_over, scale_over, zero_add, length-plus, length-scale, nim, nim_add, nim_mul, nim_laws, nim_ring, plus, scale, joined, parted}
+use Rattle.std.proofs.lemmas.List.{length-drop}
 
 -- the sum at a place
 pub get_or-plus : (p q : List ℕ) (k : ℕ) → get_or (plus p q) k 0 ≡ nim_add (get_or p k 0) (get_or q k 0)

@@ -1,27 +1,11 @@
 -- The row that Euclid's algorithm finds behind the kept places is one over all places.
-use Rattle.std.proofs.Common.{◌≡◌, ◌≤◌, ◌<◌, ◌+◌, ◌-◌, ◌*◌, ◌++◌, ℕ, zero, suc, sym, ◌∙◌, ap, ap₂, subst, refl, arith, List, [], ◌∷◌, length, take, drop, get_or, zero-add, add-zero}
-use Rattle.std.specs.List.{range_with_len}
-use Rattle.std.proofs.lemmas.List.{take-append-drop, get_or-drop, length-take, length-drop}
-use Rattle.std.proofs.lemmas.List.FromFn.{length-range_with_len}
-use Rattle.algebra_laws.specs.Lists.{Each}
-use Rattle.hail_field.specs.Nim.{nim, nim_add, nim_mul}
-use Rattle.hail_field.proofs.AllNumbers.{nim_laws, nim_ring, nim_endless}
-use Rattle.algebra_laws.specs.Poly.{FirstRow, plus as plus_over}
+use Rattle.server_code.proofs.Words.{◌≡◌, ◌≤◌, ◌<◌, ◌+◌, ◌-◌, ◌*◌, ◌++◌, ℕ, zero, suc, sym, ◌∙◌, ap, ap₂, subst, refl, arith, List, [], ◌∷◌, length, take, drop, get_or, zero-add, add-zero, range_with_len, get_or-drop, length-take, length-range_with_len, Each, nim, nim_add, nim_mul, nim_laws, nim_ring, nim_endless, FirstRow, plus_over, same_values, value-plus, value-times, length-vanish, vanish_roots, value, vanish, interpolate, trim, plus, times, upto, Profile, IsNear, OpensToNone, one_not_zero, Apart-range, range_with_len-append, IsQuotient, HasNoQuotient, TakesNear}
+use Rattle.std.proofs.lemmas.List.{take-append-drop, length-drop}
 use Rattle.algebra_laws.specs.Rows.{Solves}
-use Rattle.algebra_laws.proofs.Roots.{same_values}
-use Rattle.algebra_laws.proofs.Values.{value-plus, value-times}
-use Rattle.algebra_laws.proofs.Interpolate.{length-vanish, vanish_roots}
 use Rattle.algebra_laws.proofs.Everywhere.{cancel}
 use Rattle.algebra_laws.proofs.Euclid.{IsKeyRow, key_row, factor_not_zero}
 use Rattle.algebra_laws.proofs.Decode.{first_rows}
 use Rattle.algebra_laws.proofs.Gao.{row_is_product}
-use Rattle.code_defs.specs.Polynomials.{value, vanish, interpolate, trim, plus, times}
-use Rattle.code_defs.specs.Points.{upto}
-use Rattle.code_defs.specs.Profiles.{Profile}
-use Rattle.code_defs.specs.ServerCode.{IsNear, OpensToNone}
-use Rattle.code_defs.proofs.Points.{one_not_zero, Apart-range, range_with_len-append}
-use Rattle.hail_poly.specs.Quotient.{IsQuotient, HasNoQuotient}
-use Rattle.server_code.specs.Behind.{TakesNear}
 
 -- where the row is 0, so is the cofactor times what is added twice
 solves_front : (R f : List ℕ) (a n : ℕ) (ks : List ℕ) → length ks ≡ n →

@@ -1,3 +1,4 @@
+mod Words
 pub mod RowSteps
 pub mod CountSteps
 pub mod MakeSteps

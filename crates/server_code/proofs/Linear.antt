@@ -1,22 +1,7 @@
 -- Codewords are those of their first symbols, an opened block is one, and sums and multiples of codewords are
 -- codewords.
-use Rattle.std.proofs.Common.{◌≡◌, ◌≤◌, ◌+◌, ◌*◌, ℕ, zero, suc, sym, ◌∙◌, ap, refl, arith, List, [], ◌∷◌, length, map, take, replicate, Some}
-use Rattle.std.specs.List.{range_with_len}
-use Rattle.std.proofs.lemmas.List.FromFn.{length-range_with_len, length-map-range_with_len, take-map-range_with_len}
-use Rattle.hail_field.specs.Nim.{nim}
-use Rattle.hail_field.proofs.AllNumbers.{nim_laws}
-use Rattle.algebra_laws.specs.Poly.{plus as plus_over, scale as scale_over, value as value_over, present as present_over}
-use Rattle.algebra_laws.proofs.Values.{value-plus, value-scale}
-use Rattle.algebra_laws.proofs.Roots.{plus_zero, same_values, length-plus}
+use Rattle.server_code.proofs.Words.{◌≡◌, ◌≤◌, ◌+◌, ◌*◌, ℕ, zero, suc, sym, ◌∙◌, ap, refl, arith, List, [], ◌∷◌, length, map, take, replicate, Some, range_with_len, length-range_with_len, length-map-range_with_len, take-map-range_with_len, nim, nim_laws, plus_over, scale_over, value_over, present_over, value-plus, value-scale, plus_zero, same_values, length-plus, length-scale, interpolate_takes, value, plus, scale, interpolate, TakesSymbols, upto, values_at, Profile, codeword, IsCodeword, Opens, one_not_zero, Apart-range, codeword-short, values_at-same, takes_same}
 use Rattle.algebra_laws.proofs.Agree.{unique}
-use Rattle.algebra_laws.proofs.Interpolate.{length-scale, interpolate_takes}
-use Rattle.code_defs.specs.Polynomials.{value, plus, scale, interpolate, TakesSymbols}
-use Rattle.code_defs.specs.Points.{upto, values_at}
-use Rattle.code_defs.specs.Profiles.{Profile}
-use Rattle.code_defs.specs.ServerCode.{codeword, IsCodeword, Opens}
-use Rattle.code_defs.proofs.Points.{one_not_zero, Apart-range}
-use Rattle.code_defs.proofs.Codewords.{codeword-short}
-use Rattle.code_defs.proofs.Values.{values_at-same, takes_same}
 
 -- the codeword of kept symbols is a codeword
 pub codeword_is : (profile : Profile) (kept : List ℕ) → length kept ≡ profile.keep →

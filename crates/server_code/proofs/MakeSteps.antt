@@ -1,10 +1,6 @@
 -- The steps of making the rows of coefficients.
-use Rattle.std.proofs.Common.{◌≡◌, ◌≤◌, ◌<◌, ◌+◌, ◌-◌, ◌*◌, ◌++◌, ◌⊎◌, inl, inr, ℕ, suc, List, [], length, take, drop, sym, ap, ◌∙◌, arith, mul-le-mul_right, suc-mul, zero-mul, length-append, length-drop}
-use Rattle.std.proofs.Math.Seq.{drop-append_seam}
-use Rattle.std.proofs.lemmas.List.{drop-append-le, take-append-le, take_all}
-use Rattle.code_defs.specs.Profiles.{Profile}
-use Rattle.code_defs.specs.ServerCode.{IsGeneratorRow}
-use Rattle.server_code.specs.Generator.{row_at, IsGenerator}
+use Rattle.server_code.proofs.Words.{◌≡◌, ◌≤◌, ◌<◌, ◌+◌, ◌-◌, ◌*◌, ◌++◌, ◌⊎◌, inl, inr, ℕ, suc, List, [], length, take, drop, sym, ap, ◌∙◌, arith, mul-le-mul_right, suc-mul, zero-mul, length-append, drop-append_seam, drop-append-le, take-append-le, take_all, Profile, IsGeneratorRow, row_at, IsGenerator}
+use Rattle.std.proofs.Common.{length-drop}
 
 -- the rows of the places from keep on to before a place
 pub record HasRows (profile : Profile) (place : ℕ) (rows : List ℕ) : Type 0 where

@@ -1,22 +1,6 @@
 -- What is near a block is a codeword and what is near the sums of both.
-use Rattle.std.proofs.Common.{◌≡◌, ◌≤◌, ◌<◌, ℕ, subst, sym, ◌∙◌, ap, refl, arith, List, [], ◌∷◌, Option, Some, None, length, take, map, get_or}
+use Rattle.server_code.proofs.Words.{◌≡◌, ◌≤◌, ◌<◌, ℕ, subst, sym, ◌∙◌, ap, refl, arith, List, [], ◌∷◌, Option, Some, None, length, take, map, get_or, fill_by_all, length-range_with_len, length-map-range_with_len, take-map-range_with_len, v, ◌⊞◌, solve, nim, nim_add, nim_laws, nim_ring, Decodes, plus_over, agree_over, is_seen_over, value-plus, length-plus, value, agree, plus, interpolate, upto, values_at, Profile, codeword, differences, IsNear, Opens, OpensToNone, value-kept, codeword-short, opens_itself, equal-added, TakesNear, agree-differences}
 use Rattle.std.specs.Prelude.{IfNone, IfSome, OnSome}
-use Rattle.std.proofs.lemmas.List.FromFn.{fill_by_all, length-range_with_len, length-map-range_with_len, take-map-range_with_len}
-use Rattle.algebra_laws.proofs.Solve.{v, ◌⊞◌, solve}
-use Rattle.hail_field.specs.Nim.{nim, nim_add}
-use Rattle.hail_field.proofs.AllNumbers.{nim_laws, nim_ring}
-use Rattle.algebra_laws.specs.Poly.{Decodes, plus as plus_over, agree as agree_over, is_seen as is_seen_over}
-use Rattle.algebra_laws.proofs.Values.{value-plus}
-use Rattle.algebra_laws.proofs.Roots.{length-plus}
-use Rattle.code_defs.specs.Polynomials.{value, agree, plus, interpolate}
-use Rattle.code_defs.specs.Points.{upto, values_at}
-use Rattle.code_defs.specs.Profiles.{Profile}
-use Rattle.code_defs.specs.ServerCode.{codeword, differences, IsNear, Opens, OpensToNone}
-use Rattle.code_defs.proofs.Generators.{value-kept}
-use Rattle.code_defs.proofs.Codewords.{codeword-short, opens_itself}
-use Rattle.code_defs.proofs.Values.{equal-added}
-use Rattle.server_code.specs.Behind.{TakesNear}
-use Rattle.code_defs.proofs.Codewords.{agree-differences}
 use Rattle.server_code.proofs.Blocks.{near_opens}
 use Rattle.server_code.proofs.KeyRows.{length-sums}
 use Rattle.server_code.proofs.Linear.{codeword_of_front}

@@ -1,16 +1,7 @@
 -- The steps of the products of bytes, and of the products of symbols that are looked up.
-use Rattle.std.proofs.Common.{◌≡◌, ℕ, ◌+◌, ◌*◌, ◌/◌, ◌<◌, ◌⊎◌, inl, inr, ◌==◌, true, List, length, map, get_or, set, replicate, bit_and, bit_xor, w8, refl, sym, ap, ap₂, ◌∙◌, arith, eqb-true}
-use Rattle.std.proofs.lemmas.Nat.{and_le_r}
-use Rattle.std.proofs.lemmas.List.{ext_get_or, length-map, get_or-map, get_or-set_same, get_or-set_other}
+use Rattle.server_code.proofs.Words.{◌≡◌, ℕ, ◌+◌, ◌*◌, ◌/◌, ◌<◌, ◌⊎◌, inl, inr, ◌==◌, true, List, length, map, get_or, set, replicate, bit_and, bit_xor, w8, refl, sym, ap, ap₂, ◌∙◌, arith, eqb-true, and_le_r, ext_get_or, length-map, get_or-map, get_or-set_same, get_or-set_other, add_mul, nim_add, nim_mul, nim_ring, holds_below, at_each, AreLanes, down, looked_up, AreMultiples, Multiples}
 use Rattle.std.proofs.lemmas.Simd.{Each1-get_or, below_from_Fits, length-zip2, get_or-zip2, swz_l, length-swz_l}
 use lib.Lanes.{zip2}
-use Rattle.algebra_laws.proofs.Ring.{add_mul}
-use Rattle.hail_field.specs.Nim.{nim_add, nim_mul}
-use Rattle.hail_field.proofs.AllNumbers.{nim_ring}
-use Rattle.hail_field.proofs.Table.{holds_below, at_each}
-use Rattle.hail_field.proofs.Multiples.{AreLanes, down, looked_up}
-use Rattle.server_code.specs.Products.{AreMultiples}
-use Rattle.server_code.specs.declared.products.Multiples.{Multiples}
 use Rattle.server_code.proofs.MakeSteps.{last_or_before}
 
 -- one product more

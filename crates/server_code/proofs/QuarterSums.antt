@@ -1,19 +1,7 @@
 -- A block is a codeword where the coefficients of its quarters add up to 0.
-use Rattle.std.proofs.Common.{◌≡◌, ◌≤◌, ◌<◌, ◌+◌, ◌*◌, ◌-◌, ◌++◌, ℕ, zero, suc, true, sym, ap, ap₂, ◌∙◌, refl, arith, add-one, zero-add, zero-mul, suc-mul, add-zero, List, [], ◌∷◌, length, take, drop, replicate, get_or, length-append, take-append-drop}
-use Rattle.std.proofs.lemmas.List.{ext_get_or, take_at, drop_at, take_all, length-drop, length-take-le, length-replicate, take-append-le, drop-append-le, drop-take, drop-drop, take-take}
-use Rattle.std.proofs.lemmas.List.FromFn.{fill_by_all}
-use Rattle.algebra_laws.specs.Poly.{plus as plus_over}
-use Rattle.algebra_laws.proofs.Ring.{zero_add, zero_mul, add_same}
-use Rattle.algebra_laws.proofs.Lists.{get_or-zeros}
-use Rattle.algebra_laws.proofs.Values.{value-plus, value-times}
-use Rattle.algebra_laws.proofs.Roots.{length-plus}
-use Rattle.algebra_laws.proofs.Interpolate.{length-scale, length-times}
-use Rattle.hail_field.specs.Nim.{nim, nim_add, nim_mul, product}
-use Rattle.hail_field.proofs.AllNumbers.{nim_laws, nim_ring}
-use Rattle.code_defs.specs.Polynomials.{value, plus, scale, times}
-use Rattle.code_defs.specs.Profiles.{Profile, profile_of}
-use Rattle.code_defs.specs.ServerCode.{codeword, IsCodeword}
-use Rattle.server_code.specs.Transform.{places, twiddle, joined, parted, inverse, forward, coefficient_sum, level_of, first_of}
+use Rattle.server_code.proofs.Words.{◌≡◌, ◌≤◌, ◌<◌, ◌+◌, ◌*◌, ◌-◌, ◌++◌, ℕ, zero, suc, true, sym, ap, ap₂, ◌∙◌, refl, arith, add-one, zero-add, zero-mul, suc-mul, add-zero, List, [], ◌∷◌, length, take, drop, replicate, get_or, length-append, ext_get_or, take_at, drop_at, take_all, length-take-le, length-replicate, take-append-le, drop-append-le, drop-take, drop-drop, take-take, fill_by_all, plus_over, zero_add, zero_mul, add_same, get_or-zeros, value-plus, value-times, length-plus, length-scale, length-times, nim, nim_add, nim_mul, product, nim_laws, nim_ring, value, plus, scale, times, Profile, profile_of, codeword, IsCodeword, places, twiddle, joined, parted, inverse, forward, coefficient_sum, level_of, first_of}
+use Rattle.std.proofs.Common.{take-append-drop}
+use Rattle.std.proofs.lemmas.List.{length-drop}
 use Rattle.server_code.proofs.Halves.{get_or-scale, length-even, length-front, length-back}
 use Rattle.server_code.proofs.Basis.{some_places, shat, shat_poly, value-shat, length-shat, are_twiddles, byte_shat, byte_step, basis, basis_poly, basis-suc, basis-scale, length-basis, length-inverse, joined-append, drop-plus, takes_values}
 use Rattle.server_code.proofs.Linear.{codeword_of_front}

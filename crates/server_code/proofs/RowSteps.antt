@@ -1,10 +1,5 @@
 -- The steps of the sums by rows.
-use Rattle.std.proofs.Common.{◌≡◌, ◌≤◌, ◌<◌, ◌+◌, ◌*◌, ℕ, List, length, drop, get_or, arith, mul-le-mul_right, suc-mul}
-use Rattle.std.proofs.lemmas.List.{drop_more, at_drop_all}
-use Rattle.std.proofs.lemmas.List.FromFn.{fill_by_all, get_or-map-range_with_len}
-use Rattle.hail_field.specs.Nim.{nim_add, nim_mul}
-use Rattle.code_defs.specs.Sums.{dot}
-use Rattle.server_code.specs.Generator.{row_at, sums}
+use Rattle.server_code.proofs.Words.{◌≡◌, ◌≤◌, ◌<◌, ◌+◌, ◌*◌, ℕ, List, length, drop, get_or, arith, mul-le-mul_right, suc-mul, drop_more, at_drop_all, fill_by_all, get_or-map-range_with_len, nim_add, nim_mul, dot, row_at, sums}
 
 -- one coefficient more
 pub dot_step : (cs ss : List ℕ) (k : ℕ) → k < length cs → k < length ss →

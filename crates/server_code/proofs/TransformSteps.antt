@@ -1,8 +1,6 @@
 -- The steps of the additive transform.
-use Rattle.std.proofs.Common.{◌≡◌, ◌+◌, ◌*◌, ◌++◌, ℕ, suc, List, take, drop, replicate, ap, ap₂, sym, ◌∙◌, add-one}
+use Rattle.server_code.proofs.Words.{◌≡◌, ◌+◌, ◌*◌, ◌++◌, ℕ, suc, List, take, drop, replicate, ap, ap₂, sym, ◌∙◌, add-one, plus, places, twiddle, joined, parted, inverse, forward, coefficient_sum}
 use Rattle.std.proofs.lemmas.List.{take-append-drop}
-use Rattle.code_defs.specs.Polynomials.{plus}
-use Rattle.server_code.specs.Transform.{places, twiddle, joined, parted, inverse, forward, coefficient_sum}
 
 -- the coefficients of two values
 pub inverse_pair : (h : ℕ) (v new : List ℕ) → new ≡ joined 1 (twiddle h) v → new ≡ inverse 1 h v

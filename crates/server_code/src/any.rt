@@ -46,7 +46,8 @@ impl AnyCode {
             1 => Ok(AnyCode::P1(ServerCode::new(alloc, profile)?)),
             2 => Ok(AnyCode::P2(ServerCode::new(alloc, profile)?)),
             3 => Ok(AnyCode::P3(ServerCode::new(alloc, profile)?)),
-            _ => Ok(AnyCode::P4(ServerCode::new(alloc, profile)?)),
+            4 => Ok(AnyCode::P4(ServerCode::new(alloc, profile)?)),
+            _ => unreachable!(),
         }
     }
 

@@ -12,10 +12,11 @@ use hail_field::Symbol;
 pub const MOST: usize = 128;
 
 /// At how many places two blocks differ.
-fn count_differences(a: &[Symbol], b: &[Symbol]) -> u32
+pub fn count_differences(a: &[Symbol], b: &[Symbol]) -> u32
     requires even { length a.now ≡ length b.now }
-    requires few { length a.now ≤ MOST }
-    ensures { result ≡ differences a.now b.now }
+    requires few { length a.now ≤ 128 }
+    ensures value { result ≡ differences a.now b.now }
+    ensures few { result ≤ 128 }
 {
     let mut count = 0;
     for k in 0..a.len() {

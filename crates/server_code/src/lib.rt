@@ -17,3 +17,4 @@ mod transform;
 
 pub use any::AnyCode;
 pub use code::ServerCode;
+pub use correct::count_differences;

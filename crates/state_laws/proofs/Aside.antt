@@ -1,29 +1,9 @@
 -- Sound states after a begin and after each step of what runs alone: a scrub and a pack.
-use Rattle.std.proofs.Common.{◌≡◌, ℕ, zero, suc, ◌+◌, ◌≤◌, ◌==◌, true, false, ◌||◌, List, [], ◌∷◌, length, Option, Some, None, refl, ap, sym, subst, ◌∙◌, inl, inr, arith, sum_by}
-use Rattle.std.specs.Prelude.{is_some, nat_lt}
-use Rattle.std.proofs.lemmas.Bool.{cases_Bool, false≢true, eq-eqb}
-use Rattle.algebra_laws.proofs.Options.{some-not-none}
-use Rattle.record_defs.specs.Records.{Setup, largest_journal}
-use Rattle.record_defs.specs.Table.{setup_of, version_of, files_of}
-use Rattle.record_defs.specs.Acceptance.{AreAccepted}
-use Rattle.record_defs.specs.Areas.{other_area, end_in}
-use Rattle.record_defs.proofs.OrderLaws.{few-files_of}
-use Rattle.machine_defs.specs.Jobs.{Job}
-use Rattle.machine_defs.specs.Actions.{Action, Store, Fetch, Work, End}
+use Rattle.state_laws.proofs.Words.{◌≡◌, zero, suc, ◌==◌, true, false, ◌||◌, length, Option, refl, ap, sym, subst, ◌∙◌, inl, inr, arith, sum_by, is_some, nat_lt, cases_Bool, false≢true, eq-eqb, some-not-none, Setup, largest_journal, setup_of, version_of, files_of, AreAccepted, other_area, end_in, few-files_of, Job, Action, Store, Fetch, Work, End, Outcome, Closed, Refused, Begun, More, Ended, State, Append, Scrub, Pack, Alone, Scrubbing, Packing, setup_in, journal_end, reserved, alone_refusal, Scrubs, StepsScrub, Packs, StepsAlone, new_scrub, new_pack, is_too_long, BeginsAlone, BeginsScrub, BeginsPack, Cause, same_value, found_none, setup_same, none-is, left_false, right_false, AreNumbered, AreHeld, IsDoubtOf, starts_left, IsSoundJournal, IsSwitchable, IsSound}
+use Rattle.std.proofs.Common.{ℕ, ◌+◌, ◌≤◌, List, [], ◌∷◌, Some, None}
 use Rattle.machine_defs.specs.Answers as answer
-use Rattle.machine_defs.specs.Events.{Outcome, Closed, Refused, Begun, More, Ended}
-use Rattle.machine_defs.specs.States.{State, Append, Scrub, Pack, Alone, Scrubbing, Packing, setup_in, journal_end}
-use Rattle.machine_defs.specs.Space.{reserved}
-use Rattle.machine_defs.specs.Alone.{alone_refusal, Scrubs, StepsScrub, Packs, StepsAlone, new_scrub, new_pack, is_too_long, BeginsAlone, BeginsScrub, BeginsPack}
 use Rattle.machine_defs.specs.Refusals as refusal
-use Rattle.machine_defs.specs.Refusals.{Cause}
 use Rattle.machine_defs.proofs.Asides.{IsAside, steps_aside}
-use Rattle.machine_defs.proofs.JobLists.{same_value, found_none}
-use Rattle.machine_defs.proofs.PinFacts.{setup_same}
-use Rattle.machine_defs.proofs.Refused.{none-is, left_false, right_false}
-use Rattle.state_laws.specs.Orders.{AreNumbered}
-use Rattle.state_laws.specs.Follows.{AreHeld}
-use Rattle.state_laws.specs.Sound.{IsDoubtOf, starts_left, IsSoundJournal, IsSwitchable, IsSound}
 use Rattle.state_laws.proofs.NamesTaken.{taken_by, length-names_in}
 use Rattle.state_laws.proofs.Records.{AreInGrammar, version-either}
 use Rattle.state_laws.proofs.Packs.{journal-same, journal-packed, switched-room}
@@ -206,7 +186,7 @@ module _ (limit : ℕ) (old : State) (S : IsSound limit old) (opened : old.is_op
     packs zero (Ended answer.DiskFault) new at B (faults, low, rose, is) =
         calm new B (ap (λ (w : State). w.journal) is) (ap (λ (w : State). w.area) is)
         (ap (λ (w : State). w.is_switching) is) (still-at (λ e. omega (arith, e, at))) (λ p e. second)
-    packs zero (Ended answer.Memory) new at B (faults, low, is) =
+    packs zero (Ended answer.Memory) new at B is =
         calm new B (ap (λ (w : State). w.journal) is) (ap (λ (w : State). w.area) is)
         (ap (λ (w : State). w.is_switching) is) (still-at (λ e. omega (arith, e, at))) (λ p e. second)
     packs (suc zero) More new at B (faults, low, is) =
@@ -230,7 +210,7 @@ module _ (limit : ℕ) (old : State) (S : IsSound limit old) (opened : old.is_op
         beside-sound new B (journal-same old new B.records ej (ap (λ (w : State). w.area) is) S.journal)
         (same-room new ej (ap (λ (w : State). w.area) is)) (λ p e. second)
         (λ e. switchable new B (λ o b. absurd (false≢true (sym b ∙ ap (λ (w : State). w.is_barred) is)))))
-    packs (suc (suc zero)) (Ended answer.Memory) new at B (faults, low, is) =
+    packs (suc (suc zero)) (Ended answer.Memory) new at B is =
         calm new B (ap (λ (w : State). w.journal) is) (ap (λ (w : State). w.area) is)
         (ap (λ (w : State). w.is_switching) is) (still-at (λ e. omega (arith, e, at))) (λ p e. second)
     packs (suc (suc (suc zero))) More new at B (faults, low, is) =

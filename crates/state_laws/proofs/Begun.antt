@@ -1,36 +1,12 @@
 -- Sound states after a begin that was not refused.
-use Rattle.std.proofs.Common.{◌≡◌, ℕ, ◌+◌, ◌-◌, ◌<◌, ◌≤◌, ◌^◌, ◌==◌, Bool, true, false, not, ◌⊎◌, ◌||◌, ◌&&◌, List, [], ◌∷◌, ◌++◌, length, Option, Some, None, refl, ap, sym, subst, ◌∙◌, inl, inr, arith, sum, sum_by, length-append}
-use Rattle.std.specs.Prelude.{is_some, IsTrue, nat_lt, nat_le}
-use Rattle.std.specs.List.{list_any}
-use Rattle.std.proofs.lemmas.Bool.{cases_Bool, cases_lt, cases_eq, false≢true, eq-eqb, not-false}
-use Rattle.std.proofs.lemmas.Bool.Decides.{nat_tests}
+use Rattle.state_laws.proofs.Words.{◌≡◌, ◌-◌, ◌<◌, ◌==◌, Bool, true, false, ◌⊎◌, ◌||◌, ◌&&◌, ◌++◌, length, Option, refl, ap, sym, subst, ◌∙◌, inl, inr, arith, sum, sum_by, length-append, is_some, IsTrue, nat_lt, nat_le, list_any, cases_Bool, cases_lt, cases_eq, false≢true, eq-eqb, not-false, nat_tests, sum_by-cons, sum_by-take-drop, Each, some-not-none, is_name, largest_file, largest_journal, most_files, all_profiles, Due, version_of, next_id, next_audit, profile_in, file_of, due_of, is_same_name, is_due, same-eq, Kind, PutJob, GetJob, DropJob, AuditJob, RepairJob, UpgradeJob, aim_of, Job, job_of, actions_left, appends_left, Cause, first_refusal, IsSpelledKind, State, Packing, setup_in, file_in, journal_end, append_sizes, reserved, puts_name, sight_of, aims_of, room_used, is_check, is_upgrade, is_shut, are_jobs_in_the_way, is_name_among, names_taken, is_crowded_for, is_stored, is_full, is_too_full, are_numbers_used_up, causes, refusal_of_begin, due_number, subject_at_begin, chosen, beginning, cond_true, cond_false, same_value, found_more, still_found, any_aim, check_alone, length-aims, stored-file, not_busy, none_lone, left_false, right_false, moves_made, IsInOrder, IsWish, IsReady, IsSoundJob, IsPutUnderWay, starts_left, IsLimit, IsSound, cond, NoRepair}
+use Rattle.std.proofs.Common.{ℕ, ◌+◌, ◌≤◌, ◌^◌, not, List, [], ◌∷◌, Some, None}
 use Rattle.std.proofs.lemmas.List.Folds.{list_any-append}
-use Rattle.std.proofs.lemmas.List.Sums.{sum_by-cons, sum_by-take-drop}
-use Rattle.algebra_laws.specs.Lists.{Each}
-use Rattle.algebra_laws.proofs.Options.{some-not-none}
-use Rattle.record_defs.specs.Records.{is_name, largest_file, largest_journal, most_files, all_profiles}
-use Rattle.record_defs.specs.Table.{Due, version_of, next_id, next_audit, profile_in, file_of, due_of, is_same_name}
-use Rattle.record_defs.specs.Acceptance.{is_due}
-use Rattle.record_defs.proofs.FilesLaws.{same-eq}
-use Rattle.machine_defs.specs.Jobs.{Kind, PutJob, GetJob, DropJob, AuditJob, RepairJob, UpgradeJob, aim_of, Job, job_of}
-use Rattle.machine_defs.specs.Actions.{actions_left, appends_left}
-use Rattle.machine_defs.specs.Refusals.{Cause, first_refusal}
-use Rattle.machine_defs.specs.Events.{IsSpelledKind}
-use Rattle.machine_defs.specs.States.{State, Packing, setup_in, file_in, journal_end}
-use Rattle.machine_defs.specs.Space.{append_sizes, reserved}
-use Rattle.machine_defs.specs.Sights.{puts_name, sight_of, aims_of, room_used, is_check, is_upgrade, is_shut, are_jobs_in_the_way, is_name_among, names_taken, is_crowded_for, is_stored, is_full, is_too_full, are_numbers_used_up, causes}
-use Rattle.machine_defs.specs.Begins.{refusal_of_begin, due_number, subject_at_begin, chosen, beginning}
-use Rattle.machine_defs.proofs.JobLists.{cond_true, cond_false, same_value, found_more, still_found}
-use Rattle.machine_defs.proofs.Pins.{any_aim, check_alone}
-use Rattle.machine_defs.proofs.Sights.{length-aims, stored-file}
-use Rattle.machine_defs.proofs.Refused.{not_busy, none_lone, left_false, right_false}
-use Rattle.state_laws.specs.Orders.{moves_made, IsInOrder}
-use Rattle.state_laws.specs.SoundJobs.{IsWish, IsReady, IsSoundJob}
-use Rattle.state_laws.specs.Sound.{IsPutUnderWay, starts_left, IsLimit, IsSound}
+use Rattle.record_defs.specs.Acceptance.{NewVersion}
 use Rattle.state_laws.proofs.Orders.{in_order}
 use Rattle.state_laws.proofs.JobLists.{sum-more, numbered-more, numbered-below, made-some}
 use Rattle.state_laws.proofs.NamesTaken.{are_put, taken_by, once-taken, listed-taken, fewer, taken-fewer}
-use Rattle.state_laws.proofs.Records.{is_some-at, due-spelled, due-number, setup-fits, version-either}
+use Rattle.state_laws.proofs.Records.{is_some-at, due-spelled, due-number, setup-fits}
 use Rattle.state_laws.proofs.Packs.{journal-same}
 use Rattle.state_laws.proofs.Written.{starts-first, starts-later, set_up-in, setup-valid}
 use Rattle.state_laws.proofs.Pinning.{pins-ascend, pins-few, pins-stored, pins-plain, has-pins}
@@ -98,9 +74,7 @@ module _ (limit : ℕ) (old : State) (kind : Kind) (wish : Option ℕ)
   begun-wish (PutJob name bytes) e = (let p = begun-put name bytes e in (p.named, p.short))
   begun-wish (GetJob name) e = not-false (is_name name) (none-of (GetJob name) e).1.1.0
   begun-wish (DropJob name) e = not-false (is_name name) (none-of (DropJob name) e).1.1.0
-  begun-wish AuditJob e = tt
-  begun-wish RepairJob e = tt
-  begun-wish UpgradeJob e = tt
+  begun-wish kd e = tt
 
   begun-found : (name : List ℕ) → kind ≡ GetJob name → is_some (file_in old name) ≡ true
   begun-found name e = sym (stored-file old name)
@@ -132,15 +106,13 @@ module _ (limit : ℕ) (old : State) (kind : Kind) (wish : Option ℕ)
     where
       by_kind : (kd : Kind) → kind ≡ kd → are_jobs_in_the_way limit (aims_of old.jobs) (aim_of kd) ≡ false →
           length (aims_of old.jobs) < limit
-      by_kind (PutJob name bytes) e h = below limit (length (aims_of old.jobs)) h
-      by_kind (GetJob name) e h = below limit (length (aims_of old.jobs)) h
-      by_kind (DropJob name) e h = below limit (length (aims_of old.jobs)) h
       by_kind AuditJob e h =
           below limit (length (aims_of old.jobs)) (left_false (nat_le limit (length (aims_of old.jobs))) _ h)
       by_kind RepairJob e h =
           below limit (length (aims_of old.jobs)) (left_false (nat_le limit (length (aims_of old.jobs))) _ h)
       by_kind UpgradeJob e h =
           (let z = ap length (begun-lone e) in let b = length-aims old.jobs in omega (arith, z, b, least))
+      by_kind kd e h = below limit (length (aims_of old.jobs)) h
 
   begun-full : is_full (sight_of old) (aim_of kind) ≡ false
   begun-full = by_kind kind refl
@@ -151,9 +123,7 @@ module _ (limit : ℕ) (old : State) (kind : Kind) (wish : Option ℕ)
       by_kind (GetJob name) e = ap (λ k. is_full (sight_of old) (aim_of k)) e ∙ refl
       by_kind (DropJob name) e =
           ap (λ k. is_full (sight_of old) (aim_of k)) e ∙ (none-of (DropJob name) e).1.1.1.1.0
-      by_kind AuditJob e = ap (λ k. is_full (sight_of old) (aim_of k)) e ∙ (none-of AuditJob e).1.1.1.0
-      by_kind RepairJob e = ap (λ k. is_full (sight_of old) (aim_of k)) e ∙ (none-of RepairJob e).1.1.1.0
-      by_kind UpgradeJob e = ap (λ k. is_full (sight_of old) (aim_of k)) e ∙ (none-of UpgradeJob e).1.1.1.0
+      by_kind kd e = ap (λ k. is_full (sight_of old) (aim_of k)) e ∙ (none-of kd e).1.1.1.0
 
   -- numbers are left for a put and for an audit
   begun-id : (name bytes : List ℕ) → kind ≡ PutJob name bytes → next_id old.records ≤ 2 ^ 64 - 32
@@ -179,11 +149,8 @@ module _ (limit : ℕ) (old : State) (kind : Kind) (wish : Option ℕ)
   pub begun-repair : kind ≡ RepairJob → is_some (due_of old.records) ≡ true
   begun-repair e = not-false (is_some (due_of old.records)) (none-of RepairJob e).1.1.0
 
-  begun-first : kind ≡ UpgradeJob → version_of old.records ≡ 1
-  begun-first e = elim (version-either old.records) [
-    | inl one ↦ one
-    | inr two ↦ absurd (false≢true (sym (none-of UpgradeJob e).1.1.0 ∙ eq-eqb (version_of old.records) 2 two))
-  ]
+  begun-first : kind ≡ UpgradeJob → (version_of old.records == 2) ≡ false
+  begun-first e = (none-of UpgradeJob e).1.1.0
 
   -- the journal has room for all its records
   abbrev sizes_all : Kind → ℕ
@@ -204,12 +171,8 @@ module _ (limit : ℕ) (old : State) (kind : Kind) (wish : Option ℕ)
 
       by_kind : (kd : Kind) → is_full (sight_of old) (aim_of kd) ≡ false →
           room_now + sizes_all kd ≤ largest_journal ⊎ (sizes_all kd ≡ 0)
-      by_kind (PutJob name bytes) h = inl (enough (PutJob name bytes) h)
       by_kind (GetJob name) h = inr refl
-      by_kind (DropJob name) h = inl (enough (DropJob name) h)
-      by_kind AuditJob h = inl (enough AuditJob h)
-      by_kind RepairJob h = inl (enough RepairJob h)
-      by_kind UpgradeJob h = inl (enough UpgradeJob h)
+      by_kind kd h = inl (enough kd h)
 
   -- its name finds a place
   begun-name : (name bytes : List ℕ) → kind ≡ PutJob name bytes →
@@ -237,11 +200,7 @@ starts-few (j ∷ js) =
       where
         by : (kd : Kind) → j.kind ≡ kd → j.place < 4 → starts_left j ≤ 1
         by (PutJob name bytes) e l = (let o = starts-first j name bytes e l in omega (arith, o))
-        by (GetJob name) e l = (let z : starts_left j ≡ 0 = rw e refl in omega (arith, z))
-        by (DropJob name) e l = (let z : starts_left j ≡ 0 = rw e refl in omega (arith, z))
-        by AuditJob e l = (let z : starts_left j ≡ 0 = rw e refl in omega (arith, z))
-        by RepairJob e l = (let z : starts_left j ≡ 0 = rw e refl in omega (arith, z))
-        by UpgradeJob e l = (let z : starts_left j ≡ 0 = rw e refl in omega (arith, z))
+        by kd e l = (let z : starts_left j ≡ 0 = rw e refl in omega (arith, z))
 
 module _ (limit moment : ℕ) (old : State) (S : IsSound limit old) (kind : Kind) (wish : Option ℕ)
     (by_put : (p : ℕ) → wish ≡ Some p → (name : List ℕ) × (bytes : List ℕ) × (kind ≡ PutJob name bytes))
@@ -266,36 +225,36 @@ module _ (limit moment : ℕ) (old : State) (S : IsSound limit old) (kind : Kind
 
   added-ready : (kd : Kind) → kind ≡ kd → IsReady (setup_in old) old.records old.bytes added kd
   added-ready (PutJob name bytes) e = λ l. absurd (omega (arith, l))
-  added-ready (GetJob name) e = tt
+  added-ready (GetJob name) e = λ k. tt
   added-ready (DropJob name) e = tt
   added-ready AuditJob e = (λ l. begun-due limit old kind wish allowed e, λ l k. absurd (omega (arith, l)))
   added-ready RepairJob e =
       λ k. (let d = is_some-at (due_of old.records) (begun-repair limit old kind wish allowed e) in
-      ap (λ kd. is_due (subject_at_begin old kd) (due_of old.records)) e
-      ∙ (ap (λ o. is_due (due_number o) o) d.1 ∙ eq-eqb d.0.number d.0.number refl))
-  added-ready UpgradeJob e = λ k. begun-first limit old kind wish allowed e
+      cond_true (is_due added.subject (due_of old.records)) _ _
+      (ap (λ kd. is_due (subject_at_begin old kd) (due_of old.records)) e
+      ∙ (ap (λ o. is_due (due_number o) o) d.1 ∙ eq-eqb d.0.number d.0.number refl)))
+  added-ready UpgradeJob e =
+      λ k. cond_false (version_of old.records == 2) _ _ (begun-first limit old kind wish allowed e)
 
   -- so it does in the journal
   added-journal : (kd : Kind) → IsReady (setup_in old) old.records old.bytes added kd →
       IsReady (setup_in old) old.journal old.bytes added kd
   added-journal (PutJob name bytes) r = λ l. absurd (omega (arith, l))
-  added-journal (GetJob name) r = tt
+  added-journal (GetJob name) r = λ k. tt
   added-journal (DropJob name) r = tt
   added-journal AuditJob r = (λ l. S.journal.alike.due ∙ r.0 l, λ l k. absurd (omega (arith, l)))
-  added-journal RepairJob r = λ k. ap (is_due added.subject) S.journal.alike.due ∙ r k
-  added-journal UpgradeJob r = λ k. S.journal.alike.version ∙ r k
+  added-journal RepairJob r =
+      λ k. ap (λ d. cond (is_due added.subject d) None (Some NoRepair)) S.journal.alike.due ∙ r k
+  added-journal UpgradeJob r =
+      λ k. ap (λ v. cond (v == 2) (Some NewVersion) None) S.journal.alike.version ∙ r k
 
   subject-small : (kd : Kind) → subject_at_begin old kd < 2 ^ 64
-  subject-small (PutJob name bytes) = omega arith
-  subject-small (GetJob name) = omega arith
-  subject-small (DropJob name) = omega arith
-  subject-small AuditJob = omega arith
   subject-small RepairJob = due (due_of old.records) refl
     where
       due : (o : Option Due) → due_of old.records ≡ o → due_number o < 2 ^ 64
       due None e = omega arith
       due (Some d) e = due-number d (due-spelled old.records d S.spelled e)
-  subject-small UpgradeJob = omega arith
+  subject-small kd = omega arith
 
   added-order : IsInOrder 0 (actions_left (setup_in old) added)
   added-order = in_order (setup_in old) added
@@ -433,31 +392,19 @@ module _ (limit moment : ℕ) (old : State) (S : IsSound limit old) (kind : Kind
           let n = length-append old.jobs (added ∷ []) in
           let b = begun-few limit old kind wish allowed fits.0 in
           let m = fits.1 in omega (arith, i, f, n, b, m))
-      by_kind (GetJob name) e = none (rw e refl)
-      by_kind (DropJob name) e = none (rw e refl)
-      by_kind AuditJob e = none (rw e refl)
-      by_kind RepairJob e = none (rw e refl)
-      by_kind UpgradeJob e = none (rw e refl)
+      by_kind kd e = none (rw e refl)
 
   -- the state after the begin
   abbrev pub begun_state : State
   begun_state = record old { jobs = old.jobs ++ added ∷ []; next_job = old.next_job + 1 }
 
   upgrade-is : (k : Kind) → IsTrue (is_upgrade (aim_of k)) → k ≡ UpgradeJob
-  upgrade-is (PutJob name bytes) u = absurd (false≢true u)
-  upgrade-is (GetJob name) u = absurd (false≢true u)
-  upgrade-is (DropJob name) u = absurd (false≢true u)
-  upgrade-is AuditJob u = absurd (false≢true u)
-  upgrade-is RepairJob u = absurd (false≢true u)
   upgrade-is UpgradeJob u = refl
+  upgrade-is k u = absurd (false≢true u)
 
   no-puts : (k : Kind) → IsPutUnderWay added k → ⊥
   no-puts (PutJob name bytes) l = omega (arith, l)
-  no-puts (GetJob name) l = l
-  no-puts (DropJob name) l = l
-  no-puts AuditJob l = l
-  no-puts RepairJob l = l
-  no-puts UpgradeJob l = l
+  no-puts k l = l
 
   -- a sound state stays sound when a job begins
   pub begun-job : IsLimit limit → IsSound limit begun_state

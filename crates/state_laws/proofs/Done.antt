@@ -1,30 +1,7 @@
 -- Sound states after the fourth move of an append: its record is in effect.
-use Rattle.std.proofs.Common.{◌≡◌, ℕ, zero, suc, ◌+◌, ◌-◌, ◌^◌, ◌<◌, ◌≤◌, ◌==◌, Bool, true, false, cond, ◌⊎◌, ◌||◌, ◌&&◌, List, [], ◌∷◌, ◌++◌, length, Option, Some, None, refl, ap, sym, subst, ◌∙◌, inl, inr, arith, sum_by}
-use Rattle.std.specs.Prelude.{is_some, IsTrue, slice_get}
-use Rattle.std.proofs.lemmas.Bool.{cases_Bool, cases_lt, false≢true, eq-eqb, ne_eqb, and_from}
-use Rattle.std.proofs.lemmas.List.Sums.{sum_by-cons}
-use Rattle.algebra_laws.proofs.Options.{some-not-none}
-use Rattle.record_defs.specs.Records.{Setup, Record, SetUp, PutStart, PutDone, Drop, AuditStart, AuditDone, RepairDone, largest_journal, PutDoneIn, Version, Resume, InEffect, RepairDue}
-use Rattle.std.proofs.lemmas.Bool.Decides.{nat_tests}
-use Rattle.record_defs.specs.Table.{File, version_of, next_id, next_audit, started_as, file_of, running_audit, due_of, is_same_name}
-use Rattle.record_defs.specs.Acceptance.{refused, is_due, AreAccepted}
-use Rattle.record_defs.proofs.FilesLaws.{same-refl}
-use Rattle.machine_defs.specs.Jobs.{Kind, PutJob, GetJob, DropJob, AuditJob, RepairJob, UpgradeJob, aim_of, Pinned, Job, job_of, with_job}
-use Rattle.machine_defs.specs.Actions.{Action, WriteBody, SyncBody, WriteGate, SyncGate, append_actions, actions_left, appends_left}
-use Rattle.machine_defs.specs.States.{State, Append, Packing, setup_in, file_in, journal_end}
-use Rattle.machine_defs.specs.Space.{reserved}
-use Rattle.machine_defs.specs.Sights.{puts_name, is_check, is_upgrade}
-use Rattle.machine_defs.specs.Appends.{Writes, is_first_append, subject_drawn, bytes_drawn, is_pinned, removable, taken_out, done_append}
-use Rattle.machine_defs.specs.Steps.{next_action}
-use Rattle.machine_defs.proofs.JobLists.{cond_true, cond_false, same_value, found_with, found_itself}
-use Rattle.machine_defs.proofs.Numbers.{first_below}
-use Rattle.machine_defs.proofs.PinFacts.{setup_same}
-use Rattle.machine_defs.proofs.Done.{put_ended, by_version, done-ended}
+use Rattle.state_laws.proofs.Words.{◌≡◌, zero, suc, ◌-◌, ◌<◌, ◌==◌, Bool, true, false, cond, ◌⊎◌, ◌||◌, ◌&&◌, ◌++◌, length, Option, refl, ap, sym, subst, ◌∙◌, inl, inr, arith, sum_by, is_some, IsTrue, slice_get, cases_Bool, cases_lt, false≢true, eq-eqb, ne_eqb, and_from, sum_by-cons, some-not-none, Setup, Record, SetUp, PutStart, PutDone, Drop, AuditStart, AuditDone, RepairDone, largest_journal, PutDoneIn, Version, Resume, InEffect, RepairDue, nat_tests, File, version_of, next_id, next_audit, started_as, file_of, running_audit, due_of, is_same_name, refused, is_due, AreAccepted, same-refl, Kind, PutJob, GetJob, DropJob, AuditJob, RepairJob, UpgradeJob, aim_of, Pinned, Job, job_of, with_job, Action, WriteBody, SyncBody, WriteGate, SyncGate, append_actions, actions_left, appends_left, State, Append, Packing, setup_in, file_in, journal_end, reserved, puts_name, is_check, is_upgrade, Writes, is_first_append, subject_drawn, bytes_drawn, is_pinned, removable, taken_out, done_append, next_action, cond_true, cond_false, same_value, found_with, found_itself, first_below, setup_same, put_ended, by_version, done-ended, next_stands, moves_made, IsInOrder, IsPin, IsOlder, HasDrawn, IsReady, IsSoundJob, IsSoundAppend, IsPutUnderWay, starts_left, IsSound, NoRepair}
+use Rattle.std.proofs.Common.{ℕ, ◌+◌, ◌^◌, ◌≤◌, List, [], ◌∷◌, Some, None}
 use Rattle.machine_defs.proofs.Written.{IsAppended, writes_appended}
-use Rattle.machine_defs.proofs.NextActions.{next_stands}
-use Rattle.state_laws.specs.Orders.{moves_made, IsInOrder}
-use Rattle.state_laws.specs.SoundJobs.{IsPin, IsOlder, HasDrawn, IsReady, IsSoundJob}
-use Rattle.state_laws.specs.Sound.{IsSoundAppend, IsPutUnderWay, starts_left, IsSound}
 use Rattle.state_laws.proofs.Orders.{put_rest, audit_rest, put-list, audit-list, put-first, put-later, audit-later, drop-first, repair-first, upgrade-first}
 use Rattle.state_laws.proofs.JobLists.{sum-with, length-with, numbered-with, only-with, only-number, mine, other}
 use Rattle.state_laws.proofs.NamesTaken.{are_put, put-in, taken-fewer}
@@ -45,32 +22,18 @@ IsNoCheck (RepairDue number counts) = ⊥
 IsNoCheck r = Unit {0}
 
 running-same : (r : Record) (rs : List Record) → IsNoCheck r → running_audit (r ∷ rs) ≡ running_audit rs
-running-same (SetUp s) rs h = refl
-running-same (PutStart id name) rs h = refl
-running-same (PutDone id size) rs h = refl
-running-same (Drop name) rs h = refl
 running-same (AuditStart number) rs h = absurd h
 running-same (AuditDone number undecided counts) rs h = absurd h
 running-same (RepairDone number) rs h = absurd h
-running-same (PutDoneIn id size profile) rs h = refl
-running-same Version rs h = refl
-running-same (Resume next audit) rs h = refl
-running-same (InEffect id size profile kept) rs h = refl
 running-same (RepairDue number counts) rs h = absurd h
+running-same r rs h = refl
 
 due-same : (r : Record) (rs : List Record) → IsNoCheck r → due_of (r ∷ rs) ≡ due_of rs
-due-same (SetUp s) rs h = refl
-due-same (PutStart id name) rs h = refl
-due-same (PutDone id size) rs h = refl
-due-same (Drop name) rs h = refl
 due-same (AuditStart number) rs h = absurd h
 due-same (AuditDone number undecided counts) rs h = absurd h
 due-same (RepairDone number) rs h = absurd h
-due-same (PutDoneIn id size profile) rs h = refl
-due-same Version rs h = refl
-due-same (Resume next audit) rs h = refl
-due-same (InEffect id size profile kept) rs h = refl
 due-same (RepairDue number counts) rs h = absurd h
+due-same r rs h = refl
 
 -- a job that is no check writes no such record
 no-check : (w : State) (job : Job) (kind : Kind) (entry : Record) → (is_check (aim_of kind) ≡ true → ⊥) →
@@ -82,9 +45,8 @@ no-check w job (PutJob name bytes) entry n h = elim (cases_lt job.place 4) [
 ]
 no-check w job (GetJob name) entry n h = absurd h
 no-check w job (DropJob name) entry n h = subst IsNoCheck (sym h) tt
-no-check w job AuditJob entry n h = absurd (n refl)
-no-check w job RepairJob entry n h = absurd (n refl)
 no-check w job UpgradeJob entry n h = subst IsNoCheck (sym h) tt
+no-check w job kind entry n h = absurd (n refl)
 
 -- nor one that draws an audit number
 no-audit : (w : State) (job : Job) (kind : Kind) (entry : Record) (rs : List Record) →
@@ -97,9 +59,8 @@ no-audit w job (PutJob name bytes) entry rs n h = elim (cases_lt job.place 4) [
 ]
 no-audit w job (GetJob name) entry rs n h = absurd h
 no-audit w job (DropJob name) entry rs n h = ap (λ r. next_audit (r ∷ rs)) h
-no-audit w job AuditJob entry rs n h = absurd (n refl)
-no-audit w job RepairJob entry rs n h = absurd (n refl)
 no-audit w job UpgradeJob entry rs n h = ap (λ r. next_audit (r ∷ rs)) h
+no-audit w job kind entry rs n h = absurd (n refl)
 
 -- only an upgrade changes the version
 version-kept : (w : State) (job : Job) (kind : Kind) (entry : Record) (rs : List Record) →
@@ -143,36 +104,26 @@ done-by w job (PutJob name bytes) entry id h e = elim (cases_lt job.place 4) [
   )
 ]
 done-by w job (GetJob name) entry id h e = absurd h
-done-by w job (DropJob name) entry id h e = absurd (let f : None ≡ Some id = sym (ap put_ended h) ∙ e in cc)
 done-by w job AuditJob entry id h e = elim (cases_lt job.place 4) [
   | inl l ↦ absurd (let wrote = audit-writes_first w job entry l h in
       let f : None ≡ Some id = sym (ap put_ended wrote) ∙ e in cc)
   | inr l ↦ absurd (let wrote = audit-writes_later w job entry l h in
       let f : None ≡ Some id = sym (ap put_ended wrote.2) ∙ e in cc)
 ]
-done-by w job RepairJob entry id h e = absurd (let f : None ≡ Some id = sym (ap put_ended h) ∙ e in cc)
-done-by w job UpgradeJob entry id h e = absurd (let f : None ≡ Some id = sym (ap put_ended h) ∙ e in cc)
+done-by w job kind entry id h e = absurd (let f : None ≡ Some id = sym (ap put_ended h) ∙ e in cc)
 
 -- a started put stays so until its own end
 started-stays : (rs : List Record) (r : Record) (id : ℕ) (name : List ℕ) → refused rs r ≡ None →
     id < next_id rs →
     (put_ended r ≡ Some id → ⊥) → started_as rs id ≡ Some name → started_as (r ∷ rs) id ≡ Some name
-started-stays rs (SetUp s) id name a l n h = h
 started-stays rs (PutStart k m) id name a l n h =
     let drawn : k ≡ next_id rs = grind (arith, nat_tests, a) in
     cond_false (k == id) (Some m) (started_as rs id) (ne_eqb k id (λ e. omega (arith, l, drawn, e))) ∙ h
 started-stays rs (PutDone k size) id name a l n h =
     cond_false (k == id) None (started_as rs id) (ne_eqb k id (λ e. n (ap Some e))) ∙ h
-started-stays rs (Drop m) id name a l n h = h
-started-stays rs (AuditStart number) id name a l n h = h
-started-stays rs (AuditDone number undecided counts) id name a l n h = h
-started-stays rs (RepairDone number) id name a l n h = h
 started-stays rs (PutDoneIn k size profile) id name a l n h =
     cond_false (k == id) None (started_as rs id) (ne_eqb k id (λ e. n (ap Some e))) ∙ h
-started-stays rs Version id name a l n h = h
-started-stays rs (Resume next audit) id name a l n h = h
-started-stays rs (InEffect k size profile kept) id name a l n h = h
-started-stays rs (RepairDue number counts) id name a l n h = h
+started-stays rs r id name a l n h = h
 
 module _ (s : Setup) (rs : List Record) (bytes : ℕ → List ℕ) (entry : Record)
     (accepted : AreAccepted (entry ∷ rs)) where
@@ -201,12 +152,12 @@ module _ (s : Setup) (rs : List Record) (bytes : ℕ → List ℕ) (entry : Reco
     bytes_are = d.bytes_are;
     started = λ k. started-stays rs entry job.subject name accepted.0 d.drawn (apart l) (d.started k);
   })
-  kept-ready_more job (GetJob name) apart quiet lone r = tt
+  kept-ready_more job (GetJob name) apart quiet lone r = r
   kept-ready_more job (DropJob name) apart quiet lone r = tt
   kept-ready_more job AuditJob apart quiet lone r =
       (λ l. due-same entry rs (quiet refl) ∙ r.0 l, λ l k. running-same entry rs (quiet refl) ∙ r.1 l k)
   kept-ready_more job RepairJob apart quiet lone r =
-      λ k. ap (is_due job.subject) (due-same entry rs (quiet refl)) ∙ r k
+      λ k. ap (λ d. cond (is_due job.subject d) None (Some NoRepair)) (due-same entry rs (quiet refl)) ∙ r k
   kept-ready_more job UpgradeJob apart quiet lone r = absurd (lone refl)
 
   -- another job
@@ -247,10 +198,7 @@ taken-older w job (PutJob name bytes) h = by_first (is_first_append job)
     by_first true = inl refl
     by_first false = removable-older w (file_in w name) (λ file e. h name file e)
 taken-older w job (DropJob name) h = removable-older w (file_in w name) (λ file e. h name file e)
-taken-older w job (GetJob name) h = inl refl
-taken-older w job AuditJob h = inl refl
-taken-older w job RepairJob h = inl refl
-taken-older w job UpgradeJob h = inl refl
+taken-older w job kind h = inl refl
 
 -- ---- the job whose append is done
 
@@ -370,7 +318,7 @@ module _ (limit : ℕ) (old : State) (S : IsSound limit old) (job : Job)
           omega (arith, k, b, c));
     })
   ]
-  after-ready rs acc same (GetJob name) kind h r = tt
+  after-ready rs acc same (GetJob name) kind h r = λ k. tt
   after-ready rs acc same (DropJob name) kind h r = tt
   after-ready rs acc same AuditJob kind h r = elim (cases_lt job.place 4) [
     | inl f ↦ (let e = audit-writes_first old job a.entry f h in
@@ -396,9 +344,7 @@ module _ (limit : ℕ) (old : State) (S : IsSound limit old) (job : Job)
   after-undecided (GetJob name) kind h k = absurd h
   after-undecided (DropJob name) kind h k =
       absurd (let b = drop-first s job name kind in let c = one-less in omega (arith, k, b, c))
-  after-undecided AuditJob kind h k = older-is AuditJob kind
-  after-undecided RepairJob kind h k = older-is RepairJob kind
-  after-undecided UpgradeJob kind h k = older-is UpgradeJob kind
+  after-undecided g kind h k = older-is g kind
 
   after-job : IsSoundJob s rs_now old.bytes 0 after
   after-job = record {
@@ -457,10 +403,7 @@ module _ (limit : ℕ) (old : State) (S : IsSound limit old) (job : Job)
           put-in n old.jobs job.number job runs (ap (λ kd. puts_name n (aim_of kd)) kind
           ∙ (ap (is_same_name n) (sym is) ∙ same-refl n)))
       by_kind (GetJob name) kind h r = absurd h
-      by_kind (DropJob name) kind h r = absurd (done-by old job (DropJob name) a.entry id h e).0
-      by_kind AuditJob kind h r = absurd (done-by old job AuditJob a.entry id h e).0
-      by_kind RepairJob kind h r = absurd (done-by old job RepairJob a.entry id h e).0
-      by_kind UpgradeJob kind h r = absurd (done-by old job UpgradeJob a.entry id h e).0
+      by_kind k kind h r = absurd (done-by old job k a.entry id h e).0
 
   names-were : (n : List ℕ) → (are_put n (with_job old.jobs after) || is_some (file_of rs_now n)) ≡ true →
       (are_put n old.jobs || is_some (file_of old.records n)) ≡ true
@@ -494,11 +437,7 @@ module _ (limit : ℕ) (old : State) (S : IsSound limit old) (job : Job)
         | inl f ↦ inr (drawn-first_put name bytes kind f)
         | inr f ↦ inl f
       ]
-      by_kind (GetJob name) kind u = absurd u
-      by_kind (DropJob name) kind u = absurd u
-      by_kind AuditJob kind u = absurd u
-      by_kind RepairJob kind u = absurd u
-      by_kind UpgradeJob kind u = absurd u
+      by_kind h kind u = absurd u
 
   under-below : (k : ℕ) (j : Job) → job_of old.jobs k ≡ Some j → IsPutUnderWay j j.kind →
       j.subject < next_id old.records
@@ -507,11 +446,7 @@ module _ (limit : ℕ) (old : State) (S : IsSound limit old) (job : Job)
       by_kind : (kind : Kind) → IsPutUnderWay j kind → IsReady s old.records old.bytes j kind →
           j.subject < next_id old.records
       by_kind (PutJob name bytes) u r = (r u).drawn
-      by_kind (GetJob name) u r = absurd u
-      by_kind (DropJob name) u r = absurd u
-      by_kind AuditJob u r = absurd u
-      by_kind RepairJob u r = absurd u
-      by_kind UpgradeJob u r = absurd u
+      by_kind kind u r = absurd u
 
   abbrev new : State
   new = done_append old job a
@@ -589,13 +524,11 @@ module _ (limit : ℕ) (old : State) (S : IsSound limit old) (job : Job)
             (λ r. next_id (r ∷ old.records) ≡ next_id old.records) refl refl)
       ]
       by_kind (GetJob name) kind h = absurd h
-      by_kind (DropJob name) kind h = same (ap (λ r. next_id (r ∷ old.records)) h)
       by_kind AuditJob kind h = elim (cases_lt job.place 4) [
         | inl l ↦ same (ap (λ r. next_id (r ∷ old.records)) (audit-writes_first old job a.entry l h))
         | inr l ↦ same (ap (λ r. next_id (r ∷ old.records)) (audit-writes_later old job a.entry l h).2)
       ]
-      by_kind RepairJob kind h = same (ap (λ r. next_id (r ∷ old.records)) h)
-      by_kind UpgradeJob kind h = same (ap (λ r. next_id (r ∷ old.records)) h)
+      by_kind k kind h = same (ap (λ r. next_id (r ∷ old.records)) h)
 
   audits-after : (k : ℕ) (j : Job) → job_of (with_job old.jobs after) k ≡ Some j → j.kind ≡ AuditJob →
       j.place < 4 → next_audit rs_now ≤ 2 ^ 64 - 32

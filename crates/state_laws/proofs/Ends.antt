@@ -1,19 +1,8 @@
 -- Sound states after a job has ended.
-use Rattle.std.proofs.Common.{◌≡◌, ℕ, ◌==◌, Bool, true, false, ◌||◌, List, [], ◌∷◌, Option, Some, None, refl, ap, sym, ◌∙◌, inl, inr, arith}
-use Rattle.std.specs.Prelude.{is_some}
-use Rattle.std.proofs.lemmas.Bool.{cases_Bool}
-use Rattle.algebra_laws.proofs.Options.{some-not-none}
-use Rattle.record_defs.specs.Table.{version_of, file_of}
-use Rattle.machine_defs.specs.Jobs.{aim_of, Job, job_of, without_job}
-use Rattle.machine_defs.specs.States.{State, Append, Doubt, setup_in, ended}
-use Rattle.machine_defs.specs.Space.{reserved}
-use Rattle.machine_defs.proofs.JobLists.{cond_true, cond_false, found_without}
-use Rattle.state_laws.specs.Orders.{moves_made}
-use Rattle.state_laws.specs.Follows.{MayFollowIn}
-use Rattle.state_laws.specs.Sound.{IsDoubtOf, IsSoundAppend, starts_left, IsSound}
+use Rattle.state_laws.proofs.Words.{◌≡◌, ◌==◌, Bool, true, false, ◌||◌, Option, refl, ap, sym, ◌∙◌, inl, inr, arith, is_some, cases_Bool, some-not-none, version_of, file_of, aim_of, Job, job_of, without_job, State, Append, Doubt, setup_in, ended, reserved, cond_true, cond_false, found_without, moves_made, MayFollowIn, IsDoubtOf, IsSoundAppend, starts_left, IsSound, puts_name}
+use Rattle.std.proofs.Common.{ℕ, List, [], ◌∷◌, Some, None}
 use Rattle.state_laws.proofs.JobLists.{sum-without, length-without, numbered-without, still-without, only-without, not-mine, other}
 use Rattle.state_laws.proofs.NamesTaken.{are_put, taken-fewer}
-use Rattle.machine_defs.specs.Sights.{puts_name}
 use Rattle.state_laws.proofs.Packs.{journal-same}
 use Rattle.state_laws.proofs.Going.{kept}
 
@@ -51,8 +40,7 @@ module _ (limit : ℕ) (old : State) (S : IsSound limit old) (job : Job)
   ended-sound : (flight : Option Append) (doubt : Option Doubt) (barred : Bool) →
       ((k : ℕ) → (k ≡ job.number → ⊥) → moves_made flight k ≡ moves_made old.append k) →
       ((a : Append) → flight ≡ Some a → IsSoundAppend old a × (a.job ≡ job.number → ⊥)) →
-      (barred ≡ true → flight ≡ None) →
-      (old.is_open ≡ true → barred ≡ false → IsDoubtOf flight doubt) →
+      (barred ≡ true → flight ≡ None) → (old.is_open ≡ true → barred ≡ false → IsDoubtOf flight doubt) →
       ((d : Doubt) → doubt ≡ Some d → MayFollowIn old d.entry) →
       IsSound limit (left_by old job flight doubt barred)
   unfolding setup_in

@@ -1,24 +1,9 @@
 -- Each event leaves a sound state sound.
-use Rattle.std.proofs.Common.{◌≡◌, ℕ, ◌+◌, ◌==◌, Bool, true, false, List, [], ◌∷◌, length, drop, Option, Some, None, refl, ap, sym, subst, ◌∙◌, inl, inr, arith}
-use Rattle.std.specs.Prelude.{IsSome, nat_lt, slice_get}
-use Rattle.std.proofs.lemmas.Bool.{cases_Bool, false≢true, and_parts, eqb-true}
-use Rattle.algebra_laws.proofs.Lists.{drop-get}
+use Rattle.state_laws.proofs.Words.{◌≡◌, ◌==◌, Bool, true, false, length, drop, Option, refl, ap, sym, subst, ◌∙◌, inl, inr, arith, IsSome, nat_lt, slice_get, cases_Bool, false≢true, and_parts, eqb-true, drop-get, Kind, PutJob, GetJob, DropJob, AuditJob, RepairJob, UpgradeJob, Job, Given, Fetched, Answered, Worked, job_of, advanced, Action, WriteBody, SyncBody, WriteGate, Store, Fetch, Ask, Work, Remove, End, ends_append, actions_of, actions_left, Event, Init, Begin, BeginAt, BeginScrub, BeginPack, Step, Alter, Lose, Stop, Reopen, Names, Continue, IsSpelled, IsSpelledKind, Outcome, Refused, Begun, Replaced, NothingHeld, Listed, Closed, State, IsStart, Append, Doubt, setup_in, with_provider, going_on, ended, BeginsAt, is_idle_drop, next_action, Steps, Lists, Happens, Moment, IsRun, now, Answer, cond_true, cond_false, same_value, moves_made, moves_before, moves_after, IsInOrder, MayFollowIn, IsGatedDoubt, IsDoubtOf, IsLimit, IsSound}
+use Rattle.std.proofs.Common.{ℕ, ◌+◌, List, [], ◌∷◌, Some, None}
 use Rattle.device_defs.specs.Providers.{Held, Provider, with_symbol, without_block, HasPlace}
-use Rattle.machine_defs.specs.Jobs.{Kind, PutJob, GetJob, DropJob, AuditJob, RepairJob, UpgradeJob, Job, Given, Fetched, Answered, Worked, job_of, advanced}
-use Rattle.machine_defs.specs.Actions.{Action, WriteBody, SyncBody, WriteGate, Store, Fetch, Ask, Work, Remove, End, ends_append, actions_of, actions_left}
-use Rattle.machine_defs.specs.Events.{Event, Init, Begin, BeginAt, BeginScrub, BeginPack, Step, Alter, Lose, Stop, Reopen, Names, Continue, IsSpelled, IsSpelledKind, Outcome, Refused, Begun, Replaced, NothingHeld, Listed, Closed}
-use Rattle.machine_defs.specs.States.{State, IsStart, Append, Doubt, setup_in, with_provider, going_on, ended}
-use Rattle.machine_defs.specs.Begins.{BeginsAt}
-use Rattle.machine_defs.specs.Steps.{is_idle_drop, next_action, Steps}
 use Rattle.machine_defs.specs.Replacements.{ReplacesAt, ReplacesIf}
-use Rattle.machine_defs.specs.Machine.{Lists, Happens}
-use Rattle.machine_defs.specs.Runs.{Moment, IsRun, now}
-use Rattle.machine_defs.specs.Answers.{Answer}
 use Rattle.machine_defs.proofs.Cases.{IsLast, Acting, by_action, by_step}
-use Rattle.machine_defs.proofs.JobLists.{cond_true, cond_false, same_value}
-use Rattle.state_laws.specs.Orders.{moves_made, moves_before, moves_after, IsInOrder}
-use Rattle.state_laws.specs.Follows.{MayFollowIn}
-use Rattle.state_laws.specs.Sound.{IsGatedDoubt, IsDoubtOf, IsLimit, IsSound}
 use Rattle.state_laws.proofs.Orders.{moves-first}
 use Rattle.state_laws.proofs.Going.{onward}
 use Rattle.state_laws.proofs.Turns.{gone_on, plain-sound}
@@ -86,11 +71,7 @@ idle-drop w job h = by_kind job.kind refl h
     by_kind : (kind : Kind) → job.kind ≡ kind → is_idle_drop w job kind ≡ true →
         ((name : List ℕ) × (job.kind ≡ DropJob name)) × (job.place ≡ 0)
     by_kind (DropJob name) e h = ((name, e), eqb-true job.place 0 (and_parts (job.place == 0) _ h).0)
-    by_kind (PutJob name bytes) e h = absurd (false≢true h)
-    by_kind (GetJob name) e h = absurd (false≢true h)
-    by_kind AuditJob e h = absurd (false≢true h)
-    by_kind RepairJob e h = absurd (false≢true h)
-    by_kind UpgradeJob e h = absurd (false≢true h)
+    by_kind kind e h = absurd (false≢true h)
 
 -- the next action tells how many moves of an append are made
 pub moves-next : (w : State) (job : Job) (action : Action) (moves : ℕ) → next_action w job ≡ Some action →
@@ -197,11 +178,10 @@ module _ (limit moment : ℕ) (old : State) (S : IsSound limit old) where
       bars_gated = λ a next flight at faults low rose.
           bars (Some (record { entry = a.entry; maker = Some (advanced job) })) faults
           (in-flight a flight at.0) (gated a flight);
-      begins_not = λ next none faults low. ends WriteBody old.providers faults next refl;
-      gates_not = λ a next flight at faults low.
-          devices-sound limit (left_by old job None old.doubt old.is_barred) old.providers faults
-          (append-ended limit old S job runs old.doubt old.is_barred (in-flight a flight at.0)
-          (λ o b. not-doubted a flight (ap (λ n. n == 3) at.1)) S.doubt);
+      begins_not = λ next none. ends WriteBody old.providers old.disk_faults next refl;
+      gates_not = λ a next flight at.
+          append-ended limit old S job runs old.doubt old.is_barred (in-flight a flight at.0)
+          (λ o b. not-doubted a flight (ap (λ n. n == 3) at.1)) S.doubt;
       stores = λ j o s p next call. called j p (Store j o s) job.given next (λ e. cc) (refl, refl, refl);
       stores_not = λ j o s p how next call.
           ends (Store j o s) (with_provider old.providers j p) old.disk_faults next refl;
@@ -225,9 +205,8 @@ module _ (limit moment : ℕ) (old : State) (S : IsSound limit old) where
 
   begins : (kind : Kind) (wish : Option ℕ) →
       ((p : ℕ) → wish ≡ Some p → (name : List ℕ) × (bytes : List ℕ) × (kind ≡ PutJob name bytes)) →
-      IsLimit limit →
-      (r : Outcome) (new : State) → IsSpelledKind kind → BeginsAt limit moment old kind wish r new →
-      IsSound limit new
+      IsLimit limit → (r : Outcome) (new : State) → IsSpelledKind kind →
+      BeginsAt limit moment old kind wish r new → IsSound limit new
   begins kind wish named fits Closed new spelled h = same-sound new h.1
   begins kind wish named fits (Refused why) new spelled h = same-sound new h.2
   begins kind wish named fits (Begun job) new spelled h =
@@ -253,8 +232,7 @@ module _ (limit moment : ℕ) (old : State) (S : IsSound limit old) where
   lists : (is_open : Bool) (r : Outcome) (new : State) → Lists old is_open r new → IsSound limit new
   lists true (Listed files) new h = same-sound new h.1
   lists false Closed new h = same-sound new h
-  lists true r new h = absurd h
-  lists false r new h = absurd h
+  lists is_open r new h = absurd h
 
   -- whatever event happens, a sound state stays sound
   pub events-sound : IsLimit limit → (event : Event) (outcome : Outcome) (new : State) → IsSpelled event →

@@ -1,19 +1,9 @@
 -- What is left of a job after the fourth move of its append, by which it may have decided on an object to
 -- take away.
-use Rattle.std.proofs.Common.{◌≡◌, ℕ, ◌+◌, ◌-◌, ◌≤◌, List, [], ◌∷◌, ◌++◌, length, drop, Some, ap, sym, subst, ◌∙◌, inl, inr, arith}
-use Rattle.std.specs.Prelude.{slice_get}
+use Rattle.state_laws.proofs.Words.{◌≡◌, ◌-◌, ◌++◌, length, drop, ap, sym, subst, ◌∙◌, inl, inr, arith, slice_get, Each, each_get, each_append, Setup, PutJob, DropJob, AuditJob, RepairJob, UpgradeJob, Job, advanced, Action, WriteBody, SyncBody, WriteGate, SyncGate, Store, Fetch, Ask, Work, Remove, End, append_actions, store_actions, remove_actions, actions_by, actions_of, actions_left, appends_left, State, setup_in, next_action, split_get, next_stands, IsInOrder}
+use Rattle.std.proofs.Common.{ℕ, ◌+◌, ◌≤◌, List, [], ◌∷◌, Some}
 use Rattle.std.proofs.Math.Seq.{drop-append-add}
-use Rattle.algebra_laws.specs.Lists.{Each}
-use Rattle.algebra_laws.proofs.Each.{each_get, each_append}
-use Rattle.record_defs.specs.Records.{Setup}
-use Rattle.machine_defs.specs.Jobs.{PutJob, DropJob, AuditJob, RepairJob, UpgradeJob, Job, advanced}
-use Rattle.machine_defs.specs.Actions.{Action, WriteBody, SyncBody, WriteGate, SyncGate, Store, Fetch, Ask, Work, Remove, End, append_actions, store_actions, remove_actions, actions_by, actions_of, actions_left, appends_left}
-use Rattle.machine_defs.specs.States.{State, setup_in}
-use Rattle.machine_defs.specs.Steps.{next_action}
-use Rattle.machine_defs.proofs.ActionLists.{split_get}
 use Rattle.machine_defs.proofs.Fair.{gate_is_last, gate_place}
-use Rattle.machine_defs.proofs.NextActions.{next_stands}
-use Rattle.state_laws.specs.Orders.{IsInOrder}
 use Rattle.state_laws.proofs.Orders.{IsOther, others-removals, put_rest, drop_rest, put-list, in_order-removals, appends-removals, appends-cons, appends_in, next-left}
 
 -- a job one action further that takes these objects away
@@ -54,16 +44,8 @@ no-gates [] h = tt
 no-gates (x ∷ xs) h = (one x h.0, no-gates xs h.1)
   where
     one : (x : Action) → IsOther x → IsNoGate x
-    one WriteBody i = tt
-    one SyncBody i = tt
-    one WriteGate i = tt
     one SyncGate i = i
-    one (Store j object stripe) i = tt
-    one (Fetch j object stripe) i = tt
-    one (Ask j object round) i = tt
-    one (Work object stripe) i = tt
-    one (Remove j object) i = tt
-    one End i = tt
+    one x i = tt
 
 -- the fourth move of a drop stands at place 3
 pub drop-gate : (s : Setup) (job : Job) (p : ℕ) →

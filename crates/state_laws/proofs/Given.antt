@@ -1,20 +1,7 @@
 -- What sound states give: their setup, their files, and the next actions of their jobs.
-use Rattle.std.proofs.Common.{◌≡◌, ℕ, ◌-◌, ◌<◌, ◌≤◌, ◌^◌, true, false, Some, refl, ap, sym, ◌∙◌, inl, inr, arith}
-use Rattle.std.specs.Prelude.{IsTrue, nat_lt, slice_get}
-use Rattle.std.specs.List.{list_all}
-use Rattle.std.proofs.lemmas.Bool.{cases_Bool, and_parts, ltb-true}
+use Rattle.state_laws.proofs.Words.{◌≡◌, ◌-◌, ◌<◌, true, false, refl, ap, sym, ◌∙◌, inl, inr, arith, IsTrue, nat_lt, slice_get, list_all, cases_Bool, and_parts, ltb-true, Setup, SetUp, is_setup, is_master, is_appended, is_in_grammar, next_id, next_audit, Kind, PutJob, GetJob, DropJob, AuditJob, RepairJob, UpgradeJob, aim_of, Job, job_of, Action, End, actions_of, actions_left, IsAt, State, Append, setup_in, sight_of, are_numbers_used_up, is_idle_drop, next_action, cond_true, cond_false, number_of, moves_made, moves_before, IsSound}
+use Rattle.std.proofs.Common.{ℕ, ◌≤◌, ◌^◌, Some}
 use Rattle.hail_field.specs.Shape.{IsShape}
-use Rattle.record_defs.specs.Records.{Setup, SetUp, is_setup, is_master, is_appended, is_in_grammar}
-use Rattle.record_defs.specs.Table.{next_id, next_audit}
-use Rattle.machine_defs.specs.Jobs.{Kind, PutJob, GetJob, DropJob, AuditJob, RepairJob, UpgradeJob, aim_of, Job, job_of}
-use Rattle.machine_defs.specs.Actions.{Action, End, actions_of, actions_left}
-use Rattle.machine_defs.specs.Appends.{IsAt}
-use Rattle.machine_defs.specs.States.{State, Append, setup_in}
-use Rattle.machine_defs.specs.Sights.{sight_of, are_numbers_used_up}
-use Rattle.machine_defs.specs.Steps.{is_idle_drop, next_action}
-use Rattle.machine_defs.proofs.JobLists.{cond_true, cond_false, number_of}
-use Rattle.state_laws.specs.Orders.{moves_made, moves_before}
-use Rattle.state_laws.specs.Sound.{IsSound}
 use Rattle.state_laws.proofs.Orders.{in_order-first, get-drop}
 use Rattle.state_laws.proofs.JobLists.{mine, made-some}
 use Rattle.state_laws.proofs.Written.{ids-small, audits-small}
@@ -25,30 +12,21 @@ pub valid-shape : (s : Setup) → IsTrue (is_in_grammar (SetUp s)) → IsShape s
 valid-shape s h = let good : is_setup s ≡ true =
     (and_parts (is_setup s) (is_master s.master) h).0 in grind (arith, good)
 
+not-above : (n : ℕ) → n ≤ 2 ^ 64 - 32 → nat_lt (2 ^ 64 - 32) n ≡ false
+not-above n l = elim (cases_Bool (nat_lt (2 ^ 64 - 32) n)) [
+  | inl t ↦ absurd (let a = ltb-true (2 ^ 64 - 32) n t in omega (arith, a, l))
+  | inr f ↦ f
+]
+
 module _ (limit : ℕ) (w : State) (S : IsSound limit w) where
   -- while nothing is packed no begin is refused for want of numbers
   pub numbers-left : (kind : Kind) → IsTrue (list_all is_appended w.journal) →
       are_numbers_used_up (sight_of w) (aim_of kind) ≡ false
   numbers-left (PutJob name bytes) appended =
       not-above (next_id w.records) (let a = ids-small limit w S appended in omega (arith, a))
-    where
-      not-above : (n : ℕ) → n ≤ 2 ^ 64 - 32 → nat_lt (2 ^ 64 - 32) n ≡ false
-      not-above n l = elim (cases_Bool (nat_lt (2 ^ 64 - 32) n)) [
-        | inl t ↦ absurd (let a = ltb-true (2 ^ 64 - 32) n t in omega (arith, a, l))
-        | inr f ↦ f
-      ]
   numbers-left AuditJob appended =
       not-above (next_audit w.records) (let a = audits-small limit w S appended in omega (arith, a))
-    where
-      not-above : (n : ℕ) → n ≤ 2 ^ 64 - 32 → nat_lt (2 ^ 64 - 32) n ≡ false
-      not-above n l = elim (cases_Bool (nat_lt (2 ^ 64 - 32) n)) [
-        | inl t ↦ absurd (let a = ltb-true (2 ^ 64 - 32) n t in omega (arith, a, l))
-        | inr f ↦ f
-      ]
-  numbers-left (GetJob name) appended = refl
-  numbers-left (DropJob name) appended = refl
-  numbers-left RepairJob appended = refl
-  numbers-left UpgradeJob appended = refl
+  numbers-left kind appended = refl
 
   -- a job that runs has a next action
   pub next-some : (number : ℕ) (job : Job) → job_of w.jobs number ≡ Some job →

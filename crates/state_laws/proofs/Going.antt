@@ -1,17 +1,6 @@
 -- Running jobs after an action that puts no record in effect: the job that made it, and all others.
-use Rattle.std.proofs.Common.{◌≡◌, ℕ, ◌+◌, ◌<◌, ◌≤◌, ◌^◌, false, List, ◌∷◌, drop, Some, refl, ap, sym, subst, ◌∙◌, inl, inr, arith}
-use Rattle.std.proofs.lemmas.Bool.{cases_eq, false≢true}
-use Rattle.record_defs.specs.Records.{Setup, Record}
-use Rattle.record_defs.specs.Table.{next_id, started_as, due_of}
-use Rattle.record_defs.specs.Acceptance.{is_due}
-use Rattle.machine_defs.specs.Jobs.{Kind, PutJob, GetJob, DropJob, AuditJob, RepairJob, UpgradeJob, Pinned, Given, Job}
-use Rattle.machine_defs.specs.Actions.{Action, SyncGate, End, actions_of, actions_left, ends_append, appends_left}
-use Rattle.machine_defs.specs.States.{State, setup_in}
-use Rattle.machine_defs.specs.Steps.{next_action}
-use Rattle.machine_defs.proofs.JobLists.{same_value}
-use Rattle.machine_defs.proofs.Numbers.{Series, objects, audits, Draws, at_three}
-use Rattle.state_laws.specs.Orders.{moves_before, moves_after, IsInOrder}
-use Rattle.state_laws.specs.SoundJobs.{IsPin, HasDrawn, IsReady, IsSoundJob}
+use Rattle.state_laws.proofs.Words.{◌≡◌, ◌<◌, false, drop, refl, ap, sym, subst, ◌∙◌, inl, inr, arith, cases_eq, false≢true, Setup, Record, next_id, started_as, Kind, PutJob, GetJob, DropJob, AuditJob, RepairJob, UpgradeJob, Pinned, Given, Job, Action, SyncGate, End, actions_of, actions_left, ends_append, appends_left, State, setup_in, next_action, same_value, Series, objects, audits, Draws, at_three, moves_before, moves_after, IsInOrder, IsPin, HasDrawn, IsReady, IsSoundJob, refused_after, RepairDone}
+use Rattle.std.proofs.Common.{ℕ, ◌+◌, ◌≤◌, ◌^◌, List, ◌∷◌, Some}
 use Rattle.state_laws.proofs.Orders.{in_order-step, next-left, appends-cons, appends_in, gates}
 
 -- ---- the list of a job that has made one more action
@@ -83,11 +72,9 @@ module _ (s : Setup) (rs : List Record) (bytes now : ℕ → List ℕ)
   -- what stands ready for another job stays
   pub kept-ready : (job : Job) (kind : Kind) → IsReady s rs bytes job kind → IsReady s rs now job kind
   kept-ready job (PutJob name content) r = λ l. drawn-on job job name content refl refl (r l)
-  kept-ready job (GetJob name) r = tt
+  kept-ready job (GetJob name) r = r
   kept-ready job (DropJob name) r = tt
-  kept-ready job AuditJob r = r
-  kept-ready job RepairJob r = r
-  kept-ready job UpgradeJob r = r
+  kept-ready job kind r = r
 
   -- another job stays as it was
   pub kept : (moves made : ℕ) (job : Job) → made ≡ moves → IsSoundJob s rs bytes moves job →
@@ -127,7 +114,7 @@ module _ (s : Setup) (rs : List Record) (bytes now : ℕ → List ℕ)
       ready (PutJob name content) kind r = λ l.
           (let b = behind objects (subst (Draws objects) (sym kind) tt) l in
           drawn-on job (onward job n given) name content (later b) count (r b))
-      ready (GetJob name) kind r = tt
+      ready (GetJob name) kind r = λ k. tt
       ready (DropJob name) kind r = tt
       ready AuditJob kind r = (
         λ l. r.0 (omega (arith, l)),
@@ -135,7 +122,7 @@ module _ (s : Setup) (rs : List Record) (bytes now : ℕ → List ℕ)
             r.1 b (omega (arith, k, count)) ∙ ap Some (sym (later b))),
       )
       ready RepairJob kind r =
-          λ k. ap (λ x. is_due x (due_of rs)) (repairs kind) ∙ r (omega (arith, k, count))
+          λ k. ap (λ x. refused_after rs (RepairDone x)) (repairs kind) ∙ r (omega (arith, k, count))
       ready UpgradeJob kind r = λ k. r (omega (arith, k, count))
 
   -- the job that made an action that puts no record in effect

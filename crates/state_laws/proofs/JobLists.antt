@@ -1,11 +1,6 @@
 -- Lists of jobs with one that goes on, without one, and with one more: their sums, lengths and numbers.
-use Rattle.std.proofs.Common.{◌≡◌, ℕ, ◌+◌, ◌<◌, ◌≤◌, ◌==◌, true, false, ◌⊎◌, List, [], ◌∷◌, ◌++◌, length, Option, Some, None, refl, ap, sym, subst, ◌∙◌, inl, inr, arith, sum_by}
-use Rattle.std.proofs.lemmas.List.Sums.{sum_by-cons, sum_by_push}
-use Rattle.std.proofs.lemmas.Bool.{eqb-true, eq-eqb, ne_eqb, cases_Bool, cases_eq}
-use Rattle.machine_defs.specs.Jobs.{Job, job_of, with_job, without_job}
-use Rattle.machine_defs.specs.States.{Append}
-use Rattle.machine_defs.proofs.JobLists.{cond_true, cond_false, same_value}
-use Rattle.state_laws.specs.Orders.{moves_made, AreNumbered}
+use Rattle.state_laws.proofs.Words.{◌≡◌, ◌<◌, ◌==◌, true, false, ◌⊎◌, ◌++◌, length, Option, refl, ap, sym, subst, ◌∙◌, inl, inr, arith, sum_by, sum_by-cons, sum_by_push, eqb-true, eq-eqb, ne_eqb, cases_Bool, cases_eq, Job, job_of, with_job, without_job, Append, cond_true, cond_false, same_value, moves_made, AreNumbered}
+use Rattle.std.proofs.Common.{ℕ, ◌+◌, ◌≤◌, List, [], ◌∷◌, Some, None}
 
 -- ---- the first job is of the number, or not
 
@@ -257,6 +252,5 @@ pub without_job-none : (js : List Job) (low next k : ℕ) → AreNumbered low js
 without_job-none [] low next k are less = refl
 without_job-none (x ∷ js) low next k are less =
     cond_false (x.number == k) (without_job js k) (x ∷ without_job js k)
-    (ne_eqb x.number k (λ e. absurd (omega (arith, are.0, less, e))))
-    ∙ ap (λ (l : List Job). x ∷ l)
+    (ne_eqb x.number k (λ e. absurd (omega (arith, are.0, less, e)))) ∙ ap (λ (l : List Job). x ∷ l)
     (without_job-none js (x.number + 1) next k are.1 (omega (arith, are.0, less)))

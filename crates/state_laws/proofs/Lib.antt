@@ -1,3 +1,4 @@
+mod Words
 pub mod Orders
 pub mod JobLists
 pub mod NamesTaken

@@ -1,21 +1,7 @@
 -- Sound states after the first three moves of an append.
-use Rattle.std.proofs.Common.{◌≡◌, ℕ, ◌+◌, ◌<◌, ◌≤◌, ◌^◌, ◌==◌, Bool, true, false, cond, List, Option, Some, None, refl, ap, sym, subst, ◌∙◌, inl, inr, arith}
-use Rattle.std.proofs.lemmas.Bool.{cases_lt, cases_eq, false≢true}
-use Rattle.algebra_laws.proofs.Options.{some-not-none}
-use Rattle.record_defs.specs.Records.{Record}
-use Rattle.record_defs.specs.Table.{next_id, next_audit}
-use Rattle.machine_defs.specs.Jobs.{Kind, PutJob, GetJob, DropJob, AuditJob, RepairJob, UpgradeJob, Given, Job, job_of, with_job}
-use Rattle.machine_defs.specs.Actions.{Action, WriteBody, End, ends_append, appends_left, actions_left}
-use Rattle.machine_defs.specs.States.{State, Append, Doubt, setup_in, journal_end}
-use Rattle.machine_defs.specs.Appends.{Writes, is_first_append, subject_drawn, bytes_drawn, audits_drawn}
-use Rattle.machine_defs.specs.Steps.{next_action}
-use Rattle.machine_defs.proofs.JobLists.{same_value, found_itself}
-use Rattle.machine_defs.proofs.Numbers.{objects, Draws, first_above, drawn_later}
+use Rattle.state_laws.proofs.Words.{◌≡◌, ◌<◌, ◌==◌, Bool, true, false, cond, Option, refl, ap, sym, subst, ◌∙◌, inl, inr, arith, cases_lt, cases_eq, false≢true, some-not-none, Record, next_id, next_audit, Kind, PutJob, GetJob, DropJob, AuditJob, RepairJob, UpgradeJob, Given, Job, job_of, with_job, Action, WriteBody, End, ends_append, appends_left, actions_left, State, Append, Doubt, setup_in, journal_end, Writes, is_first_append, subject_drawn, bytes_drawn, audits_drawn, next_action, same_value, found_itself, objects, Draws, first_above, drawn_later, moves_made, moves_after, IsInOrder, MayFollow, MayFollowIn, IsSoundJob, IsGatedDoubt, IsDoubtOf, IsSoundAppend, IsPutUnderWay, IsSound}
+use Rattle.std.proofs.Common.{ℕ, ◌+◌, ◌≤◌, ◌^◌, List, Some, None}
 use Rattle.machine_defs.proofs.Events.{drawn_bytes}
-use Rattle.state_laws.specs.Orders.{moves_made, moves_after, IsInOrder}
-use Rattle.state_laws.specs.Follows.{MayFollow, MayFollowIn}
-use Rattle.state_laws.specs.SoundJobs.{IsSoundJob}
-use Rattle.state_laws.specs.Sound.{IsGatedDoubt, IsDoubtOf, IsSoundAppend, IsPutUnderWay, IsSound}
 use Rattle.state_laws.proofs.Orders.{put-second, audit-second}
 use Rattle.state_laws.proofs.JobLists.{mine, other}
 use Rattle.state_laws.proofs.Written.{ids-fit, audits-fit, written-follows}
@@ -36,10 +22,7 @@ drawn-small w job AuditJob i a s = by_first (is_first_append job)
     by_first : (b : Bool) → cond b (next_audit w.records) job.subject < 2 ^ 64
     by_first true = a
     by_first false = s
-drawn-small w job (GetJob name) i a s = s
-drawn-small w job (DropJob name) i a s = s
-drawn-small w job RepairJob i a s = s
-drawn-small w job UpgradeJob i a s = s
+drawn-small w job kind i a s = s
 
 module _ (limit : ℕ) (old : State) (S : IsSound limit old) (job : Job)
     (runs : job_of old.jobs job.number ≡ Some job) where
@@ -55,11 +38,7 @@ module _ (limit : ℕ) (old : State) (S : IsSound limit old) (job : Job)
         (subst (Draws objects) (sym kind) tt) next plain three)
     | inr far ↦ (let behind : 4 ≤ job.place = omega (arith, l, far) in (behind, later behind))
   ]
-  under-way (GetJob name) n action given kind next plain later l = absurd l
-  under-way (DropJob name) n action given kind next plain later l = absurd l
-  under-way AuditJob n action given kind next plain later l = absurd l
-  under-way RepairJob n action given kind next plain later l = absurd l
-  under-way UpgradeJob n action given kind next plain later l = absurd l
+  under-way h n action given kind next plain later l = absurd l
 
   -- ---- the first move
 
@@ -99,10 +78,7 @@ module _ (limit : ℕ) (old : State) (S : IsSound limit old) (job : Job)
         | inl l ↦ audit-second old job (onward job drawn_number job.given) kind next l refl refl
         | inr l ↦ same (later-same l)
       ]
-      by_kind (GetJob name) kind = same (ap (subject_drawn old job) kind)
-      by_kind (DropJob name) kind = same (ap (subject_drawn old job) kind)
-      by_kind RepairJob kind = same (ap (subject_drawn old job) kind)
-      by_kind UpgradeJob kind = same (ap (subject_drawn old job) kind)
+      by_kind h kind = same (ap (subject_drawn old job) kind)
 
   begun-follows : (entry : Record) → next_action old job ≡ Some WriteBody → Writes old job job.kind entry →
       MayFollow old.records old.journal (journal_end old) (bytes_drawn old job job.kind) entry
@@ -141,8 +117,7 @@ module _ (limit : ℕ) (old : State) (S : IsSound limit old) (job : Job)
       (S.undoubted opened unbarred) in
       going-sound limit old S job runs (onward job drawn_number job.given)
       (Some (first_flight entry)) old.doubt (bytes_drawn old job job.kind)
-      (audits_drawn old job job.kind) refl refl (omega arith)
-      (drawn_bytes old job job.kind)
+      (audits_drawn old job job.kind) refl refl (omega arith) (drawn_bytes old job job.kind)
       (λ k n. other (first_flight entry) k (λ e. n (sym e)) ∙ ap (λ f. moves_made f k) (sym free))
       (went (setup_in old) old.records old.bytes (bytes_drawn old job job.kind)
       (drawn_bytes old job job.kind) old (moves_made old.append job.number)
@@ -155,14 +130,12 @@ module _ (limit : ℕ) (old : State) (S : IsSound limit old) (job : Job)
       (λ id l. drawn_bytes old job job.kind id (let e = S.journal.alike.id in omega (arith, l, e))) old
       job drawn_number job.given WriteBody next refl later-same repair-same o.1 job.kind refl
       (S.in_journal job.number job runs))
-      (under-way job.kind drawn_number WriteBody job.given refl next refl later-same)
-      o.1
+      (under-way job.kind drawn_number WriteBody job.given refl next refl later-same) o.1
       (λ a flight. subst (λ x. IsSoundAppend
       (gone_on old (onward job drawn_number job.given) (Some (first_flight entry)) old.doubt
       (bytes_drawn old job job.kind) (audits_drawn old job job.kind)) x) (the-one entry a flight)
       (begun-append entry next writes))
-      (λ b. absurd (false≢true (sym unbarred ∙ b)))
-      (λ p q. undoubted)
+      (λ b. absurd (false≢true (sym unbarred ∙ b))) (λ p q. undoubted)
       (λ d h. absurd (some-not-none old.doubt d h undoubted)))
     where
       the-one : (entry : Record) (a : Append) → Some (first_flight entry) ≡ Some a → first_flight entry ≡ a
@@ -209,8 +182,7 @@ module _ (limit : ℕ) (old : State) (S : IsSound limit old) (job : Job)
     -- the state is sound after the second move and after the third, with the record then in doubt
     pub moved-sound : (action : Action) (doubt : Option Doubt) → next_action old job ≡ Some action →
         (action ≡ End → ⊥) → ends_append action ≡ false → a.moves ≤ 2 → moves_after action ≡ a.moves + 1 →
-        old.is_barred ≡ false →
-        IsGatedDoubt moved_flight (a.moves + 1 == 3) doubt →
+        old.is_barred ≡ false → IsGatedDoubt moved_flight (a.moves + 1 == 3) doubt →
         ((d : Doubt) → doubt ≡ Some d → MayFollowIn old d.entry) →
         IsSound limit (gone_on old next_job (Some moved_flight) doubt old.bytes old.audits)
     moved-sound action doubt next n plain few after unbarred gated doubts =
@@ -228,13 +200,11 @@ module _ (limit : ℕ) (old : State) (S : IsSound limit old) (job : Job)
         (went-ready (setup_in old) old.journal old.bytes old.bytes
         (λ id l. refl) old job job.subject job.given action next plain (λ l. refl)
         (λ l. refl) count job.kind refl (S.in_journal job.number job runs))
-        (under-way job.kind job.subject action job.given refl next plain (λ l. refl))
-        count
+        (under-way job.kind job.subject action job.given refl next plain (λ l. refl)) count
         (λ b h. subst (λ x. IsSoundAppend
         (gone_on old next_job (Some moved_flight) doubt old.bytes old.audits) x)
         (the-one moved_flight b h) (moved-append action doubt next plain few))
-        (λ b. absurd (false≢true (sym unbarred ∙ b)))
-        (λ p q. gated)
+        (λ b. absurd (false≢true (sym unbarred ∙ b))) (λ p q. gated)
         doubts)
       where
         the-one : (x b : Append) → Some x ≡ Some b → x ≡ b

@@ -1,17 +1,6 @@
 -- How many names are taken: names that stand once each and all stand among others are no more than those.
-use Rattle.std.proofs.Common.{◌≡◌, ℕ, suc, ◌+◌, ◌≤◌, Bool, true, false, cond, ◌⊎◌, ◌||◌, List, [], ◌∷◌, length, Some, refl, ap, sym, subst, ◌∙◌, inl, inr, arith}
-use Rattle.std.specs.Prelude.{is_some}
-use Rattle.std.specs.List.{list_any}
-use Rattle.std.proofs.lemmas.Bool.{cases_Bool, false≢true}
-use Rattle.record_defs.specs.Records.{Record}
-use Rattle.record_defs.specs.Table.{File, is_same_name, files_of, file_of, find_file, are_ordered}
-use Rattle.record_defs.proofs.FilesLaws.{same-eq, same-refl, find-files_of, same-sym, before-irrefl}
-use Rattle.record_defs.proofs.OrderLaws.{is_below, ordered-files_of}
-use Rattle.machine_defs.specs.Jobs.{Aim, ToPut, ToGet, ToDrop, ToAudit, ToRepair, ToUpgrade, aim_of, Job, job_of}
-use Rattle.machine_defs.specs.Sights.{puts_name, aims_of, is_name_among, with_name, names_in, with_puts}
-use Rattle.machine_defs.proofs.JobLists.{cond_true, cond_false}
-use Rattle.machine_defs.proofs.Pins.{any_job}
-use Rattle.machine_defs.proofs.Sights.{any-aims}
+use Rattle.state_laws.proofs.Words.{◌≡◌, suc, Bool, true, false, cond, ◌⊎◌, ◌||◌, length, refl, ap, sym, subst, ◌∙◌, inl, inr, arith, is_some, list_any, cases_Bool, false≢true, Record, File, is_same_name, files_of, file_of, find_file, are_ordered, same-eq, same-refl, find-files_of, same-sym, before-irrefl, is_below, ordered-files_of, Aim, ToPut, ToGet, ToDrop, ToAudit, ToRepair, ToUpgrade, aim_of, Job, job_of, puts_name, aims_of, is_name_among, with_name, names_in, with_puts, cond_true, cond_false, any_job, any-aims}
+use Rattle.std.proofs.Common.{ℕ, ◌+◌, ◌≤◌, List, [], ◌∷◌, Some}
 
 -- names that stand once each
 abbrev pub AreOnce : List (List ℕ) → Type 0
@@ -63,8 +52,7 @@ once-with_name names name o = elim (cases_Bool (is_name_among names name)) [
   | inr f ↦ subst AreOnce (sym (cond_false (is_name_among names name) names (name ∷ names) f)) (f, o)
 ]
 
-once-with_puts : (names : List (List ℕ)) (aims : List Aim) → AreOnce names
-    → AreOnce (with_puts names aims)
+once-with_puts : (names : List (List ℕ)) (aims : List Aim) → AreOnce names → AreOnce (with_puts names aims)
 once-with_puts names [] o = o
 once-with_puts names (ToPut name size ∷ aims) o =
     once-with_name (with_puts names aims) name (once-with_puts names aims o)

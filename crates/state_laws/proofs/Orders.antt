@@ -1,21 +1,6 @@
 -- The actions of each job are in order, and each of its actions goes one on in it.
-use Rattle.std.proofs.Common.{◌≡◌, ℕ, zero, suc, ◌+◌, ◌-◌, ◌<◌, ◌≤◌, true, false, cond, List, [], ◌∷◌, ◌++◌, length, drop, Some, None, refl, ap, sym, subst, ◌∙◌, inl, inr, arith, count_by}
-use Rattle.std.specs.Prelude.{slice_get}
-use Rattle.std.specs.List.{flat_map}
-use Rattle.std.proofs.lemmas.List.Sums.{sum_by-cons, sum_by-append, sum_by-take-drop}
-use Rattle.algebra_laws.specs.Lists.{Each}
-use Rattle.algebra_laws.proofs.Each.{each_get, each_append, each_map, each_flat}
-use Rattle.algebra_laws.proofs.Lists.{drop-get}
-use Rattle.code_defs.specs.Points.{upto}
-use Rattle.record_defs.specs.Records.{Setup}
-use Rattle.machine_defs.specs.Jobs.{Kind, PutJob, GetJob, DropJob, AuditJob, RepairJob, UpgradeJob, Pinned, Job}
-use Rattle.machine_defs.specs.Actions.{Action, WriteBody, SyncBody, WriteGate, SyncGate, Store, Fetch, Ask, Work, Remove, End, append_actions, on_each_provider, on_each_stripe, store_actions, open_actions, read_actions, rewrite_actions, repair_actions, rounds_of, ask_actions, remove_actions, actions_by, actions_of, actions_left, ends_append, appends_left}
-use Rattle.machine_defs.specs.Setups.{profiled, stripes_of}
-use Rattle.machine_defs.specs.States.{State, setup_in}
-use Rattle.machine_defs.specs.Steps.{next_action}
-use Rattle.machine_defs.proofs.ActionLists.{split_get}
-use Rattle.machine_defs.proofs.NextActions.{next_stands}
-use Rattle.state_laws.specs.Orders.{moves_before, moves_after, IsInOrder}
+use Rattle.state_laws.proofs.Words.{◌≡◌, zero, suc, ◌-◌, ◌<◌, true, false, cond, ◌++◌, length, drop, refl, ap, sym, subst, ◌∙◌, inl, inr, arith, count_by, slice_get, flat_map, sum_by-cons, sum_by-append, sum_by-take-drop, Each, each_get, each_append, each_map, each_flat, drop-get, upto, Setup, Kind, PutJob, GetJob, DropJob, AuditJob, RepairJob, UpgradeJob, Pinned, Job, Action, WriteBody, SyncBody, WriteGate, SyncGate, Store, Fetch, Ask, Work, Remove, End, append_actions, on_each_provider, on_each_stripe, store_actions, open_actions, read_actions, rewrite_actions, repair_actions, rounds_of, ask_actions, remove_actions, actions_by, actions_of, actions_left, ends_append, appends_left, profiled, stripes_of, State, setup_in, next_action, split_get, next_stands, moves_before, moves_after, IsInOrder}
+use Rattle.std.proofs.Common.{ℕ, ◌+◌, ◌≤◌, List, [], ◌∷◌, Some, None}
 
 -- ---- lists of actions
 
@@ -35,11 +20,7 @@ in_order-others (Fetch j object stripe ∷ xs) ys h o = (refl, in_order-others x
 in_order-others (Ask j object round ∷ xs) ys h o = (refl, in_order-others xs ys h.1 o)
 in_order-others (Work object stripe ∷ xs) ys h o = (refl, in_order-others xs ys h.1 o)
 in_order-others (Remove j object ∷ xs) ys h o = (refl, in_order-others xs ys h.1 o)
-in_order-others (WriteBody ∷ xs) ys h o = absurd h.0
-in_order-others (SyncBody ∷ xs) ys h o = absurd h.0
-in_order-others (WriteGate ∷ xs) ys h o = absurd h.0
-in_order-others (SyncGate ∷ xs) ys h o = absurd h.0
-in_order-others (End ∷ xs) ys h o = absurd h.0
+in_order-others xs ys h o = absurd h.0
 
 in_order-append : (ys : List Action) → IsInOrder 0 ys → IsInOrder 0 (append_actions ++ ys)
 in_order-append ys o = (refl, (refl, (refl, (refl, o))))
@@ -51,30 +32,14 @@ in_order-end = (refl, refl)
 pub in_order-step : (moves : ℕ) (action : Action) (actions : List Action) → (action ≡ End → ⊥) →
     IsInOrder moves (action ∷ actions) →
     (moves ≡ moves_before action) × IsInOrder (moves_after action) actions
-in_order-step moves WriteBody actions n o = o
-in_order-step moves SyncBody actions n o = o
-in_order-step moves WriteGate actions n o = o
-in_order-step moves SyncGate actions n o = o
-in_order-step moves (Store j object stripe) actions n o = o
-in_order-step moves (Fetch j object stripe) actions n o = o
-in_order-step moves (Ask j object round) actions n o = o
-in_order-step moves (Work object stripe) actions n o = o
-in_order-step moves (Remove j object) actions n o = o
 in_order-step moves End actions n o = absurd (n refl)
+in_order-step moves action actions n o = o
 
 -- in a list in order, the moves made are those before its first action
 pub moves-first : (moves : ℕ) (action : Action) (actions : List Action) → IsInOrder moves (action ∷ actions) →
     moves ≡ moves_before action
 moves-first moves WriteBody actions o = o.0
-moves-first moves SyncBody actions o = o.0
-moves-first moves WriteGate actions o = o.0
-moves-first moves SyncGate actions o = o.0
-moves-first moves (Store j object stripe) actions o = o.0
-moves-first moves (Fetch j object stripe) actions o = o.0
-moves-first moves (Ask j object round) actions o = o.0
-moves-first moves (Work object stripe) actions o = o.0
-moves-first moves (Remove j object) actions o = o.0
-moves-first moves End actions o = o.0
+moves-first moves action actions o = o.0
 
 -- some action is first
 pub in_order-first : (moves : ℕ) (actions : List Action) → IsInOrder moves actions →
@@ -84,10 +49,9 @@ in_order-first moves (action ∷ actions) o = (action, refl)
 
 -- what stands at a place is first when all before it is dropped
 pub get-drop : {X : Type 0} (xs : List X) (p : ℕ) → slice_get (drop p xs) 0 ≡ slice_get xs p
-get-drop [] zero = refl
 get-drop [] (suc p) = refl
-get-drop (x ∷ xs) zero = refl
 get-drop (x ∷ xs) (suc p) = get-drop xs p
+get-drop xs zero = refl
 
 -- ---- the lists of jobs
 
@@ -194,16 +158,12 @@ appends-others (x ∷ xs) h =
     sum_by-cons gates x xs ∙ (let e = first x h.0 in let r = appends-others xs h.1 in omega (arith, e, r))
   where
     first : (x : Action) → IsOther x → gates x ≡ 0
-    first (Store j object stripe) i = refl
-    first (Fetch j object stripe) i = refl
-    first (Ask j object round) i = refl
-    first (Work object stripe) i = refl
-    first (Remove j object) i = refl
     first WriteBody i = absurd i
     first SyncBody i = absurd i
     first WriteGate i = absurd i
     first SyncGate i = absurd i
     first End i = absurd i
+    first x i = refl
 
 -- one action more in front adds an append exactly if it is a fourth move
 pub appends-cons : (action : Action) (actions : List Action) →
@@ -214,7 +174,6 @@ appends-cons action actions = sum_by-cons gates action actions
 pub appends-order : (moves : ℕ) (actions : List Action) → 0 < moves → IsInOrder moves actions →
     0 < appends_in actions
 appends-order moves [] l o = absurd o
-appends-order moves (WriteBody ∷ actions) l o = absurd (let e = o.0 in omega (arith, l, e))
 appends-order moves (SyncBody ∷ actions) l o =
     (let r = appends-order 2 actions (omega arith) o.1 in let c = appends-cons SyncBody actions in
     omega (arith, r, c))
@@ -222,12 +181,7 @@ appends-order moves (WriteGate ∷ actions) l o =
     (let r = appends-order 3 actions (omega arith) o.1 in let c = appends-cons WriteGate actions in
     omega (arith, r, c))
 appends-order moves (SyncGate ∷ actions) l o = (let c = appends-cons SyncGate actions in omega (arith, c))
-appends-order moves (Store j object stripe ∷ actions) l o = absurd (let e = o.0 in omega (arith, l, e))
-appends-order moves (Fetch j object stripe ∷ actions) l o = absurd (let e = o.0 in omega (arith, l, e))
-appends-order moves (Ask j object round ∷ actions) l o = absurd (let e = o.0 in omega (arith, l, e))
-appends-order moves (Work object stripe ∷ actions) l o = absurd (let e = o.0 in omega (arith, l, e))
-appends-order moves (Remove j object ∷ actions) l o = absurd (let e = o.0 in omega (arith, l, e))
-appends-order moves (End ∷ actions) l o = absurd (let e = o.0 in omega (arith, l, e))
+appends-order moves actions l o = absurd (let e = o.0 in omega (arith, l, e))
 
 -- the appends of two lists, one behind the other, add up
 pub appends-append : (xs ys : List Action) → appends_in (xs ++ ys) ≡ appends_in xs + appends_in ys
@@ -268,11 +222,8 @@ appends-within ys (suc (suc (suc (suc p)))) l = absurd (omega (arith, l))
 
 appends-behind : (ys : List Action) (p : ℕ) → 4 ≤ p →
     appends_in (drop p (append_actions ++ ys)) ≤ appends_in ys
-appends-behind ys zero l = absurd (omega (arith, l))
-appends-behind ys (suc zero) l = absurd (omega (arith, l))
-appends-behind ys (suc (suc zero)) l = absurd (omega (arith, l))
-appends-behind ys (suc (suc (suc zero))) l = absurd (omega (arith, l))
 appends-behind ys (suc (suc (suc (suc p)))) l = appends-drop ys p
+appends-behind ys p l = absurd (omega (arith, l))
 
 -- how many appends a job has left, by its kind and place
 abbrev pub appends_by : Setup → Job → Kind → ℕ
@@ -368,15 +319,7 @@ drop-body s job p h = elim (split_get append_actions (drop_rest s job) p WriteBo
       where
         one : (x : Action) → IsOther x → IsLater x
         one WriteBody i = i
-        one SyncBody i = tt
-        one WriteGate i = tt
-        one SyncGate i = tt
-        one (Store j object stripe) i = tt
-        one (Fetch j object stripe) i = tt
-        one (Ask j object round) i = tt
-        one (Work object stripe) i = tt
-        one (Remove j object) i = tt
-        one End i = tt
+        one x i = tt
 
 -- ---- the next action
 

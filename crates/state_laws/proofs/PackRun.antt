@@ -1,17 +1,7 @@
 -- A store that was set up is opened, gets its second version and is packed: a run.
 use Rattle.std.specs.Prelude.{ℕ, ◌+◌, List, [], ◌∷◌, None, Some}
-use Rattle.std.proofs.Common.{refl, arith, inl, inr}
-use Rattle.record_defs.specs.Records.{Version}
+use Rattle.state_laws.proofs.Words.{refl, arith, inl, inr, Version, UpgradeJob, actions_of, Upgraded, Packed, Event, Begin, BeginPack, Step, Reopen, Outcome, Opened, Begun, More, Ended, State, Pack, Packing, IsStart, setup_in, ended, given_up, begun_append, done_append, packing, switching, switched, unalone, new_pack, Happens, Moment, IsRun}
 use Rattle.record_defs.specs.Examples.{four}
-use Rattle.machine_defs.specs.Jobs.{UpgradeJob}
-use Rattle.machine_defs.specs.Actions.{actions_of}
-use Rattle.machine_defs.specs.Answers.{Upgraded, Packed}
-use Rattle.machine_defs.specs.Events.{Event, Begin, BeginPack, Step, Reopen, Outcome, Opened, Begun, More, Ended}
-use Rattle.machine_defs.specs.States.{State, Pack, Packing, IsStart, setup_in, ended, given_up}
-use Rattle.machine_defs.specs.Appends.{begun_append, done_append}
-use Rattle.machine_defs.specs.Alone.{packing, switching, switched, unalone, new_pack}
-use Rattle.machine_defs.specs.Machine.{Happens}
-use Rattle.machine_defs.specs.Runs.{Moment, IsRun}
 use Rattle.machine_defs.specs.Examples.{set_up}
 use Rattle.machine_defs.proofs.RunParts.{reopened, begun, job_at, append_at, synced, gated}
 
@@ -130,8 +120,7 @@ abbrev pub moments : List Moment
 moments =
     moment (Step 2) (Ended (Packed 54 64)) state_13 ∷ moment (Step 2) More state_12 ∷ moment
     (Step 2) More state_11 ∷ moment (Step 2) More state_10 ∷ moment (Step 2) More state_9 ∷ moment BeginPack
-    (Begun 2) state_8
-    ∷ moment (Step 1) (Ended Upgraded) state_7 ∷ moment (Step 1) More state_6 ∷ moment
+    (Begun 2) state_8 ∷ moment (Step 1) (Ended Upgraded) state_7 ∷ moment (Step 1) More state_6 ∷ moment
     (Step 1) More state_5 ∷ moment (Step 1) More state_4 ∷ moment (Step 1) More state_3
     ∷ moment (Begin UpgradeJob) (Begun 1) state_2 ∷ moment Reopen Opened state_1 ∷ []
 

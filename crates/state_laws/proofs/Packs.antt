@@ -1,26 +1,11 @@
 -- The journal that a pack writes has a spelling and fits in either area; and what links a journal to its
 -- history goes on with one record more.
-use Rattle.std.proofs.Common.{◌≡◌, ℕ, ◌+◌, ◌*◌, ◌^◌, ◌<◌, ◌≤◌, ◌==◌, true, cond, ◌&&◌, List, [], ◌∷◌, length, Option, Some, None, refl, ap, sym, subst, ◌∙◌, inl, inr, arith}
-use Rattle.std.specs.Prelude.{is_some, not, IsTrue, nat_lt, nat_le}
-use Rattle.std.specs.List.{list_all}
-use Rattle.std.proofs.lemmas.Bool.{cases_Bool, false≢true, and_from, lt-ltb}
-use Rattle.std.proofs.lemmas.Bool.Decides.{nat_tests}
-use Rattle.algebra_laws.specs.Lists.{In}
-use Rattle.algebra_laws.proofs.Options.{some-not-none}
-use Rattle.record_defs.specs.Records.{Setup, Record, SetUp, PutStart, PutDone, Drop, AuditStart, AuditDone, RepairDone, PutDoneIn, Version, Resume, InEffect, RepairDue, is_name, is_appended, is_in_grammar, largest_file, largest_journal, most_files, all_profiles}
-use Rattle.record_defs.specs.Table.{File, Due, setup_of, version_of, next_id, next_audit, started_as, with_put, file_of, files_of, find_file, due_of}
+use Rattle.state_laws.proofs.Words.{◌≡◌, ◌*◌, ◌<◌, ◌==◌, true, cond, ◌&&◌, length, Option, refl, ap, sym, subst, ◌∙◌, inl, inr, arith, is_some, IsTrue, nat_lt, nat_le, list_all, cases_Bool, false≢true, and_from, lt-ltb, nat_tests, In, some-not-none, Setup, Record, SetUp, PutStart, PutDone, Drop, AuditStart, AuditDone, RepairDone, PutDoneIn, Version, Resume, InEffect, RepairDue, is_name, is_appended, is_in_grammar, largest_file, largest_journal, most_files, all_profiles, File, Due, setup_of, version_of, next_id, next_audit, started_as, with_put, file_of, files_of, find_file, due_of, refused, put_done_refused, is_crowded, AreAccepted, AreAlike, as_record, with_files, with_due, with_setup, packed, Area, A, B, other_area, entries_size, end_in, find-files_of, few-files_of, next_id-fits, next_audit-fits, State, listed_file, cond_true, cond_false, same_value, IsSoundJournal}
+use Rattle.std.proofs.Common.{ℕ, ◌+◌, ◌^◌, ◌≤◌, List, [], ◌∷◌, Some, None}
+use Rattle.std.specs.Prelude.{not}
 use Rattle.record_defs.specs.Acceptance as no
-use Rattle.record_defs.specs.Acceptance.{refused, put_done_refused, is_crowded, AreAccepted}
-use Rattle.record_defs.specs.Packed.{AreAlike, as_record, with_files, with_due, with_setup, packed}
-use Rattle.record_defs.specs.Areas.{Area, A, B, other_area, entries_size, end_in}
-use Rattle.record_defs.proofs.FilesLaws.{find-files_of}
-use Rattle.record_defs.proofs.OrderLaws.{few-files_of, next_id-fits, next_audit-fits}
 use Rattle.record_defs.proofs.PackLaws.{packed_are, packed_is_idle}
-use Rattle.machine_defs.specs.States.{State}
 use Rattle.machine_defs.proofs.Journals.{StartsAlike, alike-more, packed-alike}
-use Rattle.machine_defs.proofs.RecordFacts.{listed_file}
-use Rattle.machine_defs.proofs.JobLists.{cond_true, cond_false, same_value}
-use Rattle.state_laws.specs.Sound.{IsSoundJournal}
 use Rattle.state_laws.proofs.Records.{is_some-at, AreInGrammar, grammar-more, IsFit, file-spelled, due-spelled, setup-spelled, second-set_up, sound-accepted, AreAppended, appended-first, appended-rest}
 
 -- ---- the packed journal is spelled
@@ -140,38 +125,19 @@ AreStarted rs qs = (id : ℕ) (name : List ℕ) → started_as rs id ≡ Some na
 
 starts-alike : (rs qs : List Record) (r : Record) → refused rs r ≡ None → AreStarted rs qs →
     StartsAlike rs qs r
-starts-alike rs qs (SetUp s) h f k e = absurd (let x : None ≡ Some k = e in cc)
-starts-alike rs qs (PutStart id name) h f k e = absurd (let x : None ≡ Some k = e in cc)
 starts-alike rs qs (PutDone id size) h f k e =
     (let t = started-in rs (started_as rs id) (grind (arith, nat_tests, h)) in
     let same : id ≡ k = same_value (Some id) id k refl e in
     subst (λ n. started_as rs n ≡ started_as qs n) same (t.1 ∙ sym (f id t.0 t.1)))
-starts-alike rs qs (Drop name) h f k e = absurd (let x : None ≡ Some k = e in cc)
-starts-alike rs qs (AuditStart number) h f k e = absurd (let x : None ≡ Some k = e in cc)
-starts-alike rs qs (AuditDone number undecided counts) h f k e = absurd (let x : None ≡ Some k = e in cc)
-starts-alike rs qs (RepairDone number) h f k e = absurd (let x : None ≡ Some k = e in cc)
 starts-alike rs qs (PutDoneIn id size profile) h f k e =
     (let t = started-in rs (started_as rs id) (grind (arith, nat_tests, h)) in
     let same : id ≡ k = same_value (Some id) id k refl e in
     subst (λ n. started_as rs n ≡ started_as qs n) same (t.1 ∙ sym (f id t.0 t.1)))
-starts-alike rs qs Version h f k e = absurd (let x : None ≡ Some k = e in cc)
-starts-alike rs qs (Resume next audit) h f k e = absurd (let x : None ≡ Some k = e in cc)
-starts-alike rs qs (InEffect id size profile name) h f k e = absurd (let x : None ≡ Some k = e in cc)
-starts-alike rs qs (RepairDue number counts) h f k e = absurd (let x : None ≡ Some k = e in cc)
+starts-alike rs qs r h f k e = absurd (let x : None ≡ Some k = e in cc)
 
 -- tables stay alike with any record more
 alike-any : (rs qs : List Record) (r : Record) → StartsAlike rs qs r → AreAlike rs qs →
     AreAlike (r ∷ rs) (r ∷ qs)
-alike-any rs qs (SetUp s) f a = alike-more rs qs (SetUp s) tt f a
-alike-any rs qs (PutStart id name) f a = alike-more rs qs (PutStart id name) tt f a
-alike-any rs qs (PutDone id size) f a = alike-more rs qs (PutDone id size) tt f a
-alike-any rs qs (Drop name) f a = alike-more rs qs (Drop name) tt f a
-alike-any rs qs (AuditStart number) f a = alike-more rs qs (AuditStart number) tt f a
-alike-any rs qs (AuditDone number undecided counts) f a =
-    alike-more rs qs (AuditDone number undecided counts) tt f a
-alike-any rs qs (RepairDone number) f a = alike-more rs qs (RepairDone number) tt f a
-alike-any rs qs (PutDoneIn id size profile) f a = alike-more rs qs (PutDoneIn id size profile) tt f a
-alike-any rs qs Version f a = alike-more rs qs Version tt f a
 alike-any rs qs (Resume next audit) f a =
     record { setup = a.setup; version = a.version; id = refl; audit = refl; files = a.files; due = a.due }
 alike-any rs qs (InEffect id size profile name) f a =
@@ -185,6 +151,7 @@ alike-any rs qs (InEffect id size profile name) f a =
     }
 alike-any rs qs (RepairDue number counts) f a =
     record { setup = a.setup; version = a.version; id = a.id; audit = a.audit; files = a.files; due = refl }
+alike-any rs qs r f a = alike-more rs qs r tt f a
 
 -- a number that one more record of a put starts or ends
 started-both : (rs qs : List Record) (number k : ℕ) (now : Option (List ℕ)) (name : List ℕ) →
@@ -199,18 +166,10 @@ started-both rs qs number k now name f h = elim (cases_Bool (number == k)) [
 ]
 
 started-any : (rs qs : List Record) (r : Record) → AreStarted rs qs → AreStarted (r ∷ rs) (r ∷ qs)
-started-any rs qs (SetUp s) f k name h = f k name h
 started-any rs qs (PutStart id n) f k name h = started-both rs qs id k (Some n) name (f k name) h
 started-any rs qs (PutDone id size) f k name h = started-both rs qs id k None name (f k name) h
-started-any rs qs (Drop n) f k name h = f k name h
-started-any rs qs (AuditStart number) f k name h = f k name h
-started-any rs qs (AuditDone number undecided counts) f k name h = f k name h
-started-any rs qs (RepairDone number) f k name h = f k name h
 started-any rs qs (PutDoneIn id size profile) f k name h = started-both rs qs id k None name (f k name) h
-started-any rs qs Version f k name h = f k name h
-started-any rs qs (Resume next audit) f k name h = f k name h
-started-any rs qs (InEffect id size profile kept) f k name h = f k name h
-started-any rs qs (RepairDue number counts) f k name h = f k name h
+started-any rs qs r f k name h = f k name h
 
 -- ---- what a state has of both
 

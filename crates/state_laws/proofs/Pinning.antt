@@ -1,26 +1,7 @@
 -- The files that a job works on from its begin on: each once, in ascending order, and stored.
-use Rattle.std.proofs.Common.{◌≡◌, ℕ, suc, ◌+◌, ◌≤◌, true, false, List, [], ◌∷◌, length, Option, Some, None, refl, ap, sym, subst, ◌∙◌, inl, inr, arith}
-use Rattle.std.specs.Prelude.{is_some, nat_lt}
-use Rattle.std.specs.List.{Contains}
-use Rattle.std.proofs.lemmas.Bool.{cases_Bool, cases_eq, false≢true, ltb-true}
-use Rattle.algebra_laws.specs.Lists.{In}
-use Rattle.record_defs.specs.Records.{most_files}
-use Rattle.record_defs.specs.Table.{File, setup_of, version_of, profile_in, file_of, files_of, is_same_name}
-use Rattle.record_defs.specs.Acceptance.{AreAccepted}
-use Rattle.record_defs.proofs.FilesLaws.{same-refl}
-use Rattle.record_defs.proofs.OrderLaws.{few-files_of}
-use Rattle.machine_defs.specs.Jobs.{Kind, PutJob, GetJob, DropJob, AuditJob, RepairJob, UpgradeJob, Pinned}
-use Rattle.machine_defs.specs.Actions.{machine_pins}
-use Rattle.machine_defs.specs.States.{State, file_in}
-use Rattle.machine_defs.specs.Begins.{pinned_file, pin_by, pin_all, pin_found, pinned_for}
-use Rattle.machine_defs.specs.Sights.{is_name_among, names_in}
+use Rattle.state_laws.proofs.Words.{◌≡◌, suc, true, false, length, Option, refl, ap, sym, subst, ◌∙◌, inl, inr, arith, is_some, nat_lt, Contains, cases_Bool, cases_eq, false≢true, ltb-true, In, most_files, File, setup_of, version_of, profile_in, file_of, files_of, is_same_name, AreAccepted, same-refl, few-files_of, Kind, PutJob, GetJob, DropJob, AuditJob, RepairJob, UpgradeJob, Pinned, machine_pins, State, file_in, pinned_file, pin_by, pin_all, pin_found, pinned_for, is_name_among, names_in, cond_true, cond_false, Stands, in_all, pinned_stands, AreSound, listed_file, AreAscending, AreHeld, HasPins, IsPin}
+use Rattle.std.proofs.Common.{ℕ, ◌+◌, ◌≤◌, List, [], ◌∷◌, Some, None}
 use Rattle.machine_defs.proofs.Held.{contains_in}
-use Rattle.machine_defs.proofs.JobLists.{cond_true, cond_false}
-use Rattle.machine_defs.proofs.Pins.{Stands, in_all, pinned_stands}
-use Rattle.machine_defs.proofs.RecordFacts.{AreSound, listed_file}
-use Rattle.state_laws.specs.Orders.{AreAscending}
-use Rattle.state_laws.specs.Follows.{AreHeld}
-use Rattle.state_laws.specs.SoundJobs.{HasPins, IsPin}
 use Rattle.state_laws.proofs.NamesTaken.{AreOnce, once-files}
 use Rattle.state_laws.proofs.Records.{is_some-at, AreInGrammar, sound-accepted, file-spelled, file-plain}
 
@@ -98,9 +79,8 @@ module _ (w : State) (accepted : AreAccepted w.records) (spelled : AreInGrammar 
       one None = tt
       one (Some f) = (omega arith, tt)
   pins-ascend (DropJob name) = tt
-  pins-ascend AuditJob = all-ascending
-  pins-ascend RepairJob = all-ascending
   pins-ascend UpgradeJob = tt
+  pins-ascend kind = all-ascending
 
   -- a job begins with no more files than may be in effect
   pub pins-few : (kind : Kind) → length (pinned_for w kind) ≤ most_files
@@ -111,9 +91,8 @@ module _ (w : State) (accepted : AreAccepted w.records) (spelled : AreInGrammar 
       one None = omega arith
       one (Some f) = omega arith
   pins-few (DropJob name) = omega arith
-  pins-few AuditJob = all-few
-  pins-few RepairJob = all-few
   pins-few UpgradeJob = omega arith
+  pins-few kind = all-few
 
   -- each file that a job begins with was stored
   pub pins-stored : (kind : Kind) (f : Pinned) → Contains (pinned_for w kind) f → IsPin w.records w.bytes f
@@ -143,6 +122,4 @@ has-pins w (GetJob name) h =
     (let f = is_some-at (file_in w name) (h name refl) in
     (pinned_file w f.0, ap (pin_found (pinned_file w)) f.1))
 has-pins w (DropJob name) h = refl
-has-pins w AuditJob h = tt
-has-pins w RepairJob h = tt
-has-pins w UpgradeJob h = tt
+has-pins w kind h = tt

@@ -1,21 +1,8 @@
 -- What holds of records that the fold accepts and that are in the grammar, and how one record more keeps it.
-use Rattle.std.proofs.Common.{◌≡◌, ℕ, ◌+◌, ◌<◌, ◌≤◌, ◌==◌, ◌^◌, true, false, ◌⊎◌, List, [], ◌∷◌, length, Option, Some, None, refl, ap, sym, subst, ◌∙◌, inl, inr, arith}
-use Rattle.std.specs.Prelude.{is_some, IsTrue}
-use Rattle.std.specs.List.{list_all}
-use Rattle.std.proofs.lemmas.Bool.{cases_Bool, false≢true, and_parts, and_from}
-use Rattle.std.proofs.lemmas.Bool.Decides.{nat_tests}
-use Rattle.algebra_laws.proofs.Options.{some-not-none}
-use Rattle.record_defs.specs.Records.{Setup, Record, SetUp, PutStart, PutDone, Drop, AuditStart, AuditDone, RepairDone, is_name, is_appended, is_in_grammar, largest_file, all_profiles, PutDoneIn, Version, Resume, InEffect, RepairDue}
-use Rattle.record_defs.specs.Table.{File, Due, file_as, profile_in, setup_of, version_of, next_id, next_audit, started_as, is_same_name, is_start_of, file_of, due_of, exceeds}
+use Rattle.state_laws.proofs.Words.{◌≡◌, ◌<◌, ◌==◌, true, false, ◌⊎◌, length, Option, refl, ap, sym, subst, ◌∙◌, inl, inr, arith, is_some, IsTrue, list_all, cases_Bool, false≢true, and_parts, and_from, nat_tests, some-not-none, Setup, Record, SetUp, PutStart, PutDone, Drop, AuditStart, AuditDone, RepairDone, is_name, is_appended, is_in_grammar, largest_file, all_profiles, PutDoneIn, Version, Resume, InEffect, RepairDue, File, Due, file_as, profile_in, setup_of, version_of, next_id, next_audit, started_as, is_same_name, is_start_of, file_of, due_of, exceeds, entries_size, same-eq, refused, AreAccepted, AreBytes, cond_true, cond_false, same_value, AreSound, IsHeld, BringsHeld, AreHeld}
+use Rattle.std.proofs.Common.{ℕ, ◌+◌, ◌≤◌, ◌^◌, List, [], ◌∷◌, Some, None}
 use Rattle.record_defs.specs.Acceptance as no
-use Rattle.record_defs.specs.Areas.{entries_size}
-use Rattle.record_defs.proofs.FilesLaws.{same-eq}
-use Rattle.record_defs.specs.Acceptance.{refused, AreAccepted}
 use Rattle.record_defs.proofs.SoundLaws.{are_sound, next_id-more}
-use Rattle.machine_defs.specs.Events.{AreBytes}
-use Rattle.machine_defs.proofs.JobLists.{cond_true, cond_false, same_value}
-use Rattle.machine_defs.proofs.RecordFacts.{AreSound}
-use Rattle.state_laws.specs.Follows.{IsHeld, BringsHeld, AreHeld}
 
 -- an option that is not none has a value
 pub is_some-at : {X : Type 0} (o : Option X) → is_some o ≡ true → (x : X) × (o ≡ Some x)
@@ -59,18 +46,8 @@ appended-more r rs g h = and_from (is_appended r) (list_all is_appended rs) g h
 
 -- the first version now was so before
 pub version-before : (r : Record) (rs : List Record) → version_of (r ∷ rs) ≡ 1 → version_of rs ≡ 1
-version-before (SetUp s) rs h = h
-version-before (PutStart id name) rs h = h
-version-before (PutDone id size) rs h = h
-version-before (Drop name) rs h = h
-version-before (AuditStart number) rs h = h
-version-before (AuditDone number undecided counts) rs h = h
-version-before (RepairDone number) rs h = h
-version-before (PutDoneIn id size profile) rs h = h
 version-before Version rs h = absurd (omega (arith, h))
-version-before (Resume next audit) rs h = h
-version-before (InEffect id size profile kept) rs h = h
-version-before (RepairDue number counts) rs h = h
+version-before r rs h = h
 
 -- a version is the first or the second
 pub version-either : (rs : List Record) → (version_of rs ≡ 1) ⊎ (version_of rs ≡ 2)
@@ -91,18 +68,8 @@ version-either (RepairDue number counts ∷ rs) = version-either rs
 -- ---- numbers
 
 next_id-one : (r : Record) (rs : List Record) → IsTrue (is_appended r) → next_id (r ∷ rs) ≤ next_id rs + 1
-next_id-one (SetUp s) rs g = omega arith
-next_id-one (PutStart id name) rs g = omega arith
-next_id-one (PutDone id size) rs g = omega arith
-next_id-one (Drop name) rs g = omega arith
-next_id-one (AuditStart number) rs g = omega arith
-next_id-one (AuditDone number undecided counts) rs g = omega arith
-next_id-one (RepairDone number) rs g = omega arith
-next_id-one (PutDoneIn id size profile) rs g = omega arith
-next_id-one Version rs g = omega arith
 next_id-one (Resume next audit) rs g = absurd (false≢true g)
-next_id-one (InEffect id size profile kept) rs g = omega arith
-next_id-one (RepairDue number counts) rs g = omega arith
+next_id-one r rs g = omega arith
 
 -- the next object number of appended records is at most the length of their text
 pub next_id-le : (rs : List Record) → AreAppended rs → next_id rs ≤ 1 + entries_size rs
@@ -114,18 +81,8 @@ next_id-le (r ∷ rs) g =
 
 next_audit-one : (r : Record) (rs : List Record) → IsTrue (is_appended r) →
     next_audit (r ∷ rs) ≤ next_audit rs + 1
-next_audit-one (SetUp s) rs g = omega arith
-next_audit-one (PutStart id name) rs g = omega arith
-next_audit-one (PutDone id size) rs g = omega arith
-next_audit-one (Drop name) rs g = omega arith
-next_audit-one (AuditStart number) rs g = omega arith
-next_audit-one (AuditDone number undecided counts) rs g = omega arith
-next_audit-one (RepairDone number) rs g = omega arith
-next_audit-one (PutDoneIn id size profile) rs g = omega arith
-next_audit-one Version rs g = omega arith
 next_audit-one (Resume next audit) rs g = absurd (false≢true g)
-next_audit-one (InEffect id size profile kept) rs g = omega arith
-next_audit-one (RepairDue number counts) rs g = omega arith
+next_audit-one r rs g = omega arith
 
 -- the next audit number of appended records is at most the length of their text
 pub next_audit-le : (rs : List Record) → AreAppended rs → next_audit rs ≤ 1 + entries_size rs
@@ -152,33 +109,13 @@ refused-empty rs r up = cond_false (is_some (setup_of rs)) (no.refused_after rs 
 -- only a setup comes first
 first-is : (r : Record) → no.refused_first r ≡ None → (s : Setup) × (r ≡ SetUp s)
 first-is (SetUp s) h = (s, refl)
-first-is (PutStart id name) h = absurd (some-not-none _ no.NoSetup refl h)
-first-is (PutDone id size) h = absurd (some-not-none _ no.NoSetup refl h)
-first-is (Drop name) h = absurd (some-not-none _ no.NoSetup refl h)
-first-is (AuditStart number) h = absurd (some-not-none _ no.NoSetup refl h)
-first-is (AuditDone number undecided counts) h = absurd (some-not-none _ no.NoSetup refl h)
-first-is (RepairDone number) h = absurd (some-not-none _ no.NoSetup refl h)
-first-is (PutDoneIn id size profile) h = absurd (some-not-none _ no.NoSetup refl h)
-first-is Version h = absurd (some-not-none _ no.NoSetup refl h)
-first-is (Resume next audit) h = absurd (some-not-none _ no.NoSetup refl h)
-first-is (InEffect id size profile kept) h = absurd (some-not-none _ no.NoSetup refl h)
-first-is (RepairDue number counts) h = absurd (some-not-none _ no.NoSetup refl h)
+first-is r h = absurd (some-not-none _ no.NoSetup refl h)
 
 -- a store that is set up stays so with any record more
 pub up-more : (r : Record) (rs : List Record) → is_some (setup_of rs) ≡ true →
     is_some (setup_of (r ∷ rs)) ≡ true
 up-more (SetUp s) rs h = refl
-up-more (PutStart id name) rs h = h
-up-more (PutDone id size) rs h = h
-up-more (Drop name) rs h = h
-up-more (AuditStart number) rs h = h
-up-more (AuditDone number undecided counts) rs h = h
-up-more (RepairDone number) rs h = h
-up-more (PutDoneIn id size profile) rs h = h
-up-more Version rs h = h
-up-more (Resume next audit) rs h = h
-up-more (InEffect id size profile kept) rs h = h
-up-more (RepairDue number counts) rs h = h
+up-more r rs h = h
 
 -- accepted records with no setup are none
 pub none-set_up : (rs : List Record) → AreAccepted rs → is_some (setup_of rs) ≡ false → rs ≡ []
@@ -194,17 +131,7 @@ pub setup-more : (r : Record) (rs : List Record) → is_some (setup_of rs) ≡ t
     setup_of (r ∷ rs) ≡ setup_of rs
 setup-more (SetUp s) rs up h =
     absurd (some-not-none _ no.SecondSetup refl (sym (refused-up rs (SetUp s) up) ∙ h))
-setup-more (PutStart id name) rs up h = refl
-setup-more (PutDone id size) rs up h = refl
-setup-more (Drop name) rs up h = refl
-setup-more (AuditStart number) rs up h = refl
-setup-more (AuditDone number undecided counts) rs up h = refl
-setup-more (RepairDone number) rs up h = refl
-setup-more (PutDoneIn id size profile) rs up h = refl
-setup-more Version rs up h = refl
-setup-more (Resume next audit) rs up h = refl
-setup-more (InEffect id size profile kept) rs up h = refl
-setup-more (RepairDue number counts) rs up h = refl
+setup-more r rs up h = refl
 
 -- accepted records are sound
 pub sound-accepted : (rs : List Record) → AreAccepted rs → AreSound rs
@@ -220,18 +147,10 @@ sound-accepted rs a =
 
 first-appended-one : (r : Record) (rs : List Record) → version_of (r ∷ rs) ≡ 1 → refused rs r ≡ None →
     IsTrue (is_appended r)
-first-appended-one (SetUp s) rs v h = refl
-first-appended-one (PutStart id name) rs v h = refl
-first-appended-one (PutDone id size) rs v h = refl
-first-appended-one (Drop name) rs v h = refl
-first-appended-one (AuditStart number) rs v h = refl
-first-appended-one (AuditDone number undecided counts) rs v h = refl
-first-appended-one (RepairDone number) rs v h = refl
-first-appended-one (PutDoneIn id size profile) rs v h = refl
-first-appended-one Version rs v h = refl
 first-appended-one (Resume next audit) rs v h = absurd (grind (arith, nat_tests, v, h))
 first-appended-one (InEffect id size profile kept) rs v h = absurd (grind (arith, nat_tests, v, h))
 first-appended-one (RepairDue number counts) rs v h = absurd (grind (arith, nat_tests, v, h))
+first-appended-one r rs v h = refl
 
 -- accepted records of the first version are appended ones
 pub first-appended : (rs : List Record) → AreAccepted rs → version_of rs ≡ 1 → AreAppended rs
@@ -321,10 +240,7 @@ pub data Came (rs : List Record) (r : Record) (name : List ℕ) (file : File) : 
 
 -- a file in effect was so before, or came with the record
 pub file-came : (r : Record) (rs : List Record) (name : List ℕ) (file : File) →
-    file_of (r ∷ rs) name ≡ Some file →
-    (file_of rs name ≡ Some file) ⊎ Came rs r name file
-file-came (SetUp s) rs name file h = inl h
-file-came (PutStart k n) rs name file h = inl h
+    file_of (r ∷ rs) name ≡ Some file → (file_of rs name ≡ Some file) ⊎ Came rs r name file
 file-came (PutDone k size) rs name file h =
     let new : File = file_as name k size (profile_in (setup_of rs)) in
     elim (cases_Bool (is_start_of name (started_as rs k))) [
@@ -339,9 +255,6 @@ file-came (Drop n) rs name file h = elim (cases_Bool (is_same_name n name)) [
   | inl t ↦ absurd (some-not-none _ file h (cond_true (is_same_name n name) None (file_of rs name) t))
   | inr f ↦ inl (sym (cond_false (is_same_name n name) None (file_of rs name) f) ∙ h)
 ]
-file-came (AuditStart number) rs name file h = inl h
-file-came (AuditDone number undecided counts) rs name file h = inl h
-file-came (RepairDone number) rs name file h = inl h
 file-came (PutDoneIn k size profile) rs name file h =
     let new : File = file_as name k size profile in
     elim (cases_Bool (is_start_of name (started_as rs k))) [
@@ -351,8 +264,6 @@ file-came (PutDoneIn k size profile) rs name file h =
           (ap (λ (f : File). started_as rs f.id) (sym same) ∙ start-named name (started_as rs k) t)))
       | inr f ↦ inl (sym (cond_false (is_start_of name (started_as rs k)) (Some new) (file_of rs name) f) ∙ h)
     ]
-file-came Version rs name file h = inl h
-file-came (Resume next audit) rs name file h = inl h
 file-came (InEffect k size profile n) rs name file h =
     let new : File = file_as name k size profile in
     elim (cases_Bool (is_same_name n name)) [
@@ -362,7 +273,7 @@ file-came (InEffect k size profile n) rs name file h =
           ∙ ap (λ (f : File). InEffect f.id f.size f.profile name) same)))
       | inr f ↦ inl (sym (cond_false (is_same_name n name) (Some new) (file_of rs name) f) ∙ h)
     ]
-file-came (RepairDue number counts) rs name file h = inl h
+file-came r rs name file h = inl h
 
 -- the profile of a setup that has a spelling
 pub setup-fits : (s : Setup) → IsTrue (is_in_grammar (SetUp s)) → s.profile < all_profiles

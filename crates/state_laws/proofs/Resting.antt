@@ -1,24 +1,9 @@
 -- Sound states in which no job runs: at a start, at rest, and after stops, reopenings, inits and later calls
 -- of the program.
-use Rattle.std.proofs.Common.{◌≡◌, ℕ, ◌≤◌, Bool, true, false, List, [], ◌∷◌, length, Option, Some, None, refl, ap, sym, subst, ◌∙◌, inl, inr, arith, sum_by}
-use Rattle.std.specs.Prelude.{is_some, IsTrue}
-use Rattle.std.proofs.lemmas.Bool.{false≢true, and_from}
-use Rattle.algebra_laws.proofs.Options.{some-not-none}
-use Rattle.record_defs.specs.Records.{Setup, Record, SetUp, is_setup, is_master, is_in_grammar, largest_journal}
-use Rattle.record_defs.specs.Table.{setup_of, version_of, files_of}
-use Rattle.record_defs.specs.Acceptance.{AreAccepted}
-use Rattle.record_defs.specs.Areas.{Area, A, other_area, end_in}
-use Rattle.record_defs.proofs.OrderLaws.{few-files_of}
+use Rattle.state_laws.proofs.Words.{◌≡◌, Bool, true, false, length, Option, refl, ap, sym, subst, ◌∙◌, inl, inr, arith, sum_by, is_some, IsTrue, false≢true, and_from, some-not-none, Setup, Record, SetUp, is_setup, is_master, is_in_grammar, largest_journal, setup_of, version_of, files_of, AreAccepted, Area, A, other_area, end_in, few-files_of, Outcome, Ready, Refused, Opened, Stopped, Continued, State, Doubt, Packing, AreFirst, IsStart, setup_in, journal_end, brought, given_up, continued, Settles, reserved, cond_false, same_value, found_none, setup_same, AreNumbered, AreHeld, MayFollow, MayFollowIn, IsDoubtOf, IsIdle, starts_left, IsSoundJournal, IsSwitchable, IsSound, IsAtRest}
+use Rattle.std.proofs.Common.{ℕ, ◌≤◌, List, [], ◌∷◌, Some, None}
 use Rattle.machine_defs.specs.Refusals as refusal
-use Rattle.machine_defs.specs.Events.{Outcome, Ready, Refused, Opened, Stopped, Continued}
-use Rattle.machine_defs.specs.States.{State, Doubt, Packing, AreFirst, IsStart, setup_in, journal_end, brought, given_up, continued, Settles}
-use Rattle.machine_defs.specs.Space.{reserved}
 use Rattle.machine_defs.specs.Openings.{IsSetUp, MayHold, reread, Rereads, LeavesDoubt, Stops, Reopens, InitsClosed, InitsBy, Inits, Continues}
-use Rattle.machine_defs.proofs.JobLists.{cond_false, same_value, found_none}
-use Rattle.machine_defs.proofs.PinFacts.{setup_same}
-use Rattle.state_laws.specs.Orders.{AreNumbered}
-use Rattle.state_laws.specs.Follows.{AreHeld, MayFollow, MayFollowIn}
-use Rattle.state_laws.specs.Sound.{IsDoubtOf, IsIdle, starts_left, IsSoundJournal, IsSwitchable, IsSound, IsAtRest}
 use Rattle.state_laws.proofs.NamesTaken.{taken_by, length-names_in}
 use Rattle.state_laws.proofs.Records.{AreInGrammar, none-set_up, second-set_up, grammar-more, held-more}
 use Rattle.state_laws.proofs.Packs.{journal-same, journal-brought, journal-packed, journal-whole, switched-room}
@@ -324,6 +309,25 @@ module _ (limit : ℕ) where
     still-mid mid (journal, area, holds, inl is) = ap (λ (w : State). w.is_switching) is
     still-mid mid (journal, area, holds, inr (d, in_doubt, is)) = ap (λ (w : State). w.is_switching) is
 
+    -- a vault that was not opened over what was read again
+    read-closed : (mid new : State) (faults : ℕ) → Rereads old mid → new ≡ record mid { disk_faults = faults } →
+        IsSound limit new
+    read-closed mid new faults h is =
+        (let g = again mid h in
+        let s = g.1.0 in
+        subst (IsSound limit) (sym is)
+        (shut (record mid { disk_faults = faults })
+        (s.jobs ∙ g.1.1, s.append ∙ g.1.2, s.barred ∙ g.1.3, s.alone ∙ g.1.5)
+        (kept-devices mid faults s.kept) (s.is_open ∙ g.1.4)))
+
+    -- or over what was not read
+    unread : (new : State) (faults : ℕ) → new ≡ record (given_up old) { disk_faults = faults } → IsSound limit new
+    unread new faults is =
+        subst (IsSound limit) (sym is)
+        (shut (record (given_up old) { disk_faults = faults }) (refl, refl, refl, refl)
+        (kept-closed (record (given_up old) { disk_faults = faults }) refl refl refl refl refl refl refl
+        refl) refl)
+
     -- a reopening, refused or not, leaves a sound state
     pub reopens-sound : (r : Outcome) (new : State) → Reopens old r new → IsSound limit new
     reopens-sound Opened new (mid, h, up, enough, (faults, low, is)) =
@@ -336,37 +340,11 @@ module _ (limit : ℕ) where
         (λ o. up) (λ o. subst (λ (t : Setup). t.n ≤ mid.handed) (sym (setup_same w mid refl)) enough)
         (λ o. s.doubt)))
     reopens-sound (Refused refusal.NotSetUp) new (mid, h, none, (faults, low, is)) =
-        (let g = again mid h in
-        let s = g.1.0 in
-        subst (IsSound limit) (sym is)
-        (shut (record mid { disk_faults = faults }) (
-          s.jobs ∙ g.1.1,
-          s.append ∙ g.1.2,
-          s.barred
-              ∙ g.1.3,
-          s.alone ∙ g.1.5,
-        ) (kept-devices mid faults s.kept) (s.is_open ∙ g.1.4)))
+        read-closed mid new faults h is
     reopens-sound (Refused refusal.TooFewProviders) new (mid, h, up, few, (faults, low, is)) =
-        (let g = again mid h in
-        let s = g.1.0 in
-        subst (IsSound limit) (sym is)
-        (shut (record mid { disk_faults = faults }) (
-          s.jobs ∙ g.1.1,
-          s.append ∙ g.1.2,
-          s.barred
-              ∙ g.1.3,
-          s.alone ∙ g.1.5,
-        ) (kept-devices mid faults s.kept) (s.is_open ∙ g.1.4)))
-    reopens-sound (Refused refusal.DiskFault) new (faults, low, rose, is) =
-        subst (IsSound limit) (sym is)
-        (shut (record (given_up old) { disk_faults = faults }) (refl, refl, refl, refl)
-        (kept-closed (record (given_up old) { disk_faults = faults }) refl refl refl refl refl refl refl
-        refl) refl)
-    reopens-sound (Refused refusal.Memory) new (faults, low, is) =
-        subst (IsSound limit) (sym is)
-        (shut (record (given_up old) { disk_faults = faults }) (refl, refl, refl, refl)
-        (kept-closed (record (given_up old) { disk_faults = faults }) refl refl refl refl refl refl refl
-        refl) refl)
+        read-closed mid new faults h is
+    reopens-sound (Refused refusal.DiskFault) new (faults, low, rose, is) = unread new faults is
+    reopens-sound (Refused refusal.Memory) new (faults, low, is) = unread new faults is
     reopens-sound r new h = absurd h
 
     -- what is in doubt after an init that failed

@@ -1,17 +1,6 @@
 -- The room that a job's records need, by its kind and the number of its appends that are left.
-use Rattle.std.proofs.Common.{◌≡◌, ℕ, ◌+◌, ◌<◌, ◌≤◌, ◌==◌, cond, List, length, refl, ap, sym, subst, ◌∙◌, inl, inr, arith}
-use Rattle.std.proofs.lemmas.Bool.{cases_Bool, cases_lt}
-use Rattle.column_defs.specs.Verdicts.{Sums}
-use Rattle.record_defs.specs.Records.{Setup, Record, PutStart, AuditStart, AuditDone, record_size}
-use Rattle.record_defs.specs.Table.{version_of, next_id, next_audit}
-use Rattle.machine_defs.specs.Jobs.{Kind, PutJob, GetJob, DropJob, AuditJob, RepairJob, UpgradeJob, aim_of, Job}
-use Rattle.machine_defs.specs.Actions.{appends_left}
-use Rattle.machine_defs.specs.Audits.{HasSums}
-use Rattle.machine_defs.specs.States.{State, setup_in}
-use Rattle.machine_defs.specs.Space.{room_left, reserved}
-use Rattle.machine_defs.specs.Appends.{Writes, done_record, is_first_append}
-use Rattle.machine_defs.proofs.JobLists.{cond_true, cond_false}
-use Rattle.machine_defs.proofs.Numbers.{first_above, first_below}
+use Rattle.state_laws.proofs.Words.{◌≡◌, ◌<◌, ◌==◌, cond, length, refl, ap, sym, subst, ◌∙◌, inl, inr, arith, cases_Bool, cases_lt, Sums, Setup, Record, PutStart, AuditStart, AuditDone, record_size, version_of, next_id, next_audit, Kind, PutJob, GetJob, DropJob, AuditJob, RepairJob, UpgradeJob, aim_of, Job, appends_left, HasSums, State, setup_in, room_left, reserved, Writes, done_record, is_first_append, cond_true, cond_false, first_above, first_below}
+use Rattle.std.proofs.Common.{ℕ, ◌+◌, ◌≤◌, List}
 use Rattle.state_laws.proofs.Orders.{put-first, put-later, audit-first, audit-later, drop-first, repair-first, upgrade-first}
 
 -- the room of a job's last so many records

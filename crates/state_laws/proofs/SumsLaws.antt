@@ -1,23 +1,13 @@
 -- The sums of an audit: a count for each provider, and no more than the rounds that were judged.
-use Rattle.std.proofs.Common.{◌≡◌, ℕ, zero, suc, ◌+◌, ◌*◌, ◌≤◌, ◌^◌, ◌==◌, List, [], ◌∷◌, length, replicate, ap, sym, subst, ◌∙◌, inl, inr, arith, All}
+use Rattle.state_laws.proofs.Words.{◌≡◌, zero, suc, ◌*◌, ◌==◌, length, replicate, ap, sym, subst, ◌∙◌, inl, inr, arith, All, cases_Bool, Each, each_at_most, each_zero, upto, Sums, Setup, most_files, Pinned, Job, profiled, object_of, stripes_of, rounds_of, challenge_in, JudgesRound, JudgesRounds, JudgesFiles, HasSums, cond_true, cond_false}
+use Rattle.std.proofs.Common.{ℕ, ◌+◌, ◌≤◌, ◌^◌, List, [], ◌∷◌}
 use Rattle.std.proofs.Math.Nat.{mul-le-mul_right}
 use Rattle.std.proofs.lemmas.List.{length-replicate}
 use Rattle.std.proofs.lemmas.List.FromFn.{length-range_with_len}
-use Rattle.std.proofs.lemmas.Bool.{cases_Bool}
-use Rattle.algebra_laws.specs.Lists.{Each}
-use Rattle.algebra_laws.proofs.Each.{each_at_most, each_zero}
-use Rattle.code_defs.specs.Points.{upto}
 use Rattle.column_defs.specs.Objects.{points}
-use Rattle.column_defs.specs.Verdicts.{Sums}
 use Rattle.column_defs.specs.Challenges.{bare_answers}
 use Rattle.column_defs.proofs.CountLaws.{length-counts_after, counts_after-within}
-use Rattle.record_defs.specs.Records.{Setup, most_files}
-use Rattle.machine_defs.specs.Jobs.{Pinned, Job}
-use Rattle.machine_defs.specs.Setups.{profiled, object_of, stripes_of}
-use Rattle.machine_defs.specs.Actions.{rounds_of}
-use Rattle.machine_defs.specs.Audits.{challenge_in, JudgesRound, JudgesRounds, JudgesFiles, HasSums}
 use Rattle.machine_defs.specs.Given.{answers_given}
-use Rattle.machine_defs.proofs.JobLists.{cond_true, cond_false}
 
 -- counts and undecided rounds of so many judged ones
 record Within (n : ℕ) (rounds : ℕ) (sums : Sums) : Type 0 where

@@ -1,27 +1,6 @@
 -- Sound states after an action that puts no record in effect and ends no job.
-use Rattle.std.proofs.Common.{◌≡◌, ℕ, ◌<◌, ◌≤◌, ◌==◌, Bool, true, false, cond, ◌||◌, ◌&&◌, List, [], ◌∷◌, length, Option, Some, None, refl, ap, sym, subst, ◌∙◌, inl, inr, arith}
-use Rattle.std.specs.Prelude.{is_some, IsTrue}
-use Rattle.std.proofs.lemmas.Bool.{cases_Bool, cases_lt, cases_eq, false≢true}
-use Rattle.algebra_laws.proofs.Options.{some-not-none}
-use Rattle.std.proofs.lemmas.Bool.Decides.{nat_tests}
-use Rattle.column_defs.specs.Verdicts.{Sums}
-use Rattle.record_defs.specs.Records.{Record, SetUp, PutStart, PutDone, Drop, AuditStart, AuditDone, RepairDone, PutDoneIn, Version, Resume, InEffect, RepairDue}
-use Rattle.record_defs.specs.Table.{version_of, next_id, next_audit, file_of, started_as}
-use Rattle.record_defs.specs.Acceptance.{refused, put_done_refused, AreAccepted}
-use Rattle.machine_defs.specs.Jobs.{Kind, PutJob, GetJob, DropJob, AuditJob, RepairJob, UpgradeJob, aim_of, Given, Job, job_of, with_job}
-use Rattle.machine_defs.specs.Actions.{Action, End, ends_append, appends_left, actions_left}
-use Rattle.machine_defs.specs.Audits.{HasSums}
-use Rattle.machine_defs.specs.States.{State, Append, Doubt, setup_in, journal_end, going_on}
-use Rattle.machine_defs.specs.Space.{reserved}
-use Rattle.machine_defs.specs.Sights.{puts_name, is_check, is_upgrade}
-use Rattle.machine_defs.specs.Appends.{Writes, done_record, is_first_append, subject_drawn, bytes_drawn}
-use Rattle.machine_defs.specs.Steps.{next_action}
-use Rattle.machine_defs.proofs.JobLists.{cond_true, cond_false, same_value, found_with}
-use Rattle.machine_defs.proofs.Numbers.{Series, objects, audits, Draws, first_above, first_below}
-use Rattle.state_laws.specs.Orders.{moves_made, moves_before, moves_after, IsInOrder}
-use Rattle.state_laws.specs.Follows.{BringsHeld, MayFollow}
-use Rattle.state_laws.specs.SoundJobs.{IsReady, IsSoundJob}
-use Rattle.state_laws.specs.Sound.{IsDoubtOf, IsSoundAppend, IsPutUnderWay, starts_left, IsSound}
+use Rattle.state_laws.proofs.Words.{◌≡◌, ◌<◌, ◌==◌, Bool, true, false, cond, ◌||◌, ◌&&◌, length, Option, refl, ap, sym, subst, ◌∙◌, inl, inr, arith, is_some, IsTrue, cases_Bool, cases_lt, cases_eq, false≢true, some-not-none, nat_tests, Sums, Record, SetUp, PutStart, PutDone, Drop, AuditStart, AuditDone, RepairDone, PutDoneIn, Version, Resume, InEffect, RepairDue, version_of, next_id, next_audit, file_of, started_as, refused, put_done_refused, AreAccepted, Kind, PutJob, GetJob, DropJob, AuditJob, RepairJob, UpgradeJob, aim_of, Given, Job, job_of, with_job, Action, End, ends_append, appends_left, actions_left, HasSums, State, Append, Doubt, setup_in, journal_end, going_on, reserved, puts_name, is_check, is_upgrade, Writes, done_record, is_first_append, subject_drawn, bytes_drawn, next_action, cond_true, cond_false, same_value, found_with, Series, objects, audits, Draws, first_above, first_below, moves_made, moves_before, moves_after, IsInOrder, BringsHeld, MayFollow, IsReady, IsSoundJob, IsDoubtOf, IsSoundAppend, IsPutUnderWay, starts_left, IsSound}
+use Rattle.std.proofs.Common.{ℕ, ◌≤◌, List, [], ◌∷◌, Some, None}
 use Rattle.state_laws.proofs.Orders.{gates}
 use Rattle.state_laws.proofs.JobLists.{sum-with, length-with, numbered-with, still-with, only-with, not-mine, other}
 use Rattle.state_laws.proofs.NamesTaken.{are_put, taken-fewer}
@@ -52,21 +31,13 @@ follows-on rs journal end bytes now entry a stay m = record {
 }
   where
     held : (entry : Record) → refused rs entry ≡ None → BringsHeld bytes entry → BringsHeld now entry
-    held (SetUp s) h b = tt
-    held (PutStart id name) h b = tt
     held (PutDone id size) h b =
         held-same bytes now id size (stay id (done-drawn rs id a (grind (arith, nat_tests, h)))) b
-    held (Drop name) h b = tt
-    held (AuditStart number) h b = tt
-    held (AuditDone number undecided counts) h b = tt
-    held (RepairDone number) h b = tt
     held (PutDoneIn id size profile) h b =
         held-same bytes now id size (stay id (done-drawn rs id a (grind (arith, nat_tests, h)))) b
-    held Version h b = tt
-    held (Resume next audit) h b = tt
     held (InEffect id size profile name) h b =
         held-same bytes now id size (stay id (grind (arith, nat_tests, h))) b
-    held (RepairDue number counts) h b = tt
+    held entry h b = tt
 
 -- ---- lists of jobs in which one goes on
 
@@ -117,8 +88,6 @@ writes-on w job n action (PutJob name bytes) entry kind next plain later repairs
           (done_record (version_of w.records) n (length bytes) job.profile)
           (first ∙ first_above job l))))
     ])
-writes-on w job n action (GetJob name) entry kind next plain later repairs h = h
-writes-on w job n action (DropJob name) entry kind next plain later repairs h = h
 writes-on w job n action AuditJob entry kind next plain later repairs h =
     (let first = first-on audits w job n job.given action (subst (Draws audits) (sym kind) tt) next plain in
     elim (cases_lt job.place 4) [
@@ -132,41 +101,30 @@ writes-on w job n action AuditJob entry kind next plain later repairs h =
     ])
 writes-on w job n action RepairJob entry kind next plain later repairs h =
     h ∙ ap RepairDone (sym (repairs kind))
-writes-on w job n action UpgradeJob entry kind next plain later repairs h = h
+writes-on w job n action k entry kind next plain later repairs h = h
 
 -- ---- the number that a first append draws
+
+drawn-again : (n m : ℕ) (b c : Bool) → c ≡ b → cond c n (cond b n m) ≡ cond b n m
+drawn-again n m true false e = absurd (false≢true e)
+drawn-again n m false true e = absurd (false≢true (sym e))
+drawn-again n m b c e = refl
 
 -- once drawn, it is drawn no more
 pub drawn-on : (w : State) (job : Job) (action : Action) (kind : Kind) → job.kind ≡ kind →
     next_action w job ≡ Some action → ends_append action ≡ false →
     subject_drawn w (onward job (subject_drawn w job kind) job.given) kind ≡ subject_drawn w job kind
 drawn-on w job action (PutJob name bytes) kind next plain =
-    again (is_first_append job)
+    drawn-again (next_id w.records) job.subject (is_first_append job)
     (is_first_append (onward job (subject_drawn w job (PutJob name bytes)) job.given))
     (first-on objects w job (subject_drawn w job (PutJob name bytes)) job.given action
     (subst (Draws objects) (sym kind) tt) next plain)
-  where
-    again : (b c : Bool) → c ≡ b → cond c (next_id w.records) (cond b (next_id w.records) job.subject)
-        ≡ cond b (next_id w.records) job.subject
-    again true true e = refl
-    again false false e = refl
-    again true false e = absurd (false≢true e)
-    again false true e = absurd (false≢true (sym e))
-drawn-on w job action AuditJob kind next plain = again (is_first_append job)
+drawn-on w job action AuditJob kind next plain =
+    drawn-again (next_audit w.records) job.subject (is_first_append job)
     (is_first_append (onward job (subject_drawn w job AuditJob) job.given))
     (first-on audits w job (subject_drawn w job AuditJob) job.given action
     (subst (Draws audits) (sym kind) tt) next plain)
-  where
-    again : (b c : Bool) → c ≡ b → cond c (next_audit w.records) (cond b (next_audit w.records) job.subject)
-        ≡ cond b (next_audit w.records) job.subject
-    again true true e = refl
-    again false false e = refl
-    again true false e = absurd (false≢true e)
-    again false true e = absurd (false≢true (sym e))
-drawn-on w job action (GetJob name) kind next plain = refl
-drawn-on w job action (DropJob name) kind next plain = refl
-drawn-on w job action RepairJob kind next plain = refl
-drawn-on w job action UpgradeJob kind next plain = refl
+drawn-on w job action h kind next plain = refl
 
 -- once a put has drawn its number, the bytes of each number stay
 pub bytes-on : (w : State) (job : Job) (n : ℕ) (now : ℕ → List ℕ) (action : Action) (kind : Kind) (id : ℕ) →
@@ -180,15 +138,10 @@ bytes-on w job n now action (PutJob name bytes) id kind next plain e =
     again : (b c d : Bool) → c ≡ b → now id ≡ cond (b && d) bytes (w.bytes id) →
         cond (c && d) bytes (now id) ≡ now id
     again true true true s h = sym h
-    again true true false s h = refl
-    again false false d s h = refl
     again true false d s h = absurd (false≢true s)
     again false true d s h = absurd (false≢true (sym s))
-bytes-on w job n now action (GetJob name) id kind next plain e = refl
-bytes-on w job n now action (DropJob name) id kind next plain e = refl
-bytes-on w job n now action AuditJob id kind next plain e = refl
-bytes-on w job n now action RepairJob id kind next plain e = refl
-bytes-on w job n now action UpgradeJob id kind next plain e = refl
+    again b c d s h = refl
+bytes-on w job n now action k id kind next plain e = refl
 
 -- a state in which a job goes on, with this append and doubt, these bytes and these begins of audits
 abbrev pub gone_on : State → Job → Option Append → Option Doubt → (ℕ → List ℕ) → (ℕ → ℕ) → State
@@ -342,8 +295,7 @@ module _ (limit : ℕ) (old : State) (S : IsSound limit old) (job : Job)
       (went-ready (setup_in old) old.journal old.bytes old.bytes
       (λ id l. refl) old job job.subject given action next plain (λ l. refl)
       (λ l. refl) count job.kind refl (S.in_journal job.number job runs))
-      (under job.kind refl next plain)
-      count
+      (under job.kind refl next plain) count
       (λ a flight. append-other (onward job job.subject given) old.append old.doubt old.audits a refl
       (not-mine old.append job.number a flight (S.append a flight).begun none) (S.append a flight))
       S.barred S.undoubted S.doubt)
@@ -359,8 +311,4 @@ module _ (limit : ℕ) (old : State) (S : IsSound limit old) (job : Job)
         ],
         refl,
       )
-      under (GetJob name) kind next plain l = absurd l
-      under (DropJob name) kind next plain l = absurd l
-      under AuditJob kind next plain l = absurd l
-      under RepairJob kind next plain l = absurd l
-      under UpgradeJob kind next plain l = absurd l
+      under h kind next plain l = absurd l

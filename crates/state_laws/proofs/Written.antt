@@ -1,36 +1,6 @@
 -- The record that a job writes with its next action may come into effect next.
-use Rattle.std.proofs.Common.{◌≡◌, ℕ, ◌+◌, ◌-◌, ◌<◌, ◌≤◌, ◌==◌, ◌^◌, Bool, true, false, not, List, [], ◌∷◌, ◌++◌, length, drop, Option, Some, None, refl, ap, sym, subst, ◌∙◌, inl, inr, arith}
-use Rattle.std.specs.Prelude.{is_some, IsTrue, nat_lt, slice_get}
-use Rattle.std.specs.List.{list_all}
-use Rattle.std.proofs.lemmas.Bool.{cases_Bool, cases_lt, false≢true, and_from, eq-eqb, eqb-true, ne_eqb, lt-ltb}
-use Rattle.std.proofs.lemmas.Bool.Decides.{nat_tests}
-use Rattle.algebra_laws.specs.Lists.{Each}
-use Rattle.column_defs.specs.Verdicts.{Sums}
-use Rattle.record_defs.specs.Records.{Setup, Record, SetUp, PutStart, PutDone, Drop, AuditStart, AuditDone, RepairDone, PutDoneIn, Version, is_name, is_in_grammar, record_size, largest_file, largest_journal, most_files, all_profiles}
-use Rattle.record_defs.specs.Table.{File, setup_of, version_of, profile_in, next_id, next_audit, started_as, file_of, files_of, is_same_name, running_audit, due_of}
-use Rattle.record_defs.specs.Acceptance as no
-use Rattle.record_defs.specs.Acceptance.{refused, put_done_refused, is_crowded}
-use Rattle.record_defs.specs.Packed.{AreAlike}
-use Rattle.record_defs.proofs.FilesLaws.{same-eq, same-refl}
-use Rattle.record_defs.proofs.OrderLaws.{next_id-fits, next_audit-fits}
-use Rattle.machine_defs.specs.Jobs.{Kind, PutJob, GetJob, DropJob, AuditJob, RepairJob, UpgradeJob, aim_of, Job, job_of}
-use Rattle.machine_defs.specs.Setups.{setup_or_none}
-use Rattle.machine_defs.specs.Actions.{WriteBody, End, append_actions, actions_of, appends_left, actions_left}
-use Rattle.machine_defs.specs.Audits.{HasSums}
-use Rattle.machine_defs.specs.States.{State, setup_in, file_in, journal_end}
-use Rattle.machine_defs.specs.Space.{reserved}
-use Rattle.machine_defs.specs.Sights.{puts_name, sight_of, is_name_among, names_in, names_taken}
-use Rattle.machine_defs.specs.Events.{AreBytes, IsSpelledKind}
-use Rattle.machine_defs.proofs.Pins.{any_job}
-use Rattle.machine_defs.proofs.Numbers.{next_by, next_is_by, first_below, first_above}
-use Rattle.machine_defs.proofs.Done.{by_version}
-use Rattle.machine_defs.specs.Appends.{Writes, done_record}
-use Rattle.machine_defs.specs.Steps.{next_action, is_idle_drop}
-use Rattle.machine_defs.proofs.JobLists.{cond_true, cond_false, found_none}
-use Rattle.state_laws.specs.Orders.{moves_made, IsInOrder}
-use Rattle.state_laws.specs.Follows.{IsHeld, BringsHeld, MayFollowIn}
-use Rattle.state_laws.specs.SoundJobs.{IsWish, IsReady, IsSoundJob, HasDrawn}
-use Rattle.state_laws.specs.Sound.{starts_left, IsSound}
+use Rattle.state_laws.proofs.Words.{◌≡◌, ◌-◌, ◌<◌, ◌==◌, Bool, true, false, ◌++◌, length, drop, Option, refl, ap, sym, subst, ◌∙◌, inl, inr, arith, is_some, IsTrue, nat_lt, slice_get, list_all, cases_Bool, cases_lt, false≢true, and_from, eq-eqb, eqb-true, ne_eqb, lt-ltb, nat_tests, Each, Sums, Setup, Record, SetUp, PutStart, PutDone, Drop, AuditStart, AuditDone, RepairDone, PutDoneIn, Version, is_name, is_in_grammar, record_size, largest_file, largest_journal, most_files, all_profiles, File, setup_of, version_of, profile_in, next_id, next_audit, started_as, file_of, files_of, is_same_name, running_audit, due_of, refused, put_done_refused, is_crowded, AreAlike, same-eq, same-refl, next_id-fits, next_audit-fits, Kind, PutJob, GetJob, DropJob, AuditJob, RepairJob, UpgradeJob, aim_of, Job, job_of, setup_or_none, WriteBody, End, append_actions, actions_of, appends_left, actions_left, HasSums, State, setup_in, file_in, journal_end, reserved, puts_name, sight_of, is_name_among, names_in, names_taken, AreBytes, IsSpelledKind, any_job, next_by, next_is_by, first_below, first_above, by_version, Writes, done_record, next_action, is_idle_drop, cond_true, cond_false, found_none, moves_made, IsInOrder, IsHeld, BringsHeld, MayFollowIn, IsWish, IsReady, IsSoundJob, HasDrawn, starts_left, IsSound, refused_after}
+use Rattle.std.proofs.Common.{ℕ, ◌+◌, ◌≤◌, ◌^◌, not, List, [], ◌∷◌, Some, None}
 use Rattle.state_laws.proofs.Orders.{in_order-step, next-left, appends-cons, appends_in, appends-order, drop_rest, drop-body}
 use Rattle.state_laws.proofs.JobLists.{sum-member}
 use Rattle.state_laws.proofs.NamesTaken.{fewer, once-files, listed-files_of, listed-taken, length-names_in, are_put, taken_by}
@@ -46,9 +16,8 @@ accept-start : (rs : List Record) (id : ℕ) (name : List ℕ) → is_some (setu
 accept-start rs id name up is l = grind (arith, nat_tests, up, is, l)
 
 accept-done : (rs : List Record) (version id size profile : ℕ) (name : List ℕ) →
-    is_some (setup_of rs) ≡ true → version_of rs ≡ version →
-    started_as rs id ≡ Some name → is_crowded rs name ≡ false →
-    refused rs (done_record version id size profile) ≡ None
+    is_some (setup_of rs) ≡ true → version_of rs ≡ version → started_as rs id ≡ Some name →
+    is_crowded rs name ≡ false → refused rs (done_record version id size profile) ≡ None
 accept-done rs version id size profile name up is started room = elim (cases_Bool (version == 2)) [
   | inl t ↦ ap (refused rs) (cond_true (version == 2) (PutDoneIn id size profile) (PutDone id size) t)
       ∙ (cond_true (is_some (setup_of rs)) _ _ up
@@ -63,10 +32,9 @@ accept-done rs version id size profile name up is started room = elim (cases_Boo
     done : put_done_refused rs (started_as rs id) ≡ None
     done = ap (put_done_refused rs) started ∙ cond_false (is_crowded rs name) _ _ room
 
-accept-version : (rs : List Record) → is_some (setup_of rs) ≡ true → version_of rs ≡ 1 →
-    refused rs Version ≡ None
-accept-version rs up first =
-    cond_true (is_some (setup_of rs)) _ _ up ∙ cond_false (version_of rs == 2) _ _ (ap (λ v. v == 2) first)
+accept-ready : (rs : List Record) (entry : Record) → is_some (setup_of rs) ≡ true →
+    refused_after rs entry ≡ None → refused rs entry ≡ None
+accept-ready rs entry up ready = cond_true (is_some (setup_of rs)) _ _ up ∙ ready
 
 accept-drop : (rs : List Record) (name : List ℕ) → is_some (setup_of rs) ≡ true →
     is_some (file_of rs name) ≡ true → refused rs (Drop name) ≡ None
@@ -81,11 +49,6 @@ accept-audit_done : (rs : List Record) (s : Setup) (number undecided : ℕ) (cou
     setup_of rs ≡ Some s → running_audit rs ≡ Some number → length counts ≡ s.n →
     refused rs (AuditDone number undecided counts) ≡ None
 accept-audit_done rs s number undecided counts up running size = grind (arith, nat_tests, up, running, size)
-
-accept-repair : (rs : List Record) (number : ℕ) → is_some (setup_of rs) ≡ true →
-    no.is_due number (due_of rs) ≡ true → refused rs (RepairDone number) ≡ None
-accept-repair rs number up due =
-    cond_true (is_some (setup_of rs)) _ _ up ∙ cond_true (no.is_due number (due_of rs)) _ _ due
 
 crowded-named : (rs : List Record) (name : List ℕ) → is_some (file_of rs name) ≡ true →
     is_crowded rs name ≡ false
@@ -137,11 +100,7 @@ starts-later job l = by job.kind refl
   where
     by : (kind : Kind) → job.kind ≡ kind → starts_left job ≡ 0
     by (PutJob name bytes) kind = (let f = first_above job l in rw (kind, f) refl)
-    by (GetJob name) kind = rw kind refl
-    by (DropJob name) kind = rw kind refl
-    by AuditJob kind = rw kind refl
-    by RepairJob kind = rw kind refl
-    by UpgradeJob kind = rw kind refl
+    by h kind = rw kind refl
 
 -- a job that goes on has no more to draw
 pub starts-on : (job next : Job) → next.kind ≡ job.kind → job.place ≤ next.place →
@@ -157,11 +116,7 @@ starts-on job next kind place = elim (cases_lt next.place 4) [
         by : (k : Kind) → job.kind ≡ k → starts_left next ≡ starts_left job
         by (PutJob name bytes) e = starts-first next name bytes (kind ∙ e) l
             ∙ sym (starts-first job name bytes e (omega (arith, l, place)))
-        by (GetJob name) e = rw (kind ∙ e, e) refl
-        by (DropJob name) e = rw (kind ∙ e, e) refl
-        by AuditJob e = rw (kind ∙ e, e) refl
-        by RepairJob e = rw (kind ∙ e, e) refl
-        by UpgradeJob e = rw (kind ∙ e, e) refl
+        by k e = rw (kind ∙ e, e) refl
 
 module _ (limit : ℕ) (w : State) (S : IsSound limit w) where
   -- a job runs while a vault is open
@@ -334,9 +289,19 @@ module _ (limit : ℕ) (w : State) (S : IsSound limit w) where
     audit-left : job.kind ≡ AuditJob → job.place < 4 → next_audit w.records < 2 ^ 64 - 1
     audit-left kind l = (let a = S.audits number job runs kind l in omega (arith, a))
 
-    follows-by : (kind : Kind) (entry : Record) → job.kind ≡ kind → next_action w job ≡ Some WriteBody →
-        0 < appends_left (setup_in w) job → Writes w job kind entry →
+    -- a record that all stands ready for
+    ready-follows : {entry : Record} (r : Record) → refused_after w.records r ≡ None →
+        refused_after w.journal r ≡ None → IsTrue (is_in_grammar r) → BringsHeld w.bytes r → entry ≡ r →
         Good entry
+    ready-follows r ready ready_too spelled held is = subst Good (sym is) (
+      spelled,
+      accept-ready w.records r (S.set_up opened) ready,
+      accept-ready w.journal r up-too ready_too,
+      held,
+    )
+
+    follows-by : (kind : Kind) (entry : Record) → job.kind ≡ kind → next_action w job ≡ Some WriteBody →
+        0 < appends_left (setup_in w) job → Writes w job kind entry → Good entry
     follows-by (PutJob name bytes) entry kind next left h = elim (cases_lt job.place 4) [
       | inl l ↦ (let few = number-left name bytes kind l in
           subst Good (sym (put-writes_first w job name bytes entry l h)) (
@@ -403,25 +368,13 @@ module _ (limit : ℕ) (w : State) (S : IsSound limit w) where
               ))
         ])
     follows-by RepairJob entry kind next left h =
-        (let ready : IsReady (setup_in w) w.records w.bytes job RepairJob =
-        subst (IsReady (setup_in w) w.records w.bytes job) kind J.ready in
-        let ready_too : IsReady (setup_in w) w.journal w.bytes job RepairJob =
-        subst (IsReady (setup_in w) w.journal w.bytes job) kind R in
-        subst Good (sym h) (
-          spelled-repair job.subject J.subject,
-          accept-repair w.records job.subject (S.set_up opened) (ready left),
-          accept-repair w.journal job.subject up-too (ready_too left),
-          tt,
-        ))
+        ready-follows (RepairDone job.subject)
+        (subst (IsReady (setup_in w) w.records w.bytes job) kind J.ready left)
+        (subst (IsReady (setup_in w) w.journal w.bytes job) kind R left)
+        (spelled-repair job.subject J.subject) tt h
     follows-by UpgradeJob entry kind next left h =
-        (let ready : IsReady (setup_in w) w.records w.bytes job UpgradeJob =
-        subst (IsReady (setup_in w) w.records w.bytes job) kind J.ready in
-        subst Good (sym h) (
-          refl,
-          accept-version w.records (S.set_up opened) (ready left),
-          accept-version w.journal up-too (L.version ∙ ready left),
-          tt,
-        ))
+        ready-follows Version (subst (IsReady (setup_in w) w.records w.bytes job) kind J.ready left)
+        (subst (IsReady (setup_in w) w.journal w.bytes job) kind R left) refl tt h
 
     -- the record that the job writes with its next action may come into effect next
     pub written-follows : (entry : Record) → next_action w job ≡ Some WriteBody →

@@ -3,13 +3,13 @@
 --
 --   moves_made append number    == how many moves the append in flight of this job has made; 0 where none
 --                                  in flight is its own
---   moves_before, moves_after   == how many moves of an append are made right before an action, and right
---                                  after it
+--   moves_before action         == how many moves of an append are made right before an action
+--   moves_after action          == how many are made right after it
 --   IsInOrder moves actions     == with so many moves of an append made, these actions end it move by move,
 --                                  make every further append so, with no other action between its moves,
 --                                  and come to an End, which is the last of them
 --   AreNumbered low jobs next   == the numbers of jobs ascend, from `low` on, and are below `next`
---   AreAscending low pinned     == so do the object numbers of pinned files
+--   AreAscending low pinned     == the object numbers of pinned files ascend, from `low` on
 use Rattle.std.specs.Prelude.{◌≡◌, ℕ, ◌+◌, ◌≤◌, ◌==◌, List, [], ◌∷◌, Option, None, Some, if◌then◌else◌}
 use Rattle.machine_defs.specs.Jobs.{Pinned, Job}
 use Rattle.machine_defs.specs.Actions.{Action, WriteBody, SyncBody, WriteGate, SyncGate, End}

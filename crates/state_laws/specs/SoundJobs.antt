@@ -7,18 +7,20 @@
 --   HasDrawn s rs bytes job name data  == a put whose first append is done has a number of its own, which
 --                                         stands for its bytes, and is started under its name until its
 --                                         second append is done
+--   AcceptsNext rs entry               == records accept this one next, if there is one
 --   IsReady s rs bytes job kind        == what stands in the records for a job, so that they accept its
 --                                         next record
 --   IsPlainJob s job                   == a job and the files that it works on have the setup's profile
 --   IsSoundJob s rs bytes moves job    == all that holds of a running job, of whose append in flight so
 --                                         many moves are made
-use Rattle.std.specs.Prelude.{◌≡◌, ◌⊎◌, ℕ, ◌^◌, ◌<◌, ◌≤◌, true, IsTrue, List, [], ◌∷◌, length, None, Some}
+use Rattle.std.specs.Prelude.{◌≡◌, ◌⊎◌, ℕ, ◌^◌, ◌<◌, ◌≤◌, IsTrue, List, [], ◌∷◌, length, Option, None, Some}
 use Rattle.std.specs.List.{Contains}
 use Rattle.record_defs.specs.Records.{Setup, Record, is_name, largest_file, most_files, all_profiles}
 use Rattle.record_defs.specs.Table.{version_of, next_id, started_as, running_audit, due_of}
-use Rattle.record_defs.specs.Acceptance.{is_due}
-use Rattle.machine_defs.specs.Jobs.{Kind, PutJob, GetJob, DropJob, AuditJob, RepairJob, UpgradeJob, Pinned, Job}
+use Rattle.record_defs.specs.Acceptance.{refused_after}
+use Rattle.machine_defs.specs.Jobs.{Kind, PutJob, GetJob, DropJob, AuditJob, Pinned, Job}
 use Rattle.machine_defs.specs.Actions.{actions_left, appends_left}
+use Rattle.machine_defs.specs.Appends.{record_of}
 use Rattle.machine_defs.specs.Events.{AreBytes, IsSpelledKind}
 use Rattle.state_laws.specs.Orders.{IsInOrder, AreAscending}
 
@@ -54,15 +56,20 @@ pub record HasDrawn (s : Setup) (rs : List Record) (bytes : ℕ → List ℕ) (j
   pub bytes_are : bytes job.subject ≡ content
   pub started : 0 < appends_left s job → started_as rs job.subject ≡ Some name
 
--- what stands in the records for a job, so that they accept its next record
+-- records accept this one next, if there is one
+abbrev pub AcceptsNext : List Record → Option Record → Type 0
+AcceptsNext rs None = Unit {0}
+AcceptsNext rs (Some entry) = refused_after rs entry ≡ None
+
+-- what stands in the records for a job, so that they accept its next record; a drop whose name has no file
+-- any more ends without one
 abbrev pub IsReady : Setup → List Record → (ℕ → List ℕ) → Job → Kind → Type 0
 IsReady s rs bytes job (PutJob name content) = 4 ≤ job.place → HasDrawn s rs bytes job name content
 IsReady s rs bytes job AuditJob =
     (job.place < 4 → due_of rs ≡ None)
     × (4 ≤ job.place → 0 < appends_left s job → running_audit rs ≡ Some job.subject)
-IsReady s rs bytes job RepairJob = 0 < appends_left s job → is_due job.subject (due_of rs) ≡ true
-IsReady s rs bytes job UpgradeJob = 0 < appends_left s job → version_of rs ≡ 1
-IsReady s rs bytes job kind = Unit {0}
+IsReady s rs bytes job (DropJob name) = Unit {0}
+IsReady s rs bytes job kind = 0 < appends_left s job → AcceptsNext rs (record_of rs job kind)
 
 -- a job and the files that it works on have the setup's profile
 pub record IsPlainJob (s : Setup) (job : Job) : Type 0 where

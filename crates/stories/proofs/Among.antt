@@ -1,18 +1,9 @@
 -- A get that began and ended among the moments of a replay, as its text and what it wrote tell it.
-use Rattle.std.proofs.Common.{◌≡◌, ℕ, List, [], ◌∷◌, ◌++◌, length, ap, sym, subst, ◌∙◌, append_assoc}
+use Rattle.stories.proofs.Words.{◌≡◌, ℕ, List, [], ◌∷◌, ◌++◌, length, ap, sym, subst, ◌∙◌, append_assoc, run_back, ReadsAs, AreButBlocks, NoneIsBegun, TellsJob, job_behind, tells, gets, GivesOrIsLost, AreFew, Answer, Ended, IsToldAnswer, GetEnds, Seen, Ending, devices_of_seen, AreLeft, called_behind, WasTold, GivesOrLoses}
 use Rattle.machine_defs.specs.Calm.{Mark}
-use Rattle.machine_defs.proofs.Untouched.{run_back}
-use Rattle.effect_laws.specs.Lists.{ReadsAs}
-use Rattle.effect_laws.specs.Scrubs.{AreButBlocks}
-use Rattle.effect_laws.specs.Transcripts.{NoneIsBegun, TellsJob, job_behind}
-use Rattle.effect_laws.proofs.Jobs.{tells, gets}
 use Rattle.second_half_laws.specs.MarkedRuns.{IsMarkedRun}
-use Rattle.second_half_laws.specs.Sharp.{GivesOrIsLost}
-use Rattle.epoch_laws.specs.Told.{AreFew}
 use Rattle.epoch_laws.proofs.Moved.{marked_back}
-use Rattle.stories.specs.Words.{Answer, Begin, Begun, Ended, GetJob, IsToldAnswer, Moment, IsRun, now, Outcome, State, Instruction, GetEnds, Seen, Ending, devices_of_seen, AreLeft, called_behind}
-use Rattle.stories.specs.Told.{WasTold}
-use Rattle.stories.specs.Upkeep.{GivesOrLoses}
+use Rattle.stories.specs.Words.{Begin, Begun, GetJob, Moment, IsRun, now, Outcome, State, Instruction}
 use Rattle.stories.proofs.Told.{HasGet, get-told, begun-but}
 
 -- where the get stands

@@ -1,12 +1,9 @@
 -- What the instances ask for beside their runs.
-use Rattle.std.proofs.Common.{◌≡◌, ℕ, zero, suc, Bool, List, [], ◌∷◌, String, length, Some, None, refl, subst, arith, IsSome, Global}
+use Rattle.stories.proofs.Words.{◌≡◌, ℕ, zero, suc, Bool, List, [], ◌∷◌, String, length, Some, None, refl, subst, arith, IsSome, Global, never, always, is-start, are-devices, command-words, Cells, empty_provider, IsFresh, IsForm, Seen, Ending, NoCountFalls, provider_at, IsSteady, none_hold, damaged, packed_kept, got_packed, start_of, TellAll, devices_of_seen, AreLeft, AnswersWords, InitsOn, damaged_got}
 use Rattle.device_defs.specs.Providers.{Provider}
 use Rattle.command_defs.specs.Commands.{Answers}
-use Rattle.command_runs.proofs.Meets.{never, always, four, from_some}
-use Rattle.hail_client.proofs.Fresh.{is-start, are-devices}
-use Rattle.hail_top.proofs.Words.{command-words}
-use Rattle.stories.specs.Words.{Cells, Record, empty_provider, IsFresh, Command, IsForm, Seen, Ending, NoCountFalls, provider_at, IsSteady, none_hold, damaged, packed_kept, got_packed, start_of, TellAll, devices_of_seen, AreLeft, AnswersWords, InitsOn}
-use Rattle.stories.specs.Instances.{damaged_got}
+use Rattle.command_runs.proofs.Meets.{four, from_some}
+use Rattle.stories.specs.Words.{Record, Command}
 
 -- ---- counts
 

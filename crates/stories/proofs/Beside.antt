@@ -1,19 +1,9 @@
 -- Gets beside puts of the same name.
-use Rattle.std.proofs.Common.{◌≡◌, ◌⊎◌, ℕ, List, [], ◌∷◌, ◌++◌, Option, refl, ap, sym, subst, ◌∙◌, inl, inr, append_assoc, arith, reverse}
-use Rattle.std.proofs.lemmas.List.{reverse-reverse}
+use Rattle.stories.proofs.Words.{◌≡◌, ◌⊎◌, ℕ, List, [], ◌∷◌, ◌++◌, Option, refl, ap, sym, subst, ◌∙◌, inl, inr, append_assoc, arith, reverse, reverse-reverse, run_back, GotRight, PutsOnly, Drops, CarriesApart, AsksPutsOnly, carried_apart, carried_end, ends_read, puts_only, none_for, one_call, gave_only, told_then, HoldsForgery, heard_in, file_object, CarriesOut, LeavesFree, NoneCalls, Seen, Ending, devices_of_seen, AreLeft, called_behind, IsOldOrNew, IsBeside, WentOn}
 use Rattle.machine_defs.specs.Heard.{NoneContinues}
-use Rattle.machine_defs.proofs.Untouched.{run_back}
-use Rattle.run_laws.specs.Stories.{GotRight}
-use Rattle.effect_laws.specs.Puts.{PutsOnly, Drops}
-use Rattle.effect_laws.specs.Transcripts.{CarriesApart, AsksPutsOnly}
-use Rattle.effect_laws.proofs.Apart.{carried_apart, carried_end, ends_read}
-use Rattle.effect_laws.proofs.Asked.{puts_only, none_for, one_call}
-use Rattle.effect_laws.proofs.Gets.{gave_only}
 use Rattle.effect_laws.proofs.Since as since
-use Rattle.stories.specs.Words.{told_then, HoldsForgery, heard_in, Moment, now, IsRun, State, file_object, Instruction, CarriesOut, LeavesFree, NoneCalls, Seen, Ending, devices_of_seen, AreLeft, called_behind}
+use Rattle.stories.specs.Words.{Moment, now, IsRun, State, Instruction}
 use Rattle.stories.specs.Files.{put_of}
-use Rattle.stories.specs.Beside.{IsOldOrNew, IsBeside}
-use Rattle.stories.specs.Went.{WentOn}
 use Rattle.stories.proofs.Puts.{puts-file, called-free}
 
 -- the last of moments whose puts are of some bytes are such

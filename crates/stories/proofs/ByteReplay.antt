@@ -1,15 +1,9 @@
 -- A replay that puts a file of one byte and gets it, over a store that was set up: its run is computed from
 -- the turns of the two jobs.
-use Rattle.std.proofs.Common.{◌∙◌, ℕ, List, [], ◌∷◌, ◌++◌, Some, None, refl, inl, arith, lit≤, reverse}
-use Rattle.std.specs.Fmt.{digits}
-use Rattle.made_runs.proofs.Written.{carries}
-use Rattle.second_half_laws.proofs.ByteSteps.{block_sized, symbols, own_work, byte_back}
+use Rattle.stories.proofs.Words.{◌∙◌, ℕ, List, [], ◌∷◌, ◌++◌, Some, None, refl, inl, arith, lit≤, reverse, digits, carries, block_sized, symbols, own_work, byte_back, actions_of, Goes, Works, Came, Gives, put_begins, put-new, read, are-lines, CarriesOut, byte, named, own_block, lines, IsSchedule, devices_of_seen, AnswersReplay, Replays, AreLeft, sinking, RunJob, byte_text, byte_front, byte_lines, byte_commands, before_byte, behind_byte, byte_heard, byte_end}
 use Rattle.job_laws.proofs.BeginRefusals.{refusal-alone}
-use Rattle.damage_run.specs.Words.{PutJob, GetJob, actions_of, Put, Got, Begin, Reopen, Opened, State, setup_in, Moment, IsRun, Goes, Works, Came, Gives, Instruction, Turns, Begins, Comes, run_of}
-use Rattle.command_runs.proofs.Stores.{put_begins, put-new, four}
-use Rattle.schedule_runs.proofs.Read.{read, are-lines}
-use Rattle.stories.specs.Words.{CarriesOut, byte, named, own_block, lines, IsSchedule, devices_of_seen, AnswersReplay, Replays, AreLeft, sinking, RunJob}
-use Rattle.stories.specs.Instances.{byte_text, byte_front, byte_lines, byte_commands, before_byte, behind_byte, byte_heard, byte_end}
+use Rattle.damage_run.specs.Words.{PutJob, GetJob, Put, Got, Begin, Reopen, Opened, State, setup_in, Moment, IsRun, Instruction, Turns, Begins, Comes, run_of}
+use Rattle.command_runs.proofs.Stores.{four}
 use Rattle.stories.proofs.Behind.{AreFitBehind, behind, alone, behind-run}
 use Rattle.stories.proofs.Reopened as reopened
 use Rattle.stories.proofs.Replayed as replayed

@@ -1,12 +1,7 @@
 -- What is said of the replay that puts a byte and gets it.
-use Rattle.std.proofs.Common.{◌≡◌, ℕ, List, [], ◌∷◌, ◌++◌, refl, inl, inr, codes, flat_map}
-use Rattle.std.specs.Fmt.{digits}
-use Rattle.machine_defs.specs.Began.{IsPutBegin}
-use Rattle.machine_defs.specs.Events.{BeginAt}
+use Rattle.stories.proofs.Words.{◌≡◌, ℕ, List, [], ◌∷◌, ◌++◌, refl, inl, inr, codes, flat_map, digits, IsPutBegin, BeginAt, line, named, byte, opening, byte_lines, SaysBefore, SaysGot}
 use Rattle.machine_defs.specs.Jobs.{PutJob}
-use Rattle.stories.specs.Words.{Begin, GetJob, Got, Continue, Opened, Reopen, line, named, byte}
-use Rattle.stories.specs.Instances.{opening, byte_lines}
-use Rattle.stories.specs.Said.{SaysBefore, SaysGot}
+use Rattle.stories.specs.Words.{Begin, GetJob, Got, Continue, Opened, Reopen}
 
 -- what was written says that the put ended well, and the get with the byte
 pub says : SaysGot byte_lines opening 1 2 [] (Got byte)

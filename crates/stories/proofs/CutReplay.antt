@@ -1,14 +1,7 @@
 -- The replay in which a stop cuts an audit: its run is computed from the turns of its jobs.
-use Rattle.std.proofs.Common.{◌≡◌, ℕ, List, [], ◌∷◌, ◌++◌, Some, None, refl, inl, arith, lit≤, reverse}
-use Rattle.std.specs.Fmt.{digits}
-use Rattle.made_runs.proofs.Written.{carries}
-use Rattle.second_half_laws.proofs.ByteSteps.{block_sized, symbols, own_work, byte_back}
-use Rattle.damage_run.specs.Words.{AuditStart, GetJob, AuditJob, actions_of, Got, Begin, Reopen, Opened, State, setup_in, Moment, Works, Notes, Came, Gives, Instruction, Turned, Turns, Begins, Reopens, Stops, Comes, run_of}
-use Rattle.command_runs.proofs.Stores.{put-new, four}
-use Rattle.schedule_runs.proofs.Read.{read, are-lines}
-use Rattle.stories.specs.Words.{CarriesOut, byte, named, own_block, lines, IsSchedule, devices_of_seen, AnswersReplay, AreLeft, RunJob}
-use Rattle.stories.specs.Instances.{before_byte, before_text}
-use Rattle.stories.specs.Replays.{cut_front, cut_text, cut_lines, cut_commands, four_given, behind_cut, cut_end}
+use Rattle.stories.proofs.Words.{◌≡◌, ℕ, List, [], ◌∷◌, ◌++◌, Some, None, refl, inl, arith, lit≤, reverse, digits, carries, block_sized, symbols, own_work, byte_back, AuditStart, actions_of, Works, Notes, Came, Gives, put-new, read, are-lines, CarriesOut, byte, named, own_block, lines, IsSchedule, devices_of_seen, AnswersReplay, AreLeft, RunJob, before_byte, before_text, cut_front, cut_text, cut_lines, cut_commands, four_given, behind_cut, cut_end}
+use Rattle.damage_run.specs.Words.{GetJob, AuditJob, Got, Begin, Reopen, Opened, State, setup_in, Moment, Instruction, Turned, Turns, Begins, Reopens, Stops, Comes, run_of}
+use Rattle.command_runs.proofs.Stores.{four}
 use Rattle.stories.proofs.Behind.{AreFitBehind, alone, behind-run}
 use Rattle.stories.proofs.ByteReplay.{put, get_all, fit-put}
 use Rattle.stories.proofs.Reopened as reopened

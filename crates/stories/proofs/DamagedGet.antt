@@ -1,12 +1,9 @@
 -- A get of the file over the store in which one block is lost, from every state that was just opened.
-use Rattle.std.proofs.Common.{[], ◌∷◌, Some, None, refl, inl}
-use Rattle.second_half_laws.proofs.ByteSteps.{block_sized, symbols, byte_back}
-use Rattle.damage_run.specs.Words.{GetJob, actions_of, Got, setup_in, Works, Came, Gives}
-use Rattle.damage_run.proofs.Values.{without_two_give}
+use Rattle.stories.proofs.Words.{[], ◌∷◌, Some, None, refl, inl, block_sized, symbols, byte_back, actions_of, Works, Came, Gives, without_two_give, byte-fit, stands_for, spelling, byte, named, byte_records, own_block, ends_hearing, damaged, damaged_got, three_heard}
+use Rattle.damage_run.specs.Words.{GetJob, Got, setup_in}
 use Rattle.command_runs.proofs.Made.{Run, ran, turn}
-use Rattle.command_runs.proofs.Stores.{byte-fit, damaged-sure, stands_for}
-use Rattle.stories.specs.Words.{A, spelling, byte, named, byte_records, own_block, ends_hearing, damaged}
-use Rattle.stories.specs.Instances.{damaged_got, three_heard}
+use Rattle.command_runs.proofs.Stores.{damaged-sure}
+use Rattle.stories.specs.Words.{A}
 
 -- it gives the byte, and has heard three own blocks
 pub got : Run A byte_records (GetJob named) (Got byte) damaged damaged_got (ends_hearing 0 three_heard)

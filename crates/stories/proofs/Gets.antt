@@ -1,12 +1,7 @@
 -- A get behind a put that a replay carried out.
-use Rattle.std.proofs.Common.{◌≡◌, ◌⊎◌, ℕ, List, ◌∷◌, ◌++◌, Option, Some, ap, sym, subst, ◌∙◌, append_assoc, reverse}
-use Rattle.std.proofs.lemmas.List.{reverse-reverse}
-use Rattle.machine_defs.proofs.Untouched.{run_back, steps_begin_none}
-use Rattle.line_laws.proofs.OfLines.{run-lines}
-use Rattle.run_laws.proofs.ByEvents.{put_is_got_later}
-use Rattle.stories.specs.Words.{told_then, File, Answer, Got, Begin, Begun, Ended, HoldsForgery, heard_in, GetJob, lines_of, Moment, now, State, file_in, file_object, Instruction, CarriesOut, NoneAsksOn, LeavesFree, GetEnds, Seen, Ending, devices_of_seen, AreLeft, called_behind}
-use Rattle.stories.specs.Files.{put_of, got_behind, PutsFile, IsGot}
-use Rattle.stories.specs.Went.{WentOn}
+use Rattle.stories.proofs.Words.{◌≡◌, ◌⊎◌, ℕ, List, ◌∷◌, ◌++◌, Option, Some, ap, sym, subst, ◌∙◌, append_assoc, reverse, reverse-reverse, run_back, steps_begin_none, run-lines, put_is_got_later, told_then, File, Answer, Ended, HoldsForgery, heard_in, lines_of, file_in, file_object, CarriesOut, NoneAsksOn, LeavesFree, GetEnds, Seen, Ending, devices_of_seen, AreLeft, called_behind, got_behind, PutsFile, IsGot, WentOn}
+use Rattle.stories.specs.Words.{Got, Begin, Begun, GetJob, Moment, now, State, Instruction}
+use Rattle.stories.specs.Files.{put_of}
 use Rattle.stories.proofs.Puts.{puts-file, called-free}
 use Rattle.stories.proofs.Said.{got-said, written-as}
 

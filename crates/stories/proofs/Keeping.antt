@@ -1,11 +1,9 @@
 -- Commands that keep a store up touch no name and damage nobody.
-use Rattle.std.proofs.Common.{◌≡◌, ℕ, ◌+◌, List, [], ◌∷◌, ◌++◌, length, refl, ap, sym, subst, ◌∙◌, arith, append_assoc, length-append}
+use Rattle.stories.proofs.Words.{◌≡◌, ℕ, ◌+◌, List, [], ◌∷◌, ◌++◌, length, refl, ap, sym, subst, ◌∙◌, arith, append_assoc, length-append, Stop, IsBeginOn, AsksDamageOf, Once, RunJob, NoneAsksOn, IsUpkeep, AreSteps}
 use Rattle.machine_defs.specs.Damaged.{IsAmong}
-use Rattle.machine_defs.specs.Events.{BeginScrub, BeginPack, Stop}
+use Rattle.machine_defs.specs.Events.{BeginScrub, BeginPack}
 use Rattle.machine_defs.specs.Jobs.{AuditJob, RepairJob}
-use Rattle.machine_defs.specs.Untouched.{IsBeginOn}
-use Rattle.stories.specs.Words.{AsksDamageOf, Event, Begin, Reopen, UpgradeJob, Instruction, Once, RunJob, NoneAsksOn}
-use Rattle.stories.specs.Upkeep.{IsUpkeep, AreSteps}
+use Rattle.stories.specs.Words.{Event, Begin, Reopen, UpgradeJob, Instruction}
 
 pub upkeep-asks : (event : Event) (name : List ℕ) → IsUpkeep event → IsBeginOn name event → ⊥
 upkeep-asks (Begin AuditJob) name keeps on = on

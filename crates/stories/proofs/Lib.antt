@@ -1,3 +1,4 @@
+mod Words
 mod Went
 mod Said
 mod Puts

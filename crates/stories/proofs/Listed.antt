@@ -1,29 +1,12 @@
 -- A list of the names in a replay.
-use Rattle.std.proofs.Common.{◌≡◌, ℕ, Bool, true, false, suc, List, [], ◌∷◌, ◌++◌, length, Option, None, Some, refl, ap, sym, subst, ◌∙◌, append_assoc, arith}
+use Rattle.stories.proofs.Words.{◌≡◌, ℕ, Bool, true, false, suc, List, [], ◌∷◌, ◌++◌, length, Option, None, Some, refl, ap, sym, subst, ◌∙◌, append_assoc, arith, Dropped, Names, Listed, DropJob, Happens, Lists, Touches, run_back, stored_is_kept, IsRead, IsListedAs, ReadsAs, PutsUnder, NoPutBegan, AreButBlocks, NonePuts, AreOverOn, ends_apart, both_none, none_for, tells, drops, lists, over, done_by, File, Ended, IsStart, file_in, Once, NoneAsksOn, Seen, Ending, called_behind, WasTold}
 use Rattle.record_defs.specs.Table.{find_file}
-use Rattle.machine_defs.specs.Answers.{Dropped}
-use Rattle.machine_defs.specs.Events.{Event, Names, Listed, Outcome}
-use Rattle.machine_defs.specs.Jobs.{DropJob}
-use Rattle.machine_defs.specs.Machine.{Happens, Lists}
-use Rattle.machine_defs.specs.Untouched.{Touches}
-use Rattle.machine_defs.proofs.Untouched.{run_back}
-use Rattle.run_laws.proofs.ByEvents.{stored_is_kept}
-use Rattle.effect_laws.specs.Lists.{IsRead, IsListedAs, ReadsAs}
-use Rattle.effect_laws.specs.Puts.{PutsUnder, NoPutBegan}
-use Rattle.effect_laws.specs.Scrubs.{AreButBlocks}
-use Rattle.effect_laws.specs.Transcripts.{NonePuts, AreOverOn}
-use Rattle.effect_laws.proofs.Apart.{ends_apart}
-use Rattle.effect_laws.proofs.Asked.{both_none, none_for}
+use Rattle.machine_defs.specs.Events.{Event, Outcome}
 use Rattle.effect_laws.proofs.Drops.{dropped_out}
-use Rattle.effect_laws.proofs.Jobs.{tells, drops}
-use Rattle.effect_laws.proofs.Lists.{lists}
 use Rattle.effect_laws.proofs.Origin.{none_put_none}
-use Rattle.effect_laws.proofs.Over.{over}
-use Rattle.epoch_laws.specs.Told.{done_by}
 use Rattle.epoch_laws.proofs.Told.{stored-behind}
-use Rattle.stories.specs.Words.{File, Put, Begin, Begun, Ended, IsStart, Moment, now, IsRun, State, file_in, Instruction, Once, NoneAsksOn, Seen, Ending, called_behind}
+use Rattle.stories.specs.Words.{Put, Begin, Begun, Moment, now, IsRun, State, Instruction}
 use Rattle.stories.specs.Files.{put_of}
-use Rattle.stories.specs.Told.{WasTold}
 use Rattle.stories.proofs.Puts.{called-free}
 use Rattle.stories.proofs.Told.{but-apart, but-cons, job-told, over-but}
 

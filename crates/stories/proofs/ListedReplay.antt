@@ -1,24 +1,12 @@
 -- The replay in which a put of other bytes is cut, and the names are listed: its run is computed from the turns of its
 -- jobs.
-use Rattle.std.proofs.Common.{◌≡◌, ◌∙◌, ℕ, Bool, true, false, String, Global, List, [], ◌∷◌, ◌++◌, Some, None, refl, ap, sym, inl, inr, arith, lit≤, reverse}
-use Rattle.std.proofs.lemmas.Bool.{false≢true}
-use Rattle.std.specs.Fmt.{digits}
-use Rattle.made_runs.proofs.Written.{carries}
+use Rattle.stories.proofs.Words.{◌≡◌, ◌∙◌, ℕ, Bool, true, false, String, Global, List, [], ◌∷◌, ◌++◌, Some, None, refl, ap, sym, inl, inr, arith, lit≤, reverse, false≢true, digits, carries, Dropped, IsPutBegin, BeginAt, Listed, Names, Stop, DropJob, NonePuts, AsksPutsOnly, block_sized, symbols, own_work, byte_back, actions_of, Goes, Works, Notes, Came, Gives, byte-fit, fits, sure, AreFitIn, read, are-lines, CarriesOut, byte, named, own_block, lines, IsSchedule, devices_of_seen, AnswersReplay, IsReplayForm, AreLeft, Once, before_byte, before_text, first_state, other_byte, put_cut, third, second_file, dropped_behind, listed_text, listed_lines, listed_commands, listed_outcomes, listed_records, four_given, behind_listed, listed_end, IsToldReplay}
 use Rattle.record_defs.specs.Records.{PutStart}
-use Rattle.machine_defs.specs.Answers.{Dropped}
-use Rattle.machine_defs.specs.Began.{IsPutBegin}
-use Rattle.machine_defs.specs.Events.{BeginAt, Event, Listed, Names, Step, Stop}
-use Rattle.machine_defs.specs.Jobs.{DropJob}
-use Rattle.effect_laws.specs.Transcripts.{NonePuts, AsksPutsOnly}
-use Rattle.second_half_laws.proofs.ByteSteps.{block_sized, symbols, own_work, byte_back}
-use Rattle.damage_run.specs.Words.{PutJob, GetJob, actions_of, Put, Got, Begin, Reopen, Opened, State, setup_in, Moment, Goes, Works, Notes, Came, Gives, Instruction, Turned, Turns, Begins, Reopens, Stops, Comes, run_of}
+use Rattle.machine_defs.specs.Events.{Event, Step}
+use Rattle.damage_run.specs.Words.{PutJob, GetJob, Put, Got, Begin, Reopen, Opened, State, setup_in, Moment, Instruction, Turned, Turns, Begins, Reopens, Stops, Comes, run_of}
 use Rattle.command_runs.specs.Words.{A}
-use Rattle.command_runs.proofs.Stores.{byte-fit, fits, four, sure, AreFitIn}
-use Rattle.schedule_runs.proofs.Read.{read, are-lines}
-use Rattle.stories.specs.Words.{CarriesOut, byte, named, own_block, lines, IsSchedule, devices_of_seen, AnswersReplay, IsReplayForm, AreLeft, Once}
-use Rattle.stories.specs.Instances.{before_byte, before_text, first_state, other_byte}
-use Rattle.stories.specs.Replays.{put_cut, second, third, second_file, dropped_behind, listed_text, listed_lines, listed_commands, listed_outcomes, listed_records, four_given, behind_listed, listed_end}
-use Rattle.stories.specs.Told.{IsToldReplay}
+use Rattle.command_runs.proofs.Stores.{four}
+use Rattle.stories.specs.Replays.{second}
 use Rattle.stories.proofs.Behind.{AreFitBehind, alone, behind-run}
 use Rattle.stories.proofs.ByteReplay.{put, get_all, fit-put}
 use Rattle.stories.proofs.Reopened as reopened

@@ -1,22 +1,9 @@
 -- The replay in which an audit flags a provider that lost its block, and a repair mends it: its run is computed from
 -- the turns of its jobs.
-use Rattle.std.proofs.Common.{◌≡◌, ℕ, true, String, Global, List, [], ◌∷◌, ◌++◌, Some, None, refl, sym, subst, inl, inr, arith, lit≤, reverse}
-use Rattle.std.specs.Fmt.{digits}
+use Rattle.stories.proofs.Words.{◌≡◌, ℕ, true, String, Global, List, [], ◌∷◌, ◌++◌, Some, None, refl, sym, subst, inl, inr, arith, lit≤, reverse, digits, is_flagged, carries, block_sized, symbols, byte_back, counts, AuditStart, AuditDone, actions_of, Goes, Works, Notes, Came, Heard, Gives, few, without_two_give, without_zero_give, right, same_first, no_answer, sums, judged, mended-sure, read, are-lines, done_by, CarriesOut, byte, named, own_block, lines, IsSchedule, devices_of_seen, AnswersReplay, IsReplayForm, AreLeft, Once, RunJob, before_byte, before_text, first_state, damaged2, lost0, audited_first, mended_text, mended_lines, mended_commands, mended_outcomes, mended_heard, behind_mended, mended_end, IsToldReplay}
 use Rattle.algebra_laws.specs.Lists.{In}
-use Rattle.column_defs.specs.Verdicts.{is_flagged}
-use Rattle.made_runs.proofs.Written.{carries}
-use Rattle.second_half_laws.proofs.ByteSteps.{block_sized, symbols, byte_back}
-use Rattle.damage_run.specs.Points.{counts}
-use Rattle.damage_run.specs.Words.{AuditStart, AuditDone, GetJob, AuditJob, RepairJob, actions_of, Got, Audited, Repaired, Begin, Reopen, Opened, State, setup_in, Moment, Goes, Works, Notes, Came, Heard, Gives, Instruction, Turns, Begins, Comes, run_of}
-use Rattle.damage_run.proofs.Run.{few}
-use Rattle.damage_run.proofs.Values.{without_two_give, without_zero_give, right, same_first, no_answer, sums, judged}
-use Rattle.command_runs.proofs.Stores.{mended-sure, four}
-use Rattle.schedule_runs.proofs.Read.{read, are-lines}
-use Rattle.epoch_laws.specs.Told.{done_by}
-use Rattle.stories.specs.Words.{CarriesOut, byte, named, own_block, lines, IsSchedule, devices_of_seen, AnswersReplay, IsReplayForm, AreLeft, Once, RunJob}
-use Rattle.stories.specs.Instances.{before_byte, before_text, first_state}
-use Rattle.stories.specs.Replays.{damaged2, lost0, audited_first, mended_text, mended_lines, mended_commands, mended_outcomes, mended_heard, behind_mended, mended_end}
-use Rattle.stories.specs.Told.{IsToldReplay}
+use Rattle.damage_run.specs.Words.{GetJob, AuditJob, RepairJob, Got, Audited, Repaired, Begin, Reopen, Opened, State, setup_in, Moment, Instruction, Turns, Begins, Comes, run_of}
+use Rattle.command_runs.proofs.Stores.{four}
 use Rattle.stories.proofs.Behind.{AreFitBehind, alone, behind-run}
 use Rattle.stories.proofs.Reopened as reopened
 use Rattle.stories.proofs.Replayed as replayed

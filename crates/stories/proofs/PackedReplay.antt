@@ -1,17 +1,9 @@
 -- The replay in which the journal gets its second version and is packed: its run is computed from the turns of its jobs.
-use Rattle.std.proofs.Common.{◌≡◌, ◌^◌, ℕ, List, [], ◌∷◌, ◌++◌, length, Some, None, refl, inl, ◌∙◌, arith, lit≤, length-append, reverse}
-use Rattle.std.specs.Fmt.{digits}
-use Rattle.std.proofs.lemmas.List.{drop_at}
-use Rattle.made_runs.proofs.Written.{carries}
-use Rattle.second_half_laws.proofs.ByteSteps.{block_sized, symbols, own_work, byte_back}
-use Rattle.damage_run.specs.Words.{B, GetJob, UpgradeJob, actions_of, Got, Upgraded, Begin, BeginPack, Reopen, Opened, State, setup_in, Moment, Goes, Works, Came, Gives, Moves, Tells, Instruction, Turns, Sweeps, Begins, Comes, run_of}
+use Rattle.stories.proofs.Words.{◌≡◌, ◌^◌, ℕ, List, [], ◌∷◌, ◌++◌, length, Some, None, refl, inl, ◌∙◌, arith, lit≤, length-append, reverse, digits, drop_at, carries, block_sized, symbols, own_work, byte_back, B, actions_of, Goes, Works, Came, Gives, Moves, Tells, read, are-lines, StandsActive, spelling, CarriesOut, byte, named, own_block, lines, IsSchedule, devices_of_seen, AnswersReplay, AreLeft, RunJob, IsFilling, before_byte, before_text, packed_front, packed_text, packed_lines, packed_commands, four_given, behind_packed, packed_end}
+use Rattle.damage_run.specs.Words.{GetJob, UpgradeJob, Got, Upgraded, Begin, BeginPack, Reopen, Opened, State, setup_in, Moment, Instruction, Turns, Sweeps, Begins, Comes, run_of}
 use Rattle.command_runs.specs.Packed.{packed_records, named_second, second_text, in_second}
 use Rattle.command_laws.proofs.SureStores.{stands}
 use Rattle.command_runs.proofs.Stores.{four}
-use Rattle.schedule_runs.proofs.Read.{read, are-lines}
-use Rattle.stories.specs.Words.{StandsActive, spelling, CarriesOut, byte, named, own_block, lines, IsSchedule, devices_of_seen, AnswersReplay, AreLeft, RunJob, IsFilling}
-use Rattle.stories.specs.Instances.{before_byte, before_text}
-use Rattle.stories.specs.Replays.{packed_front, packed_text, packed_lines, packed_commands, four_given, behind_packed, packed_end}
 use Rattle.stories.proofs.Behind.{AreFitBehind, alone, behind-run}
 use Rattle.stories.proofs.ByteReplay.{put, get_all, fit-put}
 use Rattle.stories.proofs.Reopened as reopened

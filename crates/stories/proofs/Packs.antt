@@ -1,11 +1,9 @@
 -- The records of a store that is given its second version and packed.
-use Rattle.std.proofs.Common.{List, refl, sym, ◌≡◌, ℕ, [], ◌∷◌, Option, ap, ◌∙◌, inl, inr}
-use Rattle.record_defs.specs.Packed.{packed, AreAlike}
+use Rattle.stories.proofs.Words.{List, refl, sym, ◌≡◌, ℕ, [], ◌∷◌, Option, ap, ◌∙◌, inl, inr, packed, AreAlike, put-setup, Version, setup_of, version_of, setup_or_none, UpgradeJournal, PackJournal, setup_in_effect, Seen, IsThen, after_put, after_upgrade}
 use Rattle.record_defs.specs.Acceptance.{AreAccepted}
 use Rattle.record_defs.proofs.PackLaws.{packed_are}
 use Rattle.state_laws.proofs.Records.{is_some-at, second-set_up}
-use Rattle.command_laws.proofs.JobEnds.{put-setup}
-use Rattle.stories.specs.Words.{Record, Version, setup_of, version_of, UpgradeJob, setup_or_none, UpgradeJournal, PackJournal, setup_in_effect, Seen, IsThen, after_put, after_upgrade}
+use Rattle.stories.specs.Words.{Record, UpgradeJob}
 
 -- the records of the second version are packed to such as a start makes the same table of
 packed-alike : (records : List Record) → AreAccepted records → version_of records ≡ 2 →

@@ -1,13 +1,7 @@
 -- A put behind commands, with commands behind it that begin no put and no drop of its name.
-use Rattle.std.proofs.Common.{◌≡◌, ℕ, List, ◌∷◌, ◌++◌, Option, None, Some, ap, subst, ◌∙◌, inl, inr, append_assoc, arith}
-use Rattle.machine_defs.specs.Began.{IsPutBegin}
-use Rattle.machine_defs.proofs.Untouched.{steps_begin_none, commands_begin_none}
-use Rattle.effect_laws.specs.Transcripts.{CarriesApart}
-use Rattle.effect_laws.proofs.Apart.{carried_apart, carried_end, ends_read}
-use Rattle.effect_laws.proofs.Asked.{free_behind}
-use Rattle.stories.specs.Words.{Event, put_event, lines_of, Moment, IsRun, State, Instruction, CarriesOut, IsStart, NoneUnderWay, now, call_from, called_behind, IsFree, NoneAsksOn, LeavesFree, AsksForOneLine}
-use Rattle.stories.specs.Files.{put_of, PutsFile}
-use Rattle.stories.specs.Said.{SaysPut}
+use Rattle.stories.proofs.Words.{◌≡◌, ℕ, List, ◌∷◌, ◌++◌, Option, None, Some, ap, subst, ◌∙◌, inl, inr, append_assoc, arith, IsPutBegin, steps_begin_none, commands_begin_none, CarriesApart, carried_apart, carried_end, ends_read, free_behind, lines_of, CarriesOut, IsStart, NoneUnderWay, call_from, called_behind, IsFree, NoneAsksOn, LeavesFree, AsksForOneLine, PutsFile, SaysPut}
+use Rattle.stories.specs.Words.{Event, put_event, Moment, IsRun, State, Instruction, now}
+use Rattle.stories.specs.Files.{put_of}
 use Rattle.stories.proofs.Said.{put-said}
 
 -- the begin of a put, with a profile of its own or without, is one, and writes one line

@@ -1,15 +1,12 @@
 -- A replay over a store that was set up, from its later call of the program and its reopening on.
-use Rattle.std.proofs.Common.{◌≡◌, List, [], ◌∷◌, ◌≤◌, length, true, refl, ap, sym, subst, ◌∙◌, inl, inr, arith, is_some}
+use Rattle.stories.proofs.Words.{◌≡◌, List, [], ◌∷◌, ◌≤◌, length, true, refl, ap, sym, subst, ◌∙◌, inl, inr, arith, is_some, Happens, IsSound, Continued, formed, over-is, Cells, reads, firm, text, StandsActive, setup_of, empty_provider, setup_or_none, continued, four_records, devices_of_seen, AreLeft, called_behind, before_byte}
 use Rattle.device_defs.proofs.PickLaws.{IsImage-reads}
 use Rattle.journal_core.proofs.Meanings.{one_meaning}
-use Rattle.machine_defs.specs.Machine.{Happens}
-use Rattle.state_laws.specs.Sound.{IsSound}
 use Rattle.state_laws.proofs.Events.{events-sound, run-sound}
 use Rattle.command_laws.proofs.GoingOn.{settled, SettlesOn, MaySettle, settled-by}
-use Rattle.damage_run.specs.Words.{Record, Reopen, Continue, Opened, Continued, State, setup_in, Moment, IsRun, now, moment}
-use Rattle.command_runs.proofs.Stores.{put-old, formed, over-is, from_some}
-use Rattle.stories.specs.Words.{Cells, reads, firm, text, A, StandsActive, setup_of, empty_provider, setup_or_none, continued, four_records, devices_of_seen, AreLeft, called_behind}
-use Rattle.stories.specs.Instances.{before_byte}
+use Rattle.damage_run.specs.Words.{Record, Reopen, Continue, Opened, State, setup_in, Moment, IsRun, now, moment}
+use Rattle.command_runs.proofs.Stores.{put-old, from_some}
+use Rattle.stories.specs.Words.{A}
 
 -- what the disk holds
 abbrev cells : Cells

@@ -1,5 +1,6 @@
 -- A replay over a store that was set up, of which the moments are given: it answers as its text says.
-use Rattle.std.proofs.Common.{◌≡◌, ℕ, ◌+◌, List, [], ◌∷◌, ◌++◌, ◌≤◌, length, None, Some, refl, ap, sym, subst, ◌∙◌, inl, append-nil, reverse}
+use Rattle.stories.proofs.Words.{◌≡◌, ℕ, ◌+◌, List, [], ◌∷◌, ◌++◌, ◌≤◌, length, None, Some, refl, ap, sym, subst, ◌∙◌, inl, reverse, EachImage, StandsActive, lines_of, Entry, heard_in, CarriesOut, Once, RunJob, Seen, sinking, IsSchedule, longest_schedule, devices_of_seen, AnswersReplay, Replays, AreLeft, called_behind, ends_hearing, before_byte, before_text}
+use Rattle.std.proofs.Common.{append-nil}
 use Rattle.machine_defs.specs.Transcripts.{Instruction as Command}
 use Rattle.second_half_laws.proofs.Failed.{failures_rose}
 use Rattle.command_defs.specs.Seen.{ReadsUpTo}
@@ -9,8 +10,6 @@ use Rattle.damage_run.specs.Words.{Reopen, Opened, State, Moment, IsRun, now, In
 use Rattle.command_runs.specs.Devices.{each}
 use Rattle.turn_laws.specs.Turned.{with_doubt, left_by}
 use Rattle.turn_laws.proofs.Turned.{stand-so, handed-four}
-use Rattle.stories.specs.Words.{EachImage, StandsActive, lines_of, Entry, heard_in, CarriesOut, Once, RunJob, Seen, sinking, IsSchedule, longest_schedule, devices_of_seen, AnswersReplay, Replays, AreLeft, called_behind, ends_hearing}
-use Rattle.stories.specs.Instances.{before_byte, before_text}
 use Rattle.stories.proofs.Behind.{AreFitBehind, alone, behind, behind-run}
 use Rattle.stories.proofs.Reopened.{found, opened, first, first-run}
 

@@ -1,15 +1,9 @@
 -- What a text says of a put and of a get behind it is so.
-use Rattle.std.proofs.Common.{◌≡◌, ℕ, ◌<◌, ◌^◌, List, ◌∷◌, ◌++◌, length, Option, Some, sym, ap, subst, ◌∙◌, inl, inr, arith, append_assoc}
-use Rattle.std.proofs.lemmas.List.{append_cancel_left}
-use Rattle.machine_defs.proofs.Untouched.{run_back}
+use Rattle.stories.proofs.Words.{◌≡◌, ℕ, ◌<◌, ◌^◌, List, ◌∷◌, ◌++◌, length, Option, Some, sym, ap, subst, ◌∙◌, inl, inr, arith, append_assoc, append_cancel_left, run_back, joined, outcome-lines, run-lines, IsLimit, both-one, forward, told_then, IsStart, Answer, Ended, IsSpelled, lines_of, CarriesOut, lines_of_all, IsToldAnswer, AsksForOneLine, WritesOneLine, IsOfLines, SaysBehind, SaysBefore, SaysPut, SaysGot}
 use Rattle.line_laws.proofs.Happened.{happened}
 use Rattle.line_laws.proofs.LastLines.{last-told}
-use Rattle.line_laws.proofs.OfLines.{joined, outcome-lines, run-lines}
 use Rattle.line_laws.proofs.Read.{written-lines, text-behind}
-use Rattle.state_laws.specs.Sound.{IsLimit}
-use Rattle.effect_laws.proofs.Lists.{both-one, forward}
-use Rattle.stories.specs.Words.{told_then, IsStart, Answer, Put, Event, Step, Begun, Ended, IsSpelled, lines_of, Moment, now, IsRun, State, Instruction, CarriesOut, lines_of_all, IsToldAnswer, AsksForOneLine, WritesOneLine, IsOfLines}
-use Rattle.stories.specs.Said.{SaysBehind, SaysBefore, SaysPut, SaysGot}
+use Rattle.stories.specs.Words.{Put, Event, Step, Begun, Moment, now, IsRun, State, Instruction}
 
 -- what was written behind what a sink had taken
 pub written-as : (old new : Option (List ℕ)) (lines taken text : List ℕ) → new ≡ told_then old lines →

@@ -1,23 +1,8 @@
 -- What a get gives behind a put and others of its name.
-use Rattle.std.proofs.Common.{◌≡◌, ◌⊎◌, ℕ, List, [], ◌∷◌, ◌++◌, length, Option, None, Some, refl, ap, sym, subst, ◌∙◌, inl, inr, append_assoc, arith}
-use Rattle.machine_defs.specs.Began.{IsPutBegin}
+use Rattle.stories.proofs.Words.{◌≡◌, ◌⊎◌, ℕ, List, [], ◌∷◌, ◌++◌, length, Option, None, Some, refl, ap, sym, subst, ◌∙◌, inl, inr, append_assoc, arith, IsPutBegin, Touches, GotRight, ReadsAs, PutsOnly, AreButBlocks, NoneIsBegun, AsksPutsOnly, AreOverOn, job_behind, ends_apart, puts_only, one_call, gave_only, tells, stores, over, GivesOrIsLost, Answer, Ended, IsLostByFaults, file_in, heard_in, GetEnds, IsStart, Once, RunJob, NoneAsksOn, NoneCalls, Stored, Seen, Ending, called_behind, IsOldOrNew, WasTold}
 use Rattle.machine_defs.specs.Events.{put_event}
-use Rattle.machine_defs.specs.Untouched.{Touches}
-use Rattle.run_laws.specs.Stories.{GotRight}
-use Rattle.effect_laws.specs.Lists.{ReadsAs}
-use Rattle.effect_laws.specs.Puts.{PutsOnly}
-use Rattle.effect_laws.specs.Scrubs.{AreButBlocks}
-use Rattle.effect_laws.specs.Transcripts.{NoneIsBegun, AsksPutsOnly, AreOverOn, job_behind}
-use Rattle.effect_laws.proofs.Apart.{ends_apart}
-use Rattle.effect_laws.proofs.Asked.{puts_only, one_call}
-use Rattle.effect_laws.proofs.Gets.{gave_only}
-use Rattle.effect_laws.proofs.Jobs.{tells, stores}
-use Rattle.effect_laws.proofs.Over.{over}
 use Rattle.effect_laws.proofs.Since.{whose, put_only}
-use Rattle.second_half_laws.specs.Sharp.{GivesOrIsLost}
-use Rattle.stories.specs.Words.{Answer, Put, Got, Begin, Begun, Ended, GetJob, IsLostByFaults, file_in, heard_in, GetEnds, Moment, now, IsRun, IsStart, Outcome, State, Instruction, Once, RunJob, NoneAsksOn, NoneCalls, Stored, Seen, Ending, called_behind}
-use Rattle.stories.specs.Beside.{IsOldOrNew}
-use Rattle.stories.specs.Told.{WasTold}
+use Rattle.stories.specs.Words.{Put, Got, Begin, Begun, GetJob, Moment, now, IsRun, Outcome, State, Instruction}
 use Rattle.stories.proofs.Among.{Among}
 use Rattle.stories.proofs.Beside.{old-or-new}
 use Rattle.stories.proofs.Puts.{called-free}

@@ -1,19 +1,8 @@
 -- The replay in which a scrub mends a lost block: its run is computed from the turns of its jobs.
-use Rattle.std.proofs.Common.{◌≡◌, ◌<◌, ◌^◌, ℕ, List, [], ◌∷◌, ◌++◌, Some, None, refl, inl, arith, lit≤, reverse}
-use Rattle.std.specs.Fmt.{digits}
+use Rattle.stories.proofs.Words.{◌≡◌, ◌<◌, ◌^◌, ℕ, List, [], ◌∷◌, ◌++◌, Some, None, refl, inl, arith, lit≤, reverse, digits, carries, block_sized, symbols, byte_back, Action, Store, End, actions_of, Lose, Works, Came, Gives, Brings, Opens, Mends, Finds, lose, without_two_give, without_zero_give, finds, put-new, read, are-lines, CarriesOut, byte, named, own_block, lines, IsSchedule, devices_of_seen, AnswersReplay, AreLeft, Once, RunJob, before_byte, before_text, lost0, put_lost, swept_text, swept_lines, swept_commands, symbols_off, blocks_off, behind_swept, swept_end, three_given, done_by}
 use Rattle.code_defs.proofs.Codewords.{differences-same}
-use Rattle.made_runs.proofs.Written.{carries}
-use Rattle.second_half_laws.proofs.ByteSteps.{block_sized, symbols, byte_back}
-use Rattle.damage_run.specs.Words.{GetJob, Action, Store, End, actions_of, Got, Begin, BeginScrub, Lose, Reopen, Opened, Replaced, State, setup_in, Moment, Works, Came, Gives, Brings, Opens, Mends, Finds, Instruction, Turns, Sweeps, Begins, Comes, run_of}
-use Rattle.damage_run.proofs.Run.{lose}
-use Rattle.damage_run.proofs.Values.{without_two_give, without_zero_give}
-use Rattle.command_runs.proofs.Alone.{finds}
-use Rattle.command_runs.proofs.Stores.{put-new, four}
-use Rattle.schedule_runs.proofs.Read.{read, are-lines}
-use Rattle.stories.specs.Words.{CarriesOut, byte, named, own_block, lines, IsSchedule, devices_of_seen, AnswersReplay, AreLeft, Once, RunJob}
-use Rattle.stories.specs.Instances.{before_byte, before_text}
-use Rattle.stories.specs.Replays.{lost0, put_lost, swept_text, swept_lines, swept_commands, symbols_off, blocks_off, behind_swept, swept_end, three_given}
-use Rattle.epoch_laws.specs.Told.{done_by}
+use Rattle.damage_run.specs.Words.{GetJob, Got, Begin, BeginScrub, Reopen, Opened, Replaced, State, setup_in, Moment, Instruction, Turns, Sweeps, Begins, Comes, run_of}
+use Rattle.command_runs.proofs.Stores.{four}
 use Rattle.stories.proofs.Behind.{AreFitBehind, alone, behind-run}
 use Rattle.stories.proofs.ByteReplay.{put, fit-put}
 use Rattle.stories.proofs.Reopened as reopened

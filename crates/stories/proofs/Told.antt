@@ -1,18 +1,8 @@
 -- A replay as its text and what it wrote tell it, with the blocks that its scrubs found.
-use Rattle.std.proofs.Common.{◌≡◌, ◌⊎◌, ℕ, suc, List, [], ◌∷◌, ◌++◌, length, refl, ap, sym, subst, ◌∙◌, inl, inr, arith, append_assoc, reverse, Some}
-use Rattle.std.specs.List.{AllByRecursion}
-use Rattle.std.proofs.lemmas.List.{reverse-reverse}
-use Rattle.machine_defs.specs.Answers.{Scrubbed}
+use Rattle.stories.proofs.Words.{◌≡◌, ◌⊎◌, ℕ, suc, List, [], ◌∷◌, ◌++◌, length, refl, ap, sym, subst, ◌∙◌, inl, inr, arith, append_assoc, reverse, Some, AllByRecursion, reverse-reverse, Scrubbed, Kind, IsToldButBlocks, IsButBlocks, AreButBlocks, AreOverFor, NoneIsBegun, done_by, GotBack, ByScrubs, put_is_got_later, File, Answer, Ended, HoldsForgery, heard_in, file_in, file_object, GetEnds, Once, RunJob, CarriesOut, NoneCalls, IsToldAnswer, lines_of_all, Seen, Ending, called_behind, WasTold, WentOn}
 use Rattle.machine_defs.specs.Events.{BeginScrub}
-use Rattle.machine_defs.specs.Jobs.{Kind}
-use Rattle.effect_laws.specs.Scrubs.{IsToldButBlocks, IsButBlocks, AreButBlocks}
-use Rattle.effect_laws.specs.Transcripts.{AreOverFor, NoneIsBegun}
 use Rattle.effect_laws.proofs.Scrubs.{whole}
-use Rattle.epoch_laws.specs.Told.{done_by, GotBack, ByScrubs}
-use Rattle.run_laws.proofs.ByEvents.{put_is_got_later}
-use Rattle.stories.specs.Words.{File, Answer, Got, Outcome, Begun, Ended, HoldsForgery, heard_in, Moment, now, IsRun, State, file_in, file_object, GetEnds, Instruction, Once, RunJob, CarriesOut, NoneCalls, IsToldAnswer, lines_of_all, Seen, Ending, called_behind}
-use Rattle.stories.specs.Told.{WasTold}
-use Rattle.stories.specs.Went.{WentOn}
+use Rattle.stories.specs.Words.{Got, Outcome, Begun, Moment, now, IsRun, State, Instruction}
 use Rattle.stories.proofs.Said.{written-as}
 
 -- what a replay has done is what was written of it

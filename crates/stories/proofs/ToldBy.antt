@@ -1,18 +1,9 @@
 -- Replays that are given outright, as their texts and what they wrote tell them.
-use Rattle.std.proofs.Common.{◌≡◌, ◌≤◌, ℕ, true, List, [], ◌∷◌, ◌++◌, String, length, Some, Global, refl, sym, ap, ◌∙◌, inl, inr, arith, reverse}
-use Rattle.std.specs.List.{AllByRecursion}
+use Rattle.stories.proofs.Words.{◌≡◌, ◌≤◌, ℕ, true, List, [], ◌∷◌, ◌++◌, String, length, Some, Global, refl, sym, ap, ◌∙◌, inl, inr, arith, reverse, AllByRecursion, no-form, form-words, calls_none, IsToldButBlocks, tested_calls, AreFew, firm, text, spelling, IsFresh, Entry, Seen, lines_of_all, four_records, ends_hearing, IsSchedule, devices_of_seen, AnswersReplay, IsReplayForm, AreLeft, called_behind, AnswersWords, before_byte, before_text, first_state, IsToldReplay}
 use Rattle.record_defs.specs.Examples.{four}
 use Rattle.hail_replay.specs.declared.forms.Form.TheVariants as forms
-use Rattle.hail_top.proofs.FormWords.{no-form}
-use Rattle.hail_top.proofs.Words.{form-words}
-use Rattle.effect_laws.specs.Lists.{calls_none}
-use Rattle.effect_laws.specs.Scrubs.{IsToldButBlocks}
-use Rattle.effect_laws.proofs.Asked.{tested_calls}
-use Rattle.epoch_laws.specs.Told.{AreFew}
 use Rattle.epoch_laws.proofs.Epochs.{setup_stays}
-use Rattle.stories.specs.Words.{Setup, firm, text, spelling, IsFresh, IsRun, Outcome, Moment, now, State, setup_in, Instruction, Entry, Seen, lines_of_all, four_records, ends_hearing, IsSchedule, devices_of_seen, AnswersReplay, IsReplayForm, AreLeft, called_behind, AnswersWords}
-use Rattle.stories.specs.Instances.{before_byte, before_text, first_state}
-use Rattle.stories.specs.Told.{IsToldReplay}
+use Rattle.stories.specs.Words.{Setup, IsRun, Outcome, Moment, now, State, setup_in, Instruction}
 use Rattle.stories.proofs.Asked.{IsIdle, falls, first-left}
 use Rattle.stories.proofs.Reopened.{four-stands}
 

@@ -1,12 +1,11 @@
 -- A replay of status 0, and devices that were not touched.
-use Rattle.std.proofs.Common.{◌≡◌, ℕ, ◌+◌, ◌<◌, List, [], ◌++◌, reverse, Some, ap, sym, subst, ◌∙◌, inl, inr, arith, IsSome}
-use Rattle.std.proofs.lemmas.List.{append-nil, reverse-reverse}
+use Rattle.stories.proofs.Words.{◌≡◌, ℕ, ◌+◌, ◌<◌, List, [], ◌++◌, reverse, Some, ap, sym, subst, ◌∙◌, inl, inr, arith, IsSome, reverse-reverse, told_then, StandsForState, CarriesOut, Numbers, Seen, Ending, sinking, lines, IsSchedule, longest_schedule, devices_of_seen, AnswersReplay, Replays, AreLeft, InitsDevices, WentOn}
+use Rattle.std.proofs.lemmas.List.{append-nil}
 use Rattle.opening_defs.specs.Opened.{AreHanded}
 use Rattle.command_defs.specs.Sinking.{Sinking, WritesLine}
 use Rattle.schedule_text.proofs.Texts.{AreLines-once}
 use Rattle.hail_replay.proofs.EndsWell.{whole}
-use Rattle.stories.specs.Words.{told_then, Moment, now, StandsForState, State, Instruction, CarriesOut, Numbers, Seen, Ending, sinking, lines, IsSchedule, longest_schedule, devices_of_seen, AnswersReplay, Replays, AreLeft, InitsDevices}
-use Rattle.stories.specs.Went.{WentOn}
+use Rattle.stories.specs.Words.{Moment, now, State, Instruction}
 
 -- at status 0 all lines were written
 lines-out : (lines : List ℕ) (status : ℕ) (sink : Sinking) → status ≡ 0 → WritesLine lines status sink →

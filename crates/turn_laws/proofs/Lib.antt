@@ -1,3 +1,4 @@
+mod Words
 pub mod Shape
 pub mod Turned
 pub mod Swept

@@ -2,7 +2,7 @@
 -- bytes are stored stripe by stripe on four providers that are alike.
 use Rattle.std.specs.List.{flat_map, range_with_len}
 use Rattle.std.proofs.Common.{◌≡◌, ℕ, zero, suc, ◌+◌, ◌*◌, ◌<◌, ◌≤◌, ◌&&◌, true, List, [], ◌∷◌, ◌++◌, length, None, Some, refl, ap, sym, subst, ◌∙◌, arith, slice_get, replicate, option_map}
-use Rattle.turn_laws.specs.Words.{upto, columns, EachImage, Provider, Setup, Record, SetUp, PutStart, A, StandsActive, Action, Store, End, append_actions, on_each_provider, actions_of, beginning, IsSpelledKind, PutJob, Job, Moment, now, object_of, stripes_of, State, setup_in, with_provider, IsJustOpened, MayName, PartRan, PartRuns, outside, refusal_over, Seen, stored, can_go, can_step, gone, stepped, Turn, Goes, gone_by, can_go_by, job_run, AreFitTurns, with_new, each, over, spelled, after_turns, left_by, a_named, plain_setup, given_stripes}
+use Rattle.turn_laws.proofs.Words.{upto, columns, EachImage, Provider, Setup, Record, SetUp, PutStart, A, StandsActive, Action, Store, End, append_actions, on_each_provider, actions_of, beginning, IsSpelledKind, PutJob, Job, Moment, now, object_of, stripes_of, State, setup_in, with_provider, IsJustOpened, MayName, PartRan, PartRuns, outside, refusal_over, Seen, stored, can_go, can_step, gone, stepped, Turn, Goes, gone_by, can_go_by, job_run, AreFitTurns, with_new, each, over, spelled, after_turns, left_by, a_named, plain_setup, given_stripes}
 use Rattle.job_laws.proofs.Alike.{part-alike}
 use Rattle.job_laws.proofs.BeginRefusals.{refusal-alone}
 use Rattle.turn_laws.proofs.Shape.{four, spelled-is}

@@ -1,7 +1,7 @@
 -- States whose vault was just opened over four providers are those that are spelled out.
 use Rattle.std.proofs.Common.{◌≡◌, ℕ, zero, suc, ◌<◌, ◌==◌, List, [], ◌∷◌, length, Some, ap, sym, ◌∙◌, inl, inr, arith, if◌then◌else◌}
 use Rattle.std.proofs.lemmas.Bool.{cases_Bool, eqb-true}
-use Rattle.turn_laws.specs.Words.{Provider, Record, Area, File, file_of, State, with_provider, IsJustOpened, provider_at, each, over, placed, spelled}
+use Rattle.turn_laws.proofs.Words.{Provider, Record, Area, File, file_of, State, with_provider, IsJustOpened, provider_at, each, over, placed, spelled}
 use Rattle.machine_defs.proofs.JobLists.{cond_true, cond_false}
 use Rattle.state_laws.proofs.Packs.{file-alike}
 use Rattle.job_laws.proofs.Alike.{plain}

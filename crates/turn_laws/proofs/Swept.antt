@@ -1,7 +1,7 @@
 -- Scrubs and packs that are given by their steps run alone from every state that was just opened over four
 -- providers: the state that is left is computed.
 use Rattle.std.proofs.Common.{◌≡◌, ℕ, ◌+◌, List, [], ◌∷◌, length, None, is_some, refl, ap, sym, subst, ◌∙◌, arith}
-use Rattle.turn_laws.specs.Words.{EachImage, Record, Area, StandsActive, new_scrub, new_pack, Answer, Step, More, Ended, job_of, Happens, now, State, Scrubbing, Packing, IsJustOpened, IsOpenAtRest, Answers, PackJournal, AreSteps, GoesOnTo, EndsByAnswer, pack_text, IsOpened, RanPack, PacksAlone, AnswersPack, pack_refusal_over, RanScrub, ScrubsAlone, Seen, Ending, SameSource, provider_at, Sweep, swept_so, swept, FitsSweep, with_alone, sweep_run, each, placed, spelled, Left, left_by, seen_as}
+use Rattle.turn_laws.proofs.Words.{EachImage, Record, Area, StandsActive, new_scrub, new_pack, Answer, Step, More, Ended, job_of, Happens, now, State, Scrubbing, Packing, IsJustOpened, IsOpenAtRest, Answers, PackJournal, AreSteps, GoesOnTo, EndsByAnswer, pack_text, IsOpened, RanPack, PacksAlone, AnswersPack, pack_refusal_over, RanScrub, ScrubsAlone, Seen, Ending, SameSource, provider_at, Sweep, swept_so, swept, FitsSweep, with_alone, sweep_run, each, placed, spelled, Left, left_by, seen_as}
 use Rattle.job_laws.proofs.Alike.{scrub-alike}
 use Rattle.job_laws.proofs.BeginRefusals.{pack-refusal-of}
 use Rattle.job_laws.proofs.Packs.{packed-alone}

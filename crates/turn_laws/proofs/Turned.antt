@@ -2,7 +2,7 @@
 -- commands that run them end so: the state that is left is computed.
 use Rattle.std.proofs.Common.{◌≡◌, ◌⊎◌, ℕ, zero, suc, ◌+◌, ◌≤◌, true, false, List, [], ◌∷◌, length, ◌++◌, Option, Some, None, IfSome, refl, ap, sym, subst, ◌∙◌, inl, inr, arith, slice_get, reverse, option_map}
 use Rattle.std.proofs.lemmas.Bool.{false≢true}
-use Rattle.turn_laws.specs.Words.{Cells, EachImage, Provider, then_told, Record, largest_file, Area, A, StandsActive, Answer, Step, Ended, IsSpelledKind, Entry, Kind, PutJob, Job, job_of, Happens, Moment, now, StandsPlain, StandsWithDoubt, StandsSwitched, StandsForState, State, Doubt, AreHanded, IsJustOpened, MayName, AnswersAlone, AnswersPut, AreSteps, IsNext, IsNextRecord, SameAround, SameOutside, RanAlone, RunsAlone, EndsByAnswer, AnswersJob, outside, text_of, IsOpened, setup_in_effect, refusal_over, is_unknown, Seen, Ending, SameSource, provider_at, can_step, Turn, Goes, Gives, LosesOne, StoreFails, Cut, gone_by, can_go_by, turned, FitsTurn, FitsStep, AreFitTurns, told, after_step, job_run, is_more, with_new, each, with_doubt, Left, left_by, seen_as, MayBegin, starting, at_end, GoesSo}
+use Rattle.turn_laws.proofs.Words.{Cells, EachImage, Provider, then_told, Record, largest_file, Area, A, StandsActive, Answer, Step, Ended, IsSpelledKind, Entry, Kind, PutJob, Job, job_of, Happens, Moment, now, StandsPlain, StandsWithDoubt, StandsSwitched, StandsForState, State, Doubt, AreHanded, IsJustOpened, MayName, AnswersAlone, AnswersPut, AreSteps, IsNext, IsNextRecord, SameAround, SameOutside, RanAlone, RunsAlone, EndsByAnswer, AnswersJob, outside, text_of, IsOpened, setup_in_effect, refusal_over, is_unknown, Seen, Ending, SameSource, provider_at, can_step, Turn, Goes, Gives, LosesOne, StoreFails, Cut, gone_by, can_go_by, turned, FitsTurn, FitsStep, AreFitTurns, told, after_step, job_run, is_more, with_new, each, with_doubt, Left, left_by, seen_as, MayBegin, starting, at_end, GoesSo}
 use Rattle.job_laws.proofs.BeginRefusals.{refusal-alone}
 use Rattle.job_laws.proofs.Alike.{ran-alike}
 use Rattle.job_laws.proofs.Telling.{left-alone, jobs-leave}

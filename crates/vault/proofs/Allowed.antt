@@ -2,20 +2,10 @@
 --
 -- IsAllowed n kind action == a job of this kind may have the action: a call of one of the n providers, a
 -- move, work, the end
-use Rattle.std.proofs.Common.{◌≡◌, ℕ, zero, suc, ◌+◌, ◌<◌, Bool, true, false, cond, List, [], ◌∷◌, ◌++◌, length, map, Some, sym, subst, ◌∙◌, inl, inr, arith}
-use Rattle.std.specs.Prelude.{slice_get}
-use Rattle.std.specs.List.{flat_map, range_with_len}
-use Rattle.std.proofs.lemmas.Bool.{cases_Bool}
-use Rattle.algebra_laws.specs.Lists.{Each}
-use Rattle.algebra_laws.proofs.Each.{each_get, each_append, each_flat}
-use Rattle.code_defs.specs.Points.{upto}
-use Rattle.record_defs.specs.Records.{Setup}
-use Rattle.machine_defs.specs.Actions.{Action, WriteBody, SyncBody, WriteGate, SyncGate, Store, Fetch, Ask, Work, Remove, End, append_actions, on_each_provider, on_each_stripe, store_actions, open_actions, read_actions, rewrite_actions, repair_actions, rounds_of, ask_actions, remove_actions, actions_of, actions_by}
-use Rattle.machine_defs.specs.Jobs.{Kind, PutJob, GetJob, DropJob, AuditJob, RepairJob, UpgradeJob, Pinned, Job}
-use Rattle.machine_defs.specs.Setups.{profiled, stripes_of}
-use Rattle.machine_defs.specs.States.{State, setup_in}
-use Rattle.machine_defs.specs.Steps.{next_action, is_idle_drop}
-use Rattle.machine_defs.proofs.JobLists.{cond_true, cond_false}
+use Rattle.vault.proofs.Words.{◌≡◌, ℕ, zero, suc, ◌+◌, ◌<◌, Bool, true, false, cond, List, [], ◌∷◌, ◌++◌, map, Some, sym, subst, ◌∙◌, inl, inr, arith, slice_get, flat_map, range_with_len, cases_Bool, Each, each_get, each_append, each_flat, upto, Setup, WriteBody, SyncBody, WriteGate, SyncGate, Fetch, Work, Remove, End, append_actions, on_each_provider, on_each_stripe, store_actions, open_actions, read_actions, rewrite_actions, repair_actions, rounds_of, ask_actions, remove_actions, actions_of, actions_by, Kind, PutJob, GetJob, DropJob, AuditJob, RepairJob, UpgradeJob, Job, profiled, stripes_of, State, setup_in, next_action, is_idle_drop, cond_true, cond_false}
+use Rattle.std.proofs.Common.{length}
+use Rattle.machine_defs.specs.Actions.{Action, Store, Ask}
+use Rattle.machine_defs.specs.Jobs.{Pinned}
 
 -- a job of this kind may have the action
 abbrev pub IsAllowed : ℕ → Kind → Action → Type 0

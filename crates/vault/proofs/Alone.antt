@@ -1,32 +1,11 @@
 -- When nothing may run alone, and the state in which a number is drawn for what does.
-use Rattle.std.proofs.Common.{◌≡◌, ◌<◌, ◌≤◌, ◌+◌, ℕ, true, false, ◌||◌, List, [], ◌∷◌, length, Option, None, Some, refl, ap, sym, subst, ◌∙◌, inl, inr, arith}
-use Rattle.std.proofs.Math.Logic.{∥∥₁_map}
-use Rattle.std.specs.Prelude.{is_some, nat_le, nat_lt}
-use Rattle.std.specs.List.{list_any}
-use Rattle.std.proofs.lemmas.Bool.{cases_Bool, false≢true, lt-ltb}
-use Rattle.machine_defs.specs.Alone.{alone_refusal, pack_refusal}
-use Rattle.machine_defs.specs.Jobs.{Job}
+use Rattle.vault.proofs.Words.{◌≡◌, ◌<◌, ◌≤◌, ◌+◌, ℕ, true, false, List, [], ◌∷◌, Option, None, Some, refl, ap, sym, subst, ◌∙◌, inl, inr, arith, ∥∥₁_map, is_some, nat_le, nat_lt, list_any, cases_Bool, false≢true, lt-ltb, alone_refusal, pack_refusal, Job, Cause, first_refusal, aims_of, sight_of, is_shut, is_upgrade, State, Alone, setup_in, AreNumbered, IsSound, CoreIs, IsCoreFlight, refusal_of, CoreView, BeginFault, Devices, devices, Desk, DeskStands, IsAtWork, KeepsAll, AreRunning, Running, AreAtHand, found_none, setup_same, handed_same}
+use Rattle.std.proofs.Common.{◌||◌, length}
 use Rattle.machine_defs.specs.Refusals as refusal
-use Rattle.machine_defs.specs.Refusals.{Cause, first_refusal}
-use Rattle.machine_defs.specs.Sights.{aims_of, sight_of, is_shut, is_upgrade}
-use Rattle.machine_defs.specs.States.{State, Append, Alone, setup_in}
-use Rattle.state_laws.specs.Orders.{AreNumbered}
-use Rattle.state_laws.specs.Sound.{IsSound}
-use Rattle.vault_core.specs.Carried.{CoreIs, IsCoreFlight, refusal_of}
-use Rattle.vault_core.specs.View.{CoreView}
-use Rattle.vault_core.specs.declared.wish.BeginFault.{BeginFault}
-use Rattle.vault_open.specs.Devices.{Devices, devices}
-use Rattle.vault.specs.declared.desk.Desk.{Desk}
-use Rattle.vault.specs.Desks.{DeskStands, IsAtWork}
-use Rattle.vault.specs.Running.{KeepsAll}
-use Rattle.vault.specs.Tasks.{AreRunning}
-use Rattle.vault.specs.declared.tasks.Running.{Running}
+use Rattle.machine_defs.specs.States.{Append}
 use Rattle.vault.proofs.AtWork.{beside_sound}
 use Rattle.vault.proofs.Free.{none_run}
 use Rattle.vault.proofs.Ways.{stands_on}
-use Rattle.vault.specs.AtHand.{AreAtHand}
-use Rattle.machine_defs.proofs.JobLists.{found_none}
-use Rattle.hail_scrub.proofs.Machine.{setup_same, handed_same}
 
 -- ---- why nothing may run alone
 

@@ -1,56 +1,26 @@
 -- The moves of an append are steps of the machine.
-use Rattle.std.proofs.Common.{◌≡◌, ℕ, ◌+◌, ◌<◌, ◌≤◌, ◌==◌, true, false, List, ◌∷◌, length, Option, Some, None, refl, sym, ap, subst, ◌∙◌, inl, inr, arith}
-use Rattle.std.proofs.lemmas.Option.{none-some}
-use Rattle.std.specs.Prelude.{IfSome, is_some}
-use Rattle.device_defs.specs.Cells.{Cells}
-use Rattle.device_defs.specs.Faults.{HasCause, Rose}
-use Rattle.device_defs.specs.Providers.{Provider}
-use Rattle.device_defs.specs.Told.{Goes}
+use Rattle.vault.proofs.Words.{◌≡◌, ℕ, ◌+◌, ◌<◌, ◌≤◌, true, false, List, ◌∷◌, Option, Some, None, refl, sym, ap, subst, ◌∙◌, inl, inr, arith, none-some, IfSome, is_some, Cells, HasCause, Rose, Provider, Goes, Area, end_in, setup_of, refused, length-entries, WriteBody, SyncBody, WriteGate, SyncGate, Fetch, Work, Remove, End, Moves, Writes, subject_drawn, begun_append, taken_out, moved, doubted, barred, unappended, done_append, IsAt, More, Ended, Job, job_of, advanced, without_job, setup_or_none, StandsForState, State, Doubt, setup_in, going_on, ended, number_of, same_value, moves_before, IsGatedDoubt, IsDoubtOf, setup-more, Appends, gate_of, body_of, SameFrom, StandsFirm, IsAfterMovesIn, goes_still, ComesNext, IsEntryOf, entry_in, is_move, CoreView, Reply, Flight, Turn, Desk, devices, records_in_flight, IsSamePast, HasFailed, MakesMove, KeepsAll, IsFed, IsStopped, IsUnbegun, IsMover, DeskStands, Comes, IsFlight, DeskMakesStep, shown-again, firm-shown, setup_same, handed_same}
+use Rattle.std.proofs.Common.{◌==◌, length}
 use Rattle.record_defs.specs.Records.{Record}
-use Rattle.record_defs.specs.Areas.{Area, end_in}
-use Rattle.record_defs.specs.Table.{setup_of}
-use Rattle.record_defs.specs.Acceptance.{refused}
-use Rattle.record_defs.proofs.Sizes.{length-entries}
-use Rattle.machine_defs.specs.Actions.{Action, WriteBody, SyncBody, WriteGate, SyncGate, Store, Fetch, Ask, Work, Remove, End}
-use Rattle.machine_defs.specs.Appends.{Moves, Writes, subject_drawn, begun_append, taken_out, moved, doubted, barred, unappended, done_append, IsAt}
-use Rattle.machine_defs.specs.Events.{More, Ended}
+use Rattle.machine_defs.specs.Actions.{Action, Store, Ask}
 use Rattle.machine_defs.specs.Answers as answers
-use Rattle.machine_defs.specs.Jobs.{Job, job_of, advanced, without_job}
-use Rattle.machine_defs.specs.Setups.{setup_or_none}
-use Rattle.machine_defs.specs.Stands.{StandsForState}
-use Rattle.machine_defs.specs.States.{State, Append, Doubt, setup_in, going_on, ended}
-use Rattle.machine_defs.proofs.JobLists.{number_of, same_value}
-use Rattle.state_laws.specs.Orders.{moves_before}
-use Rattle.state_laws.specs.Sound.{IsGatedDoubt, IsDoubtOf}
+use Rattle.machine_defs.specs.States.{Append}
 use Rattle.state_laws.proofs.Given.{mover}
-use Rattle.state_laws.proofs.Records.{setup-more}
-use Rattle.journal_core.specs.Appends.{Appends, gate_of, body_of, moves_of}
-use Rattle.journal_core.specs.Moves.{SameFrom}
-use Rattle.journal_core.specs.Texts.{StandsFirm, IsAfterMovesIn}
-use Rattle.journal_core.proofs.BeyondLemmas.{goes_still}
-use Rattle.vault_core.specs.Carried.{ComesNext, IsEntryOf}
-use Rattle.vault_core.specs.Coming.{entry_in, is_move}
-use Rattle.vault_core.specs.View.{CoreView}
-use Rattle.vault_core.specs.declared.reply.Reply.{Reply}
+use Rattle.std.specs.Prelude.{Bool, Result, Ok, Err}
+use Rattle.stream_model.specs.declared.fault.WriteFault.{WriteFault}
+use Rattle.stream_model.specs.declared.fault.WriteFault.TheVariants as write_fault
+use Rattle.journal_core.specs.Appends.{KeepsRecords, moves_of}
+use Rattle.journal_core.specs.declared.append.Append.{Append as Appending}
+use Rattle.journal_core.proofs.Turning.{keeps-records}
 use Rattle.vault_core.specs.declared.reply.Reply.TheVariants as reply
-use Rattle.vault.specs.declared.flight.Flight.{Flight}
 use Rattle.vault.specs.declared.flight.Moved.TheVariants as moves
 use Rattle.vault.specs.declared.turn.Answer.TheVariants as answer
-use Rattle.vault.specs.declared.turn.Turn.{Turn}
 use Rattle.vault.specs.declared.turn.Turn.TheVariants as turn
-use Rattle.vault.specs.declared.desk.Desk.{Desk}
-use Rattle.vault_open.specs.Devices.{devices}
-use Rattle.vault.specs.Devices.{records_in_flight, IsSamePast}
-use Rattle.vault.specs.Flights.{HasFailed, MakesMove, GoesOn, EndsAppend, FailsAppend}
-use Rattle.vault.specs.Running.{KeepsAll, IsFed, IsStopped}
-use Rattle.vault.specs.Movers.{IsUnbegun, IsMover}
-use Rattle.vault.specs.Desks.{DeskStands, Comes, IsFlight, DeskMakesStep}
-use Rattle.vault_open.proofs.Images.{shown-again, firm-shown}
+use Rattle.vault.specs.Flights.{IsTurn}
 use Rattle.vault_core.proofs.Standing.{entry_machine}
 use Rattle.vault_core.proofs.Steps.{none_flies}
 use Rattle.vault.proofs.MoveStep.{moves_on, moves_end, beyond_of, all_images, doubted_images, subject_kept}
 use Rattle.vault.proofs.Ways.{entry_kept}
-use Rattle.hail_scrub.proofs.Machine.{setup_same, handed_same}
 
 true_false : true ≡ false → ⊥
 true_false e = cc
@@ -282,6 +252,17 @@ module _ (v : Desk) (w : State) (holds holds' : Option Cells) (faults faults' mo
         same = beyond_of w.area w.journal m.entry f.append holds holds' m.appends beyond;
       }
 
+  -- a turn keeps the records
+  kept : (result : Result Bool WriteFault) (b : Appending) → IsTurn f.append holds result b holds' → (entry : Record)
+      → Appends w.area w.journal entry f.append holds
+      → KeepsRecords w.area w.journal entry f.append result b holds'
+  kept result b t entry appends =
+      keeps-records w.area w.journal entry f.append b result holds holds' appends f.undone t.turns t.disk
+
+  -- behind three moves one makes the last
+  third : MakesMove f.append holds moves.Done holds' → moves_of f.append ≡ 3
+  third (b, t) = let four = t.turns.count.last.0 refl in let n = t.turns.count.next in omega (arith, four, n)
+
   -- the disk failed
   pub append_failed : (action : Action) (comes : Comes v.core number action) → is_move (Some action) ≡ true →
       (m : IsMover v w holds number action f) (v1 v2 : Desk) (result : Turn)
@@ -293,8 +274,7 @@ module _ (v : Desk) (w : State) (holds holds' : Option Cells) (faults faults' mo
       → DeskMakesStep w moment number result v2 (devices holds faults ps) (devices holds' faults' ps)
   append_failed WriteBody comes move m v1 v2 result made beyond cause core jobs keeps stopped =
       let next = comes.machine w stands.core in
-      let up : FailsAppend f.append w.area w.journal m.entry holds' =
-      made w.area w.journal m.entry m.appends in
+      let up = kept (Err write_fault.Failed) made.0 made.1 m.entry m.appends in
       let new : State = record (barred (ended w next.job)) { disk_faults = faults' } in
       moves_end v v1 v2 w new holds holds' faults faults' moment number ps WriteBody reply.Failed
       answer.DiskFault result stands next
@@ -313,8 +293,7 @@ module _ (v : Desk) (w : State) (holds holds' : Option Cells) (faults faults' mo
   append_failed SyncBody comes move m v1 v2 result made beyond cause core jobs keeps stopped =
       let next = comes.machine w stands.core in
       let a = flies SyncBody comes (omega arith) m in
-      let up : FailsAppend f.append w.area w.journal m.entry holds' =
-      made w.area w.journal m.entry m.appends in
+      let up = kept (Err write_fault.Failed) made.0 made.1 m.entry m.appends in
       let new : State = record (barred (ended w next.job)) { disk_faults = faults' } in
       moves_end v v1 v2 w new holds holds' faults faults' moment number ps SyncBody reply.Failed
       answer.DiskFault result stands next
@@ -334,7 +313,7 @@ module _ (v : Desk) (w : State) (holds holds' : Option Cells) (faults faults' mo
   append_failed WriteGate comes move m v1 v2 result made beyond cause core jobs keeps stopped =
       let next = comes.machine w stands.core in
       let a = flies WriteGate comes (omega arith) m in
-      let up : FailsAppend f.append w.area w.journal a.0.entry holds' = made w.area w.journal a.0.entry a.4 in
+      let up = kept (Err write_fault.Failed) made.0 made.1 a.0.entry a.4 in
       let new : State = record (doubted (barred (ended w next.job)) a.0 next.job) { disk_faults = faults' } in
       moves_end v v1 v2 w new holds holds' faults faults' moment number ps WriteGate reply.Failed
       answer.DiskFault result stands next
@@ -354,7 +333,7 @@ module _ (v : Desk) (w : State) (holds holds' : Option Cells) (faults faults' mo
   append_failed SyncGate comes move m v1 v2 result made beyond cause core jobs keeps stopped =
       let next = comes.machine w stands.core in
       let a = flies SyncGate comes (omega arith) m in
-      let up : FailsAppend f.append w.area w.journal a.0.entry holds' = made w.area w.journal a.0.entry a.4 in
+      let up = kept (Err write_fault.Failed) made.0 made.1 a.0.entry a.4 in
       let new : State = record (barred (ended w next.job)) { disk_faults = faults' } in
       let doubt = in_doubt a.0 w.doubt a.2.1
       (subst (λ (o : Option Append). IsDoubtOf o w.doubt) a.1
@@ -399,8 +378,7 @@ module _ (v : Desk) (w : State) (holds holds' : Option Cells) (faults faults' mo
   append_goes_on WriteBody comes move m v' g made beyond cause flight jobs keeps fed =
       let next = comes.machine w stands.core in
       let job = next.job in
-      let on : GoesOn f.append g.append w.area w.journal m.entry holds' =
-      made.3 w.area w.journal m.entry m.appends in
+      let on = kept (Ok false) g.append made m.entry m.appends in
       let writes : Writes w job job.kind m.entry =
       (let same : m.writing.job ≡ job =
       (let e : Some m.writing.job ≡ Some job = sym m.writing.runs ∙ next.runs in cc) in
@@ -418,7 +396,7 @@ module _ (v : Desk) (w : State) (holds holds' : Option Cells) (faults faults' mo
         images = all_images holds' new (on.before (let k = m.moves in omega (arith, k)));
         flight = λ free. subst (λ (x : Option Flight). IsFlight x new.append new.area new.journal holds')
             (sym flight)
-            ((let k = m.moves in let n = made.0 in omega (arith, k, n)), on.appends);
+            ((let k = m.moves in let n = made.turns.count.next in omega (arith, k, n)), on.moved);
       })
       (λ a is mine. m.given
       ∙ ap (λ (x : Append). Some x.entry)
@@ -429,8 +407,7 @@ module _ (v : Desk) (w : State) (holds holds' : Option Cells) (faults faults' mo
       let next = comes.machine w stands.core in
       let job = next.job in
       let a = flies SyncBody comes (omega arith) m in
-      let on : GoesOn f.append g.append w.area w.journal a.0.entry holds' =
-      made.3 w.area w.journal a.0.entry a.4 in
+      let on = kept (Ok false) g.append made a.0.entry a.4 in
       let new : State = record (moved (going_on w (advanced job)) a.0) { disk_faults = faults' } in
       moves_on v v' w new holds holds' faults faults' moment number ps SyncBody job.subject job.older stands
       next tt (λ many. refl)
@@ -445,7 +422,7 @@ module _ (v : Desk) (w : State) (holds holds' : Option Cells) (faults faults' mo
         images = all_images holds' new (on.before (let k = m.moves in omega (arith, k)));
         flight = λ free. subst (λ (x : Option Flight). IsFlight x new.append new.area new.journal holds')
             (sym flight)
-            ((let n = made.0 in let k = m.moves in let l = a.2.1 in omega (arith, n, k, l)), on.appends);
+            ((let n = made.turns.count.next in let k = m.moves in let l = a.2.1 in omega (arith, n, k, l)), on.moved);
       })
       (λ x is mine. a.3 ∙ ap (λ (y : Append). Some y.entry)
       (one_of (record a.0 { moves = a.0.moves + 1 }) x is))
@@ -455,8 +432,7 @@ module _ (v : Desk) (w : State) (holds holds' : Option Cells) (faults faults' mo
       let next = comes.machine w stands.core in
       let job = next.job in
       let a = flies WriteGate comes (omega arith) m in
-      let on : GoesOn f.append g.append w.area w.journal a.0.entry holds' =
-      made.3 w.area w.journal a.0.entry a.4 in
+      let on = kept (Ok false) g.append made a.0.entry a.4 in
       let new : State = record (doubted (moved (going_on w (advanced job)) a.0) a.0 job)
       { disk_faults = faults' } in
       moves_on v v' w new holds holds' faults faults' moment number ps WriteGate job.subject job.older stands
@@ -472,14 +448,14 @@ module _ (v : Desk) (w : State) (holds holds' : Option Cells) (faults faults' mo
         images = doubted_images holds' new a.0.entry _ refl refl on.between;
         flight = λ free. subst (λ (x : Option Flight). IsFlight x new.append new.area new.journal holds')
             (sym flight)
-            ((let n = made.0 in let k = m.moves in let l = a.2.1 in omega (arith, n, k, l)), on.appends);
+            ((let n = made.turns.count.next in let k = m.moves in let l = a.2.1 in omega (arith, n, k, l)), on.moved);
       })
       (λ x is mine. a.3 ∙ ap (λ (y : Append). Some y.entry)
       (one_of (record a.0 { moves = a.0.moves + 1 }) x is))
       (beyond_of w.area w.journal a.0.entry f.append holds holds' a.4 beyond)
       keeps fed comes.wants
   append_goes_on SyncGate comes move m v' g made beyond cause flight jobs keeps fed =
-      absurd (let k = m.moves in let d = made.0 in let u = g.undone in omega (arith, k, d, u))
+      absurd (let k = m.moves in let d = made.turns.count.next in let u = g.undone in omega (arith, k, d, u))
   append_goes_on (Store j object stripe) comes move m v' g made beyond cause flight jobs keeps fed =
       absurd (false_true move)
   append_goes_on (Fetch j object stripe) comes move m v' g made beyond cause flight jobs keeps fed =
@@ -505,7 +481,7 @@ module _ (v : Desk) (w : State) (holds holds' : Option Cells) (faults faults' mo
       let next = comes.machine w stands.core in
       let a = flies SyncGate comes (omega arith) m in
       let job = next.job in
-      let done : EndsAppend w.area w.journal a.0.entry holds' = made.1 w.area w.journal a.0.entry a.4 in
+      let ready = (kept (Ok true) made.0 made.1 a.0.entry a.4).ready (made.1.turns.count.last.0 refl) in
       let new : State = record (done_append w job a.0) { disk_faults = faults' } in
       moves_on v v' w new holds holds' faults faults' moment number ps SyncGate job.subject
       (taken_out w job job.kind) stands next tt (λ many. refl)
@@ -518,19 +494,19 @@ module _ (v : Desk) (w : State) (holds holds' : Option Cells) (faults faults' mo
         area = refl;
         handed = handed_same ps w new stands.devices.providers refl (λ j. refl);
         faults = refl;
-        images = firm-shown holds' new new.area new.journal refl refl done.ready;
+        images = firm-shown holds' new new.area new.journal refl refl ready;
         flight = λ free. subst (λ (x : Option Flight). IsFlight x None new.area new.journal holds')
-            (sym flight) done.ready;
+            (sym flight) ready;
       })
       (λ x so mine. absurd (none-some x so))
       (beyond_of w.area w.journal a.0.entry f.append holds holds' a.4 beyond)
       keeps fed comes.wants
   append_done WriteBody comes move m v' made beyond cause flight jobs keeps fed =
-      absurd (let k = m.moves in let d = made.0 in omega (arith, k, d))
+      absurd (let k = m.moves in let d = third made in omega (arith, k, d))
   append_done SyncBody comes move m v' made beyond cause flight jobs keeps fed =
-      absurd (let k = m.moves in let d = made.0 in omega (arith, k, d))
+      absurd (let k = m.moves in let d = third made in omega (arith, k, d))
   append_done WriteGate comes move m v' made beyond cause flight jobs keeps fed =
-      absurd (let k = m.moves in let d = made.0 in omega (arith, k, d))
+      absurd (let k = m.moves in let d = third made in omega (arith, k, d))
   append_done (Store j object stripe) comes move m v' made beyond cause flight jobs keeps fed =
       absurd (false_true move)
   append_done (Fetch j object stripe) comes move m v' made beyond cause flight jobs keeps fed =
@@ -546,17 +522,18 @@ module _ (v : Desk) (w : State) (holds holds' : Option Cells) (faults faults' mo
   -- a write found no memory
   pub append_unwritten : (action : Action) (comes : Comes v.core number action) →
       is_move (Some action) ≡ true → (m : IsMover v w holds number action f) (v1 v2 : Desk) (result : Turn)
-      → MakesMove f.append holds moves.Memory holds' → HasCause faults faults' (HasFailed moves.Memory)
+      → MakesMove f.append holds moves.Memory holds' → faults' ≡ faults
       → v1.core ≡ v.core → v1.jobs.items ≡ v.jobs.items → v1.flight ≡ None → KeepsAll v v1 →
       IsStopped v1 number reply.Memory answer.Memory result v2
       → DeskMakesStep w moment number result v2 (devices holds faults ps) (devices holds' faults' ps)
-  append_unwritten WriteBody comes move m v1 v2 result made cause core jobs flight keeps stopped =
+  append_unwritten WriteBody comes move m v1 v2 result made same core jobs flight keeps stopped =
       let next = comes.machine w stands.core in
       let none = alone v w holds faults number ps stands comes in
+      let counted = same ∙ sym stands.devices.faults in
       let new : State = record (ended w next.job) { disk_faults = faults' } in
       moves_end v v1 v2 w new holds holds' faults faults' moment number ps WriteBody reply.Memory
       answer.Memory result stands next
-      (faults', falls_not cause.never_falls, refl)
+      (ap (λ (n : ℕ). record (ended w next.job) { disk_faults = n }) counted)
       (ap (without_job w.jobs) (number_of w.jobs number next.job next.runs))
       core jobs keeps stopped tt
       (record {
@@ -564,23 +541,24 @@ module _ (v : Desk) (w : State) (holds holds' : Option Cells) (faults faults' mo
         area = refl;
         handed = handed_same ps w new stands.devices.providers refl (λ j. refl);
         faults = refl;
-        images = subst (λ (t : Option Cells). StandsForState t new) (sym made.1)
+        images = subst (λ (t : Option Cells). StandsForState t new) (sym (made.1.disk.memory refl))
             (shown-again holds w new refl refl refl refl stands.devices.images);
         flight = λ free. subst (λ (x : Option Flight). IsFlight x w.append w.area w.journal holds')
             (sym flight)
             (subst (λ (o : Option Append). IsFlight None o w.area w.journal holds') (sym none)
-            (made.2 w.area w.journal m.entry m.appends));
+            ((kept (Err write_fault.Memory) made.0 made.1 m.entry m.appends).kept refl));
       })
-      none (λ on. goes_still (end_in new.area (records_in_flight new.journal new.append)) holds holds' made.1)
+      none (λ on. goes_still (end_in new.area (records_in_flight new.journal new.append)) holds holds' (made.1.disk.memory refl))
       (λ e. cc)
-  append_unwritten WriteGate comes move m v1 v2 result made cause core jobs flight keeps stopped =
+  append_unwritten WriteGate comes move m v1 v2 result made same core jobs flight keeps stopped =
       let next = comes.machine w stands.core in
       let a = flies WriteGate comes (omega arith) m in
+      let counted = same ∙ sym stands.devices.faults in
       let new : State = record (unappended (ended w next.job)) { disk_faults = faults' } in
       moves_end v v1 v2 w new holds holds' faults faults' moment number ps WriteGate reply.Memory
       answer.Memory result stands next
       (subst (λ (o : Option Append). Moves w next.job WriteGate o (Ended answers.Memory) new) (sym a.1)
-      (a.2, (faults', falls_not cause.never_falls, refl)))
+      (a.2, ap (λ (n : ℕ). record (unappended (ended w next.job)) { disk_faults = n }) counted))
       (ap (without_job w.jobs) (number_of w.jobs number next.job next.runs))
       core jobs keeps stopped tt
       (record {
@@ -588,32 +566,32 @@ module _ (v : Desk) (w : State) (holds holds' : Option Cells) (faults faults' mo
         area = refl;
         handed = handed_same ps w new stands.devices.providers refl (λ j. refl);
         faults = refl;
-        images = subst (λ (t : Option Cells). StandsForState t new) (sym made.1)
+        images = subst (λ (t : Option Cells). StandsForState t new) (sym (made.1.disk.memory refl))
             (shown-again holds w new refl refl refl refl stands.devices.images);
         flight = λ free. subst (λ (x : Option Flight). IsFlight x None w.area w.journal holds') (sym flight)
-            (made.2 w.area w.journal m.entry m.appends);
+            ((kept (Err write_fault.Memory) made.0 made.1 m.entry m.appends).kept refl);
       })
-      refl (λ on. goes_still (end_in new.area (records_in_flight new.journal new.append)) holds holds' made.1)
+      refl (λ on. goes_still (end_in new.area (records_in_flight new.journal new.append)) holds holds' (made.1.disk.memory refl))
       (λ e. cc)
-  append_unwritten SyncBody comes move m v1 v2 result made cause core jobs flight keeps stopped =
-      absurd (elim made.0 [
+  append_unwritten SyncBody comes move m v1 v2 result made same core jobs flight keeps stopped =
+      absurd (elim (made.1.disk.writes refl) [
         | inl d ↦ (let k = m.moves in omega (arith, k, d))
         | inr d ↦ (let k = m.moves in omega (arith, k, d))
       ])
-  append_unwritten SyncGate comes move m v1 v2 result made cause core jobs flight keeps stopped =
-      absurd (elim made.0 [
+  append_unwritten SyncGate comes move m v1 v2 result made same core jobs flight keeps stopped =
+      absurd (elim (made.1.disk.writes refl) [
         | inl d ↦ (let k = m.moves in omega (arith, k, d))
         | inr d ↦ (let k = m.moves in omega (arith, k, d))
       ])
-  append_unwritten (Store j object stripe) comes move m v1 v2 result made cause core jobs flight keeps stopped =
+  append_unwritten (Store j object stripe) comes move m v1 v2 result made same core jobs flight keeps stopped =
       absurd (false_true move)
-  append_unwritten (Fetch j object stripe) comes move m v1 v2 result made cause core jobs flight keeps stopped =
+  append_unwritten (Fetch j object stripe) comes move m v1 v2 result made same core jobs flight keeps stopped =
       absurd (false_true move)
-  append_unwritten (Ask j object round) comes move m v1 v2 result made cause core jobs flight keeps stopped =
+  append_unwritten (Ask j object round) comes move m v1 v2 result made same core jobs flight keeps stopped =
       absurd (false_true move)
-  append_unwritten (Work object stripe) comes move m v1 v2 result made cause core jobs flight keeps stopped =
+  append_unwritten (Work object stripe) comes move m v1 v2 result made same core jobs flight keeps stopped =
       absurd (false_true move)
-  append_unwritten (Remove j object) comes move m v1 v2 result made cause core jobs flight keeps stopped =
+  append_unwritten (Remove j object) comes move m v1 v2 result made same core jobs flight keeps stopped =
       absurd (false_true move)
-  append_unwritten End comes move m v1 v2 result made cause core jobs flight keeps stopped =
+  append_unwritten End comes move m v1 v2 result made same core jobs flight keeps stopped =
       absurd (false_true move)

@@ -1,15 +1,6 @@
 -- A desk that stands for a state beside which something may run alone.
-use Rattle.std.proofs.Common.{◌≡◌, ℕ, Bool, true, false, [], Option, Some, None, refl}
-use Rattle.std.proofs.lemmas.Bool.{false≢true}
-use Rattle.algebra_laws.proofs.Options.{some-not-none}
-use Rattle.machine_defs.specs.States.{State, Append, setup_in}
-use Rattle.machine_defs.proofs.JobLists.{found_none}
-use Rattle.state_laws.specs.Sound.{IsSound, IsDoubtOf}
-use Rattle.state_laws.proofs.Packs.{journal-same}
-use Rattle.vault_open.specs.Devices.{Devices, AreDevices}
-use Rattle.vault.specs.declared.desk.Desk.{Desk}
-use Rattle.vault.specs.Desks.{DeskStands, IsFlight}
-use Rattle.vault.specs.Packing.{plain}
+use Rattle.vault.proofs.Words.{◌≡◌, ℕ, Bool, true, false, [], Option, Some, None, refl, false≢true, some-not-none, State, setup_in, found_none, IsSound, IsDoubtOf, journal-same, Devices, AreDevices, Desk, DeskStands, IsFlight, plain}
+use Rattle.machine_defs.specs.States.{Append}
 
 -- a state in which nothing runs alone, with this doubt of the switch byte and this count of the disk's faults
 abbrev pub aside : State → Bool → ℕ → State

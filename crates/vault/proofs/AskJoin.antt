@@ -1,61 +1,15 @@
 -- What a core and a vault tell of an ask, and the ask as a step of the machine.
-use Rattle.std.proofs.Common.{◌≡◌, ℕ, zero, suc, ◌+◌, ◌-◌, ◌*◌, ◌/◌, ◌<◌, ◌≤◌, ◌^◌, ◌==◌, ◌&&◌, Bool, true, false, cond, List, [], ◌∷◌, ◌++◌, length, take, drop, map, Option, Some, None, refl, sym, ap, subst, ◌∙◌, inl, inr, arith}
-use Rattle.std.specs.Prelude.{slice_get, slice_set, nat_lt}
-use Rattle.std.specs.List.{list_all, Contains}
-use Rattle.std.proofs.Math.Nat.{mul-le-mul_right}
-use Rattle.std.proofs.lemmas.Bool.{cases_eq, eq-eqb, ne_eqb, eqb-true, and_parts, false≢true, lt-ltb}
-use Rattle.std.proofs.lemmas.List.{append-nil}
-use Rattle.std.proofs.lemmas.List.Sums.{sum_by-cons}
-use Rattle.algebra_laws.specs.Lists.{Each}
-use Rattle.algebra_laws.proofs.Each.{each_middle}
-use Rattle.code_defs.specs.Profiles.{profile_of}
-use Rattle.column_defs.specs.Challenges.{challenge_of, honest_answer}
-use Rattle.column_defs.specs.Objects.{stripes}
-use Rattle.device_defs.specs.Cells.{Cells}
-use Rattle.device_defs.specs.Providers.{Provider}
-use Rattle.device_defs.specs.ProviderCalls.{Asks}
-use Rattle.record_defs.specs.Records.{Setup}
-use Rattle.machine_defs.specs.Actions.{Action, Plan, Ask, WriteBody, SyncBody, WriteGate, SyncGate, End, actions_of, actions_by, actions_left, append_actions, ask_actions}
-use Rattle.machine_defs.specs.Audits.{challenge_in, asked_challenge, HasSums}
-use Rattle.machine_defs.specs.Events.{More}
-use Rattle.machine_defs.specs.Given.{pinned_size, pinned_profile}
-use Rattle.machine_defs.specs.Jobs.{Kind, AuditJob, Pinned, Answered, Job, job_of, with_job, advanced_with}
-use Rattle.machine_defs.specs.Setups.{profiled, object_of, stripes_of}
-use Rattle.machine_defs.specs.States.{State, setup_in, going_on, with_provider}
-use Rattle.machine_defs.proofs.JobLists.{cond_true, cond_false, number_of, same_value, found_itself}
+use Rattle.vault.proofs.Words.{◌≡◌, ℕ, zero, suc, ◌+◌, ◌-◌, ◌*◌, ◌/◌, ◌<◌, ◌≤◌, ◌^◌, Bool, true, false, cond, List, [], ◌∷◌, ◌++◌, take, drop, map, Option, Some, None, refl, sym, ap, subst, ◌∙◌, inl, inr, arith, slice_get, slice_set, nat_lt, list_all, Contains, mul-le-mul_right, cases_eq, eq-eqb, ne_eqb, eqb-true, and_parts, false≢true, lt-ltb, append-nil, sum_by-cons, Each, each_middle, profile_of, challenge_of, honest_answer, stripes, Cells, Provider, Asks, Setup, Plan, WriteBody, SyncBody, WriteGate, SyncGate, End, actions_of, actions_by, actions_left, append_actions, ask_actions, challenge_in, asked_challenge, HasSums, More, pinned_size, pinned_profile, Kind, AuditJob, Answered, Job, job_of, with_job, advanced_with, profiled, object_of, stripes_of, State, setup_in, going_on, with_provider, cond_true, cond_false, number_of, same_value, found_itself, counted, ShapeValue, next-left, get-drop, setup-rounds, setup-valid, moves_made, IsPadded, Counts, IsJobOf, ComesNext, pin_of, Coming, is_last_ask, is_last_ask_of, next_in, HasReply, TakesReply, Tells, CoreJob, CoreView, rest_in, job_in, PinnedValue, Reply, Question, AuditTask, Running, Task, Desk, pin_of_job, pin_in, profile_or, IsAuditNumber, IsQuestion, challenge_put, sums_on, TakesAsk, HasJudged, CanAsk, Asked, MayAsk, TellsAsk, MayTell, MayPut, vault_object, AreHanded, devices, is_ask, Round, rounds_in, asked_after, AsksOn, JudgesEach, place_in, KeepsAll, IsFed, DeskStands, Comes, DeskMakesStep, IsTask, IsRunning, AreRunning, IsAudit, empty_sums, asks_ask, AreAtHand, hand_of, setup_same}
+use Rattle.std.proofs.Common.{◌==◌, ◌&&◌, length}
+use Rattle.machine_defs.specs.Actions.{Action, Ask}
+use Rattle.machine_defs.specs.Jobs.{Pinned}
 use Rattle.file_layout.specs.Files as layout
-use Rattle.record_codec.specs.Entries.{counted}
-use Rattle.hail_field.specs.declared.shape.Shape.{Shape as ShapeValue}
-use Rattle.state_laws.proofs.Orders.{next-left, get-drop}
-use Rattle.state_laws.proofs.Written.{setup-rounds, setup-valid}
 use Rattle.state_laws.specs.SoundJobs.{IsSoundJob}
-use Rattle.state_laws.specs.Orders.{moves_made}
-use Rattle.record_codec.specs.Entries.{IsPadded}
-use Rattle.record_codec.specs.declared.counts.Counts.{Counts}
-use Rattle.vault_core.specs.Carried.{IsJobOf, ComesNext, pin_of}
-use Rattle.vault_core.specs.Coming.{Coming, Acts, is_last_ask, is_last_ask_of, next_in, HasReply, TakesReply}
-use Rattle.vault_core.specs.Replies.{Tells}
-use Rattle.vault_core.specs.View.{CoreJob, CoreView, rest_in, job_in}
+use Rattle.vault_core.specs.Coming.{Acts}
 use Rattle.vault_core.proofs.Links.{rest-is}
-use Rattle.vault_core.specs.declared.pinned.Pinned.{Pinned as PinnedValue}
-use Rattle.vault_core.specs.declared.reply.Reply.{Reply}
 use Rattle.vault_core.specs.declared.reply.Reply.TheVariants as reply
-use Rattle.vault.specs.declared.question.Question.{Question}
-use Rattle.vault.specs.declared.tasks.AuditTask.{AuditTask}
-use Rattle.vault.specs.declared.tasks.Running.{Running}
-use Rattle.vault.specs.declared.tasks.Task.{Task}
 use Rattle.vault.specs.declared.tasks.Task.TheVariants as task
 use Rattle.vault.specs.declared.turn.Turn.TheVariants as turn
-use Rattle.vault.specs.declared.desk.Desk.{Desk}
-use Rattle.vault.specs.Asking.{pin_of_job, pin_in, profile_or, IsAuditNumber, IsQuestion, challenge_put, sums_on, TakesAsk, HasJudged, CanAsk, Asked, MayAsk, TellsAsk, MayTell, MayPut, vault_object}
-use Rattle.opening_defs.specs.Opened.{AreHanded}
-use Rattle.vault_open.specs.Devices.{devices}
-use Rattle.vault.specs.Orders.{is_ask}
-use Rattle.vault.specs.Rounds.{Round, rounds_in, asked_after, AsksOn, JudgesEach}
-use Rattle.vault.specs.Running.{place_in, KeepsAll, IsFed}
-use Rattle.vault.specs.Desks.{DeskStands, Comes, DeskMakesStep}
-use Rattle.vault.specs.Tasks.{IsTask, IsRunning, AreRunning, IsAudit, empty_sums}
-use Rattle.vault_core.proofs.Onward.{asks_ask}
 use Rattle.vault.proofs.Allowed.{IsAllowed, next_allowed}
 use Rattle.vault.proofs.Asks.{Rising, IsRound, rounds_rise, each_round, sizes_found, contains_each, few_rounds, enough_answers, sums_within, as_files, behind_last}
 use Rattle.vault.proofs.AskStep.{IsNext, IsPut, next_round, audit_kept, audit_judged, zero_all}
@@ -64,9 +18,7 @@ use Rattle.vault.proofs.Limits.{setup-picks}
 use Rattle.vault.proofs.Pins.{pin_by_id, among_is, pins_found, profile_found, core_job}
 use Rattle.vault.proofs.JobPlaces.{place_is, put_back}
 use Rattle.vault.proofs.Ways.{happens_by, actions_same, handed_on, stands_on, entry_kept, same_beyond, at_place, working, hands_goes}
-use Rattle.vault.specs.AtHand.{AreAtHand, hand_of}
 use Rattle.vault.proofs.CoreJobs.{shown_subject, shown_pins, audit_untold}
-use Rattle.hail_scrub.proofs.Machine.{setup_same}
 
 -- ---- numbers
 

@@ -1,16 +1,8 @@
 -- The order of the asks of an audit, and how many there are.
-use Rattle.std.proofs.Common.{◌≡◌, inl, inr, ℕ, zero, suc, ◌+◌, ◌*◌, ◌≤◌, ◌==◌, true, false, cond, List, [], ◌∷◌, ◌++◌, length, map, refl, sym, ◌∙◌, subst, arith, append_assoc}
-use Rattle.std.specs.List.{flat_map, range_with_len}
-use Rattle.std.proofs.lemmas.Bool.{cases_Bool, eq-eqb, ne_eqb}
-use Rattle.std.proofs.lemmas.List.FromFn.{length-range_with_len}
-use Rattle.std.proofs.lemmas.List.Sums.{sum_by-append}
-use Rattle.code_defs.specs.Points.{upto}
-use Rattle.record_defs.specs.Records.{Setup}
-use Rattle.machine_defs.specs.Actions.{Action, Ask, End, append_actions, on_each_provider, rounds_of, ask_actions, actions_of}
-use Rattle.machine_defs.specs.Jobs.{Pinned, Job, AuditJob}
-use Rattle.machine_defs.specs.Setups.{profiled, stripes_of}
-use Rattle.vault.specs.Orders.{is_ask, asks_left}
-use Rattle.vault.specs.Rounds.{Round, rounds_in, AsksOn}
+use Rattle.vault.proofs.Words.{◌≡◌, inl, inr, ℕ, zero, suc, ◌+◌, ◌*◌, ◌≤◌, true, false, cond, List, [], ◌∷◌, ◌++◌, map, refl, sym, ◌∙◌, subst, arith, append_assoc, flat_map, range_with_len, cases_Bool, eq-eqb, ne_eqb, length-range_with_len, sum_by-append, upto, Setup, End, append_actions, on_each_provider, rounds_of, ask_actions, actions_of, Job, AuditJob, profiled, stripes_of, is_ask, asks_left, Round, rounds_in, AsksOn}
+use Rattle.std.proofs.Common.{◌==◌, length}
+use Rattle.machine_defs.specs.Actions.{Action, Ask}
+use Rattle.machine_defs.specs.Jobs.{Pinned}
 
 -- ---- the order
 

@@ -1,33 +1,9 @@
 -- An ask is a step of the machine.
-use Rattle.std.proofs.Common.{◌≡◌, ℕ, zero, suc, ◌+◌, ◌<◌, ◌≤◌, ◌==◌, true, List, [], ◌∷◌, ◌++◌, length, Option, None, refl, sym, ap, subst, ◌∙◌, arith, append_assoc, length-append, replicate}
+use Rattle.vault.proofs.Words.{◌≡◌, ℕ, zero, suc, ◌+◌, ◌<◌, ◌≤◌, true, List, [], ◌∷◌, ◌++◌, Option, None, refl, sym, ap, subst, ◌∙◌, arith, append_assoc, length-append, replicate, list_all, append-nil, Object, Challenge, Judges, Setup, challenge_in, JudgesRound, answers_given, Kind, PutJob, GetJob, DropJob, AuditJob, RepairJob, UpgradeJob, Given, Answered, Job, advanced_with, profiled, object_of, State, setup_in, sums_of, IsPadded, Question, AuditTask, challenge_put, last_answers, sums_on, ask_put, HasHeard, HasJudged, answered_entries, Round, rounds_in, rounds_after, asked_after, AsksOn, JudgesEach, HasAnswered, IsAsked, IsAudit, empty_sums, Cells, Provider, ComesNext, Desk, devices, DeskStands, Comes}
+use Rattle.std.proofs.Common.{◌==◌, length}
 use Rattle.std.specs.Prelude.{vec_len, vec_capacity}
-use Rattle.std.specs.List.{list_all}
-use Rattle.std.proofs.lemmas.List.{append-nil}
-use Rattle.column_defs.specs.Objects.{Object}
-use Rattle.column_defs.specs.Challenges.{Challenge}
-use Rattle.column_defs.specs.Verdicts.{Judges}
-use Rattle.record_defs.specs.Records.{Setup}
 use Rattle.machine_defs.specs.Actions.{Action, Ask}
-use Rattle.machine_defs.specs.Audits.{challenge_in, JudgesRound}
-use Rattle.machine_defs.specs.Given.{answers_given}
-use Rattle.machine_defs.specs.Jobs.{Kind, PutJob, GetJob, DropJob, AuditJob, RepairJob, UpgradeJob, Given, Answered, Job, advanced_with}
-use Rattle.machine_defs.specs.Setups.{profiled, object_of}
-use Rattle.machine_defs.specs.States.{State, setup_in}
 use Rattle.file_layout.specs.Files as layout
-use Rattle.audit_verdict.specs.Rounds.{sums_of}
-use Rattle.record_codec.specs.Entries.{IsPadded}
-use Rattle.vault.specs.declared.question.Question.{Question}
-use Rattle.vault.specs.declared.tasks.AuditTask.{AuditTask}
-use Rattle.vault.specs.Asking.{challenge_put, last_answers, sums_on, ask_put, HasHeard, HasJudged}
-use Rattle.vault.specs.Heard.{answered_entries}
-use Rattle.vault.specs.Rounds.{Round, rounds_in, rounds_after, asked_after, AsksOn, JudgesEach}
-use Rattle.vault.specs.Tasks.{HasAnswered, IsAsked, IsAudit, empty_sums}
-use Rattle.device_defs.specs.Cells.{Cells}
-use Rattle.device_defs.specs.Providers.{Provider}
-use Rattle.vault_core.specs.Carried.{ComesNext}
-use Rattle.vault.specs.declared.desk.Desk.{Desk}
-use Rattle.vault_open.specs.Devices.{devices}
-use Rattle.vault.specs.Desks.{DeskStands, Comes}
 use Rattle.vault.proofs.Allowed.{IsAllowed, next_allowed}
 use Rattle.vault.proofs.Ways.{is_handed}
 use Rattle.vault.proofs.Asks.{entries_more, none_answered, answered_more, last_given, apart, judges_still, judges_more}

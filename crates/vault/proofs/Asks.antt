@@ -1,30 +1,11 @@
 -- The rounds of an audit: what their answers are, in which order they come, and what they make of the sums.
-use Rattle.std.proofs.Common.{◌≡◌, ℕ, zero, suc, ◌+◌, ◌-◌, ◌*◌, ◌<◌, ◌≤◌, ◌==◌, ◌&&◌, Bool, true, false, List, [], ◌∷◌, ◌++◌, length, drop, map, Option, refl, sym, ap, subst, ◌∙◌, inl, inr, arith, length-append, length-drop, append_assoc}
-use Rattle.std.specs.List.{range_with_len, Contains}
-use Rattle.std.proofs.Math.Seq.{drop-append_seam}
-use Rattle.std.proofs.lemmas.Bool.{cases_Bool, eq-eqb, ne_eqb, eqb-true, eqb-false, false≢true}
-use Rattle.algebra_laws.specs.Lists.{Each}
-use Rattle.algebra_laws.proofs.Each.{each_append, each_at_most, each_zero}
-use Rattle.code_defs.specs.Points.{upto}
-use Rattle.column_defs.specs.Objects.{points}
-use Rattle.column_defs.specs.Challenges.{bare_answers}
-use Rattle.column_defs.specs.Verdicts.{Sums, Judges}
+use Rattle.vault.proofs.Words.{◌≡◌, ℕ, zero, suc, ◌+◌, ◌-◌, ◌*◌, ◌<◌, ◌≤◌, Bool, true, false, List, [], ◌∷◌, ◌++◌, drop, map, Option, refl, sym, ap, subst, ◌∙◌, inl, inr, arith, length-append, length-drop, append_assoc, range_with_len, Contains, drop-append_seam, cases_Bool, eq-eqb, ne_eqb, eqb-true, eqb-false, false≢true, Each, each_append, each_at_most, each_zero, upto, points, bare_answers, Sums, Judges, Setup, WriteBody, End, append_actions, rounds_of, challenge_in, JudgesRound, JudgesRounds, JudgesFiles, answer_given, answers_given, pinned_size, Given, Answered, Job, advanced_with, profiled, object_of, stripes_of, cond_true, cond_false, AreAscending, last_answers, answered_entries, Round, rounds_in, JudgesEach, answered_gifts, HasAnswered, empty_sums, IsAnAsk}
+use Rattle.std.proofs.Common.{◌==◌, ◌&&◌, length}
 use Rattle.column_defs.proofs.CountLaws.{counts_after-within}
-use Rattle.record_defs.specs.Records.{Setup}
-use Rattle.machine_defs.specs.Actions.{Action, WriteBody, Ask, End, append_actions, rounds_of}
-use Rattle.machine_defs.specs.Audits.{challenge_in, JudgesRound, JudgesRounds, JudgesFiles}
-use Rattle.machine_defs.specs.Given.{answer_given, answers_given, pinned_size}
+use Rattle.machine_defs.specs.Actions.{Action, Ask}
 use Rattle.machine_defs.specs.Heard.{Entry}
-use Rattle.machine_defs.specs.Jobs.{Pinned, Given, Answered, Job, advanced_with}
-use Rattle.machine_defs.specs.Setups.{profiled, object_of, stripes_of}
-use Rattle.machine_defs.proofs.JobLists.{cond_true, cond_false}
-use Rattle.state_laws.specs.Orders.{AreAscending}
+use Rattle.machine_defs.specs.Jobs.{Pinned}
 use Rattle.vault.specs.declared.heard.Ask.{Ask as AskValue}
-use Rattle.vault.specs.Asking.{last_answers}
-use Rattle.vault.specs.Heard.{answered_entries}
-use Rattle.vault.specs.Rounds.{Round, rounds_in, JudgesEach}
-use Rattle.vault.specs.Tasks.{answered_gifts, HasAnswered, empty_sums}
-use Rattle.vault_core.proofs.Onward.{IsAnAsk}
 use Rattle.vault.proofs.AskOrders.{rounds_few}
 
 -- ---- the answers of a round

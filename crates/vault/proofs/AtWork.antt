@@ -1,40 +1,13 @@
 -- What a desk at work stands for, whatever devices it was lent.
 use mathlib.Core.Bool.{Bool-set}
-use Rattle.std.proofs.Common.{◌≡◌, ◌⊎◌, ℕ, ◌*◌, ◌≤◌, List, [], length, get_or, Option, Some, None, Result, Ok, Err, refl, sym, ap, subst, ◌∙◌, inl, inr, arith}
-use Rattle.std.specs.Prelude.{IsSome, is_some, OnOk, OnErr}
-use Rattle.std.proofs.Math.Logic.{∥∥₁_elim, ∥∥₁_map}
-use Rattle.std.proofs.Math.Nat.{ℕ_set}
-use Rattle.std.proofs.lemmas.Option.{slice_get-get_or}
-use Rattle.device_defs.specs.Providers.{Provider}
-use Rattle.record_defs.specs.Records.{Setup}
+use Rattle.vault.proofs.Words.{◌≡◌, ◌⊎◌, ℕ, ◌*◌, ◌≤◌, List, [], get_or, Option, Some, None, Result, Ok, Err, refl, sym, ap, subst, ◌∙◌, inl, inr, arith, IsSome, is_some, OnOk, OnErr, ∥∥₁_elim, ∥∥₁_map, ℕ_set, slice_get-get_or, Provider, Setup, Kind, Job, job_of, State, setup_in, AreNumbered, IsSound, journal-same, BeginFault, Devices, devices, Desk, DeskStands, IsAtWork, DeskMakesBegin, Comes, PutEndsIn, HasEnds, DeskMakesStep, place_in, IsSameDesk, AreRunning, BeginsAt, beginning, Outcome, Step, Happens, found_more, CoreIs, stripe_size, told_in, Turn, AreAtHand, KeepsStreams, begin_outcome, outcome_of, setup_same}
+use Rattle.std.proofs.Common.{length}
 use Rattle.machine_defs.specs.Actions.{Action}
-use Rattle.machine_defs.specs.Jobs.{Kind, Job, job_of}
-use Rattle.machine_defs.specs.States.{State, setup_in}
-use Rattle.state_laws.specs.Orders.{AreNumbered}
-use Rattle.state_laws.specs.Sound.{IsSound}
-use Rattle.state_laws.proofs.Packs.{journal-same}
-use Rattle.vault_core.specs.declared.wish.BeginFault.{BeginFault}
-use Rattle.vault_open.specs.Devices.{Devices, devices}
-use Rattle.vault.specs.declared.desk.Desk.{Desk}
-use Rattle.vault.specs.Desks.{DeskStands, IsAtWork, DeskMakesBegin, Comes, PutEndsIn, HasEnds, DeskMakesStep}
-use Rattle.vault.specs.Running.{place_in, IsSameDesk}
-use Rattle.vault.specs.Tasks.{AreRunning}
 use Rattle.vault.proofs.JobPlaces.{place_is}
 use Rattle.vault.proofs.Ways.{working}
-use Rattle.machine_defs.specs.Begins.{BeginsAt, beginning}
-use Rattle.machine_defs.specs.Events.{Outcome, Step}
-use Rattle.machine_defs.specs.Machine.{Happens}
 use Rattle.machine_defs.proofs.Changes.{Job_is, Changes}
 use Rattle.machine_defs.proofs.Events.{changes}
-use Rattle.machine_defs.proofs.JobLists.{found_more}
-use Rattle.vault_core.specs.Carried.{CoreIs}
-use Rattle.vault_core.specs.Streams.{stripe_size}
-use Rattle.vault_core.specs.View.{told_in}
-use Rattle.vault.specs.declared.turn.Turn.{Turn}
-use Rattle.vault.specs.AtHand.{AreAtHand, KeepsStreams}
-use Rattle.vault.specs.Outcomes.{begin_outcome, outcome_of}
 use Rattle.vault.proofs.Hands.{keeps_same, told_same, told_below}
-use Rattle.hail_scrub.proofs.Machine.{setup_same}
 
 -- ---- from one state that a desk stands for
 

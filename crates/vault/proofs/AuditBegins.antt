@@ -1,27 +1,8 @@
 -- What an audit begins with.
-use Rattle.std.proofs.Common.{◌≡◌, ℕ, ◌*◌, ◌≤◌, List, [], ◌∷◌, length, take, drop, replicate, Option, refl, sym, ap, ◌∙◌, arith}
-use Rattle.std.proofs.lemmas.List.{take-replicate, drop-replicate}
-use Rattle.record_defs.specs.Records.{Setup, most_files}
-use Rattle.record_defs.specs.Table.{File, files_of}
+use Rattle.vault.proofs.Words.{◌≡◌, ℕ, ◌*◌, ◌≤◌, List, [], ◌∷◌, take, drop, replicate, Option, refl, sym, ap, ◌∙◌, arith, take-replicate, drop-replicate, Setup, most_files, File, files_of, actions_left, new_job, AuditJob, State, setup_in, setup-providers, counted, length-pin_all, AuditTask, Desk, Devices, answered_entries, asks_left, Round, rounds_in, DeskStands, IsAudit, IsAsked, IsNewAudit, table-like}
+use Rattle.std.proofs.Common.{length}
 use Rattle.record_defs.proofs.OrderLaws.{few-files_of}
-use Rattle.machine_defs.specs.Actions.{actions_left}
-use Rattle.machine_defs.specs.Begins.{new_job}
-use Rattle.machine_defs.specs.Jobs.{AuditJob}
-use Rattle.machine_defs.specs.States.{State, setup_in}
-use Rattle.state_laws.proofs.Written.{setup-providers}
-use Rattle.record_codec.specs.Entries.{counted}
-use Rattle.state_laws.proofs.Pinning.{length-pin_all}
 use Rattle.vault.specs.declared.heard.Ask.{Ask}
-use Rattle.vault.specs.declared.tasks.AuditTask.{AuditTask}
-use Rattle.vault.specs.declared.desk.Desk.{Desk}
-use Rattle.vault_open.specs.Devices.{Devices}
-use Rattle.vault.specs.Heard.{answered_entries}
-use Rattle.vault.specs.Orders.{asks_left}
-use Rattle.vault.specs.Rounds.{Round, rounds_in}
-use Rattle.vault.specs.Desks.{DeskStands}
-use Rattle.vault.specs.Tasks.{IsAudit, IsAsked}
-use Rattle.vault.specs.Benches.{IsNewAudit}
-use Rattle.vault_core.proofs.Alike.{table-like}
 use Rattle.vault.proofs.AskOrders.{audit-order, audit-count}
 
 -- no ask is made in the first round yet

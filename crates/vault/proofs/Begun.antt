@@ -1,30 +1,10 @@
 -- Begins, accepted and refused, and the states that a vault stands for after them.
-use Rattle.std.proofs.Common.{◌≡◌, inl, inr, ℕ, List, [], ◌∷◌, ◌++◌, Option, Some, None, Result, Ok, Err, refl, ap, sym, ◌∙◌, subst, arith}
-use Rattle.std.specs.Prelude.{◌||◌, IsErr, IsErrOf, length, nat_le, not}
-use Rattle.record_defs.specs.Records.{Setup}
-use Rattle.machine_defs.specs.Actions.{actions_left}
-use Rattle.machine_defs.specs.Begins.{refusal_of_begin, beginning}
-use Rattle.machine_defs.specs.Jobs.{Kind, aim_of, Job}
+use Rattle.vault.proofs.Words.{◌≡◌, inl, inr, ℕ, List, [], ◌∷◌, ◌++◌, Option, Some, None, Result, Ok, Err, refl, ap, sym, ◌∙◌, subst, arith, IsErr, IsErrOf, nat_le, not, Setup, actions_left, refusal_of_begin, beginning, Kind, aim_of, Job, Cause, first_refusal, sight_of, aims_of, is_shut, is_stored, is_full, State, setup_in, length-aims, BeginFault, CoreIs, refusal_of, job_begun, Desk, Running, Task, Devices, KeepsAll, DeskStands, DeskMakesBegin, IsTask, IsRunning, AreRunning, CoreView, told_in, hand_of, HasAtHand, AreAtHand, handed_same}
+use Rattle.std.specs.Prelude.{◌||◌, length}
 use Rattle.machine_defs.specs.Refusals as refusal
-use Rattle.machine_defs.specs.Refusals.{Cause, first_refusal}
-use Rattle.machine_defs.specs.Sights.{sight_of, aims_of, is_shut, is_stored, is_full}
-use Rattle.machine_defs.specs.States.{State, setup_in}
-use Rattle.machine_defs.proofs.Sights.{length-aims}
-use Rattle.vault_core.specs.declared.wish.BeginFault.{BeginFault}
 use Rattle.vault_core.specs.declared.wish.BeginFault.TheVariants as fault
-use Rattle.vault_core.specs.Carried.{CoreIs, refusal_of, job_begun}
-use Rattle.vault.specs.declared.desk.Desk.{Desk}
-use Rattle.vault.specs.declared.tasks.Running.{Running}
-use Rattle.vault.specs.declared.tasks.Task.{Task}
-use Rattle.vault_open.specs.Devices.{Devices}
-use Rattle.vault.specs.Running.{KeepsAll}
-use Rattle.vault.specs.Desks.{DeskStands, DeskMakesBegin}
-use Rattle.vault.specs.Tasks.{IsTask, IsRunning, AreRunning}
 use Rattle.vault.proofs.Ways.{stands_on}
-use Rattle.vault_core.specs.View.{CoreView, told_in}
-use Rattle.vault.specs.AtHand.{hand_of, HasAtHand, AreAtHand}
 use Rattle.vault.proofs.Hands.{told_below, hands_more}
-use Rattle.hail_scrub.proofs.Machine.{handed_same}
 
 -- the causes of a get or a drop behind that of its name
 abbrev pub causes_of_name : State → Kind → List ℕ → List Cause

@@ -1,23 +1,9 @@
 -- Benches of a vault are those of the setup in effect.
-use Rattle.std.proofs.Common.{◌≡◌, ℕ, List, [], ◌∷◌, ap, sym, ◌∙◌}
-use Rattle.hail_field.specs.declared.shape.Shape.{Shape}
-use Rattle.code_points.specs.declared.profile.Profile.{Profile as ProfileValue}
+use Rattle.vault.proofs.Words.{◌≡◌, ℕ, List, [], ◌∷◌, ap, sym, ◌∙◌, Shape, profile_of, Setup, with_master, Bench, IsBench, Desk, IsShaped, AreOfSetup, IsOfDesk, IsBenchFor, AreOfDesk}
+use Rattle.code_points.proofs.Rows.{plain-own}
 use Rattle.code_points.specs.Profile.{plain_profile}
-use Rattle.code_defs.specs.Profiles.{profile_of}
 use Rattle.key_schedule.specs.declared.master.Master.{Master}
-use Rattle.record_defs.specs.Records.{Setup}
-use Rattle.record_codec.specs.Entries.{with_master}
-use Rattle.column_codec.specs.declared.bench.Bench.{Bench}
-use Rattle.stripe_bench.specs.Bench.{IsBench}
 use Rattle.stripe_bench.proofs.BenchIs as stripe
-use Rattle.vault.specs.declared.desk.Desk.{Desk}
-use Rattle.vault.specs.Desks.{IsShaped}
-use Rattle.vault.specs.Tasks.{AreOfSetup}
-use Rattle.vault.specs.Benches.{IsOfDesk, IsBenchFor, AreOfDesk}
-
--- a row of the table of profiles is that of its number
-pub plain-own : (p : ProfileValue) → plain_profile p ≡ profile_of p.number
-plain-own p = (λ i. record { size = p.size_is i; keep = p.keep_is i; fix = p.fix_is i })
 
 module _ (v : Desk) (s : Setup) (shaped : IsShaped v) (setup : s ≡ with_master v.setup v.master.0) where
   -- a bench of a desk's master key and shape, at a profile, is one of the setup in effect

@@ -1,55 +1,140 @@
--- A provider of a list was called at its place.
-use Rattle.std.proofs.Common.{◌≡◌, ℕ, true, false, None, Some, sym, ap, ◌∙◌}
-use Rattle.std.proofs.lemmas.Bool.{false≢true}
+-- Which devices a step called, and what it did to its job.
+use Rattle.vault.proofs.Words.{◌≡◌, ◌⊎◌, inl, inr, ◌<◌, ℕ, true, false, get_or, map, List, None, Some, refl, sym, ap, subst, ◌∙◌, is_some, option_map, false≢true, none-some, get-set_other, slice_get, slice_set, slice_get-get_or, slice_get-map, same_value, Coming, IsNoJob, seen_action, calls_disk, called_provider, CalledOnce, called_at, Desk, Vault, Reply, Answer, Turn, IfEnded, IsNoAction, HasPaddedCounts, IsStopped}
+use Rattle.std.specs.Prelude.{◌↔◌}
+use Rattle.std.proofs.Common.{◌≢◌, length}
+use Rattle.std.proofs.lemmas.List.{length-set}
+use Rattle.device_defs.specs.Faults.{one_more}
+use Rattle.disk_model.specs.declared.disk.Disk.{Ghosts as DiskGhosts}
+use Rattle.provider_model.specs.declared.provider.Provider.{Ghosts as ProviderGhosts}
 use Rattle.machine_defs.specs.Actions.{Action}
 use Rattle.vault_core.specs.declared.action.Action.{Action as ActionValue}
-use Rattle.vault_core.specs.Coming.{Coming, Acts, IsNoJob, seen_action, calls_disk, called_provider}
+use Rattle.vault_core.specs.declared.action.Action.TheVariants as act
+use Rattle.vault_core.specs.Coming.{Acts}
+use Rattle.vault.specs.Seen.{coming_of, IsUnchanged}
+use Rattle.vault.specs.Steps.{OnlyCalled, CallsNext, HasActed, LeavesVault}
+use Rattle.vault.specs.declared.turn.Turn.TheVariants as turn
+use Rattle.vault.proofs.Hands.{keeps_same}
+use Rattle.vault.proofs.Replies.{goes_not_on, padded_end}
 
--- ---- which device an action calls
+-- ---- a provider of a list
 
--- an action that calls no disk calls none
-pub no_disk : {X : Type 0} (a b : ActionValue) → a ≡ b → calls_disk (Acts (seen_action b)) ≡ false
-    → calls_disk (Acts (seen_action a)) ≡ true → X
-no_disk a b same none calls =
-    absurd (false≢true (sym none ∙ sym (ap (λ (x : ActionValue). calls_disk (Acts (seen_action x))) same)
-    ∙ calls))
+-- where one was called and put back, it alone was called
+pub called-only : {X : Type 0} (calls : X → ℕ) (xs : List X) (k : ℕ) (d y : X) → k < length xs
+    → calls y ≡ one_more (calls (get_or xs k d)) → OnlyCalled calls k xs (slice_set xs k y)
+called-only calls xs k d y within made = record {
+  count = length-set xs k y;
+  others = λ i other. get-set_other xs k i y other;
+  called = called_at calls xs k d y within made;
+}
 
--- the provider that an action calls is one
-pub one_provider : (a b : ActionValue) (j k : ℕ) → a ≡ b → called_provider (Acts (seen_action b)) ≡ Some j
-    → called_provider (Acts (seen_action a)) ≡ Some k → j ≡ k
-one_provider a b j k same first second =
-    let e : Some j ≡ Some k =
-    sym first ∙ sym (ap (λ (x : ActionValue). called_provider (Acts (seen_action x))) same) ∙ second in
-    cc
+-- what is seen of it stands at its place
+pub seen-at : {X Y : Type 0} (seen : X → Y) (xs : List X) (k : ℕ) (d : X) → k < length xs
+    → slice_get (map seen xs) k ≡ Some (seen (get_or xs k d))
+seen-at seen xs k d within = slice_get-map seen xs k ∙ ap (option_map seen) (slice_get-get_or xs k d within)
 
--- an action that calls a provider calls one
-pub some_provider : (a b : ActionValue) (j : ℕ) → a ≡ b → called_provider (Acts (seen_action b)) ≡ Some j
-    → called_provider (Acts (seen_action a)) ≡ None → ⊥
-some_provider a b j same some none =
-    let e : Some j ≡ None =
-    sym some ∙ sym (ap (λ (x : ActionValue). called_provider (Acts (seen_action x))) same) ∙ none in
-    cc
+-- ---- what comes next calls
 
--- an action that calls none calls no one
-pub no_provider : (a b : ActionValue) (j : ℕ) → a ≡ b → called_provider (Acts (seen_action b)) ≡ None
-    → called_provider (Acts (seen_action a)) ≡ Some j → ⊥
-no_provider a b j same none some =
-    let e : None ≡ Some j =
-    sym none ∙ sym (ap (λ (x : ActionValue). called_provider (Acts (seen_action x))) same) ∙ some in
-    cc
+-- the same action comes next
+pub acts-as : (a b : ActionValue) → a ≡ b → Acts (seen_action b) ≡ Acts (seen_action a)
+acts-as a b same = ap (λ (x : ActionValue). Acts (seen_action x)) (sym same)
 
--- ---- where no action comes next
-
--- no disk is called
+-- where no disk is called, none is
 pub calls-none : {X : Type 0} (a b : Coming) → a ≡ b → calls_disk a ≡ false → calls_disk b ≡ true → X
 calls-none a b same none calls = absurd (false≢true (sym none ∙ ap calls_disk same ∙ calls))
 
--- and no provider
-pub called-none : (a b : Coming) (j : ℕ) → a ≡ b → called_provider a ≡ None → called_provider b ≡ Some j → ⊥
-called-none a b j same none some =
-    let e : None ≡ Some j = sym none ∙ ap called_provider same ∙ some in
-    cc
-
--- and an action is not the want of a job
+-- an action is not the want of a job
 pub acts-none : (a : Action) → Acts a ≡ IsNoJob → ⊥
 acts-none a e = cc
+
+module _ {W X : Type 0} (D : DiskGhosts W) (P : ProviderGhosts X) (disk : W) (ps : List X) (a b : Coming)
+    (same : a ≡ b) where
+  -- a provider, and it alone
+  pub calls-provider : (j : ℕ) (qs : List X) → called_provider a ≡ Some j → calls_disk a ≡ false
+      → OnlyCalled P.calls j ps qs → CallsNext D P b disk ps disk qs
+  calls-provider j qs one none only =
+      let its : called_provider b ≡ Some j = ap called_provider (sym same) ∙ one in
+      record {
+        tells = refl;
+        still = λ e. refl;
+        one_disk_call = λ calls. calls-none a b same none calls;
+        away = λ e. absurd (none-some j (sym e ∙ its));
+        count = only.count;
+        others = λ i k called other. only.others k
+            (subst (λ (x : ℕ). k ≢ x) (same_value (called_provider b) i j called its) other);
+        one_provider_call = λ i called. subst (λ (x : ℕ). CalledOnce P.calls x ps qs)
+            (same_value (called_provider b) j i its called) only.called;
+      }
+
+  -- no device
+  pub calls-nothing : called_provider a ≡ None → calls_disk a ≡ false → CallsNext D P b disk ps disk ps
+  calls-nothing nobody none = record {
+    tells = refl;
+    still = λ e. refl;
+    one_disk_call = λ calls. calls-none a b same none calls;
+    away = λ e. refl;
+    count = refl;
+    others = λ i k called other. refl;
+    one_provider_call = λ i called.
+        absurd (none-some i (sym nobody ∙ ap called_provider same ∙ called));
+  }
+
+  -- the disk
+  calls-disk : (new : W) → called_provider a ≡ None → calls_disk a ≡ true
+      → is_some (D.holds new) ≡ is_some (D.holds disk) → D.calls new ≡ one_more (D.calls disk)
+      → CallsNext D P b disk ps new ps
+  calls-disk new nobody moves tells called = record {
+    tells = tells;
+    still = λ none. calls-none b a (sym same) none moves;
+    one_disk_call = λ calls. called;
+    away = λ e. refl;
+    count = refl;
+    others = λ i k e other. refl;
+    one_provider_call = λ i e. absurd (none-some i (sym nobody ∙ ap called_provider same ∙ e));
+  }
+
+-- a move of an append calls the disk
+pub calls-move : {W X : Type 0} (D : DiskGhosts W) (P : ProviderGhosts X) (disk new : W) (ps : List X)
+    (a : ActionValue)
+    → (a ≡ act.WriteBody) ⊎ (a ≡ act.SyncBody) ⊎ (a ≡ act.WriteGate) ⊎ (a ≡ act.SyncGate)
+    → is_some (D.holds new) ≡ is_some (D.holds disk) → D.calls new ≡ one_more (D.calls disk)
+    → CallsNext D P (Acts (seen_action a)) disk ps new ps
+calls-move D P disk new ps a (inl e) = calls-disk D P disk ps _ _ (acts-as a _ e) new refl refl
+calls-move D P disk new ps a (inr (inl e)) = calls-disk D P disk ps _ _ (acts-as a _ e) new refl refl
+calls-move D P disk new ps a (inr (inr (inl e))) = calls-disk D P disk ps _ _ (acts-as a _ e) new refl refl
+calls-move D P disk new ps a (inr (inr (inr e))) = calls-disk D P disk ps _ _ (acts-as a _ e) new refl refl
+
+-- ---- what became of the job
+
+-- a job that was ended has acted
+pub stopped-acted : (v new : Desk) (job : ℕ) (r : Reply) (a : Answer) (t : Turn) → IsStopped v job r a t new
+    → HasPaddedCounts a → HasActed v.core new.core job t
+stopped-acted v new job r a t stopped padded = record {
+  acted = λ none. subst IsNoAction stopped.turn_is none;
+  left = λ more. absurd (goes_not_on v new job r a t stopped more);
+  padded = padded_end v new job r a t stopped padded;
+  streams = stopped.fed.streams;
+}
+
+-- what a step that made no action leaves
+pub idle-leaves : (v : Vault) (job : ℕ) (t : Turn) → IsNoAction t
+    → (t ≡ turn.NoSuchJob) ↔ (coming_of v job ≡ IsNoJob) → LeavesVault v v job t
+idle-leaves v job t none no_job = record {
+  left = λ more. absurd (subst IsNoAction more none);
+  padded = by_turn t none;
+  no_job = no_job;
+  held = refl;
+  streams = λ none. none;
+  told = λ number j is. (keeps_same v.desk.core).told number j is;
+}
+  where
+    by_turn : (t : Turn) → IsNoAction t → IfEnded t (λ ended. HasPaddedCounts ended.answer)
+    by_turn (turn.Waiting holder) none = tt
+    by_turn turn.NoSuchJob none = tt
+    by_turn turn.MustReopen none = tt
+    by_turn turn.More none = tt
+    by_turn (turn.Done ended) none = absurd none
+
+-- it leaves all as it was
+pub unchanged : (v : Vault) → IsUnchanged v v
+unchanged v =
+    (record { core = refl; setup = refl; master = refl; base = refl; flight = refl; jobs = refl }, refl)

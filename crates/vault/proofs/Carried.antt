@@ -1,14 +1,7 @@
 -- A vault that stands for a state is carried by its disk.
-use Rattle.std.proofs.Common.{◌≡◌, false, List, Option, Some, None}
-use Rattle.device_defs.specs.Cells.{Cells}
+use Rattle.vault.proofs.Words.{◌≡◌, false, List, Option, Some, None, Cells, Area, State, Flight, Desk, Devices, IsFlight, DeskStands, CarriesText, DeskCarries}
 use Rattle.record_defs.specs.Records.{Record}
-use Rattle.record_defs.specs.Areas.{Area}
-use Rattle.machine_defs.specs.States.{State}
 use Rattle.machine_defs.specs.States as states
-use Rattle.vault.specs.declared.flight.Flight.{Flight}
-use Rattle.vault.specs.declared.desk.Desk.{Desk}
-use Rattle.vault_open.specs.Devices.{Devices}
-use Rattle.vault.specs.Desks.{IsFlight, DeskStands, CarriesText, DeskCarries}
 
 carried_text : (f : Option Flight) (append : Option states.Append) (area : Area) (rs : List Record)
     (told : Option Cells) → IsFlight f append area rs told → CarriesText f area rs told

@@ -1,15 +1,6 @@
 -- The jobs of a core beside those of the machine.
-use Rattle.std.proofs.Common.{◌≡◌, ℕ, ◌*◌, ◌==◌, List, [], ◌∷◌, map, Option, Some, None, refl, sym, ap, subst, ◌∙◌, inl, inr}
-use Rattle.std.specs.List.{AllZip}
-use Rattle.std.proofs.lemmas.Bool.{cases_Bool}
-use Rattle.record_defs.specs.Records.{Setup}
-use Rattle.machine_defs.specs.Actions.{Plan}
-use Rattle.machine_defs.specs.Jobs.{Kind, AuditJob, aim_of, Job, job_of}
-use Rattle.machine_defs.proofs.JobLists.{cond_true, cond_false, same_value}
-use Rattle.vault_core.specs.Carried.{IsJobOf, HasTold, IsPutFrom, seen_plan, shown, pin_of}
-use Rattle.vault_core.specs.Streams.{stripe_size}
-use Rattle.vault_core.specs.declared.pinned.Pinned.{Pinned as PinnedFile}
-use Rattle.vault_core.specs.View.{CoreJob, job_in}
+use Rattle.vault.proofs.Words.{◌≡◌, ℕ, ◌*◌, List, [], ◌∷◌, map, Option, Some, None, refl, sym, ap, subst, ◌∙◌, inl, inr, AllZip, cases_Bool, Setup, Plan, Kind, AuditJob, aim_of, Job, job_of, cond_true, cond_false, same_value, IsJobOf, HasTold, IsPutFrom, seen_plan, shown, pin_of, stripe_size, PinnedFile, CoreJob, job_in}
+use Rattle.std.proofs.Common.{◌==◌}
 
 -- a job of the machine has its job in the core
 pub record CoreOf (s : Setup) (cs : List CoreJob) (k : ℕ) (j : Job) : Type 0 where

@@ -1,49 +1,16 @@
 -- The end of a job is a step of the machine.
-use Rattle.std.proofs.Common.{◌≡◌, ℕ, zero, suc, false, List, [], ◌∷◌, take, drop, Option, Some, None, refl, sym, ap, subst, ◌∙◌, arith}
-use Rattle.std.specs.Prelude.{slice_get, nat_lt, not, ◌&&◌}
-use Rattle.std.specs.List.{flat_map, AllZip}
-use Rattle.std.specs.Option.{option_map}
-use Rattle.std.proofs.lemmas.Bool.{le-ltb}
-use Rattle.code_defs.specs.Points.{upto}
-use Rattle.column_defs.specs.Objects.{bytes_of_symbols}
-use Rattle.column_defs.specs.Verdicts.{Sums}
-use Rattle.record_defs.specs.Records.{Setup}
-use Rattle.machine_defs.specs.Actions.{Action, WriteBody, SyncBody, WriteGate, SyncGate, End, Plan, actions_of, actions_by, actions_left}
+use Rattle.vault.proofs.Words.{◌≡◌, ℕ, zero, suc, false, List, [], ◌∷◌, take, drop, Option, Some, None, refl, sym, ap, subst, ◌∙◌, arith, slice_get, nat_lt, not, flat_map, AllZip, option_map, le-ltb, upto, bytes_of_symbols, Sums, Setup, WriteBody, SyncBody, WriteGate, SyncGate, End, Plan, actions_of, actions_by, actions_left, Ended, is_first_append, HasSums, symbols_given, Kind, GetJob, AuditJob, Job, without_job, pinned_stripes, State, setup_in, ended, Ends, GotBytes, next_action, is_idle_drop, number_of, cond_false, Counts, counted, PinnedFile, ComesNext, IsJobOf, is_audit_kind, asks_next, CoreJob, job_in, Tells, Running, Task, Turn, Desk, Devices, OpensFrom, machine_answer, place_in, IsStopped, DeskStands, Comes, DeskMakesStep, IsTask, handed_same}
+use Rattle.std.specs.Prelude.{◌&&◌}
+use Rattle.machine_defs.specs.Actions.{Action}
 use Rattle.machine_defs.specs.Answers as answers
-use Rattle.machine_defs.specs.Events.{Ended}
-use Rattle.machine_defs.specs.Appends.{is_first_append}
-use Rattle.machine_defs.specs.Audits.{HasSums}
-use Rattle.machine_defs.specs.Given.{symbols_given}
-use Rattle.machine_defs.specs.Jobs.{Kind, GetJob, AuditJob, Pinned, Job, without_job}
-use Rattle.machine_defs.specs.Setups.{pinned_stripes}
-use Rattle.machine_defs.specs.States.{State, setup_in, ended}
-use Rattle.machine_defs.specs.Steps.{Ends, GotBytes, next_action, is_idle_drop}
-use Rattle.machine_defs.proofs.JobLists.{number_of, cond_false}
-use Rattle.record_codec.specs.declared.counts.Counts.{Counts}
-use Rattle.record_codec.specs.Entries.{counted}
-use Rattle.vault_core.specs.declared.pinned.Pinned.{Pinned as PinnedFile}
-use Rattle.vault_core.specs.Carried.{ComesNext, IsJobOf, is_audit_kind}
-use Rattle.vault_core.specs.Coming.{asks_next}
-use Rattle.vault_core.specs.View.{CoreJob, job_in}
-use Rattle.vault_core.specs.Replies.{Tells}
+use Rattle.machine_defs.specs.Jobs.{Pinned}
 use Rattle.vault_core.specs.declared.reply.Reply.TheVariants as reply
-use Rattle.vault.specs.declared.tasks.Running.{Running}
-use Rattle.vault.specs.declared.tasks.Task.{Task}
 use Rattle.vault.specs.declared.tasks.Task.TheVariants as task
-use Rattle.vault.specs.declared.turn.Turn.{Turn}
-use Rattle.vault.specs.declared.desk.Desk.{Desk}
-use Rattle.vault_open.specs.Devices.{Devices}
 use Rattle.vault.specs.Ending.{answer_at_end}
-use Rattle.vault.specs.Orders.{OpensFrom}
-use Rattle.vault.specs.Outcomes.{machine_answer}
-use Rattle.vault.specs.Running.{place_in, IsStopped}
-use Rattle.vault.specs.Desks.{DeskStands, Comes, DeskMakesStep}
-use Rattle.vault.specs.Tasks.{IsTask}
 use Rattle.vault.proofs.CoreJobs.{CoreOf, core_of, shown_subject}
 use Rattle.vault.proofs.RemoveStep.{set_same}
 use Rattle.vault.proofs.Stops.{ends_by}
 use Rattle.vault.proofs.Ways.{at_place}
-use Rattle.hail_scrub.proofs.Machine.{handed_same}
 
 -- ---- what is left at an end
 

@@ -1,37 +1,13 @@
 -- A fetch is a step of the machine.
-use Rattle.std.proofs.Common.{◌≡◌, ℕ, ◌+◌, ◌*◌, ◌<◌, ◌≤◌, Bool, List, ◌∷◌, length, Option, Some, None, inl, inr, refl, sym, ap, subst, ◌∙◌, arith}
-use Rattle.std.specs.Prelude.{slice_get, slice_set, vec_capacity}
-use Rattle.std.proofs.lemmas.Bool.{cases_eq}
-use Rattle.column_defs.specs.Objects.{Object}
-use Rattle.device_defs.specs.Cells.{Cells}
-use Rattle.device_defs.specs.Providers.{Provider}
+use Rattle.vault.proofs.Words.{◌≡◌, ℕ, ◌+◌, ◌*◌, ◌<◌, ◌≤◌, Bool, List, ◌∷◌, Option, Some, None, inl, inr, refl, sym, ap, subst, ◌∙◌, arith, slice_get, slice_set, cases_eq, Object, Cells, Provider, Fetch, pinned_profile, Kind, PutJob, DropJob, AuditJob, UpgradeJob, Fetched, Job, advanced_with, pinned_stripes, State, setup_in, worked_object, going_on, with_provider, next_action, ComesNext, Setup, Bench, IsBench, RepairTask, Running, Task, Desk, given_of, devices, TakesFetch, HasRoomFor, fetch_size, place_in, KeepsAll, IsFed, DeskStands, Comes, DeskMakesStep, pin_in, profile_or, TakesUp, Turns, TurnsTo, Phase, Between, Fetching, Opened, fetched_in, AreOfSetup, HasBenchFor, IsAtHand, IsRepair, IsTask, IsRunning}
+use Rattle.std.proofs.Common.{length}
+use Rattle.std.specs.Prelude.{vec_capacity}
 use Rattle.device_defs.specs.ProviderCalls.{Fetches}
-use Rattle.machine_defs.specs.Actions.{Action, Fetch}
-use Rattle.machine_defs.specs.Given.{pinned_profile}
-use Rattle.machine_defs.specs.Jobs.{Kind, PutJob, DropJob, AuditJob, UpgradeJob, Fetched, Job, advanced_with}
-use Rattle.machine_defs.specs.Setups.{pinned_stripes}
-use Rattle.machine_defs.specs.States.{State, setup_in, worked_object, going_on, with_provider}
-use Rattle.machine_defs.specs.Steps.{next_action}
-use Rattle.vault_core.specs.Carried.{ComesNext}
+use Rattle.machine_defs.specs.Actions.{Action}
 use Rattle.vault_core.specs.declared.reply.Reply.TheVariants as reply
-use Rattle.record_defs.specs.Records.{Setup}
-use Rattle.column_codec.specs.declared.bench.Bench.{Bench}
-use Rattle.stripe_bench.specs.Bench.{IsBench}
-use Rattle.vault.specs.declared.tasks.RepairTask.{RepairTask}
-use Rattle.vault.specs.declared.tasks.Running.{Running}
-use Rattle.vault.specs.declared.tasks.Task.{Task}
 use Rattle.vault.specs.declared.tasks.Task.TheVariants as task
 use Rattle.vault.specs.declared.turn.Turn.TheVariants as turn
-use Rattle.vault.specs.declared.desk.Desk.{Desk}
-use Rattle.stripe_bench.specs.Blocks.{given_of}
-use Rattle.vault_open.specs.Devices.{devices}
-use Rattle.vault.specs.Fetching.{TakesFetch, HasRoomFor, fetch_size}
-use Rattle.vault.specs.Running.{place_in, KeepsAll, IsFed}
-use Rattle.vault.specs.Desks.{DeskStands, Comes, DeskMakesStep}
-use Rattle.vault.specs.Asking.{pin_in, profile_or}
-use Rattle.vault.specs.Benches.{TakesUp, Turns, TurnsTo}
-use Rattle.vault.specs.Orders.{Phase, Between, Fetching, Opened, GoesOn}
-use Rattle.vault.specs.Tasks.{fetched_in, AreOfSetup, HasBenchFor, IsAtHand, IsRepair, IsTask, IsRunning}
+use Rattle.vault.specs.Orders.{GoesOn}
 use Rattle.vault.proofs.OwnObjects.{worked-own}
 use Rattle.vault.proofs.Kits.{turned_is, bench_size, by_size, served, own_swapped, serves_swapped}
 use Rattle.vault.proofs.Allowed.{IsAllowed, next_allowed}

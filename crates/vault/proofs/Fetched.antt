@@ -1,37 +1,12 @@
 -- One fetch more of a get or a repair.
-use Rattle.std.proofs.Common.{◌≡◌, ℕ, ◌+◌, ◌*◌, ◌<◌, ◌≤◌, Bool, cond, List, [], ◌∷◌, ◌++◌, length, drop, Option, Some, refl, sym, ap, subst, ◌∙◌, arith, length-append, append_assoc, zero-add}
-use Rattle.std.proofs.lemmas.List.{append-nil}
-use Rattle.std.proofs.Math.Nat.{mul-le-mul_left}
-use Rattle.std.proofs.lemmas.List.Sums.{sum_by-cons}
-use Rattle.column_codec.specs.PresentBlocks.{present_blocks}
-use Rattle.column_codec.proofs.PresentLemmas.{length-present_blocks}
-use Rattle.record_defs.specs.Records.{Setup}
-use Rattle.machine_defs.specs.Actions.{Action, Fetch, actions_of, actions_left}
-use Rattle.machine_defs.specs.Jobs.{Kind, PutJob, GetJob, DropJob, AuditJob, RepairJob, UpgradeJob, Given, Fetched, Job, advanced_with}
-use Rattle.machine_defs.specs.Given.{pinned_profile}
-use Rattle.machine_defs.specs.Setups.{pinned_stripes}
-use Rattle.machine_defs.specs.Heard.{Entry, entries_of}
-use Rattle.machine_defs.specs.States.{State, setup_in}
-use Rattle.machine_defs.specs.Steps.{next_action}
-use Rattle.state_laws.proofs.Orders.{next-left}
-use Rattle.stripe_bench.specs.declared.blocks.Blocks.{Blocks}
+use Rattle.vault.proofs.Words.{◌≡◌, ℕ, ◌+◌, ◌*◌, ◌<◌, ◌≤◌, Bool, cond, List, [], ◌∷◌, ◌++◌, drop, Option, Some, refl, sym, ap, subst, ◌∙◌, arith, length-append, append_assoc, zero-add, append-nil, mul-le-mul_left, sum_by-cons, present_blocks, length-present_blocks, Setup, Fetch, actions_of, actions_left, Kind, PutJob, GetJob, DropJob, AuditJob, RepairJob, UpgradeJob, Given, Fetched, Job, advanced_with, pinned_profile, pinned_stripes, entries_of, State, setup_in, next_action, next-left, Blocks, GetTask, RepairTask, stripe_symbols, Running, Task, given_of, Grows, GrowsFetches, TakesFetch, HasRoomFor, blocks_in, fetched_entry, fetched_entries, Phase, Between, Fetching, Opened, fetches_left, works_left, is_fetch, is_work, bench_object, IsBench, HasFetched, IsInWork, IsGet, IsRepair, IsTask, IsRunning, fetched_in, present_more, gifts_more}
+use Rattle.std.proofs.Common.{length}
+use Rattle.machine_defs.specs.Actions.{Action}
+use Rattle.machine_defs.specs.Heard.{Entry}
 use Rattle.vault.specs.declared.heard.Fetches.{Fetches}
-use Rattle.vault.specs.declared.tasks.GetTask.{GetTask}
-use Rattle.vault.specs.declared.tasks.RepairTask.{RepairTask}
-use Rattle.column_defs.specs.Objects.{stripe_symbols}
-use Rattle.vault.specs.declared.tasks.Running.{Running}
-use Rattle.vault.specs.declared.tasks.Task.{Task}
 use Rattle.vault.specs.declared.tasks.Task.TheVariants as task
-use Rattle.stripe_bench.specs.Blocks.{given_of, Grows}
-use Rattle.vault.specs.Fetching.{GrowsFetches, TakesFetch, HasRoomFor}
-use Rattle.stripe_bench.specs.Blocks.{blocks_in}
-use Rattle.vault.specs.Heard.{fetched_entry, fetched_entries}
-use Rattle.vault.specs.Orders.{Phase, Between, Fetching, Opened, GoesOn, fetches_left, works_left, is_fetch, is_work}
-use Rattle.column_codec.specs.Bench.{bench_object}
-use Rattle.stripe_bench.specs.Bench.{IsBench}
+use Rattle.vault.specs.Orders.{GoesOn}
 use Rattle.stripe_bench.specs.Gifts.{fetched_gifts}
-use Rattle.vault.specs.Tasks.{HasFetched, IsInWork, IsGet, IsRepair, IsTask, IsRunning, fetched_in}
-use Rattle.stripe_bench.proofs.Gifts.{present_more, gifts_more}
 use Rattle.vault.proofs.Allowed.{next_allowed}
 use Rattle.vault.proofs.HeardAt.{entries_more, entry_next}
 use Rattle.vault.proofs.Worked.{own_object}

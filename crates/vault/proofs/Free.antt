@@ -1,20 +1,6 @@
 -- A vault that is not held goes on as its desk does; one that is held has nothing under way.
-use Rattle.std.proofs.Common.{◌≡◌, ◌≤◌, ℕ, true, false, List, [], ◌∷◌, length, Option, None, Result, refl, ap, sym, ◌∙◌, arith}
-use Rattle.std.specs.Prelude.{is_some}
-use Rattle.std.specs.List.{AllZip}
-use Rattle.std.proofs.lemmas.Bool.{false≢true}
-use Rattle.record_defs.specs.Records.{Setup}
-use Rattle.machine_defs.specs.Jobs.{Kind, Job}
-use Rattle.machine_defs.specs.States.{State}
-use Rattle.vault_core.specs.Carried.{IsJobOf}
-use Rattle.vault_core.specs.Coming.{IsNoJob, next_in, next_of}
-use Rattle.vault_core.specs.View.{CoreJob, CoreView, job_in}
-use Rattle.vault_core.specs.declared.wish.BeginFault.{BeginFault}
-use Rattle.vault_open.specs.Devices.{Devices}
-use Rattle.vault.specs.declared.turn.Turn.{Turn}
-use Rattle.vault.specs.declared.vault.Vault.{Vault}
-use Rattle.vault.specs.Desks.{DeskMakesBegin, DeskMakesStep}
-use Rattle.vault.specs.Stands.{MakesBegin, MakesStep}
+use Rattle.vault.proofs.Words.{◌≡◌, ◌≤◌, ℕ, true, false, List, [], ◌∷◌, Option, None, Result, refl, ap, sym, ◌∙◌, arith, is_some, AllZip, false≢true, Setup, Kind, Job, State, IsJobOf, IsNoJob, next_in, next_of, CoreJob, CoreView, job_in, BeginFault, Devices, Turn, Vault, DeskMakesBegin, DeskMakesStep, MakesBegin, MakesStep}
+use Rattle.std.proofs.Common.{length}
 
 -- what is held is not free
 pub not_free : (o : Option ℕ) → is_some o ≡ true → o ≡ None → ⊥

@@ -1,40 +1,12 @@
 -- What a get begins with.
-use Rattle.std.proofs.Common.{◌≡◌, ℕ, ◌+◌, ◌*◌, ◌≤◌, ◌^◌, List, [], ◌∷◌, ◌++◌, length, min, Some, None, Result, refl, sym, ap, ◌∙◌, subst, arith, append_assoc}
-use Rattle.std.specs.Prelude.{IsTrue, is_some, vec_len, vec_capacity}
-use Rattle.std.specs.List.{flat_map}
-use Rattle.code_defs.specs.Points.{upto}
-use Rattle.column_defs.specs.Objects.{Object, stripes, stripe_symbols}
-use Rattle.record_defs.specs.Records.{Setup, is_name, largest_file}
-use Rattle.record_defs.specs.Table.{File, find_file}
+use Rattle.vault.proofs.Words.{◌≡◌, ℕ, ◌+◌, ◌*◌, ◌≤◌, ◌^◌, List, [], ◌∷◌, ◌++◌, min, Some, None, Result, refl, sym, ap, ◌∙◌, subst, arith, append_assoc, IsTrue, is_some, flat_map, upto, Object, stripes, stripe_symbols, Setup, is_name, largest_file, File, find_file, End, open_actions, actions_left, actions_of, begin_refusal, new_job, pin_found, pinned_file, IsSpelledKind, Kind, GetJob, ToGet, first_refusal, pinned_stripes, State, setup_in, file_in, stored-file, file-spelled, setup-providers, IsKindOf, BeginFault, Bench, GetTask, Desk, Devices, present_blocks, fetched_entries, Between, OpensFrom, fetches_left, works_left, DeskStands, DeskMakesBegin, bench_object, IsBench, IsGet, IsTask, IsBenchFor, IsNewGet, stripes_on, table-like}
+use Rattle.std.proofs.Common.{length}
+use Rattle.std.specs.Prelude.{vec_len, vec_capacity}
 use Rattle.record_defs.proofs.FilesLaws.{find-files_of}
-use Rattle.machine_defs.specs.Actions.{End, open_actions, actions_left, actions_of}
-use Rattle.machine_defs.specs.Begins.{begin_refusal, new_job, pin_found, pinned_file}
-use Rattle.machine_defs.specs.Events.{IsSpelledKind}
-use Rattle.machine_defs.specs.Jobs.{Kind, GetJob, ToGet}
 use Rattle.machine_defs.specs.Refusals as refusal
-use Rattle.machine_defs.specs.Refusals.{first_refusal}
-use Rattle.machine_defs.specs.Setups.{pinned_stripes}
-use Rattle.machine_defs.specs.States.{State, setup_in, file_in}
-use Rattle.machine_defs.proofs.Sights.{stored-file}
-use Rattle.state_laws.proofs.Records.{file-spelled}
-use Rattle.state_laws.proofs.Written.{setup-providers}
-use Rattle.vault_core.specs.Carried.{IsKindOf}
-use Rattle.vault_core.specs.declared.wish.BeginFault.{BeginFault}
 use Rattle.vault_core.specs.declared.wish.Wish.TheVariants as wish
-use Rattle.column_codec.specs.declared.bench.Bench.{Bench}
-use Rattle.vault.specs.declared.tasks.GetTask.{GetTask}
 use Rattle.vault.specs.declared.tasks.Task.TheVariants as task
-use Rattle.vault.specs.declared.desk.Desk.{Desk}
-use Rattle.vault_open.specs.Devices.{Devices}
-use Rattle.column_codec.specs.PresentBlocks.{present_blocks}
-use Rattle.vault.specs.Heard.{fetched_entries}
-use Rattle.vault.specs.Orders.{Between, GoesOn, OpensFrom, fetches_left, works_left}
-use Rattle.vault.specs.Desks.{DeskStands, DeskMakesBegin}
-use Rattle.column_codec.specs.Bench.{bench_object}
-use Rattle.stripe_bench.specs.Bench.{IsBench}
-use Rattle.vault.specs.Tasks.{IsGet, IsTask}
-use Rattle.vault.specs.Benches.{IsBenchFor, IsNewGet, stripes_on}
-use Rattle.vault_core.proofs.Alike.{table-like}
+use Rattle.vault.specs.Orders.{GoesOn}
 use Rattle.vault.proofs.BenchLemmas.{bench-is}
 use Rattle.vault.proofs.Begun.{causes_of_name}
 use Rattle.vault.proofs.Puts.{name_cause}

@@ -1,39 +1,10 @@
 -- A stream is given its next piece.
-use Rattle.std.proofs.Common.{◌≡◌, ◌⊎◌, ℕ, ◌+◌, ◌-◌, ◌*◌, ◌/◌, ◌<◌, ◌≤◌, ◌==◌, Bool, true, false, cond, List, [], ◌∷◌, ◌++◌, length, take, Option, Some, None, refl, sym, ap, subst, ◌∙◌, inl, inr, arith, length-append, append_assoc}
-use Rattle.std.specs.Prelude.{slice_get, slice_set, ◌&&◌}
-use Rattle.std.proofs.lemmas.Bool.{cases_Bool, cases_eq, eq-eqb, ne_eqb}
-use Rattle.std.proofs.lemmas.List.Folds.{list_all-append}
-use Rattle.std.proofs.Math.Logic.{∥∥₁_map}
-use Rattle.std.proofs.Math.Nat.{div-lt_iff_lt-mul}
-use Rattle.std.proofs.Math.Seq.{take-append-add}
-use Rattle.std.proofs.lemmas.List.{append-nil, take_all}
-use Rattle.std.proofs.lemmas.Option.{none-some}
-use Rattle.algebra_laws.proofs.Lists.{get-set_there}
-use Rattle.code_defs.specs.Profiles.{profile_of}
+use Rattle.vault.proofs.Words.{◌≡◌, ◌⊎◌, ℕ, ◌+◌, ◌-◌, ◌*◌, ◌/◌, ◌<◌, ◌≤◌, Bool, true, false, cond, List, [], ◌∷◌, ◌++◌, take, Option, Some, None, refl, sym, ap, subst, ◌∙◌, inl, inr, arith, length-append, append_assoc, slice_get, slice_set, cases_Bool, cases_eq, eq-eqb, ne_eqb, list_all-append, ∥∥₁_map, div-lt_iff_lt-mul, take-append-add, append-nil, take_all, none-some, get-set_there, profile_of, Object, stripe_symbols, symbols_in, Provider, Setup, is_byte, largest_file, actions_left, AreBytes, Kind, PutJob, GetJob, DropJob, AuditJob, RepairJob, UpgradeJob, aim_of, Job, job_of, with_job, State, setup_in, cond_true, cond_false, number_of, same_value, bench_object, CoreIs, stripe_size, IsGivenLength, FitsGiven, FitsAim, CoreJob, job_in, told_by, told_in, wanted_at, wanted_by, wants_in, Devices, devices, Desk, Running, StreamTask, Task, task_of, hand_of, HasLast, HasAtHand, AreAtHand, IsStreaming, piece_size, TakesPiece, DeskStands, PutEndsIn, HasEnds, IsAtWork, place_in, KeepsAll, stripe_by, IsPiece, HasPieceAt, FitsKind, FitsPiece, IsStream, IsTask, IsRunning, AreRunning, handed_same}
+use Rattle.std.proofs.Common.{◌==◌, length}
+use Rattle.std.specs.Prelude.{◌&&◌}
 use Rattle.code_defs.proofs.Profiles.{some_kept}
-use Rattle.column_defs.specs.Objects.{Object, stripe_symbols, symbols_in}
-use Rattle.device_defs.specs.Providers.{Provider}
-use Rattle.record_defs.specs.Records.{Setup, is_byte, largest_file}
-use Rattle.machine_defs.specs.Actions.{Action, actions_left}
-use Rattle.machine_defs.specs.Events.{AreBytes}
-use Rattle.machine_defs.specs.Jobs.{Kind, PutJob, GetJob, DropJob, AuditJob, RepairJob, UpgradeJob, aim_of, Job, job_of, with_job}
-use Rattle.machine_defs.specs.States.{State, setup_in}
-use Rattle.machine_defs.proofs.JobLists.{cond_true, cond_false, number_of, same_value}
-use Rattle.column_codec.specs.Bench.{bench_object}
-use Rattle.vault_core.specs.Carried.{CoreIs}
-use Rattle.vault_core.specs.Streams.{stripe_size, IsGivenLength, FitsGiven, FitsAim}
-use Rattle.vault_core.specs.View.{CoreJob, job_in, told_by, told_in, wanted_at, wanted_by, wants_in}
-use Rattle.vault_open.specs.Devices.{Devices, devices}
-use Rattle.vault.specs.declared.desk.Desk.{Desk}
-use Rattle.vault.specs.declared.tasks.Running.{Running}
-use Rattle.vault.specs.declared.tasks.StreamTask.{StreamTask}
-use Rattle.vault.specs.declared.tasks.Task.{Task}
+use Rattle.machine_defs.specs.Actions.{Action}
 use Rattle.vault.specs.declared.tasks.Task.TheVariants as task
-use Rattle.vault.specs.AtHand.{task_of, hand_of, HasLast, HasAtHand, AreAtHand, IsStreaming, piece_size, TakesPiece}
-use Rattle.vault.specs.Desks.{DeskStands, PutEndsIn, HasEnds, IsAtWork}
-use Rattle.vault.specs.Running.{place_in, KeepsAll}
-use Rattle.vault.specs.Streams.{stripe_by, IsPiece, HasPieceAt, FitsKind, FitsPiece}
-use Rattle.vault.specs.Tasks.{IsStream, IsTask, IsRunning, AreRunning}
 use Rattle.vault.proofs.CoreJobs.{core_of, profile_same}
 use Rattle.vault.proofs.Hands.{number_at, task_at, task_set}
 use Rattle.vault.proofs.JobPlaces.{at_number, at_set, found, place_is, put_back}
@@ -41,7 +12,6 @@ use Rattle.vault.proofs.Kits.{bench_after}
 use Rattle.vault.proofs.Pieces.{symbols_of_piece}
 use Rattle.vault.proofs.StoredStripes.{more_times}
 use Rattle.vault.proofs.Ways.{stands_on}
-use Rattle.hail_scrub.proofs.Machine.{handed_same}
 
 -- ---- the size of a stripe
 

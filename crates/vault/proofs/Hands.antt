@@ -1,27 +1,8 @@
 -- The stripe at hand of a stream, over begins and steps of jobs.
-use Rattle.std.proofs.Common.{◌≡◌, ℕ, zero, suc, ◌+◌, ◌*◌, ◌<◌, ◌≤◌, ◌==◌, cond, List, [], ◌∷◌, ◌++◌, length, Option, Some, None, ◌⊎◌, refl, sym, ap, subst, ◌∙◌, inl, inr, arith}
-use Rattle.std.specs.Prelude.{slice_get, slice_set, nat_lt}
-use Rattle.std.specs.List.{remove}
-use Rattle.std.specs.Option.{option_map}
-use Rattle.std.proofs.lemmas.Bool.{cases_Bool, eqb-true, eq-eqb, ne_eqb, ltb-true, ltb-false}
-use Rattle.std.proofs.lemmas.Option.{none-some}
-use Rattle.algebra_laws.proofs.Lists.{get-set_there}
-use Rattle.record_defs.specs.Records.{Setup}
+use Rattle.vault.proofs.Words.{◌≡◌, ℕ, zero, suc, ◌+◌, ◌*◌, ◌<◌, ◌≤◌, cond, List, [], ◌∷◌, ◌++◌, Option, Some, None, ◌⊎◌, refl, sym, ap, subst, ◌∙◌, inl, inr, arith, slice_get, slice_set, nat_lt, remove, option_map, cases_Bool, eqb-true, eq-eqb, ne_eqb, ltb-true, ltb-false, none-some, get-set_there, Setup, Kind, PutJob, GetJob, DropJob, AuditJob, RepairJob, UpgradeJob, Job, job_of, with_job, without_job, profiled, stripes_of, State, setup_in, cond_true, cond_false, same_value, found_with, found_without, found_more, AreNumbered, numbered-below, CoreIs, CoreJob, CoreView, job_in, told_by, told_in, wanted_at, wanted_by, wants_in, pair_some, Running, Task, task_of, hand_of, IsOn, HasGiven, HasLast, HasAtHand, AreAtHand, KeepsStreams, IsTask, AreRunning}
+use Rattle.std.proofs.Common.{◌==◌, length}
 use Rattle.machine_defs.specs.Actions.{Action}
-use Rattle.machine_defs.specs.Jobs.{Kind, PutJob, GetJob, DropJob, AuditJob, RepairJob, UpgradeJob, Job, job_of, with_job, without_job}
-use Rattle.machine_defs.specs.Setups.{profiled, stripes_of}
-use Rattle.machine_defs.specs.States.{State, setup_in}
-use Rattle.machine_defs.proofs.JobLists.{cond_true, cond_false, same_value, found_with, found_without, found_more}
-use Rattle.state_laws.specs.Orders.{AreNumbered}
-use Rattle.state_laws.proofs.JobLists.{numbered-below}
-use Rattle.vault_core.specs.Carried.{CoreIs}
-use Rattle.vault_core.specs.View.{CoreJob, CoreView, job_in, told_by, told_in, wanted_at, wanted_by, wants_in}
-use Rattle.vault_core.proofs.Pairs.{pair_some}
-use Rattle.vault.specs.declared.tasks.Running.{Running}
-use Rattle.vault.specs.declared.tasks.Task.{Task}
 use Rattle.vault.specs.declared.tasks.Task.TheVariants as task
-use Rattle.vault.specs.AtHand.{task_of, hand_of, IsOn, HasGiven, HasLast, HasAtHand, AreAtHand, KeepsStreams}
-use Rattle.vault.specs.Tasks.{IsTask, AreRunning}
 use Rattle.vault.proofs.CoreJobs.{core_of}
 use Rattle.vault.proofs.JobPlaces.{at_number, before, found}
 

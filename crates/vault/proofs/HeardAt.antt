@@ -1,13 +1,9 @@
 -- What a job heard, place by place.
-use Rattle.std.proofs.Common.{◌≡◌, ℕ, zero, suc, ◌+◌, ◌*◌, ◌/◌, ◌%◌, ◌<◌, min, List, [], ◌∷◌, ◌++◌, length, Option, Some, None, refl, sym, ap, ◌∙◌, arith, mod-eq_of_lt}
-use Rattle.std.specs.Prelude.{slice_get}
-use Rattle.std.specs.Option.{option_map}
-use Rattle.std.proofs.Math.Nat.{mul-add-mod_self_right}
+use Rattle.vault.proofs.Words.{◌≡◌, ℕ, zero, suc, ◌+◌, ◌*◌, ◌/◌, ◌%◌, ◌<◌, min, List, [], ◌∷◌, ◌++◌, Option, Some, None, refl, sym, ap, ◌∙◌, arith, mod-eq_of_lt, slice_get, option_map, mul-add-mod_self_right, Fetched, Answered, fetched_entry, fetched_entries, answered_entries}
+use Rattle.std.proofs.Common.{length}
 use Rattle.std.proofs.lemmas.Nat.{div-mul-add}
-use Rattle.machine_defs.specs.Jobs.{Fetched, Answered}
 use Rattle.machine_defs.specs.Heard.{Entry}
 use Rattle.vault.specs.declared.heard.Ask.{Ask}
-use Rattle.vault.specs.Heard.{fetched_entry, fetched_entries, answered_entries}
 
 -- ---- how many
 

@@ -1,18 +1,9 @@
 -- A step that makes no action is an event of the machine, and leaves the state as it was.
-use Rattle.std.proofs.Common.{◌≡◌, ℕ, Bool, true, false, Option, None, Some, refl, sym, subst}
+use Rattle.vault.proofs.Words.{◌≡◌, ℕ, Bool, true, false, Option, None, Some, refl, sym, subst, Outcome, Step, Ended, Job, job_of, Happens, State, Alone, ActsOrWaits, StepsOn, StepsJob, StepsOne, StepsOpen, Steps, ComesNext, Devices, DeskStands, DeskMakesStep, Desk}
 use Rattle.machine_defs.specs.Actions.{Action}
 use Rattle.machine_defs.specs.Answers as answers
-use Rattle.machine_defs.specs.Events.{Outcome, Step, Ended}
 use Rattle.machine_defs.specs.Events as events
-use Rattle.machine_defs.specs.Jobs.{Job, job_of}
-use Rattle.machine_defs.specs.Machine.{Happens}
 use Rattle.machine_defs.specs.Refusals as refusal
-use Rattle.machine_defs.specs.States.{State, Alone}
-use Rattle.machine_defs.specs.Steps.{ActsOrWaits, StepsOn, StepsJob, StepsOne, StepsOpen, Steps}
-use Rattle.vault_core.specs.Carried.{ComesNext}
-use Rattle.vault_open.specs.Devices.{Devices}
-use Rattle.vault.specs.Desks.{DeskStands, DeskMakesStep}
-use Rattle.vault.specs.declared.desk.Desk.{Desk}
 use Rattle.vault.specs.declared.turn.Turn.TheVariants as turn
 use Rattle.vault.proofs.Ways.{same_beyond}
 

@@ -1,20 +1,6 @@
 -- Running jobs by their numbers, beside the jobs of the machine.
-use Rattle.std.proofs.Common.{◌≡◌, ℕ, zero, suc, ◌+◌, ◌<◌, ◌==◌, get_or, true, false, cond, List, [], ◌∷◌, length, Option, Some, None, refl, sym, ap, subst, ◌∙◌, inl, inr, arith, zero-add, add-zero}
-use Rattle.std.specs.Prelude.{slice_get, slice_set}
-use Rattle.std.specs.List.{remove, position_from}
-use Rattle.std.specs.Option.{option_map}
-use Rattle.std.proofs.lemmas.Bool.{cases_Bool, eqb-true, eq-eqb}
-use Rattle.std.proofs.lemmas.Option.{slice_get-get_or}
-use Rattle.std.proofs.lemmas.List.Quantifiers.{position-Some}
-use Rattle.std.proofs.lemmas.Iterator.Adapters.{position_from-zero}
-use Rattle.record_defs.specs.Records.{Setup}
-use Rattle.machine_defs.specs.Jobs.{Job, job_of, with_job, without_job}
-use Rattle.machine_defs.proofs.JobLists.{cond_true, cond_false, same_value}
-use Rattle.state_laws.specs.Orders.{AreNumbered}
-use Rattle.state_laws.proofs.JobLists.{without_job-none}
-use Rattle.vault.specs.declared.tasks.Running.{Running}
-use Rattle.vault.specs.Tasks.{IsRunning, AreRunning}
-use Rattle.vault.specs.Running.{place_in}
+use Rattle.vault.proofs.Words.{◌≡◌, ℕ, zero, suc, ◌+◌, ◌<◌, get_or, true, false, cond, List, [], ◌∷◌, Option, Some, None, refl, sym, ap, subst, ◌∙◌, inl, inr, arith, zero-add, add-zero, slice_get, slice_set, remove, position_from, option_map, cases_Bool, eqb-true, eq-eqb, slice_get-get_or, position-Some, position_from-zero, Setup, Job, job_of, with_job, without_job, cond_true, cond_false, same_value, AreNumbered, without_job-none, Running, IsRunning, AreRunning, place_in}
+use Rattle.std.proofs.Common.{◌==◌, length}
 
 -- the place of a number, by recursion
 abbrev pub at_number : List Running → ℕ → Option ℕ

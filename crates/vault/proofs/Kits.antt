@@ -1,29 +1,9 @@
 -- The benches of a job: the object of each, and one for each profile of a repair's files.
-use Rattle.std.proofs.Common.{◌≡◌, ◌⊎◌, inl, inr, ℕ, zero, suc, ◌+◌, ◌<◌, Bool, true, false, List, [], ◌∷◌, ◌++◌, drop, length, get_or, None, Some, refl, sym, ap, subst, ◌∙◌, arith}
-use Rattle.std.specs.Prelude.{◌||◌, slice_get, slice_set, position}
-use Rattle.std.specs.List.{list_any, position_from}
-use Rattle.std.proofs.lemmas.Bool.{cases_Bool, eq-eqb, eqb-true}
-use Rattle.std.proofs.lemmas.Iterator.Adapters.{position_from-zero}
-use Rattle.std.proofs.lemmas.List.Folds.{list_any-append}
-use Rattle.std.proofs.lemmas.List.Quantifiers.{position-Some}
-use Rattle.std.proofs.lemmas.Option.{none-some, same_Some}
+use Rattle.vault.proofs.Words.{◌≡◌, ◌⊎◌, inl, inr, ℕ, zero, suc, ◌+◌, ◌<◌, Bool, true, false, List, [], ◌∷◌, ◌++◌, drop, get_or, None, Some, refl, sym, ap, subst, ◌∙◌, arith, slice_get, slice_set, position, list_any, position_from, cases_Bool, eq-eqb, eqb-true, position_from-zero, list_any-append, position-Some, none-some, same_Some, Each, each_get, Profile, profile_of, Object, Setup, File, profiled, object_of, cond_true, cond_false, Bench, bench_object, turned, IsBench, Desk, is_sized, is_served, IsOfDesk, AreOfDesk, AreServed, IsSwapped, Phase, Between, Fetching, Opened, AreOfSetup, OneHas, HasBenchFor, IsAtHand}
+use Rattle.std.proofs.Common.{length}
+use Rattle.std.specs.Prelude.{◌||◌}
 use Rattle.std.proofs.Math.Bool.{or-true}
-use Rattle.algebra_laws.specs.Lists.{Each}
-use Rattle.algebra_laws.proofs.Each.{each_get}
-use Rattle.code_defs.specs.Profiles.{Profile, profile_of}
-use Rattle.column_defs.specs.Objects.{Object}
-use Rattle.record_defs.specs.Records.{Setup}
-use Rattle.record_defs.specs.Table.{File}
 use Rattle.machine_defs.specs.Jobs.{Pinned}
-use Rattle.machine_defs.specs.Setups.{profiled, object_of}
-use Rattle.machine_defs.proofs.JobLists.{cond_true, cond_false}
-use Rattle.column_codec.specs.declared.bench.Bench.{Bench}
-use Rattle.column_codec.specs.Bench.{bench_object, turned}
-use Rattle.stripe_bench.specs.Bench.{IsBench}
-use Rattle.vault.specs.declared.desk.Desk.{Desk}
-use Rattle.vault.specs.Benches.{is_sized, is_served, IsOfDesk, AreOfDesk, AreServed, IsSwapped}
-use Rattle.vault.specs.Orders.{Phase, Between, Fetching, Opened}
-use Rattle.vault.specs.Tasks.{AreOfSetup, OneHas, HasBenchFor, IsAtHand}
 
 -- ---- a bench
 

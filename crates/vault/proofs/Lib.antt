@@ -1,3 +1,4 @@
+mod Words
 pub mod OwnObjects
 pub mod Opened
 pub mod Limits

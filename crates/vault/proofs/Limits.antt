@@ -1,9 +1,7 @@
 -- The limits of a setup's numbers.
-use Rattle.std.proofs.Common.{◌≤◌, arith}
-use Rattle.std.specs.Prelude.{IsTrue}
+use Rattle.vault.proofs.Words.{◌≤◌, arith, IsTrue, Setup, SetUp, is_setup, is_in_grammar}
 use Rattle.std.proofs.lemmas.Bool.Decides.{nat_tests}
 use Rattle.hail_field.specs.Shape.{IsShape}
-use Rattle.record_defs.specs.Records.{Setup, SetUp, is_setup, is_in_grammar}
 
 -- its shape is one of a field
 pub setup-shape : (s : Setup) → IsTrue (is_setup s) → IsShape s.n s.l s.b

@@ -1,54 +1,19 @@
 -- A move of an append is a step of the machine.
-use Rattle.std.proofs.Common.{◌≡◌, ℕ, zero, suc, ◌+◌, ◌≤◌, false, List, [], ◌∷◌, ◌++◌, length, Option, Some, None, refl, sym, ap, subst, ◌∙◌, inl, inr, arith, length-append}
-use Rattle.std.specs.Prelude.{◌≢◌, slice_get, slice_set, nat_lt}
-use Rattle.std.proofs.lemmas.Bool.{cases_Bool}
-use Rattle.std.proofs.lemmas.Option.{none-some}
-use Rattle.device_defs.specs.Cells.{Cells}
-use Rattle.device_defs.specs.Providers.{Provider}
-use Rattle.device_defs.specs.Told.{Goes}
-use Rattle.record_defs.specs.Records.{Record, Setup}
-use Rattle.record_defs.specs.Spellings.{spelling}
-use Rattle.record_defs.specs.Areas.{Area, base_of, end_in}
-use Rattle.record_defs.proofs.Sizes.{length-spelling, length-entries}
+use Rattle.vault.proofs.Words.{◌≡◌, ℕ, zero, suc, ◌+◌, ◌≤◌, false, List, [], ◌∷◌, ◌++◌, Option, Some, None, refl, sym, ap, subst, ◌∙◌, inl, inr, arith, length-append, slice_get, slice_set, nat_lt, cases_Bool, none-some, Cells, Provider, Goes, Setup, spelling, Area, base_of, end_in, length-spelling, length-entries, subject_drawn, More, Ended, Kind, PutJob, GetJob, DropJob, AuditJob, RepairJob, UpgradeJob, Job, with_job, without_job, State, Doubt, setup_in, StandsForState, number_of, cond_false, with_master, Appends, gate_of, body_of, SameFrom, AllStandIn, MayStandWith, CoreIs, ComesNext, entry_in, Tells, Reply, Flight, Running, Answer, Turn, Desk, AreHanded, devices, IsSameBeyond, IsSamePast, machine_answer, place_in, KeepsAll, IsFed, IsStopped, DeskStands, IsFlight, DeskMakesStep, AreRunning, all-shown, doubt-shown, wants_in, AreAtHand}
+use Rattle.std.proofs.Common.{length}
+use Rattle.std.specs.Prelude.{◌≢◌}
+use Rattle.record_defs.specs.Records.{Record}
 use Rattle.machine_defs.specs.Actions.{Action}
 use Rattle.machine_defs.specs.Answers as answers
-use Rattle.machine_defs.specs.Appends.{subject_drawn}
-use Rattle.machine_defs.specs.Events.{More, Ended}
-use Rattle.machine_defs.specs.Jobs.{Kind, PutJob, GetJob, DropJob, AuditJob, RepairJob, UpgradeJob, Job, with_job, without_job}
-use Rattle.machine_defs.specs.States.{State, Append, Doubt, setup_in}
-use Rattle.machine_defs.specs.Stands.{StandsForState}
+use Rattle.machine_defs.specs.States.{Append}
 use Rattle.machine_defs.specs.Steps.{Acts}
-use Rattle.machine_defs.proofs.JobLists.{number_of, cond_false}
-use Rattle.record_codec.specs.Entries.{with_master}
 use Rattle.journal_core.specs.declared.append.Append.{Append as AppendValue}
-use Rattle.journal_core.specs.Appends.{Appends, gate_of, body_of}
-use Rattle.journal_core.specs.Moves.{SameFrom}
-use Rattle.journal_core.specs.Texts.{AllStandIn, MayStandWith}
-use Rattle.vault_core.specs.Carried.{CoreIs, ComesNext}
-use Rattle.vault_core.specs.Coming.{entry_in}
-use Rattle.vault_core.specs.Replies.{Tells}
-use Rattle.vault_core.specs.declared.reply.Reply.{Reply}
 use Rattle.vault_core.specs.declared.reply.Reply.TheVariants as reply
-use Rattle.vault.specs.declared.flight.Flight.{Flight}
-use Rattle.vault.specs.declared.tasks.Running.{Running}
-use Rattle.vault.specs.declared.turn.Answer.{Answer}
-use Rattle.vault.specs.declared.turn.Turn.{Turn}
 use Rattle.vault.specs.declared.turn.Turn.TheVariants as turn
-use Rattle.vault.specs.declared.desk.Desk.{Desk}
-use Rattle.opening_defs.specs.Opened.{AreHanded}
-use Rattle.vault_open.specs.Devices.{devices}
-use Rattle.vault.specs.Devices.{IsSameBeyond, IsSamePast}
-use Rattle.vault.specs.Outcomes.{machine_answer}
-use Rattle.vault.specs.Running.{place_in, KeepsAll, IsFed, IsStopped}
-use Rattle.vault.specs.Desks.{DeskStands, IsFlight, DeskMakesStep}
-use Rattle.vault.specs.Tasks.{AreRunning}
-use Rattle.vault_open.proofs.Images.{all-shown, doubt-shown}
 use Rattle.vault.proofs.JobPlaces.{place_is, put_back}
 use Rattle.vault.proofs.Moving.{IsMove, moved_on, move_runs}
 use Rattle.vault.proofs.Stops.{IsAside, is_left}
 use Rattle.vault.proofs.Ways.{happens_by, shaped_on, working, hands_goes}
-use Rattle.vault_core.specs.View.{wants_in}
-use Rattle.vault.specs.AtHand.{AreAtHand}
 use Rattle.vault.proofs.Hands.{hands_without}
 
 -- ---- the state after

@@ -1,28 +1,9 @@
 -- What a move does to the cells of the disk, by what the core tells of its append.
-use Rattle.std.proofs.Common.{◌≡◌, ℕ, ◌-◌, List, [], ◌∷◌, ◌++◌, Option, Some, sym, ap, subst, ◌∙◌, arith}
-use Rattle.std.specs.Option.{option_map}
-use Rattle.device_defs.specs.Cells.{Cells}
-use Rattle.device_defs.specs.Providers.{Provider}
-use Rattle.device_defs.specs.Told.{Goes}
+use Rattle.vault.proofs.Words.{◌≡◌, ℕ, ◌-◌, List, [], ◌∷◌, ◌++◌, Option, Some, sym, ap, subst, ◌∙◌, arith, option_map, Cells, Provider, Goes, spelling, length-entries, State, gate_of, body_of, cells_after, MayTear, entry_in, next_in, Reply, Flight, Answer, Turn, Desk, EndsCells, MovesCells, moves_before_next, devices, IsStopped, IsMover, DeskStands, Comes}
 use Rattle.record_defs.specs.Records.{Record}
-use Rattle.record_defs.specs.Spellings.{spelling}
-use Rattle.record_defs.proofs.Sizes.{length-entries}
 use Rattle.machine_defs.specs.Actions.{Action}
-use Rattle.machine_defs.specs.States.{State}
 use Rattle.journal_core.specs.declared.append.Append.{Append}
-use Rattle.journal_core.specs.Appends.{gate_of, body_of, moves_of}
-use Rattle.journal_core.specs.Moves.{cells_after, MayTear}
-use Rattle.vault_core.specs.Coming.{entry_in, next_in}
-use Rattle.vault_core.specs.declared.reply.Reply.{Reply}
-use Rattle.vault.specs.declared.flight.Flight.{Flight}
-use Rattle.vault.specs.declared.turn.Answer.{Answer}
-use Rattle.vault.specs.declared.turn.Turn.{Turn}
-use Rattle.vault.specs.declared.desk.Desk.{Desk}
-use Rattle.vault.specs.Calls.{EndsCells, MovesCells, moves_before_next}
-use Rattle.vault_open.specs.Devices.{devices}
-use Rattle.vault.specs.Running.{IsStopped}
-use Rattle.vault.specs.Movers.{IsMover}
-use Rattle.vault.specs.Desks.{DeskStands, Comes}
+use Rattle.journal_core.specs.Appends.{moves_of}
 
 -- an append at the closed gate with this record, so many moves of which are made
 pub record IsAppendOf (v : Desk) (n : ℕ) (entry : Record) (a : Append) : Type 0 where

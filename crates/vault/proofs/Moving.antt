@@ -2,25 +2,10 @@
 --
 --   IsMove action      == a move of an append
 --   moved_on job x y   == the job after a move, with this number and these objects to take away
-use Rattle.std.proofs.Common.{◌≡◌, ℕ, ◌+◌, ◌<◌, ◌≤◌, ◌⊎◌, cond, List, [], ◌∷◌, drop, Some, refl, sym, ap, subst, inl, inr, arith}
-use Rattle.std.specs.Prelude.{nat_lt}
-use Rattle.std.proofs.lemmas.Bool.{cases_Bool, ltb-true, ltb-false}
-use Rattle.std.proofs.lemmas.List.Sums.{sum_by-cons}
-use Rattle.column_defs.specs.Verdicts.{Sums}
-use Rattle.record_defs.specs.Records.{Setup}
-use Rattle.machine_defs.specs.Actions.{Action, WriteBody, SyncBody, WriteGate, SyncGate, Store, Fetch, Ask, Work, Remove, End, actions_of, actions_by, actions_left}
-use Rattle.machine_defs.specs.Jobs.{Kind, GetJob, AuditJob, RepairJob, Job}
-use Rattle.machine_defs.specs.States.{State, setup_in}
-use Rattle.machine_defs.specs.Steps.{next_action}
-use Rattle.state_laws.proofs.Orders.{next-left}
-use Rattle.vault.specs.declared.tasks.AuditTask.{AuditTask}
-use Rattle.vault.specs.declared.tasks.RepairTask.{RepairTask}
-use Rattle.vault.specs.declared.tasks.Running.{Running}
-use Rattle.vault.specs.declared.tasks.Task.{Task}
+use Rattle.vault.proofs.Words.{◌≡◌, ℕ, ◌+◌, ◌<◌, ◌≤◌, ◌⊎◌, cond, List, [], ◌∷◌, drop, Some, refl, sym, ap, subst, inl, inr, arith, nat_lt, cases_Bool, ltb-true, ltb-false, sum_by-cons, Sums, Setup, WriteBody, SyncBody, WriteGate, SyncGate, Fetch, Work, Remove, End, actions_of, actions_by, actions_left, Kind, GetJob, AuditJob, RepairJob, Job, State, setup_in, next_action, next-left, AuditTask, RepairTask, Running, Task, Phase, Between, Fetching, Opened, asks_left, is_ask, Round, JudgesEach, AsksOn, IsAudit, IsRepair, IsTask, IsRunning}
+use Rattle.machine_defs.specs.Actions.{Action, Store, Ask}
 use Rattle.vault.specs.declared.tasks.Task.TheVariants as task
-use Rattle.vault.specs.Orders.{Phase, Between, Fetching, Opened, GoesOn, asks_left, is_ask}
-use Rattle.vault.specs.Rounds.{Round, JudgesEach, AsksOn}
-use Rattle.vault.specs.Tasks.{IsAudit, IsRepair, IsTask, IsRunning}
+use Rattle.vault.specs.Orders.{GoesOn}
 use Rattle.vault.proofs.Allowed.{IsAllowed, next_allowed}
 
 -- a move of an append

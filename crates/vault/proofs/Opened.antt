@@ -1,32 +1,14 @@
 -- A desk that was just opened.
-use Rattle.std.proofs.Common.{◌≡◌, ◌<◌, ℕ, List, length, replicate, Option, Some, None, refl, sym, ap, ◌∙◌, subst, arith}
-use Rattle.std.specs.Prelude.{slice_get}
-use Rattle.std.proofs.lemmas.List.{length-replicate, get_or-replicate}
-use Rattle.std.proofs.lemmas.Option.{slice_get-get_or}
-use Rattle.device_defs.specs.Cells.{Cells}
-use Rattle.device_defs.specs.Providers.{Provider}
+use Rattle.vault.proofs.Words.{◌≡◌, ◌<◌, ℕ, List, replicate, Option, Some, None, refl, sym, ap, ◌∙◌, subst, arith, slice_get, length-replicate, get_or-replicate, slice_get-get_or, Cells, Provider, Area, base_of, end_in, setup_of, setup_or_none, State, setup_in, journal-same, IsFoldOf, devices, firm-shown, CoreView, CoreIs, IsJustOpened, IsOpenAtRest, Desk, DeskStands, IsAtWork, DeskCarries, found_none}
+use Rattle.std.proofs.Common.{length}
 use Rattle.record_defs.specs.Records.{Record}
-use Rattle.record_defs.specs.Areas.{Area, base_of, end_in}
-use Rattle.record_defs.specs.Table.{setup_of}
-use Rattle.machine_defs.specs.Setups.{setup_or_none}
-use Rattle.machine_defs.specs.States.{State, setup_in}
-use Rattle.state_laws.proofs.Packs.{journal-same}
 use Rattle.state_laws.proofs.Resting.{rest-sound}
-use Rattle.vault_table.specs.Values.{IsFoldOf}
 use Rattle.vault_open.specs.declared.store.Store.{Store}
-use Rattle.vault_open.specs.Devices.{devices}
 use Rattle.vault_open.specs.Stores.{IsStoreOf}
-use Rattle.vault_open.proofs.Images.{firm-shown}
-use Rattle.vault_core.specs.View.{CoreView}
-use Rattle.vault_core.specs.Carried.{CoreIs}
 use Rattle.opening_defs.specs.Journals.{IsRead}
-use Rattle.opening_defs.specs.Opened.{IsJustOpened, IsOpenAtRest}
 use Rattle.opening_defs.proofs.Opened.{has-setup, state_with, opened-with}
-use Rattle.vault.specs.declared.desk.Desk.{Desk}
-use Rattle.vault.specs.Desks.{DeskStands, IsAtWork, DeskCarries}
 use Rattle.vault.specs.Fresh.{IsFreshDesk}
 use Rattle.vault.proofs.AtWork.{works}
-use Rattle.machine_defs.proofs.JobLists.{found_none}
 
 module _ (told now : Option Cells) (area : Area) (rs : List Record) (store : Store) (first : ℕ) (v : Desk)
     (read : IsRead told area rs) (is : IsStoreOf store area rs now) (fresh : IsFreshDesk v store first) where

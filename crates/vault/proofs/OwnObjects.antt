@@ -1,11 +1,7 @@
 -- The objects of the only file of a job.
-use Rattle.std.proofs.Common.{◌≡◌, ℕ, ◌==◌, List, [], ◌∷◌, ap, sym, ◌∙◌}
-use Rattle.std.proofs.lemmas.Bool.{eq-eqb}
-use Rattle.machine_defs.specs.Given.{pinned_profile}
-use Rattle.machine_defs.specs.Jobs.{Pinned, Job}
-use Rattle.machine_defs.specs.Setups.{profiled, object_of}
-use Rattle.machine_defs.specs.States.{State, setup_in, worked_object}
-use Rattle.machine_defs.proofs.JobLists.{cond_true}
+use Rattle.vault.proofs.Words.{◌≡◌, ℕ, List, [], ◌∷◌, ap, sym, ◌∙◌, eq-eqb, pinned_profile, Job, profiled, object_of, State, setup_in, worked_object, cond_true}
+use Rattle.std.proofs.Common.{◌==◌}
+use Rattle.machine_defs.specs.Jobs.{Pinned}
 
 -- the object of the only file of a job is at the file's profile
 pub worked-own : (w : State) (job : Job) (file : Pinned) (o : ℕ) → job.pinned ≡ file ∷ [] → o ≡ file.id →

@@ -1,42 +1,16 @@
 -- A pack that begins.
-use Rattle.std.proofs.Common.{◌≡◌, ◌⊎◌, ℕ, ◌+◌, ◌≤◌, ◌^◌, false, List, [], ◌∷◌, length, Option, Some, None, Ok, refl, sym, ap, ◌∙◌, subst, inl, inr, arith}
-use Rattle.std.specs.Prelude.{◌==◌, ◌||◌, IfSome, IsSome, IsTrue, All, is_some, nat_lt}
-use Rattle.std.specs.List.{list_all}
-use Rattle.std.proofs.Math.Nat.{ℕ_set}
+use Rattle.vault.proofs.Words.{◌≡◌, ◌⊎◌, ℕ, ◌+◌, ◌≤◌, ◌^◌, false, List, [], ◌∷◌, Option, Some, None, Ok, refl, sym, ap, ◌∙◌, subst, inl, inr, arith, IfSome, IsSome, IsTrue, is_some, nat_lt, list_all, ℕ_set, props, is_some-none, is_in_grammar, version_of, AreAccepted, Area, A, B, other_area, base_of, end_in, entries_size, text_length, packed, packed-spelled, HasPadding, IsInGrammar, IsFoldOf, is_too_long, pack_refusal, new_pack, Begun, Cause, State, pack-begins, version-either, StandsFirm, IsApart, WritesText, CoreJob, CoreView, Devices, devices, shown-again, Desk, Flight, PackJob, Vault, DeskStands, IsAtWork, IsFlight, IsQuiet, IsPackOf, PacksOver, pack_begun, handed_same}
+use Rattle.std.proofs.Common.{length}
+use Rattle.std.specs.Prelude.{◌==◌, ◌||◌, All}
 use mathlib.Core.Bool.{Bool-set}
-use Rattle.std.proofs.Props.{props}
-use Rattle.algebra_laws.proofs.Options.{is_some-none}
-use Rattle.record_defs.specs.Records.{Record as Entry, is_in_grammar}
-use Rattle.record_defs.specs.Table.{version_of}
-use Rattle.record_defs.specs.Acceptance.{AreAccepted}
-use Rattle.record_defs.specs.Areas.{Area, A, B, other_area, base_of, end_in, entries_size, text_length}
-use Rattle.record_defs.specs.Packed.{packed}
-use Rattle.packed_laws.proofs.Spelled.{packed-spelled}
+use Rattle.record_defs.specs.Records.{Record as Entry}
 use Rattle.record_codec.specs.declared.records.Record.{Record}
 use Rattle.record_codec.specs.declared.records.Record.TheVariants as kind
-use Rattle.record_codec.specs.Entries.{HasPadding, IsInGrammar}
-use Rattle.vault_table.specs.Values.{IsFoldOf}
-use Rattle.machine_defs.specs.Alone.{is_too_long, pack_refusal, new_pack}
-use Rattle.machine_defs.specs.Events.{Begun}
 use Rattle.machine_defs.specs.Refusals as refusal
-use Rattle.machine_defs.specs.Refusals.{Cause}
-use Rattle.machine_defs.specs.States.{State}
 use Rattle.machine_defs.specs.States as states
-use Rattle.state_laws.proofs.Aside.{pack-begins}
 use Rattle.state_laws.proofs.Begun.{none-applies}
-use Rattle.state_laws.proofs.Records.{version-either}
-use Rattle.journal_core.specs.Texts.{StandsFirm, IsApart}
-use Rattle.journal_pack.specs.Packs.{moves_of, WritesText}
+use Rattle.journal_pack.specs.Packs.{moves_of}
 use Rattle.journal_pack.specs.Moves.{IsAfterPack}
-use Rattle.vault_core.specs.View.{CoreJob, CoreView}
-use Rattle.vault_open.specs.Devices.{Devices, devices}
-use Rattle.vault_open.proofs.Images.{shown-again}
-use Rattle.vault.specs.declared.desk.Desk.{Desk}
-use Rattle.vault.specs.declared.flight.Flight.{Flight}
-use Rattle.vault.specs.declared.packing.PackJob.{PackJob}
-use Rattle.vault.specs.declared.vault.Vault.{Vault}
-use Rattle.vault.specs.Desks.{DeskStands, IsAtWork, IsFlight}
-use Rattle.vault.specs.Packing.{IsQuiet, IsPackOf, PacksOver, pack_begun}
 use Rattle.vault.proofs.Alone.{drawn, drawn_stands}
 use Rattle.vault.proofs.AppendMoves.{closed_of}
 use Rattle.vault.proofs.Aside.{aside, unalone-is, plain-sound, again, none-flies}
@@ -44,7 +18,6 @@ use Rattle.vault.proofs.AtWork.{by_work}
 use Rattle.vault.proofs.Free.{none_run}
 use Rattle.vault.proofs.PackSteps.{lies}
 use Rattle.vault.proofs.Switching.{no-job, idle, unbarred, clear}
-use Rattle.hail_scrub.proofs.Machine.{handed_same}
 
 -- ---- records in the grammar, in one way
 

@@ -1,105 +1,33 @@
 -- A pack of the journal is one of the machine.
-use Rattle.std.proofs.Common.{◌≡◌, ◌⊎◌, ℕ, zero, suc, ◌+◌, ◌<◌, ◌≤◌, ◌==◌, Bool, true, false, List, Option, Some, None, refl, sym, ap, ◌∙◌, subst, inl, inr, arith}
-use Rattle.std.specs.Prelude.{IfSome}
-use Rattle.std.proofs.Math.Logic.{∥∥₁_map}
-use Rattle.std.proofs.lemmas.Bool.{false≢true, eq-eqb}
-use Rattle.algebra_laws.proofs.Options.{some-not-none}
-use Rattle.device_defs.specs.Cells.{Cells}
-use Rattle.device_defs.specs.Faults.{Rose}
-use Rattle.device_defs.specs.Providers.{Provider}
+use Rattle.vault.proofs.Words.{◌≡◌, ◌⊎◌, ℕ, zero, suc, ◌+◌, ◌<◌, ◌≤◌, Bool, true, false, List, Option, Some, None, refl, sym, ap, ◌∙◌, subst, inl, inr, arith, IfSome, ∥∥₁_map, false≢true, eq-eqb, some-not-none, Cells, Rose, Provider, Area, other_area, text_length, packed, packing, switching, switched, unalone, barred_pack, Outcome, Step, More, Ended, Happens, State, Alone, Packing, setup_in, StepsMine, StepsOne, StepsOpen, Steps, IsSound, alone-sound, journal-same, StandsFirm, Pack, Packs, AreHanded, IsCoreFlight, CoreView, Devices, devices, AreDevices, all-shown, switched-shown, firm-shown, shown-again, Desk, Flight, PackJob, Vault, DeskStands, IsAtWork, IsFlight, cells_by, plain, IsQuiet, IsPackOf, StandsPacking, MakesPackStep, found_none, handed_same}
+use Rattle.std.proofs.Common.{◌==◌}
 use Rattle.record_defs.specs.Records.{Record}
-use Rattle.record_defs.specs.Areas.{Area, other_area, text_length}
-use Rattle.record_defs.specs.Packed.{packed}
 use Rattle.machine_defs.specs.Alone as machine
-use Rattle.machine_defs.specs.Alone.{packing, switching, switched, unalone, barred_pack}
 use Rattle.machine_defs.specs.Answers as answers
-use Rattle.machine_defs.specs.Events.{Outcome, Step, More, Ended}
-use Rattle.machine_defs.specs.Machine.{Happens}
 use Rattle.machine_defs.specs.States as states
-use Rattle.machine_defs.specs.States.{State, Alone, Packing, setup_in}
-use Rattle.machine_defs.specs.Steps.{StepsMine, StepsOne, StepsOpen, Steps}
-use Rattle.state_laws.specs.Sound.{IsSound}
-use Rattle.state_laws.proofs.Aside.{alone-sound}
-use Rattle.state_laws.proofs.Packs.{journal-same}
-use Rattle.journal_core.specs.Moves.{IsWrite}
-use Rattle.journal_core.specs.Texts.{StandsFirm, AllStandIn, MayStandIn}
-use Rattle.journal_pack.specs.declared.pack.Pack.{Pack}
-use Rattle.journal_pack.specs.Packs.{to_of, text_of, moves_of, Packs}
-use Rattle.opening_defs.specs.Opened.{AreHanded}
-use Rattle.vault_core.specs.Carried.{IsCoreFlight}
-use Rattle.vault_core.specs.View.{CoreView}
-use Rattle.vault_open.specs.Devices.{Devices, devices, AreDevices}
-use Rattle.vault_open.proofs.Images.{all-shown, switched-shown, firm-shown, shown-again}
-use Rattle.vault.specs.declared.desk.Desk.{Desk}
-use Rattle.vault.specs.declared.flight.Flight.{Flight}
-use Rattle.vault.specs.declared.packing.PackJob.{PackJob}
+use Rattle.std.specs.Prelude.{Result, Ok, Err}
+use Rattle.stream_model.specs.declared.fault.WriteFault.{WriteFault}
+use Rattle.stream_model.specs.declared.fault.WriteFault.TheVariants as write_fault
+use Rattle.journal_pack.specs.Packs.{moves_of, text_of, to_of, TurnsPack, PacksDisk, KeepsJournal}
+use Rattle.journal_pack.proofs.Packs.{keeps-journal}
 use Rattle.vault.specs.declared.packing.PackAnswer.TheVariants as answer
 use Rattle.vault.specs.declared.packing.PackTurn.TheVariants as turn
-use Rattle.vault.specs.declared.vault.Vault.{Vault}
-use Rattle.vault.specs.Desks.{DeskStands, IsAtWork, IsFlight}
-use Rattle.vault.specs.Devices.{cells_by}
-use Rattle.vault.specs.Packing.{plain, IsQuiet, IsPackOf, StandsPacking, MakesPackStep}
 use Rattle.vault.proofs.Aside.{aside, unalone-is, plain-sound, again, none-flies}
 use Rattle.vault.proofs.Switching.{idle, clear}
-use Rattle.machine_defs.proofs.JobLists.{found_none}
-use Rattle.hail_scrub.proofs.Machine.{handed_same}
+use Rattle.vault.proofs.Untold.{leaves_by}
 
 -- ---- the moves
 
--- a move that was made
-pub record IsTurned (p q : Pack) (old new : Option Cells) : Type 0 where
-  pub next : moves_of q ≡ moves_of p + 1
-  pub to : to_of q ≡ to_of p
-  pub text : text_of q ≡ text_of p
-  pub moved : (area : Area) (rs qs : List Record) → Packs area rs qs p old → Packs area rs qs q new
-  pub before : (area : Area) (rs qs : List Record) → Packs area rs qs p old → moves_of p < 2
-      → AllStandIn area rs new
-  pub between : (area : Area) (rs qs : List Record) → Packs area rs qs p old → MayStandIn area rs qs new
-  pub after : (area : Area) (rs qs : List Record) → Packs area rs qs p old → moves_of q ≡ 4
-      → AllStandIn (other_area area) qs new
-  pub ready : (area : Area) (rs qs : List Record) → Packs area rs qs p old → moves_of q ≡ 4
-      → IfSome new (StandsFirm (other_area area) qs)
+-- one turn of a pack and of its disk
+pub record IsTurned (p : Pack) (result : Result Bool WriteFault) (q : Pack) (old new : Option Cells) : Type 0 where
+  pub turns : TurnsPack p result q
+  pub disk : PacksDisk p result old new
 
--- a move that failed
-pub record IsTorn (p : Pack) (old new : Option Cells) : Type 0 where
-  pub before : (area : Area) (rs qs : List Record) → Packs area rs qs p old → moves_of p < 2
-      → AllStandIn area rs new
-  pub between : (area : Area) (rs qs : List Record) → Packs area rs qs p old → MayStandIn area rs qs new
-
--- a write that found no memory
-pub record IsUnwritten (p : Pack) (old new : Option Cells) : Type 0 where
-  pub write : IsWrite (moves_of p)
-  pub kept : (area : Area) (rs qs : List Record) → Packs area rs qs p old → IfSome new (StandsFirm area rs)
-
--- what they show holds of a disk that tells nothing
-pub turned_by : (is_told : Bool) (p q : Pack) (old new : Option Cells) → IsTurned p q old new
-    → IsTurned p q (cells_by is_told old) (cells_by is_told new)
-turned_by true p q old new t = t
-turned_by false p q old new t = record {
-  next = t.next;
-  to = t.to;
-  text = t.text;
-  moved = λ area rs qs on. record {
-    writes = record { to = t.to ∙ on.writes.to; text = t.text ∙ on.writes.text };
-    in_grammar = on.in_grammar;
-    apart = on.apart;
-    disk = tt;
-  };
-  before = λ area rs qs on few. tt;
-  between = λ area rs qs on. tt;
-  after = λ area rs qs on four. tt;
-  ready = λ area rs qs on four. tt;
-}
-
-pub torn_by : (is_told : Bool) (p : Pack) (old new : Option Cells) → IsTorn p old new
-    → IsTorn p (cells_by is_told old) (cells_by is_told new)
-torn_by true p old new t = t
-torn_by false p old new t = record { before = λ area rs qs on few. tt; between = λ area rs qs on. tt }
-
-pub unwritten_by : (is_told : Bool) (p : Pack) (old new : Option Cells) → IsUnwritten p old new
-    → IsUnwritten p (cells_by is_told old) (cells_by is_told new)
-unwritten_by true p old new t = t
-unwritten_by false p old new t = record { write = t.write; kept = λ area rs qs on. tt }
+-- it is one of a disk that tells nothing
+pub turned_by : (is_told : Bool) (p : Pack) (result : Result Bool WriteFault) (q : Pack) (old new : Option Cells)
+    → IsTurned p result q old new → IsTurned p result q (cells_by is_told old) (cells_by is_told new)
+turned_by is_told p result q old new t =
+    record { turns = t.turns; disk = leaves_by is_told _ _ _ result old new t.disk }
 
 -- ---- a core that is barred
 
@@ -264,14 +192,25 @@ module _ (v : Vault) (job : PackJob) (w : State) (told : Option Cells) (faults :
 
   -- ---- a move is made
 
+  -- a turn keeps the journal
+  kept : (result : Result Bool WriteFault) (q : Pack) (told' : Option Cells)
+      → IsTurned job.pack result q told told' → moves_of job.pack < 4
+      → KeepsJournal w.area w.journal (packed w.journal) job.pack result q told'
+  kept result q told' t few = keeps-journal w.area w.journal (packed w.journal) job.pack q result told told'
+      (on_way few) few t.turns t.disk
+
   module _ (next : PackJob) (told' : Option Cells) (faults' : ℕ) (number_is : next.number ≡ job.number)
-      (before_is : next.before ≡ job.before) (t : IsTurned job.pack next.pack told told')
+      (before_is : next.before ≡ job.before) (ended : Bool) (t : IsTurned job.pack (Ok ended) next.pack told told')
       (falls_not : faults ≤ faults') where
     low : w.disk_faults ≤ faults'
     low = subst (λ (n : ℕ). n ≤ faults') (sym S.devices.faults) falls_not
 
     moves : moves_of next.pack ≡ S.pack.moves + 1
-    moves = t.next ∙ ap (λ (k : ℕ). k + 1) S.moves_are
+    moves = t.turns.count.next ∙ ap (λ (k : ℕ). k + 1) S.moves_are
+
+    on : moves_of job.pack < 4
+        → KeepsJournal w.area w.journal (packed w.journal) job.pack (Ok ended) next.pack told'
+    on few = kept (Ok ended) next.pack told' t few
 
     -- the first or the second
     pub goes_first : moves_of job.pack < 2 → IsPackOf v next
@@ -294,7 +233,7 @@ module _ (v : Vault) (job : PackJob) (w : State) (told : Option Cells) (faults :
             sound = fine;
             devices = record {
               images = all-shown told' new w.area w.journal refl refl
-                  (t.before w.area w.journal (packed w.journal) (on_way (omega (arith, few))) few);
+                  ((on (omega (arith, few))).before few);
               faults = refl;
               providers = handed new refl (λ j. refl);
             };
@@ -304,9 +243,9 @@ module _ (v : Vault) (job : PackJob) (w : State) (told : Option Cells) (faults :
               idle = S.beside.idle;
               unbarred = S.beside.unbarred;
             };
-            on_way = λ l. t.moved w.area w.journal (packed w.journal) (on_way (omega (arith, few)));
-            switching = λ three. absurd (let n = t.next in omega (arith, three, n, few));
-            made = λ four. absurd (let n = t.next in omega (arith, four, n, few));
+            on_way = λ l. (on (omega (arith, few))).moved;
+            switching = λ three. absurd (let n = t.turns.count.next in omega (arith, three, n, few));
+            made = λ four. absurd (let n = t.turns.count.next in omega (arith, four, n, few));
           };
         }
       where
@@ -337,7 +276,7 @@ module _ (v : Vault) (job : PackJob) (w : State) (told : Option Cells) (faults :
             sound = fine;
             devices = record {
               images = switched-shown told' new w.area w.journal refl refl refl
-                  (t.between w.area w.journal (packed w.journal) (on_way (omega (arith, two))));
+                  ((on (omega (arith, two))).between);
               faults = refl;
               providers = handed new refl (λ j. refl);
             };
@@ -347,9 +286,9 @@ module _ (v : Vault) (job : PackJob) (w : State) (told : Option Cells) (faults :
               idle = S.beside.idle;
               unbarred = S.beside.unbarred;
             };
-            on_way = λ l. t.moved w.area w.journal (packed w.journal) (on_way (omega (arith, two)));
+            on_way = λ l. (on (omega (arith, two))).moved;
             switching = λ three. refl;
-            made = λ four. absurd (let n = t.next in omega (arith, four, n, two));
+            made = λ four. absurd (let n = t.turns.count.next in omega (arith, four, n, two));
           };
         }
 
@@ -362,8 +301,9 @@ module _ (v : Vault) (job : PackJob) (w : State) (told : Option Cells) (faults :
         let made : machine.Packs w S.pack S.pack.moves More new =
         subst (λ (k : ℕ). machine.Packs w S.pack k More new) (sym three ∙ S.moves_are) (faults', low, refl) in
         let fine = sound More new made in
-        let on = on_way (omega (arith, three)) in
-        let four : moves_of next.pack ≡ 4 = (let n = t.next in omega (arith, n, three)) in
+        let kept = on (omega (arith, three)) in
+        let writes = (on_way (omega (arith, three))).writes in
+        let four : moves_of next.pack ≡ 4 = (let n = t.turns.count.next in omega (arith, n, three)) in
         record {
           state = new;
           happens = happens More new made;
@@ -377,7 +317,7 @@ module _ (v : Vault) (job : PackJob) (w : State) (told : Option Cells) (faults :
             sound = fine;
             devices = record {
               images = all-shown told' new (other_area w.area) (packed w.journal) refl refl
-                  (t.after w.area w.journal (packed w.journal) on four);
+                  (kept.after four);
               faults = refl;
               providers = handed new refl (λ j. refl);
             };
@@ -393,8 +333,8 @@ module _ (v : Vault) (job : PackJob) (w : State) (told : Option Cells) (faults :
             on_way = λ l. absurd (omega (arith, l, four));
             switching = λ so. absurd (omega (arith, so, four));
             made = λ so. (
-              t.ready w.area w.journal (packed w.journal) on four,
-              record { to = t.to ∙ on.writes.to; text = t.text ∙ on.writes.text },
+              kept.ready four,
+              record { to = t.turns.to ∙ writes.to; text = t.turns.text ∙ writes.text },
             );
           };
         }
@@ -427,42 +367,45 @@ module _ (v : Vault) (job : PackJob) (w : State) (told : Option Cells) (faults :
         };
       }
 
+  -- a write found no memory
+  pub ends_unwritten : (told' : Option Cells) (faults' : ℕ) (v' : Vault) → v'.held ≡ None → faults' ≡ faults
+      → (result : Result Bool WriteFault) (q : Pack) → IsTurned job.pack result q told told'
+      → result ≡ Err write_fault.Memory → moves_of job.pack < 4 → v'.desk ≡ v.desk
+      → MakesPackStep w job.number (turn.Done answer.Memory) v' (devices told' faults' ps)
+  ends_unwritten told' faults' v' free still result q t memory few same =
+      let new : State = unalone w in
+      let made : machine.Packs w S.pack S.pack.moves (Ended answers.Memory) new =
+      elim (t.disk.writes memory) [
+        | inl none ↦ subst (λ (k : ℕ). machine.Packs w S.pack k (Ended answers.Memory) new)
+            (sym none ∙ S.moves_are) refl
+        | inr two ↦ subst (λ (k : ℕ). machine.Packs w S.pack k (Ended answers.Memory) new)
+            (sym two ∙ S.moves_are) refl
+      ] in
+      let left = (kept result q told' t few).kept memory in
+      record {
+        state = new;
+        happens = happens (Ended answers.Memory) new made;
+        stands = record {
+          free = free;
+          desk = subst (λ (x : Desk). DeskStands x (devices told' faults' ps) new) (sym same)
+              (again v.desk w (devices None faults ps) (devices told' faults' ps) false w.is_switching
+              w.disk_faults w.disk_faults S.beside.desk (sound (Ended answers.Memory) new made)
+              (record {
+                images = firm-shown told' new w.area w.journal refl refl left;
+                faults = S.devices.faults ∙ sym still;
+                providers = handed new refl (λ j. refl);
+              })
+              (λ unbarred. lies v.desk.flight w.append w.area w.journal told' S.is_of.quiet.flight none left));
+        };
+      }
+
   module _ (told' : Option Cells) (faults' : ℕ) (v' : Vault) (free : v'.held ≡ None) (falls_not : faults ≤ faults')
     where
       fallen : w.disk_faults ≤ faults'
       fallen = subst (λ (n : ℕ). n ≤ faults') (sym S.devices.faults) falls_not
 
-      -- a write found no memory
-      pub ends_unwritten : IsUnwritten job.pack told told' → moves_of job.pack < 4 → v'.desk ≡ v.desk
-          → MakesPackStep w job.number (turn.Done answer.Memory) v' (devices told' faults' ps)
-      ends_unwritten t few same =
-          let new : State = record (unalone w) { disk_faults = faults' } in
-          let made : machine.Packs w S.pack S.pack.moves (Ended answers.Memory) new =
-          elim t.write [
-            | inl none ↦ subst (λ (k : ℕ). machine.Packs w S.pack k (Ended answers.Memory) new)
-                (sym none ∙ S.moves_are) (faults', fallen, refl)
-            | inr two ↦ subst (λ (k : ℕ). machine.Packs w S.pack k (Ended answers.Memory) new)
-                (sym two ∙ S.moves_are) (faults', fallen, refl)
-          ] in
-          let kept = t.kept w.area w.journal (packed w.journal) (on_way few) in
-          record {
-            state = new;
-            happens = happens (Ended answers.Memory) new made;
-            stands = record {
-              free = free;
-              desk = subst (λ (x : Desk). DeskStands x (devices told' faults' ps) new) (sym same)
-                  (again v.desk w (devices None faults ps) (devices told' faults' ps) false w.is_switching
-                  w.disk_faults faults' S.beside.desk (sound (Ended answers.Memory) new made)
-                  (record {
-                    images = firm-shown told' new w.area w.journal refl refl kept;
-                    faults = refl;
-                    providers = handed new refl (λ j. refl);
-                  })
-                  (λ unbarred. lies v.desk.flight w.append w.area w.journal told' S.is_of.quiet.flight none kept));
-            };
-          }
-
-      module _ (t : IsTorn job.pack told told') (rose : Rose faults faults')
+      module _ (result : Result Bool WriteFault) (q : Pack) (t : IsTurned job.pack result q told told')
+          (rose : Rose faults faults')
           (barred : v'.desk ≡ record v.desk { core = record v.desk.core { barred = true } }) where
         risen : Rose w.disk_faults faults'
         risen = subst (λ (n : ℕ). Rose n faults') (sym S.devices.faults) rose
@@ -484,7 +427,7 @@ module _ (v : Vault) (job : PackJob) (w : State) (told : Option Cells) (faults :
                     (sound (Ended answers.DiskFault) new made)
                     (record {
                       images = all-shown told' new w.area w.journal refl refl
-                          (t.before w.area w.journal (packed w.journal) (on_way (omega (arith, few))) few);
+                          ((kept result q told' t (omega (arith, few))).before few);
                       faults = refl;
                       providers = handed new refl (λ j. refl);
                     });
@@ -514,7 +457,7 @@ module _ (v : Vault) (job : PackJob) (w : State) (told : Option Cells) (faults :
                     true w.disk_faults faults' S.beside.desk barred (sound (Ended answers.DiskFault) new made)
                     (record {
                       images = switched-shown told' new w.area w.journal refl refl refl
-                          (t.between w.area w.journal (packed w.journal) (on_way (omega (arith, two))));
+                          ((kept result q told' t (omega (arith, two))).between);
                       faults = refl;
                       providers = handed new refl (λ j. refl);
                     });
@@ -539,7 +482,7 @@ module _ (v : Vault) (job : PackJob) (w : State) (told : Option Cells) (faults :
                     (sound (Ended answers.DiskFault) new made)
                     (record {
                       images = switched-shown told' new w.area w.journal refl refl (S.switching three)
-                          (t.between w.area w.journal (packed w.journal) (on_way (omega (arith, three))));
+                          ((kept result q told' t (omega (arith, three))).between);
                       faults = refl;
                       providers = handed new refl (λ j. refl);
                     });
@@ -559,30 +502,32 @@ few_moves (suc (suc (suc (suc n)))) l = absurd (omega (arith, l))
 -- a move that failed
 pub fails : (v : Vault) (job : PackJob) (w : State) (told : Option Cells) (faults : ℕ) (ps : List Provider)
     (S : StandsPacking v job (devices told faults ps) w) (told' : Option Cells) (faults' : ℕ) (v' : Vault)
-    → v'.held ≡ None → faults ≤ faults' → IsTorn job.pack told told' → Rose faults faults'
+    → v'.held ≡ None → faults ≤ faults' → (result : Result Bool WriteFault) (q : Pack)
+    → IsTurned job.pack result q told told' → Rose faults faults'
     → v'.desk ≡ record v.desk { core = record v.desk.core { barred = true } } → moves_of job.pack < 4
     → MakesPackStep w job.number (turn.Done answer.DiskFault) v' (devices told' faults' ps)
-fails v job w told faults ps S told' faults' v' free falls_not t rose barred few =
+fails v job w told faults ps S told' faults' v' free falls_not result q t rose barred few =
     elim (few_moves (moves_of job.pack) few) [
       | inl first ↦
-          fails_first v job w told faults ps S told' faults' v' free falls_not t rose barred first
+          fails_first v job w told faults ps S told' faults' v' free falls_not result q t rose barred first
       | inr (inl two) ↦
-          fails_third v job w told faults ps S told' faults' v' free falls_not t rose barred two
+          fails_third v job w told faults ps S told' faults' v' free falls_not result q t rose barred two
       | inr (inr three) ↦
-          fails_fourth v job w told faults ps S told' faults' v' free falls_not t rose barred three
+          fails_fourth v job w told faults ps S told' faults' v' free falls_not result q t rose barred three
     ]
 
 -- a move behind which the fourth is not made
 pub goes : (v : Vault) (job : PackJob) (w : State) (told : Option Cells) (faults : ℕ) (ps : List Provider)
     (S : StandsPacking v job (devices told faults ps) w) (next : PackJob) (told' : Option Cells) (faults' : ℕ)
-    → next.number ≡ job.number → next.before ≡ job.before → IsTurned job.pack next.pack told told'
+    → next.number ≡ job.number → next.before ≡ job.before → (ended : Bool)
+    → IsTurned job.pack (Ok ended) next.pack told told'
     → faults ≤ faults' → moves_of job.pack < 3 → IsPackOf v next
     → MakesPackStep w job.number (turn.More next) v (devices told' faults' ps)
-goes v job w told faults ps S next told' faults' number before t falls_not few is_of =
+goes v job w told faults ps S next told' faults' number before ended t falls_not few is_of =
     elim (few_moves (moves_of job.pack) (omega (arith, few))) [
       | inl first ↦
-          goes_first v job w told faults ps S next told' faults' number before t falls_not first is_of
+          goes_first v job w told faults ps S next told' faults' number before ended t falls_not first is_of
       | inr (inl two) ↦
-          goes_third v job w told faults ps S next told' faults' number before t falls_not two is_of
+          goes_third v job w told faults ps S next told' faults' number before ended t falls_not two is_of
       | inr (inr three) ↦ absurd (omega (arith, few, three))
     ]

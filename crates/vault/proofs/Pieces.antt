@@ -1,11 +1,7 @@
 -- The symbols of a stripe, out of its own bytes alone.
-use Rattle.std.proofs.Common.{◌≡◌, ◌⊎◌, ℕ, ◌+◌, ◌*◌, ◌<◌, ◌≤◌, List, [], ◌++◌, length, drop, sym, ap, ◌∙◌, inl, inr, arith}
-use Rattle.std.specs.Int.{w128, from_le_bytes}
-use Rattle.std.proofs.Math.Seq.{drop-append-add}
-use Rattle.std.proofs.lemmas.List.{append-nil, get_or-drop, get_or_append_left}
+use Rattle.vault.proofs.Words.{◌≡◌, ◌⊎◌, ℕ, ◌+◌, ◌*◌, ◌<◌, ◌≤◌, List, [], ◌++◌, drop, sym, ap, ◌∙◌, inl, inr, arith, w128, from_le_bytes, drop-append-add, append-nil, get_or-drop, get_or_append_left, map-range_same, Object, stripe_symbols, symbol_of, symbols_in}
+use Rattle.std.proofs.Common.{length}
 use Rattle.algebra_laws.proofs.Numbers.{from_le_bytes-same}
-use Rattle.algebra_laws.proofs.Lists.{map-range_same}
-use Rattle.column_defs.specs.Objects.{Object, stripe_symbols, symbol_of, symbols_in}
 
 -- a symbol behind other bytes
 symbol_behind : (before bytes : List ℕ) (number i : ℕ) → 16 * number ≡ length before + 16 * i

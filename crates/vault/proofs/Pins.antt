@@ -1,21 +1,7 @@
 -- The files that a running job works on, as a core keeps them.
-use Rattle.std.proofs.Common.{◌≡◌, ℕ, suc, ◌+◌, ◌≤◌, ◌==◌, true, false, cond, List, [], ◌∷◌, map, Option, Some, None, refl, sym, ap, subst, ◌∙◌, inl, inr, arith, zero-add}
-use Rattle.std.specs.List.{position_from, AllZip}
-use Rattle.std.specs.Option.{option_map}
-use Rattle.std.proofs.lemmas.Bool.{cases_Bool, eq-eqb, ne_eqb}
-use Rattle.std.proofs.lemmas.Iterator.Adapters.{position_from-zero}
-use Rattle.algebra_laws.specs.Lists.{Each}
-use Rattle.record_defs.specs.Records.{Setup}
-use Rattle.machine_defs.specs.Actions.{Plan}
-use Rattle.machine_defs.specs.Given.{pinned_profile}
-use Rattle.machine_defs.specs.Jobs.{Pinned, Job, job_of}
-use Rattle.machine_defs.specs.States.{State, setup_in}
-use Rattle.machine_defs.proofs.JobLists.{cond_true, cond_false, same_value}
-use Rattle.state_laws.specs.Orders.{AreAscending}
-use Rattle.vault_core.specs.Carried.{CoreIs, IsJobOf, pin_of}
-use Rattle.vault_core.specs.View.{CoreJob, CoreView, job_in}
-use Rattle.vault_core.specs.declared.pinned.Pinned.{Pinned as PinnedValue}
-use Rattle.vault.specs.Asking.{pin_at, pin_among, pin_of_job, pin_in, profile_or}
+use Rattle.vault.proofs.Words.{◌≡◌, ℕ, suc, ◌+◌, ◌≤◌, true, false, cond, List, [], ◌∷◌, map, Option, Some, None, refl, sym, ap, subst, ◌∙◌, inl, inr, arith, zero-add, position_from, AllZip, option_map, cases_Bool, eq-eqb, ne_eqb, position_from-zero, Each, Setup, Plan, pinned_profile, Job, job_of, State, setup_in, cond_true, cond_false, same_value, AreAscending, CoreIs, IsJobOf, pin_of, CoreJob, CoreView, job_in, PinnedValue, pin_at, pin_among, pin_of_job, pin_in, profile_or}
+use Rattle.std.proofs.Common.{◌==◌}
+use Rattle.machine_defs.specs.Jobs.{Pinned}
 use Rattle.vault.proofs.Asks.{above, each_both}
 use Rattle.vault.proofs.JobPlaces.{one_further, from_zero}
 use Rattle.vault.proofs.CoreJobs.{shown_pins}

@@ -1,13 +1,6 @@
 -- What a task can do holds in one way.
-use Rattle.std.proofs.Common.{ℕ}
-use Rattle.std.proofs.Props.{props}
-use Rattle.vault.specs.declared.tasks.Task.{Task}
+use Rattle.vault.proofs.Words.{ℕ, props, Task, IsStreaming, MayAsk, MayTell, HasRoomFor, CanWork, IsStorer}
 use Rattle.vault.specs.declared.tasks.Task.TheVariants as task
-use Rattle.vault.specs.AtHand.{IsStreaming}
-use Rattle.vault.specs.Asking.{MayAsk, MayTell}
-use Rattle.vault.specs.Fetching.{HasRoomFor}
-use Rattle.vault.specs.Opening.{CanWork}
-use Rattle.vault.specs.Storing.{IsStorer}
 
 -- there is room for a fetch
 pub room_prop : (t : Task) → IsProp (HasRoomFor t)

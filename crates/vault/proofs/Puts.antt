@@ -1,21 +1,7 @@
 -- Begins of puts.
-use Rattle.std.proofs.Common.{◌≡◌, ℕ, ◌<◌, true, false, List, [], ◌∷◌, ◌++◌, length, Option, None, Some, refl, sym, ap, subst, ◌∙◌}
-use Rattle.std.specs.Prelude.{IsTrue, not, nat_lt}
-use Rattle.std.proofs.lemmas.Bool.{lt-ltb, false≢true}
-use Rattle.record_defs.specs.Records.{Setup, is_name, largest_file}
-use Rattle.machine_defs.specs.Begins.{beginning, chosen}
-use Rattle.machine_defs.specs.Jobs.{PutJob, aim_of}
+use Rattle.vault.proofs.Words.{◌≡◌, ℕ, ◌<◌, true, false, List, [], ◌∷◌, ◌++◌, Option, None, Some, refl, sym, ap, subst, ◌∙◌, IsTrue, not, nat_lt, lt-ltb, false≢true, Setup, is_name, largest_file, beginning, chosen, PutJob, aim_of, Cause, first_refusal, sight_of, is_crowded_for, is_full, unknown_profile, too_old, State, setup_in, Devices, with_master, IsBench, IsBenchFor, is_unknown, DeskStands, IsPutTask, Desk}
+use Rattle.std.proofs.Common.{length}
 use Rattle.machine_defs.specs.Refusals as refusal
-use Rattle.machine_defs.specs.Refusals.{Cause, first_refusal}
-use Rattle.machine_defs.specs.Sights.{sight_of, is_crowded_for, is_full, unknown_profile, too_old}
-use Rattle.machine_defs.specs.States.{State, setup_in}
-use Rattle.vault_open.specs.Devices.{Devices}
-use Rattle.record_codec.specs.Entries.{with_master}
-use Rattle.stripe_bench.specs.Bench.{IsBench}
-use Rattle.vault.specs.Benches.{IsBenchFor, names_unknown}
-use Rattle.vault.specs.Desks.{DeskStands}
-use Rattle.vault.specs.Tasks.{IsPutTask}
-use Rattle.vault.specs.declared.desk.Desk.{Desk}
 use Rattle.vault.specs.declared.tasks.PutTask.{PutTask}
 use Rattle.vault.proofs.BenchLemmas.{bench-is}
 
@@ -39,14 +25,14 @@ name_cause name = record { applies = not (is_name name); refusal = refusal.BadNa
 
 -- a profile that there is not is the first cause, behind that of a name
 pub bad-profile : (w : State) (name bytes : List ℕ) (profile : Option ℕ) → IsTrue (is_name name)
-    → names_unknown profile ≡ true
+    → is_unknown profile ≡ true
     → first_refusal (name_cause name ∷ causes_of_put w name bytes profile) ≡ Some refusal.BadProfile
 bad-profile w name bytes None named h = absurd (false≢true h)
 bad-profile w name bytes (Some p) named h = rw (named, h) refl
 
 -- a file that is too long is the first cause, behind those of a name and a profile
 pub too-long : (w : State) (name bytes : List ℕ) (profile : Option ℕ) → IsTrue (is_name name)
-    → names_unknown profile ≡ false → largest_file < length bytes
+    → is_unknown profile ≡ false → largest_file < length bytes
     → first_refusal (name_cause name ∷ causes_of_put w name bytes profile) ≡ Some refusal.TooLong
 too-long w name bytes None named known long =
     let long_is : nat_lt largest_file (length bytes) ≡ true = lt-ltb largest_file (length bytes) long in

@@ -1,22 +1,9 @@
 -- Begins that the core refuses, and those that found no memory.
-use Rattle.std.proofs.Common.{Err, ℕ, Option, Some, ◌≡◌, ◌≢◌, refl, List, sym, subst, inl, inr, ◌⊎◌, rules}
-use Rattle.machine_defs.specs.Begins.{refusal_of_begin}
-use Rattle.machine_defs.specs.Jobs.{Kind}
+use Rattle.vault.proofs.Words.{Err, ℕ, Option, Some, ◌≡◌, refl, List, sym, subst, inl, inr, ◌⊎◌, rules, refusal_of_begin, Kind, State, setup_in, CoreIs, refusal_of, CoreView, BeginFault, Running, Desk, Devices, AreAtHand, KeepsAll, DeskStands, DeskMakesBegin, AreRunning, handed_same}
+use Rattle.std.proofs.Common.{◌≢◌}
 use Rattle.machine_defs.specs.Refusals as refusal
-use Rattle.machine_defs.specs.States.{State, setup_in}
-use Rattle.vault_core.specs.Carried.{CoreIs, refusal_of}
-use Rattle.vault_core.specs.View.{CoreView}
-use Rattle.vault_core.specs.declared.wish.BeginFault.{BeginFault}
 use Rattle.vault_core.specs.declared.wish.BeginFault.TheVariants as fault
-use Rattle.vault.specs.declared.tasks.Running.{Running}
-use Rattle.vault.specs.declared.desk.Desk.{Desk}
-use Rattle.vault_open.specs.Devices.{Devices}
-use Rattle.vault.specs.AtHand.{AreAtHand}
-use Rattle.vault.specs.Running.{KeepsAll}
-use Rattle.vault.specs.Desks.{DeskStands, DeskMakesBegin}
-use Rattle.vault.specs.Tasks.{AreRunning}
 use Rattle.vault.proofs.Ways.{stands_on}
-use Rattle.hail_scrub.proofs.Machine.{handed_same}
 
 -- a begin is refused for a cause, or found no memory
 pub cause : (w : State) (kind : Kind) (own : Option ℕ) (why : BeginFault)

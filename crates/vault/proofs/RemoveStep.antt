@@ -1,25 +1,9 @@
 -- A removal is a step of the machine.
-use Rattle.std.proofs.Common.{◌≡◌, ℕ, zero, suc, ◌<◌, List, [], ◌∷◌, length, Option, Some, None, refl, sym, ap, subst, ◌∙◌}
-use Rattle.std.specs.Prelude.{slice_get, slice_set}
-use Rattle.device_defs.specs.Cells.{Cells}
-use Rattle.device_defs.specs.Providers.{Provider}
-use Rattle.device_defs.specs.ProviderCalls.{Removes}
-use Rattle.machine_defs.specs.Actions.{Remove, actions_left}
-use Rattle.machine_defs.specs.Jobs.{Kind, PutJob, GetJob, DropJob, AuditJob, RepairJob, UpgradeJob, Job, advanced}
-use Rattle.machine_defs.specs.States.{State, setup_in, going_on, with_provider}
-use Rattle.machine_defs.specs.Steps.{next_action}
-use Rattle.vault_core.specs.Carried.{ComesNext}
+use Rattle.vault.proofs.Words.{◌≡◌, ℕ, zero, suc, ◌<◌, List, [], ◌∷◌, Option, Some, None, refl, sym, ap, subst, ◌∙◌, slice_get, slice_set, Cells, Provider, Removes, Remove, actions_left, Kind, PutJob, GetJob, DropJob, AuditJob, RepairJob, UpgradeJob, Job, advanced, State, setup_in, going_on, with_provider, next_action, ComesNext, Running, Task, Desk, AreHanded, devices, KeepsAll, IsFed, DeskStands, Comes, DeskMakesStep, IsTask, IsRunning}
+use Rattle.std.proofs.Common.{length}
 use Rattle.vault_core.specs.declared.reply.Reply.TheVariants as reply
-use Rattle.vault.specs.declared.tasks.Running.{Running}
-use Rattle.vault.specs.declared.tasks.Task.{Task}
 use Rattle.vault.specs.declared.tasks.Task.TheVariants as task
 use Rattle.vault.specs.declared.turn.Turn.TheVariants as turn
-use Rattle.vault.specs.declared.desk.Desk.{Desk}
-use Rattle.opening_defs.specs.Opened.{AreHanded}
-use Rattle.vault_open.specs.Devices.{devices}
-use Rattle.vault.specs.Running.{KeepsAll, IsFed}
-use Rattle.vault.specs.Desks.{DeskStands, Comes, DeskMakesStep}
-use Rattle.vault.specs.Tasks.{IsTask, IsRunning}
 use Rattle.vault.proofs.Allowed.{IsAllowed, next_allowed}
 use Rattle.vault.proofs.JobPlaces.{place_is}
 use Rattle.vault.proofs.Ways.{working, is_handed, handed_on, goes_on}

@@ -1,27 +1,8 @@
 -- What a repair begins with.
-use Rattle.std.proofs.Common.{◌≡◌, ℕ, ◌==◌, ◌*◌, ◌≤◌, true, false, cond, List, [], ◌∷◌, length, inl, inr, refl, sym, ap, ◌∙◌, subst, arith}
-use Rattle.std.specs.Prelude.{vec_capacity, nat_lt}
-use Rattle.std.proofs.lemmas.Bool.{cases_Bool}
-use Rattle.algebra_laws.specs.Lists.{Each}
-use Rattle.record_defs.specs.Records.{Setup}
-use Rattle.record_defs.specs.Table.{File, files_of}
-use Rattle.machine_defs.specs.Actions.{actions_left, machine_pins}
-use Rattle.machine_defs.specs.Begins.{new_job, pinned_file, pin_by, pin_each}
-use Rattle.machine_defs.specs.Given.{pinned_profile}
-use Rattle.machine_defs.specs.Jobs.{RepairJob, Pinned}
-use Rattle.machine_defs.specs.States.{State, setup_in}
-use Rattle.machine_defs.proofs.JobLists.{cond_true, cond_false}
-use Rattle.state_laws.proofs.Written.{setup-providers}
-use Rattle.column_codec.specs.declared.bench.Bench.{Bench}
-use Rattle.stripe_bench.specs.Bench.{IsBench}
-use Rattle.vault_open.specs.Devices.{Devices}
-use Rattle.vault.specs.declared.desk.Desk.{Desk}
-use Rattle.vault.specs.declared.tasks.RepairTask.{RepairTask}
-use Rattle.vault.specs.Benches.{IsNewRepair, AreServed, is_served}
-use Rattle.vault.specs.Orders.{Between}
-use Rattle.vault.specs.Desks.{DeskStands}
-use Rattle.vault.specs.Tasks.{AreOfSetup, IsRepair}
-use Rattle.vault_core.proofs.Alike.{table-like}
+use Rattle.vault.proofs.Words.{◌≡◌, ℕ, ◌*◌, ◌≤◌, true, false, cond, List, [], ◌∷◌, inl, inr, refl, sym, ap, ◌∙◌, subst, arith, nat_lt, cases_Bool, Each, Setup, File, files_of, actions_left, machine_pins, new_job, pinned_file, pin_by, pin_each, pinned_profile, RepairJob, State, setup_in, cond_true, cond_false, setup-providers, Bench, IsBench, Devices, Desk, RepairTask, IsNewRepair, AreServed, is_served, Between, DeskStands, AreOfSetup, IsRepair, table-like}
+use Rattle.std.proofs.Common.{◌==◌, length}
+use Rattle.std.specs.Prelude.{vec_capacity}
+use Rattle.machine_defs.specs.Jobs.{Pinned}
 use Rattle.vault.proofs.BenchLemmas.{bench-is, all-of-setup}
 use Rattle.vault.proofs.Kits.{served, serves}
 use Rattle.vault.proofs.StripeOrders.{repair-order}

@@ -1,18 +1,7 @@
 -- A vault over providers that replace the ones before.
-use Rattle.std.proofs.Common.{ℕ, List, refl, sym, ◌∙◌}
-use Rattle.device_defs.specs.Providers.{Provider}
-use Rattle.machine_defs.specs.States.{State}
-use Rattle.opening_defs.specs.Opened.{AreHanded}
+use Rattle.vault.proofs.Words.{ℕ, List, refl, sym, ◌∙◌, Provider, State, AreHanded, CoreIs, CoreView, Devices, devices, Desk, Vault, DeskStands, Stands, StandsBeside, setup_same}
 use Rattle.state_laws.proofs.Events.{devices-sound}
-use Rattle.vault_core.specs.Carried.{CoreIs}
-use Rattle.vault_core.specs.View.{CoreView}
-use Rattle.vault_open.specs.Devices.{Devices, devices}
-use Rattle.vault.specs.declared.desk.Desk.{Desk}
-use Rattle.vault.specs.declared.vault.Vault.{Vault}
-use Rattle.vault.specs.Desks.{DeskStands}
-use Rattle.vault.specs.Stands.{Stands, StandsBeside}
 use Rattle.vault.proofs.Ways.{stands_on}
-use Rattle.hail_scrub.proofs.Machine.{setup_same}
 
 module _ (d : Devices) (w : State) (ps : List Provider) (providers : ℕ → Provider) where
   -- the state with these providers

@@ -1,18 +1,9 @@
 -- A reply to the action that comes next, and the end that one brings.
-use Rattle.std.proofs.Common.{◌≡◌, ℕ, true, Some, None, sym, subst, ◌∙◌}
-use Rattle.std.proofs.lemmas.Bool.{false≢true}
-use Rattle.machine_defs.specs.Actions.{Action, WriteBody, SyncBody, WriteGate, SyncGate, Store, Fetch, Ask, Work, Remove, End}
-use Rattle.vault_core.specs.View.{CoreView}
-use Rattle.vault_core.specs.Coming.{Coming, Acts, is_move, next_in, HasReply, TakesReply}
-use Rattle.vault_core.specs.declared.reply.Reply.{Reply}
+use Rattle.vault.proofs.Words.{◌≡◌, ℕ, true, Some, None, sym, subst, ◌∙◌, false≢true, WriteBody, SyncBody, WriteGate, SyncGate, Fetch, Work, Remove, End, CoreView, Coming, is_move, next_in, HasReply, TakesReply, Reply, Desk, Answer, Turn, ComesMove, IfEnded, HasPaddedCounts, IsStopped}
+use Rattle.machine_defs.specs.Actions.{Action, Store, Ask}
+use Rattle.vault_core.specs.Coming.{Acts}
 use Rattle.vault_core.specs.declared.reply.Reply.TheVariants as reply
-use Rattle.vault.specs.declared.desk.Desk.{Desk}
-use Rattle.vault.specs.declared.turn.Answer.{Answer}
-use Rattle.vault.specs.declared.turn.Turn.{Turn}
 use Rattle.vault.specs.declared.turn.Turn.TheVariants as turn
-use Rattle.vault.specs.Movers.{ComesMove}
-use Rattle.vault.specs.Outcomes.{IfEnded, IsNoAction, HasPaddedCounts}
-use Rattle.vault.specs.Running.{IsStopped}
 
 -- a reply that an action has is one to the job whose next action it is
 pub replies : (c : CoreView) (job : ℕ) (action : Action) (r : Reply) → next_in c job ≡ Acts action
@@ -62,7 +53,3 @@ pub padded_end : (v new : Desk) (job : ℕ) (r : Reply) (a : Answer) (t : Turn)
     → IsStopped v job r a t new → HasPaddedCounts a → IfEnded t (λ ended. HasPaddedCounts ended.answer)
 padded_end v new job r a t stopped padded =
     subst (λ (x : Turn). IfEnded x (λ ended. HasPaddedCounts ended.answer)) (sym stopped.turn_is) padded
-
--- a step that made no action does not let a job go on
-pub goes-on-not : (t : Turn) → IsNoAction t → t ≡ turn.More → ⊥
-goes-on-not t none more = subst IsNoAction more none

@@ -1,13 +1,7 @@
 -- A job with a next action runs.
-use Rattle.std.proofs.Common.{◌≡◌, ℕ, Bool, true, false, cond, Option, None, Some, refl, sym}
-use Rattle.std.specs.Prelude.{is_some}
-use Rattle.std.specs.Option.{option_map}
-use Rattle.std.proofs.lemmas.Bool.{false≢true}
-use Rattle.std.proofs.lemmas.Option.{none-some}
+use Rattle.vault.proofs.Words.{◌≡◌, ℕ, Bool, true, false, cond, Option, None, Some, refl, sym, is_some, option_map, false≢true, none-some, CoreJob, CoreView, job_in, IsNoJob, IsBarred, next_of, next_in, RunsIn}
 use Rattle.machine_defs.specs.Actions.{Action}
-use Rattle.vault_core.specs.View.{CoreJob, CoreView, job_in}
-use Rattle.vault_core.specs.Coming.{Acts, IsNoJob, IsBarred, next_of, next_in}
-use Rattle.vault.specs.Running.{RunsIn}
+use Rattle.vault_core.specs.Coming.{Acts}
 
 none_acts : (a : Action) → IsNoJob ≡ Acts a → ⊥
 none_acts a e = cc

@@ -1,29 +1,9 @@
 -- The files of a scrub of all files in effect.
-use Rattle.std.proofs.Common.{◌≡◌, ℕ, zero, suc, ◌+◌, ◌≤◌, ◌^◌, List, [], ◌∷◌, length, map, inl, inr, None, Some, refl, ap, sym, subst, ◌∙◌, arith}
-use Rattle.std.proofs.Math.Nat.{ℕ_set}
-use Rattle.std.proofs.Props.{props}
-use Rattle.std.specs.Prelude.{slice_get}
-use Rattle.std.specs.List.{AllZip}
-use Rattle.algebra_laws.specs.Lists.{In}
-use Rattle.algebra_laws.proofs.Each.{in_contains}
-use Rattle.hail_field.specs.declared.shape.Shape.{Shape}
-use Rattle.file_layout.specs.declared.file.FileShape.{FileShape}
-use Rattle.record_defs.specs.Records.{Setup, largest_file, most_files}
-use Rattle.record_defs.specs.Table.{files_of}
-use Rattle.record_codec.specs.Entries.{with_master}
-use Rattle.machine_defs.specs.Begins.{pin_all}
-use Rattle.machine_defs.specs.Jobs.{Pinned, AuditJob}
-use Rattle.machine_defs.specs.States.{State, setup_in}
-use Rattle.state_laws.specs.Orders.{AreAscending}
-use Rattle.state_laws.proofs.Pinning.{pins-ascend, pins-few, pins-stored}
-use Rattle.vault_core.specs.Carried.{pin_of}
-use Rattle.vault_core.specs.declared.pinned.Pinned.{Pinned as PinnedFile}
+use Rattle.vault.proofs.Words.{◌≡◌, ℕ, zero, suc, ◌+◌, ◌≤◌, ◌^◌, List, [], ◌∷◌, map, inl, inr, None, Some, refl, ap, sym, subst, ◌∙◌, arith, ℕ_set, props, slice_get, AllZip, In, in_contains, Shape, FileShape, Setup, largest_file, most_files, files_of, with_master, pin_all, AuditJob, State, setup_in, AreAscending, pins-ascend, pins-few, pins-stored, pin_of, PinnedFile, Devices, devices, Desk, DeskStands, IsAtWork, IsShaped, IsShapeFor, AreShaped}
+use Rattle.std.proofs.Common.{length}
+use Rattle.machine_defs.specs.Jobs.{Pinned}
 use Rattle.hail_scrub.specs.Begins.{AreFilesOf, AreApart, HaveOneCount, IsFileOf}
 use Rattle.hail_scrub.specs.Begun.{file_providers}
-use Rattle.vault_open.specs.Devices.{Devices, devices}
-use Rattle.vault.specs.declared.desk.Desk.{Desk}
-use Rattle.vault.specs.Desks.{DeskStands, IsAtWork, IsShaped}
-use Rattle.vault.specs.Files.{IsShapeFor, AreShaped}
 use Rattle.vault.proofs.AtWork.{by_work}
 use Rattle.vault.proofs.GetBegins.{least}
 

@@ -1,35 +1,11 @@
 -- A job ends by its step.
-use Rattle.std.proofs.Common.{◌≡◌, ℕ, zero, suc, List, [], ◌∷◌, Option, Some, None, refl, sym, ap, subst, ◌∙◌}
-use Rattle.std.specs.Prelude.{slice_get, slice_set}
-use Rattle.std.specs.List.{remove}
-use Rattle.algebra_laws.proofs.Lists.{get-set_there}
-use Rattle.device_defs.specs.Cells.{Cells}
-use Rattle.device_defs.specs.Providers.{Provider}
-use Rattle.record_defs.specs.Records.{Setup}
-use Rattle.machine_defs.specs.Actions.{Action, actions_left}
+use Rattle.vault.proofs.Words.{◌≡◌, ℕ, zero, suc, List, [], ◌∷◌, Option, Some, None, refl, sym, ap, subst, ◌∙◌, slice_get, slice_set, remove, get-set_there, Cells, Provider, Setup, actions_left, Ended, heard_by, heard_by_kind, Job, job_of, without_job, State, setup_in, CoreView, ComesNext, Tells, Reply, Running, Task, Answer, Turn, Desk, AreHanded, Devices, devices, machine_answer, place_in, heard_of, KeepsAll, IsFed, IsStopped, DeskStands, DeskMakesStep, IsTask, IsRunning, AreRunning}
+use Rattle.machine_defs.specs.Actions.{Action}
 use Rattle.machine_defs.specs.Answers as answers
-use Rattle.machine_defs.specs.Events.{Ended}
-use Rattle.machine_defs.specs.Heard.{Entry, heard_by, heard_by_kind}
-use Rattle.machine_defs.specs.Jobs.{Job, job_of, without_job}
-use Rattle.machine_defs.specs.States.{State, setup_in}
+use Rattle.machine_defs.specs.Heard.{Entry}
 use Rattle.machine_defs.specs.Steps.{Acts}
-use Rattle.vault_core.specs.View.{CoreView}
-use Rattle.vault_core.specs.Carried.{ComesNext}
-use Rattle.vault_core.specs.Replies.{Tells}
-use Rattle.vault_core.specs.declared.reply.Reply.{Reply}
-use Rattle.vault.specs.declared.tasks.Running.{Running}
-use Rattle.vault.specs.declared.tasks.Task.{Task}
 use Rattle.vault.specs.declared.tasks.Task.TheVariants as task
-use Rattle.vault.specs.declared.turn.Answer.{Answer}
-use Rattle.vault.specs.declared.turn.Turn.{Turn}
 use Rattle.vault.specs.declared.turn.Turn.TheVariants as turn
-use Rattle.vault.specs.declared.desk.Desk.{Desk}
-use Rattle.opening_defs.specs.Opened.{AreHanded}
-use Rattle.vault_open.specs.Devices.{Devices, devices}
-use Rattle.vault.specs.Outcomes.{machine_answer}
-use Rattle.vault.specs.Running.{place_in, heard_of, KeepsAll, IsFed, IsStopped}
-use Rattle.vault.specs.Desks.{DeskStands, DeskMakesStep}
-use Rattle.vault.specs.Tasks.{IsTask, IsRunning, AreRunning}
 use Rattle.vault.proofs.JobPlaces.{at_number, at_set, place_is, taken_out}
 use Rattle.vault.proofs.Ways.{happens_by, IsQuiet, stands_on, at_place, entry_kept, same_beyond}
 use Rattle.vault.proofs.Hands.{hands_without}

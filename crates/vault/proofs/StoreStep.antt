@@ -1,46 +1,17 @@
 -- A store is a step of the machine.
-use Rattle.std.proofs.Common.{◌≡◌, ℕ, ◌+◌, ◌*◌, ◌<◌, ◌≤◌, Vec, Global, vec_capacity, List, ◌∷◌, length, drop, Option, Some, None, refl, sym, ap, subst, ◌∙◌}
-use Rattle.std.specs.Prelude.{slice_get, slice_set}
+use Rattle.vault.proofs.Words.{◌≡◌, ℕ, ◌+◌, ◌*◌, ◌<◌, ◌≤◌, Vec, Global, List, ◌∷◌, drop, Option, Some, None, refl, sym, ap, subst, ◌∙◌, slice_get, slice_set, Object, symbols_in, Cells, Provider, Stores, FailsToStore, FindsNoMemory, Symbol, actions_of, actions_left, symbols_given, pinned_profile, Kind, PutJob, GetJob, DropJob, AuditJob, RepairJob, UpgradeJob, Given, Job, advanced, without_job, State, setup_in, going_on, ended, with_provider, next_action, block_to_store, number_of, next-left, ComesNext, Bench, Blocks, RepairTask, Running, Task, Turn, Desk, AreHanded, devices, Phase, Between, Fetching, Opened, place_in, heard_of, KeepsAll, IsFed, IsStopped, DeskStands, Comes, DeskMakesStep, stored_block, KeepsTask, IsStorer, turned, IsBench, fetched_in, AreOfSetup, HasBenchFor, IsAtHand, IsInWork, IsRepair, IsTask, IsRunning, told_in, wanted_at, hand_of, HasAtHand}
+use Rattle.std.proofs.Common.{vec_capacity, length}
 use Rattle.column_defs.specs.Columns.{column_of_symbols}
-use Rattle.column_defs.specs.Objects.{Object, symbols_in}
-use Rattle.device_defs.specs.Cells.{Cells}
-use Rattle.device_defs.specs.Providers.{Provider}
-use Rattle.device_defs.specs.ProviderCalls.{Stores, FailsToStore, FindsNoMemory}
-use Rattle.hail_field.specs.declared.symbol.Symbol.{Symbol}
-use Rattle.machine_defs.specs.Actions.{Action, Store, actions_of, actions_left}
-use Rattle.machine_defs.specs.Given.{symbols_given, pinned_profile}
-use Rattle.machine_defs.specs.Jobs.{Kind, PutJob, GetJob, DropJob, AuditJob, RepairJob, UpgradeJob, Given, Job, advanced, without_job}
-use Rattle.machine_defs.specs.States.{State, setup_in, going_on, ended, with_provider}
-use Rattle.machine_defs.specs.Steps.{next_action, block_to_store}
-use Rattle.machine_defs.proofs.JobLists.{number_of}
-use Rattle.state_laws.proofs.Orders.{next-left}
-use Rattle.vault_core.specs.Carried.{ComesNext}
+use Rattle.machine_defs.specs.Actions.{Action, Store}
 use Rattle.vault_core.specs.declared.reply.Reply.TheVariants as reply
-use Rattle.column_codec.specs.declared.bench.Bench.{Bench}
-use Rattle.stripe_bench.specs.declared.blocks.Blocks.{Blocks}
-use Rattle.vault.specs.declared.tasks.RepairTask.{RepairTask}
-use Rattle.vault.specs.declared.tasks.Running.{Running}
-use Rattle.vault.specs.declared.tasks.Task.{Task}
 use Rattle.vault.specs.declared.tasks.Task.TheVariants as task
 use Rattle.vault.specs.declared.turn.Answer.TheVariants as answer
-use Rattle.vault.specs.declared.turn.Turn.{Turn}
 use Rattle.vault.specs.declared.turn.Turn.TheVariants as turn
-use Rattle.vault.specs.declared.desk.Desk.{Desk}
-use Rattle.opening_defs.specs.Opened.{AreHanded}
-use Rattle.vault_open.specs.Devices.{devices}
-use Rattle.vault.specs.Orders.{Phase, Between, Fetching, Opened, GoesOn}
-use Rattle.vault.specs.Running.{place_in, heard_of, KeepsAll, IsFed, IsStopped}
-use Rattle.vault.specs.Desks.{DeskStands, Comes, DeskMakesStep}
-use Rattle.vault.specs.Storing.{stored_block, KeepsTask, IsStorer}
-use Rattle.column_codec.specs.Bench.{turned}
-use Rattle.stripe_bench.specs.Bench.{IsBench}
-use Rattle.vault.specs.Tasks.{fetched_in, AreOfSetup, HasBenchFor, IsAtHand, IsInWork, IsRepair, IsTask, IsRunning}
+use Rattle.vault.specs.Orders.{GoesOn}
 use Rattle.vault.proofs.Kits.{turned_is, bench_after, bench_count, first_count, own_after, serves_after, at_hand_after}
 use Rattle.vault.proofs.Allowed.{IsAllowed, next_allowed}
 use Rattle.vault.proofs.Stops.{IsAside, ends_by}
 use Rattle.vault.proofs.Ways.{actions_same, at_place, is_handed, handed_on, goes_on}
-use Rattle.vault_core.specs.View.{told_in, wanted_at}
-use Rattle.vault.specs.AtHand.{hand_of, HasAtHand}
 use Rattle.vault.proofs.Hands.{task_at, waits_not}
 use Rattle.vault.proofs.JobPlaces.{place_is}
 use Rattle.vault.proofs.StoredStripes.{stripe_stored}

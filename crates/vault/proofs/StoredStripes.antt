@@ -1,24 +1,9 @@
 -- Where the stores of a put stand, and which stripe a stream stores.
-use Rattle.std.proofs.Common.{◌≡◌, ℕ, zero, suc, ◌+◌, ◌-◌, ◌*◌, ◌<◌, ◌≤◌, List, [], ◌∷◌, ◌++◌, length, map, Option, Some, None, refl, sym, ap, subst, ◌∙◌, inl, inr, arith}
-use Rattle.std.specs.Prelude.{slice_get, nat_lt}
-use Rattle.std.specs.List.{flat_map, range_with_len}
-use Rattle.std.proofs.lemmas.List.{length-map}
-use Rattle.std.proofs.lemmas.List.FromFn.{length-range_with_len}
-use Rattle.std.proofs.lemmas.Bool.{cases_Bool, ltb-true, ltb-false}
-use Rattle.algebra_laws.specs.Lists.{Each}
-use Rattle.algebra_laws.proofs.Each.{each_get, each_append, each_flat, each_map}
-use Rattle.code_defs.specs.Points.{upto}
-use Rattle.record_defs.specs.Records.{Setup}
-use Rattle.machine_defs.specs.Actions.{Action, Store, Remove, End, append_actions, on_each_provider, remove_actions, store_actions, actions_of}
-use Rattle.machine_defs.specs.Jobs.{PutJob, Job}
-use Rattle.machine_defs.specs.Setups.{put_stripes}
-use Rattle.machine_defs.specs.States.{State, setup_in}
-use Rattle.machine_defs.specs.Steps.{next_action}
+use Rattle.vault.proofs.Words.{◌≡◌, ℕ, zero, suc, ◌+◌, ◌-◌, ◌*◌, ◌<◌, ◌≤◌, List, [], ◌∷◌, ◌++◌, map, Option, Some, None, refl, sym, ap, subst, ◌∙◌, inl, inr, arith, slice_get, nat_lt, flat_map, range_with_len, length-map, length-range_with_len, cases_Bool, ltb-true, ltb-false, Each, each_get, each_append, each_flat, each_map, upto, Setup, Remove, End, append_actions, on_each_provider, remove_actions, store_actions, actions_of, PutJob, Job, put_stripes, State, setup_in, next_action, put-list, put_rest, wanted_at, HasGiven, HasLast, HasAtHand}
+use Rattle.std.proofs.Common.{length}
+use Rattle.machine_defs.specs.Actions.{Action, Store}
 use Rattle.machine_defs.proofs.ActionLists.{split_get}
 use Rattle.machine_defs.proofs.NextActions.{next_stands}
-use Rattle.state_laws.proofs.Orders.{put-list, put_rest}
-use Rattle.vault_core.specs.View.{wanted_at}
-use Rattle.vault.specs.AtHand.{HasGiven, HasLast, HasAtHand}
 use Rattle.vault.proofs.Hands.{before_wait}
 
 -- ---- products in order

@@ -1,41 +1,8 @@
 -- Streams of a vault: which wait, how they begin, and how they are given up.
 use mathlib.Core.Bool.{Bool-set}
-use Rattle.std.proofs.Common.{◌≡◌, ℕ, ◌+◌, ◌*◌, ◌≤◌, ◌==◌, true, List, [], ◌∷◌, length, take, Option, Some, None, Result, Ok, Err, refl, sym, ap, subst, ◌∙◌, inl, inr, arith}
-use Rattle.std.specs.Prelude.{IsSome, is_some, slice_get, IfOk, OnErr}
-use Rattle.std.specs.List.{All, remove}
-use Rattle.std.proofs.lemmas.Bool.{cases_Bool, cases_eq, false≢true}
-use Rattle.std.proofs.lemmas.List.Elements.{All-head, All-tail, All-take}
-use Rattle.std.proofs.Math.Logic.{∥∥₁_map}
-use Rattle.std.proofs.Math.Nat.{ℕ_set}
-use Rattle.std.proofs.lemmas.Option.{none-some}
-use Rattle.std.proofs.lemmas.List.Sums.{AllPass-from_list_all, list_all-from_AllPass}
-use Rattle.std.proofs.lemmas.List.{length-take}
-use Rattle.device_defs.specs.Providers.{Provider}
-use Rattle.record_codec.specs.Entries.{with_master}
-use Rattle.record_defs.specs.Records.{Setup, is_byte, largest_file}
-use Rattle.machine_defs.specs.Begins.{beginning, chosen, BeginsAt}
-use Rattle.machine_defs.specs.Events.{AreBytes}
-use Rattle.machine_defs.specs.Jobs.{PutJob, Job, job_of, without_job}
-use Rattle.machine_defs.specs.States.{State, setup_in, ended}
-use Rattle.machine_defs.proofs.JobLists.{cond_true, cond_false, number_of, found_more, found_without}
-use Rattle.state_laws.proofs.JobLists.{numbered-below}
-use Rattle.stripe_bench.specs.Bench.{IsBench}
-use Rattle.vault_core.specs.Carried.{CoreIs}
-use Rattle.vault_core.specs.Streams.{stripe_size}
-use Rattle.vault_core.specs.View.{CoreJob, CoreView, job_in, told_by, told_in, wanted_at, wanted_by, wants_in}
-use Rattle.vault_core.proofs.Pairs.{pair_some}
-use Rattle.vault_core.specs.declared.wish.BeginFault.{BeginFault}
-use Rattle.vault_open.specs.Devices.{Devices, devices}
-use Rattle.vault.specs.declared.desk.Desk.{Desk}
-use Rattle.vault.specs.declared.tasks.Running.{Running}
-use Rattle.vault.specs.declared.tasks.StreamTask.{StreamTask}
-use Rattle.vault.specs.AtHand.{IsStreaming, piece_size}
-use Rattle.vault.specs.Benches.{IsBenchFor}
-use Rattle.vault.specs.Desks.{DeskStands, DeskMakesBegin, PutEndsIn, HasEnds, IsAtWork}
-use Rattle.vault.specs.Outcomes.{begin_outcome}
-use Rattle.vault.specs.Running.{place_in, IsSameDesk, KeepsAll}
-use Rattle.vault.specs.Streams.{stripe_by}
-use Rattle.vault.specs.Tasks.{IsStream, IsRunning, AreRunning}
+use Rattle.vault.proofs.Words.{◌≡◌, ℕ, ◌+◌, ◌*◌, ◌≤◌, true, List, [], ◌∷◌, take, Option, Some, None, Result, Ok, Err, refl, sym, ap, subst, ◌∙◌, inl, inr, arith, IsSome, is_some, slice_get, IfOk, OnErr, remove, cases_Bool, cases_eq, false≢true, All-head, All-tail, All-take, ∥∥₁_map, ℕ_set, none-some, AllPass-from_list_all, list_all-from_AllPass, length-take, Provider, with_master, Setup, is_byte, largest_file, beginning, chosen, BeginsAt, AreBytes, PutJob, Job, job_of, without_job, State, setup_in, ended, cond_true, cond_false, number_of, found_more, found_without, numbered-below, IsBench, CoreIs, stripe_size, CoreJob, CoreView, job_in, told_by, told_in, wanted_at, wanted_by, wants_in, pair_some, BeginFault, Devices, devices, Desk, Running, StreamTask, IsStreaming, piece_size, IsBenchFor, DeskStands, DeskMakesBegin, PutEndsIn, HasEnds, IsAtWork, begin_outcome, place_in, IsSameDesk, KeepsAll, stripe_by, OpensStream, IsStream, IsRunning, AreRunning, setup_same, handed_same}
+use Rattle.std.proofs.Common.{◌==◌, length}
+use Rattle.std.specs.List.{All}
 use Rattle.vault.proofs.AtWork.{by_work}
 use Rattle.vault.proofs.BenchLemmas.{bench-is}
 use Rattle.vault.proofs.GivenStripes.{waits_runs, waiting, streaming, bench_bytes}
@@ -43,7 +10,6 @@ use Rattle.vault.proofs.Hands.{hands_without, task_at}
 use Rattle.vault.proofs.JobPlaces.{found, place_is, taken_out}
 use Rattle.vault.proofs.Props.{streaming_prop}
 use Rattle.vault.proofs.Ways.{stands_on}
-use Rattle.hail_scrub.proofs.Machine.{setup_same, handed_same}
 
 -- ---- which wait
 
@@ -75,13 +41,20 @@ stream-task v d w moment name bytes own t size profile stands bench is none = re
   rows = λ x hand. absurd (none-some x (sym none ∙ hand));
 }
 
--- what a begin of a stream leaves
-pub record OpensStream (old new : Desk) (result : Result ℕ BeginFault) : Type 0 where
-  pub unchanged : OnErr result (IsSameDesk old new)
-  pub number : IfOk result (λ job. job ≡ old.core.next_job)
-  pub opened : IfOk result (λ job. told_in new.core.jobs job ≡ Some 0)
-  pub others : (m : ℕ) → (m ≡ old.core.next_job → ⊥) → told_in new.core.jobs m ≡ told_in old.core.jobs m
-  pub setup : new.core.setup ≡ old.core.setup
+-- a desk is the same as itself
+pub unchanged_desk : (v : Desk) → IsSameDesk v v
+unchanged_desk v =
+    record { core = refl; setup = refl; master = refl; base = refl; flight = refl; jobs = refl }
+
+-- a begin of a stream that told why not
+pub opens_none : (old new : Desk) (why : BeginFault) → IsSameDesk old new → OpensStream old new (Err why)
+opens_none old new why same = record {
+  unchanged = same;
+  number = tt;
+  opened = tt;
+  others = λ m other. ap (λ (c : CoreView). told_in c.jobs m) same.core;
+  setup = ap (λ (c : CoreView). c.setup) same.core;
+}
 
 -- the files of the streams end with what they still get
 stream_ends : (old new : Desk) (result : Result ℕ BeginFault) (name bytes : List ℕ) (own : Option ℕ)

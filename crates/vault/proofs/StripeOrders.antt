@@ -1,16 +1,9 @@
 -- The order of the actions on stripes.
-use Rattle.std.proofs.Common.{◌≡◌, inl, inr, ℕ, zero, suc, ◌+◌, ◌*◌, ◌≤◌, cond, List, [], ◌∷◌, ◌++◌, length, map, refl, sym, ap, ◌∙◌, subst, arith, append_assoc}
-use Rattle.std.specs.Prelude.{if◌then◌else◌}
-use Rattle.std.specs.List.{flat_map, range_with_len}
-use Rattle.std.proofs.lemmas.Bool.{cases_Bool}
-use Rattle.code_defs.specs.Points.{upto}
-use Rattle.record_defs.specs.Records.{Setup}
-use Rattle.machine_defs.specs.Actions.{Action, Store, Fetch, Work, End, append_actions, on_each_stripe, open_actions, rewrite_actions, actions_of}
-use Rattle.machine_defs.specs.Jobs.{Pinned, Job, RepairJob}
-use Rattle.machine_defs.specs.Setups.{profiled, stripes_of}
-use Rattle.std.proofs.lemmas.List.FromFn.{length-range_with_len}
-use Rattle.std.proofs.lemmas.List.Sums.{sum_by-append}
-use Rattle.vault.specs.Orders.{Between, Fetching, Opened, GoesOn, OpensFrom, is_fetch, is_work, fetches_left, works_left}
+use Rattle.vault.proofs.Words.{◌≡◌, inl, inr, ℕ, zero, suc, ◌+◌, ◌*◌, ◌≤◌, cond, List, [], ◌∷◌, ◌++◌, map, refl, sym, ap, ◌∙◌, subst, arith, append_assoc, if◌then◌else◌, flat_map, range_with_len, cases_Bool, upto, Setup, Fetch, Work, End, append_actions, on_each_stripe, open_actions, rewrite_actions, actions_of, Job, RepairJob, profiled, stripes_of, length-range_with_len, sum_by-append, Between, Fetching, Opened, OpensFrom, is_fetch, is_work, fetches_left, works_left}
+use Rattle.std.proofs.Common.{length}
+use Rattle.machine_defs.specs.Actions.{Action, Store}
+use Rattle.machine_defs.specs.Jobs.{Pinned}
+use Rattle.vault.specs.Orders.{GoesOn}
 
 -- these actions come where no stripe is in work, and behind a stripe that was opened
 pub record GoesEitherWay (n : ℕ) (rest : List Action) : Type 0 where

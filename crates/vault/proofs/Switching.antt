@@ -1,31 +1,8 @@
 -- A desk whose packed journal takes the place of its journal.
-use Rattle.std.proofs.Common.{◌≡◌, ℕ, ◌≤◌, true, false, List, [], length, None, refl, sym, ap, ◌∙◌, subst, arith, sum_by}
-use Rattle.std.proofs.Math.Logic.{∥∥₁_map}
-use Rattle.std.specs.Prelude.{IfSome, IsTrue}
-use Rattle.std.specs.List.{list_all}
-use Rattle.std.proofs.lemmas.Bool.{false≢true}
-use Rattle.algebra_laws.proofs.Options.{some-not-none}
-use Rattle.record_defs.specs.Records.{Record, is_in_grammar}
-use Rattle.record_defs.specs.Areas.{Area, other_area, end_in}
-use Rattle.record_defs.specs.Packed.{packed}
-use Rattle.record_defs.specs.Table.{version_of}
-use Rattle.packed_laws.proofs.Spelled.{packed-spelled}
-use Rattle.machine_defs.specs.Alone.{switched}
+use Rattle.vault.proofs.Words.{◌≡◌, ℕ, ◌≤◌, true, false, List, [], None, refl, sym, ap, ◌∙◌, subst, arith, sum_by, ∥∥₁_map, IfSome, IsTrue, list_all, false≢true, some-not-none, is_in_grammar, Area, other_area, end_in, packed, version_of, packed-spelled, switched, State, setup_in, found_none, IsSound, journal-packed, switched-room, StandsFirm, Pack, to_of, WritesText, packed-folds, CoreIs, CoreJob, Devices, devices, AreDevices, Desk, DeskStands, IsAtWork, IsQuiet, IsPackText}
+use Rattle.std.proofs.Common.{length}
+use Rattle.record_defs.specs.Records.{Record}
 use Rattle.machine_defs.specs.Space.{reserved}
-use Rattle.machine_defs.specs.States.{State, setup_in}
-use Rattle.machine_defs.proofs.JobLists.{found_none}
-use Rattle.state_laws.specs.Sound.{IsSound}
-use Rattle.state_laws.proofs.Packs.{journal-packed, switched-room}
-use Rattle.journal_core.specs.Texts.{StandsFirm}
-use Rattle.journal_pack.specs.declared.pack.Pack.{Pack}
-use Rattle.journal_pack.specs.Packs.{to_of, WritesText}
-use Rattle.journal_pack.proofs.Tabled.{packed-folds}
-use Rattle.vault_core.specs.Carried.{CoreIs}
-use Rattle.vault_core.specs.View.{CoreJob}
-use Rattle.vault_open.specs.Devices.{Devices, devices, AreDevices}
-use Rattle.vault.specs.declared.desk.Desk.{Desk}
-use Rattle.vault.specs.Desks.{DeskStands, IsAtWork}
-use Rattle.vault.specs.Packing.{IsQuiet, IsPackText}
 use Rattle.vault.proofs.Aside.{none-flies, none-doubted}
 use Rattle.vault.proofs.Free.{none_run}
 

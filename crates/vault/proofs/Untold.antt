@@ -1,23 +1,15 @@
 -- What calls of devices show holds of the same devices with no content told.
-use Rattle.std.proofs.Common.{ℕ, ◌<◌, ◌^◌, Bool, true, false, List, Option, None, refl, ◌∙◌, inl, inr}
-use Rattle.std.specs.Prelude.{IfSome}
-use Rattle.device_defs.specs.Cells.{Cells}
-use Rattle.device_defs.specs.Providers.{Provider}
-use Rattle.device_defs.specs.ProviderCalls.{OtherCounts, IsBlock, Asks, Removes}
-use Rattle.device_defs.specs.Told.{Goes}
+use Rattle.vault.proofs.Words.{ℕ, ◌<◌, ◌^◌, Bool, true, false, List, Option, None, refl, ◌∙◌, inl, inr, IfSome, Cells, Provider, OtherCounts, IsBlock, Asks, Removes, Goes, Question, Task, Asked, IsAuditing, given_of, cells_by, provider_by, if_given, TakesFetch, fetch_size, MakesMove, Result, Ok, Err, Some, ◌≡◌, ap, is_some}
+use Rattle.stream_model.specs.declared.fault.WriteFault.{WriteFault}
+use Rattle.stream_model.specs.declared.fault.WriteFault.TheVariants as write_fault
+use Rattle.std.proofs.lemmas.Result.{on_ok_weaker}
+use Rattle.device_defs.proofs.Lasting.{is_some-goes}
+use Rattle.journal_core.specs.Turns.{LeavesDisk}
 use Rattle.journal_core.specs.declared.append.Append.{Append}
 use Rattle.vault.specs.declared.flight.Moved.{Moved}
 use Rattle.vault.specs.declared.flight.Moved.TheVariants as moved
-use Rattle.vault.specs.declared.question.Question.{Question}
-use Rattle.vault.specs.declared.tasks.Task.{Task}
+use Rattle.vault.specs.Flights.{IsTurn}
 use Rattle.vault.specs.declared.tasks.Task.TheVariants as task
-use Rattle.vault.specs.Asking.{Asked, IsAuditing}
-use Rattle.stripe_bench.specs.Blocks.{given_of}
-use Rattle.vault.specs.Devices.{cells_by}
-use Rattle.stripe_bench.specs.Calls.{provider_by}
-use Rattle.stripe_bench.proofs.Sights.{if_given}
-use Rattle.vault.specs.Fetching.{TakesFetch, fetch_size}
-use Rattle.vault.specs.Flights.{MakesMove}
 
 -- ---- providers
 
@@ -79,26 +71,38 @@ pub goes_by : (is_told : Bool) (step : Cells → Cells → Type 0) (old new : Op
 goes_by true step old new h = h
 goes_by false step old new h = tt
 
+-- what a move leaves on it
+pub leaves_by : (is_told : Bool) (n : ℕ) (after : Cells → Cells) (MayTear : Cells → Cells → Type 0)
+    (result : Result Bool WriteFault) (old new : Option Cells) → LeavesDisk n after MayTear result old new
+    → LeavesDisk n after MayTear result (cells_by is_told old) (cells_by is_told new)
+leaves_by true n after MayTear result old new d = d
+leaves_by false n after MayTear result old new d = record {
+  does = on_ok_weaker result (λ is. refl) d.does;
+  torn = λ failed. tt;
+  memory = λ memory. refl;
+  writes = d.writes;
+}
+
+-- a turn of an append
+turn_by : (is_told : Bool) (a : Append) (old : Option Cells) (result : Result Bool WriteFault) (b : Append)
+    (new : Option Cells) → IsTurn a old result b new
+    → IsTurn a (cells_by is_told old) result b (cells_by is_told new)
+turn_by is_told a old result b new t =
+    record { turns = t.turns; disk = leaves_by is_told _ _ _ result old new t.disk }
+
 -- a move of an append
 pub move_by : (is_told : Bool) (a : Append) (old : Option Cells) (m : Moved) (new : Option Cells)
     → MakesMove a old m new → MakesMove a (cells_by is_told old) m (cells_by is_told new)
-move_by true a old m new h = h
-move_by false a old (moved.On f) new h = (
-  h.0,
-  h.1,
-  h.2,
-  λ area rs r appends. record {
-    appends = record {
-      records = appends.records;
-      entry = appends.entry;
-      gate = h.1 ∙ appends.gate;
-      body = h.2 ∙ appends.body;
-      disk = tt;
-    };
-    before = λ few. tt;
-    between = tt;
-  },
-)
-move_by false a old moved.Done new h = (h.0, λ area rs r appends. record { ready = tt })
-move_by false a old moved.Failed new h = λ area rs r appends. record { before = λ few. tt; between = tt }
-move_by false a old moved.Memory new h = (h.0, refl, λ area rs r appends. tt)
+move_by is_told a old (moved.On f) new h = turn_by is_told a old (Ok false) f.append new h
+move_by is_told a old moved.Done new h = (h.0, turn_by is_told a old (Ok true) h.0 new h.1)
+move_by is_told a old moved.Failed new h = (h.0, turn_by is_told a old (Err write_fault.Failed) h.0 new h.1)
+move_by is_told a old moved.Memory new h = (h.0, turn_by is_told a old (Err write_fault.Memory) h.0 new h.1)
+
+-- a move leaves a disk that tells its cells as before
+pub leaves_told : (n : ℕ) (after : Cells → Cells) (MayTear : Cells → Cells → Type 0)
+    (result : Result Bool WriteFault) (old new : Option Cells) → LeavesDisk n after MayTear result old new
+    → is_some new ≡ is_some old
+leaves_told n after MayTear (Ok ended) None new d = ap is_some d.does
+leaves_told n after MayTear (Ok ended) (Some old) new d = ap is_some d.does
+leaves_told n after MayTear (Err write_fault.Failed) old new d = is_some-goes MayTear old new (d.torn refl)
+leaves_told n after MayTear (Err write_fault.Memory) old new d = ap is_some (d.memory refl)

@@ -1,47 +1,18 @@
 -- What every step of a job has in common.
-use Rattle.std.proofs.Common.{◌≡◌, ℕ, ◌<◌, ◌≤◌, ◌==◌, Bool, true, List, length, Option, Some, None, refl, sym, ap, subst, ◌∙◌, inl, inr, arith, ◌+◌}
-use Rattle.std.specs.Prelude.{slice_get, slice_set}
+use Rattle.vault.proofs.Words.{◌≡◌, ℕ, ◌<◌, ◌≤◌, Bool, true, List, Option, Some, None, refl, sym, ap, subst, ◌∙◌, inl, inr, arith, ◌+◌, slice_get, slice_set, cases_eq, eq-eqb, ne_eqb, get-set_same, get-set_other, Cells, Provider, Setup, Area, base_of, end_in, actions_of, actions_by, actions_left, Outcome, Step, More, Kind, PutJob, GetJob, DropJob, AuditJob, RepairJob, UpgradeJob, Given, Job, with_job, job_of, Happens, State, Alone, setup_in, with_provider, ActsOrWaits, StepsOn, StepsJob, StepsOne, StepsOpen, Steps, next_action, cond_true, cond_false, number_of, CoreIs, ComesNext, entry_in, CoreView, told_in, wants_in, AreHanded, Devices, devices, IsSameBeyond, records_in_flight, Desk, Flight, with_master, ShapeValue, KeepsAll, IsFed, place_in, Running, Tells, Reply, DeskStands, IsFlight, IsShaped, DeskMakesStep, IsRunning, AreRunning, shown-again, goes_still, hand_of, HasAtHand, AreAtHand, KeepsStreams, setup_same}
+use Rattle.std.proofs.Common.{◌==◌, length}
 use Rattle.std.proofs.Common.{length-set}
-use Rattle.std.proofs.lemmas.Bool.{cases_eq, eq-eqb, ne_eqb}
-use Rattle.algebra_laws.proofs.Lists.{get-set_same, get-set_other}
-use Rattle.device_defs.specs.Cells.{Cells}
-use Rattle.device_defs.specs.Providers.{Provider}
-use Rattle.record_defs.specs.Records.{Setup, Record}
-use Rattle.record_defs.specs.Areas.{Area, base_of, end_in}
-use Rattle.machine_defs.specs.Actions.{Action, actions_of, actions_by, actions_left}
-use Rattle.machine_defs.specs.Events.{Outcome, Step, More}
-use Rattle.machine_defs.specs.Jobs.{Kind, PutJob, GetJob, DropJob, AuditJob, RepairJob, UpgradeJob, Given, Job, with_job, job_of}
-use Rattle.machine_defs.specs.Machine.{Happens}
-use Rattle.machine_defs.specs.States.{State, Append, Alone, setup_in, with_provider}
-use Rattle.machine_defs.specs.Steps.{Acts, ActsOrWaits, StepsOn, StepsJob, StepsOne, StepsOpen, Steps, next_action}
-use Rattle.machine_defs.proofs.JobLists.{cond_true, cond_false, number_of}
-use Rattle.vault_core.specs.Carried.{CoreIs, ComesNext}
+use Rattle.record_defs.specs.Records.{Record}
+use Rattle.machine_defs.specs.Actions.{Action}
+use Rattle.machine_defs.specs.States.{Append}
+use Rattle.machine_defs.specs.Steps.{Acts}
 use Rattle.vault_core.proofs.InFlight.{flight-entry}
-use Rattle.vault_core.specs.Coming.{entry_in}
-use Rattle.vault_core.specs.View.{CoreView, told_in, wants_in}
-use Rattle.opening_defs.specs.Opened.{AreHanded}
-use Rattle.vault_open.specs.Devices.{Devices, devices}
-use Rattle.vault.specs.Devices.{IsSameBeyond, records_in_flight}
-use Rattle.vault.specs.declared.desk.Desk.{Desk}
-use Rattle.vault.specs.declared.flight.Flight.{Flight}
 use Rattle.record_codec.specs.declared.setup.Setup.{Setup as SetupValue}
-use Rattle.record_codec.specs.Entries.{with_master}
-use Rattle.hail_field.specs.declared.shape.Shape.{Shape as ShapeValue}
-use Rattle.vault.specs.Running.{KeepsAll, IsFed, place_in}
 use Rattle.vault.specs.declared.turn.Turn.TheVariants as turn
-use Rattle.vault.specs.declared.tasks.Running.{Running}
-use Rattle.vault_core.specs.Replies.{Tells}
-use Rattle.vault_core.specs.declared.reply.Reply.{Reply}
 use Rattle.vault_core.specs.declared.reply.Reply.TheVariants as reply
-use Rattle.vault.specs.Desks.{DeskStands, IsFlight, IsShaped, DeskMakesStep}
-use Rattle.vault.specs.Tasks.{IsRunning, AreRunning}
-use Rattle.vault_open.proofs.Images.{shown-again}
 use Rattle.vault.proofs.JobPlaces.{Found, found, place_is, put_back, at_set}
-use Rattle.journal_core.proofs.BeyondLemmas.{goes_still}
-use Rattle.vault.specs.AtHand.{hand_of, HasAtHand, AreAtHand, KeepsStreams}
 use Rattle.vault.proofs.Allowed.{IsAllowed, next_allowed}
 use Rattle.vault.proofs.Hands.{waits_not, hand_on, no_hand, hands_with}
-use Rattle.hail_scrub.proofs.Machine.{setup_same}
 
 -- what comes of the next action of a job is a step of the machine
 pub happens_by : (w new : State) (moment number : ℕ) (action : Action) (outcome : Outcome) →

@@ -1,53 +1,24 @@
 -- The work on a stripe is a step of the machine.
-use Rattle.std.proofs.Common.{◌≡◌, ℕ, zero, suc, ◌+◌, ◌*◌, ◌^◌, ◌≤◌, Vec, Global, cond, List, [], ◌∷◌, ◌++◌, length, drop, Some, None, Result, Ok, Err, refl, sym, ap, subst, ◌∙◌, arith, length-append}
-use Rattle.std.specs.Prelude.{slice_get, slice_set, vec_len, vec_capacity}
-use Rattle.std.specs.List.{flat_map, range_with_len}
+use Rattle.vault.proofs.Words.{◌≡◌, ℕ, zero, suc, ◌+◌, ◌*◌, ◌^◌, ◌≤◌, Vec, Global, cond, List, [], ◌∷◌, ◌++◌, drop, Some, None, Result, Ok, Err, refl, sym, ap, subst, ◌∙◌, arith, length-append, slice_get, slice_set, flat_map, range_with_len, append-nil, sum_by-cons, upto, Object, bytes_of_symbols, stripe_symbols, length-bytes_of_symbols, Work, actions_of, actions_left, blocks_given, symbols_given, pinned_profile, Kind, PutJob, DropJob, AuditJob, UpgradeJob, Given, Worked, Job, advanced_with, without_job, State, setup_in, worked_object, going_on, ended, next_action, number_of, next-left, ComesNext, GetTask, RepairTask, Running, Task, Turn, Desk, Devices, entries_fetched, work_blocks, OpensRows, LosesWork, TakesWork, KeepsHeard, WorksAs, CanWork, Phase, Between, Fetching, Opened, fetches_left, works_left, is_fetch, is_work, place_in, heard_of, KeepsAll, IsFed, IsStopped, DeskStands, Comes, DeskMakesStep, Bench, bench_object, turned, IsBench, AreOfSetup, HasBenchFor, IsAtHand, IsGet, IsRepair, IsTask, IsRunning, HasFetched, worked_is, worked_other, handed_same}
+use Rattle.std.proofs.Common.{length}
+use Rattle.std.specs.Prelude.{vec_len, vec_capacity}
 use Rattle.std.proofs.lemmas.Grind.{flat_map-append}
-use Rattle.std.proofs.lemmas.List.{append-nil}
-use Rattle.std.proofs.lemmas.List.Sums.{sum_by-cons}
-use Rattle.code_defs.specs.Points.{upto}
 use Rattle.code_defs.proofs.Points.{upto_more}
-use Rattle.column_defs.specs.Objects.{Object, bytes_of_symbols, stripe_symbols}
 use Rattle.column_defs.specs.Opened.{SeenBlock, GivesSymbols, LosesRow}
-use Rattle.column_defs.proofs.SymbolBytes.{length-bytes_of_symbols}
-use Rattle.machine_defs.specs.Actions.{Action, Work, actions_of, actions_left}
-use Rattle.machine_defs.specs.Given.{blocks_given, symbols_given, pinned_profile}
-use Rattle.machine_defs.specs.Jobs.{Kind, PutJob, DropJob, AuditJob, UpgradeJob, Given, Worked, Job, advanced_with, without_job}
-use Rattle.machine_defs.specs.States.{State, setup_in, worked_object, going_on, ended}
-use Rattle.machine_defs.specs.Steps.{next_action}
-use Rattle.machine_defs.proofs.JobLists.{number_of}
+use Rattle.machine_defs.specs.Actions.{Action}
 use Rattle.column_codec.specs.declared.opening.RowLost.{RowLost}
-use Rattle.state_laws.proofs.Orders.{next-left}
-use Rattle.vault_core.specs.Carried.{ComesNext}
 use Rattle.vault_core.specs.declared.reply.Reply.TheVariants as reply
 use Rattle.vault.specs.declared.heard.Fetches.{Fetches}
-use Rattle.vault.specs.declared.tasks.GetTask.{GetTask}
-use Rattle.vault.specs.declared.tasks.RepairTask.{RepairTask}
-use Rattle.vault.specs.declared.tasks.Running.{Running}
-use Rattle.vault.specs.declared.tasks.Task.{Task}
 use Rattle.vault.specs.declared.tasks.Task.TheVariants as task
 use Rattle.vault.specs.declared.turn.Answer.TheVariants as answer
-use Rattle.vault.specs.declared.turn.Turn.{Turn}
 use Rattle.vault.specs.declared.turn.Turn.TheVariants as turn
-use Rattle.vault.specs.declared.desk.Desk.{Desk}
-use Rattle.vault_open.specs.Devices.{Devices}
-use Rattle.vault.specs.Heard.{entries_fetched}
-use Rattle.vault.specs.Opening.{work_blocks, OpensRows, LosesWork, TakesWork, KeepsHeard, WorksAs, CanWork}
-use Rattle.vault.specs.Orders.{Phase, Between, Fetching, Opened, GoesOn, fetches_left, works_left, is_fetch, is_work}
-use Rattle.vault.specs.Running.{place_in, heard_of, KeepsAll, IsFed, IsStopped}
-use Rattle.vault.specs.Desks.{DeskStands, Comes, DeskMakesStep}
-use Rattle.column_codec.specs.declared.bench.Bench.{Bench}
-use Rattle.column_codec.specs.Bench.{bench_object, turned}
-use Rattle.stripe_bench.specs.Bench.{IsBench}
-use Rattle.vault.specs.Tasks.{AreOfSetup, HasBenchFor, IsAtHand, IsGet, IsRepair, IsTask, IsRunning, HasFetched}
+use Rattle.vault.specs.Orders.{GoesOn}
 use Rattle.vault.proofs.OwnObjects.{worked-own}
 use Rattle.vault.proofs.Allowed.{IsAllowed, next_allowed}
 use Rattle.vault.proofs.Kits.{turned_is, bench_after, bench_count, first_count, own_after, serves_after}
 use Rattle.vault.proofs.Stops.{ends_by}
 use Rattle.vault.proofs.Ways.{actions_same, at_place, goes_on, hands_alike}
 use Rattle.vault.proofs.Worked.{all_fetched, all_counted, order_opened, enough_present, enough_symbols, last_is}
-use Rattle.stripe_bench.proofs.Gifts.{worked_is, worked_other}
-use Rattle.hail_scrub.proofs.Machine.{handed_same}
 
 -- ---- the bytes of a get
 

@@ -1,17 +1,8 @@
 -- The work on a stripe, of a get or a repair.
-use Rattle.std.proofs.Common.{◌≡◌, ℕ, ◌+◌, ◌*◌, ◌-◌, ◌≤◌, List, [], ◌∷◌, ◌++◌, length, drop, map, sym, ap, subst, ◌∙◌, arith, length-append}
-use Rattle.std.specs.List.{range_with_len}
-use Rattle.std.proofs.Math.Seq.{drop-append_seam}
-use Rattle.column_codec.specs.PresentBlocks.{present_blocks}
-use Rattle.column_codec.proofs.PresentLemmas.{length-present_blocks}
-use Rattle.machine_defs.specs.Actions.{Action, WriteBody, SyncBody, WriteGate, SyncGate, Store, Fetch, Ask, Work, Remove, End}
-use Rattle.machine_defs.specs.Given.{block_given, blocks_given}
-use Rattle.machine_defs.specs.Jobs.{Given}
-use Rattle.stripe_bench.specs.declared.blocks.Blocks.{Blocks}
-use Rattle.stripe_bench.specs.Blocks.{last_blocks}
-use Rattle.vault.specs.Orders.{Phase, Between, Fetching, Opened, GoesOn, OpensFrom}
-use Rattle.stripe_bench.proofs.Gifts.{gifts_give}
-use Rattle.vault.specs.Tasks.{HasFetched, IsInWork, fetched_in}
+use Rattle.vault.proofs.Words.{◌≡◌, ℕ, ◌+◌, ◌*◌, ◌-◌, ◌≤◌, List, [], ◌∷◌, ◌++◌, drop, map, sym, ap, subst, ◌∙◌, arith, length-append, range_with_len, drop-append_seam, present_blocks, length-present_blocks, WriteBody, SyncBody, WriteGate, SyncGate, Fetch, Work, Remove, End, block_given, blocks_given, Given, Blocks, last_blocks, Phase, Between, Fetching, Opened, OpensFrom, gifts_give, HasFetched, IsInWork, fetched_in}
+use Rattle.std.proofs.Common.{length}
+use Rattle.machine_defs.specs.Actions.{Action, Store, Ask}
+use Rattle.vault.specs.Orders.{GoesOn}
 
 -- ---- the last blocks
 

@@ -1,10 +1,9 @@
 -- What a job begins with, and the benches of a repair.
-use Rattle.std.specs.Prelude.{◌≡◌, ◌⊎◌, ℕ, ◌+◌, ◌*◌, ◌^◌, ◌≤◌, ◌==◌, Bool, true, false, nat_le, List, [], ◌∷◌, replicate, Option, None, Some, slice_get, slice_set, vec_len, vec_capacity}
+use Rattle.std.specs.Prelude.{◌≡◌, ◌⊎◌, ℕ, ◌+◌, ◌*◌, ◌^◌, ◌≤◌, ◌==◌, Bool, true, List, [], ◌∷◌, replicate, Some, slice_get, slice_set, vec_len, vec_capacity}
 use Rattle.std.specs.List.{list_any}
 use Rattle.code_defs.specs.Profiles.{profile_of}
 use Rattle.code_points.specs.Profile.{plain_profile}
 use Rattle.column_defs.specs.Objects.{stripes, stripe_symbols}
-use Rattle.record_defs.specs.Records.{all_profiles}
 use Rattle.record_defs.specs.Table.{File}
 use Rattle.vault.specs.declared.tasks.AuditTask.{AuditTask}
 use Rattle.vault.specs.declared.tasks.GetTask.{GetTask}
@@ -85,11 +84,6 @@ pub record IsNewRepair (v : Desk) (t : RepairTask) : Type 0 where
   pub symbols : t.blocks.symbols.items ≡ []
   pub room_present : v.setup.n ≤ vec_capacity t.blocks.present
   pub room_symbols : v.setup.n * 128 ≤ vec_capacity t.blocks.symbols
-
--- a put names a profile that there is not
-abbrev pub names_unknown : Option ℕ → Bool
-names_unknown None = false
-names_unknown (Some profile) = nat_le all_profiles profile
 
 -- how many stripes the file of a bench has
 abbrev pub stripes_on : Bench → ℕ

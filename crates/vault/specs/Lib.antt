@@ -22,3 +22,4 @@ pub mod Benches
 pub mod Ending
 pub mod Files
 pub mod Packing
+pub mod Steps

@@ -1,6 +1,7 @@
 -- In which order the actions on stripes come, read along the list of actions that a job has not yet made.
 --
---   Phase                     == no stripe is in work; or so many blocks of it are fetched; or it is opened
+--   Phase                     == where a job is on its stripes: Between, none is in work; Fetching, so many of
+--                                its blocks are fetched; Opened, it is opened, and blocks of it may be stored
 --   GoesOn n phase rest       == from this phase on, each stripe has a fetch from each of the n providers in
 --                                order, its work, and then stores of it
 --   OpensFrom id total k rest == the stripes of an object that are still worked on are those from k on, in

@@ -2,7 +2,10 @@
 --
 --   Round                           == a round of a file
 --   rounds_in s fs                  == the rounds of these files, in order
---   JudgesEach s job rounds old new == these rounds turn these sums into those
+--   JudgesEach s job rounds old new == these rounds, judged one after the other, turn the old sums into the
+--                                      new ones
+--   rounds_after n x xs c           == the rounds that still have asks behind that of provider c in round x
+--   asked_after n c                 == the provider that is asked after provider c
 --   AsksOn n rounds c rest          == the asks that are left are those of these rounds, from provider c on
 --                                      in the first of them
 use Rattle.std.specs.Prelude.{◌≡◌, ℕ, ◌+◌, ◌==◌, List, [], ◌∷◌, length, map, if◌then◌else◌}

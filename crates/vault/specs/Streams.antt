@@ -5,6 +5,8 @@
 --   KeepsTold old new job       == a job that still runs was given as many stripes as before
 --   IsStreamless v              == no stream is open
 --   KeepsStreamless old new     == where none was open, none is
+--   OpensStream old new result  == a begin of a stream
+--   TakesNext old job last new  == a stream was given a stripe more, or its last bytes
 --   stripe_of v job             == how many bytes a stripe of a running job's file has; 0 where it does not run
 --   IsPiece size wanted count last
 --                               == a stream that waits for this stripe may be given so many bytes: a whole
@@ -15,13 +17,17 @@
 --                                  it is the last
 --   FitsPiece size wanted piece last job
 --                               == so has the file of a put of the machine
-use Rattle.std.specs.Prelude.{◌≡◌, ℕ, ◌+◌, ◌*◌, ◌≤◌, Bool, true, false, List, [], ◌++◌, length, Option, None, Some}
+use Rattle.std.specs.Prelude.{◌≡◌, ◌≢◌, ℕ, ◌+◌, ◌*◌, ◌≤◌, Bool, true, false, List, [], ◌++◌, length, Option, None, Some, Result, OnErr, IfOk}
 use Rattle.record_defs.specs.Records.{Setup, largest_file}
 use Rattle.machine_defs.specs.Jobs.{Kind, PutJob, Job}
 use Rattle.vault_core.specs.Streams.{stripe_size}
 use Rattle.vault_core.specs.View as core
-use Rattle.vault_core.specs.View.{CoreJob}
+use Rattle.vault_core.specs.View.{CoreJob, CoreView}
+use Rattle.vault_core.specs.Coming.{core_left}
+use Rattle.vault_core.specs.declared.wish.BeginFault.{BeginFault}
+use Rattle.vault.specs.declared.desk.Desk.{Desk}
 use Rattle.vault.specs.declared.vault.Vault.{Vault}
+use Rattle.vault.specs.Running.{IsSameDesk}
 
 -- the stripe that an open stream waits for
 abbrev pub wants_of : Vault → ℕ → Option ℕ
@@ -43,6 +49,23 @@ IsStreamless v = core.HasNoStream v.desk.core
 -- where none was open, none is
 abbrev pub KeepsStreamless : Vault → Vault → Type 0
 KeepsStreamless old new = IsStreamless old → IsStreamless new
+
+-- A begin of a stream: an Ok has it run under the number that was next, given no stripe so far; an Err
+-- changed nothing; no other stream changes.
+pub record OpensStream (old new : Desk) (result : Result ℕ BeginFault) : Type 0 where
+  pub unchanged : OnErr result (IsSameDesk old new)
+  pub number : IfOk result (λ job. job ≡ old.core.next_job)
+  pub opened : IfOk result (λ job. core.told_in new.core.jobs job ≡ Some 0)
+  pub others : (m : ℕ) → m ≢ old.core.next_job → core.told_in new.core.jobs m ≡ core.told_in old.core.jobs m
+  pub setup : new.core.setup ≡ old.core.setup
+
+-- a stream was given a stripe more, or its last bytes, and waits for none
+pub record TakesNext (old : CoreView) (job : ℕ) (last : Bool) (new : CoreView) : Type 0 where
+  pub more : (stripe : ℕ) → core.wants_in old job ≡ Some stripe → last ≡ false →
+      core.told_in new.jobs job ≡ Some (stripe + 1)
+  pub closed : last ≡ true → core.told_in new.jobs job ≡ None
+  pub wants : core.wants_in new job ≡ None
+  pub left : core_left new job ≤ core_left old job
 
 -- how many bytes a stripe of a job's file has, if it runs
 abbrev pub stripe_by : Setup → Option CoreJob → ℕ

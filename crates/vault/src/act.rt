@@ -1,16 +1,12 @@
-ghost use Rattle.std.specs.Prelude.{◌≡◌, ◌≢◌, ◌<◌, ◌-◌, ◌++◌, ◌∷◌, [], ℕ, Bool, true, false, None, Some, is_some, length, slice_get};
-ghost use Rattle.device_defs.specs.Faults.{one_more};
+ghost use Rattle.std.specs.Prelude.{◌≡◌, ◌<◌, ◌-◌, ◌++◌, ◌∷◌, [], ℕ, Bool, true, Some, length};
 ghost use Rattle.machine_defs.specs.States.{State};
 ghost use Rattle.record_defs.specs.Records.{Record as Entry};
 ghost use Rattle.record_defs.specs.Spellings.{spelling};
 ghost use Rattle.vault.specs.Calls.{moves_before_next, MovesCells};
-ghost use Rattle.stripe_bench.specs.Calls.{CalledOnce};
-ghost use Rattle.vault.specs.AtHand.{KeepsStreams};
 ghost use Rattle.vault.specs.Desks.{DeskStands, IsAtWork, Comes, DeskMakesStep};
 ghost use Rattle.vault.specs.Devices.{devices_seen, devices_by};
-ghost use Rattle.vault.specs.Outcomes.{IfEnded, IsNoAction, HasPaddedCounts};
-ghost use Rattle.vault.specs.declared.turn.Turn.TheVariants as turn;
-ghost use Rattle.vault_core.specs.Coming.{Acts, core_left, entry_in, seen_action, calls_disk, called_provider};
+ghost use Rattle.vault.specs.Steps.{CallsNext, HasActed};
+ghost use Rattle.vault_core.specs.Coming.{Acts, entry_in, seen_action, calls_disk, called_provider};
 
 use crate::desk::Desk;
 use crate::turn::Turn;
@@ -36,25 +32,14 @@ impl Desk {
             → DeskMakesStep w moment job result self.new
             (devices_by is_told D.Disk P.Provider disk.old providers.old)
             (devices_by is_told D.Disk P.Provider disk.new providers.new) }
-        ensures tells { is_some (D.holds disk.new) ≡ is_some (D.holds disk.old) }
-        ensures left { result ≡ turn.More → core_left self.new.core job < core_left self.old.core job }
-        ensures padded { IfEnded result (λ ended. HasPaddedCounts ended.answer) }
-        ensures still { calls_disk (Acts (seen_action action)) ≡ false → disk.new ≡ disk.old }
+        ensures calls { CallsNext D.Disk P.Provider (Acts (seen_action action)) disk.old providers.old disk.new
+            providers.new }
         ensures moves { (w : State) (entry : Entry)
             → DeskStands self.old (devices_seen D.Disk P.Provider disk.old providers.old) w
             → entry_in self.old.core job ≡ Some entry → calls_disk (Acts (seen_action action)) ≡ true
             → MovesCells (moves_before_next (Acts (seen_action action))) (self.old.core.end - 1)
             (spelling entry ++ 0 ∷ []) result (D.holds disk.old) (D.holds disk.new) }
-        ensures away { called_provider (Acts (seen_action action)) ≡ None → providers.new ≡ providers.old }
-        ensures count { length providers.new ≡ length providers.old }
-        ensures others { (j k : ℕ) → called_provider (Acts (seen_action action)) ≡ Some j → k ≢ j
-            → slice_get providers.new k ≡ slice_get providers.old k }
-        ensures one_disk_call { calls_disk (Acts (seen_action action)) ≡ true
-            → D.calls disk.new ≡ one_more (D.calls disk.old) }
-        ensures one_provider_call { (j : ℕ) → called_provider (Acts (seen_action action)) ≡ Some j
-            → CalledOnce P.calls j providers.old providers.new }
-        ensures acted { IsNoAction result → ⊥ }
-        ensures streams { KeepsStreams self.old.core self.new.core }
+        ensures acted { HasActed self.old.core self.new.core job result }
     {
         match action {
             Action::WriteBody | Action::SyncBody | Action::WriteGate | Action::SyncGate => {

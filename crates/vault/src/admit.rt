@@ -16,8 +16,8 @@ ghost use Rattle.vault_open.specs.Devices.{Devices};
 ghost use Rattle.vault.specs.AtHand.{hand_of, KeepsStreams};
 ghost use Rattle.vault.specs.Running.{IsSameDesk};
 ghost use Rattle.vault.specs.Desks.{DeskStands, DeskMakesBegin};
+ghost use Rattle.vault.specs.Streams.{OpensStream};
 ghost use Rattle.vault.specs.Tasks.{IsTask, IsStream};
-ghost use Rattle.vault_core.specs.View.{told_in};
 
 use crate::desk::Desk;
 use crate::tasks::{Running, StreamTask, Task};
@@ -66,12 +66,7 @@ impl Desk {
             → (refusal_of_begin 8 w (PutJob name bytes) profile ≡ None
             → IsStream (setup_in w) task (beginning w moment (PutJob name bytes) profile))
             → DeskMakesBegin w moment (PutJob name bytes) profile result self.new d }
-        ensures unchanged { OnErr result (IsSameDesk self.old self.new) }
-        ensures number { IfOk result (λ job. job ≡ self.old.core.next_job) }
-        ensures open { IfOk result (λ job. told_in self.new.core.jobs job ≡ Some 0) }
-        ensures others { (other : ℕ) → (other ≡ self.old.core.next_job → ⊥)
-            → told_in self.new.core.jobs other ≡ told_in self.old.core.jobs other }
-        ensures setup { self.new.core.setup ≡ self.old.core.setup }
+        ensures opens { OpensStream self.old self.new result }
     {
         if self.jobs.reserve(1).is_err() {
             drop(task);

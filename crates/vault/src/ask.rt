@@ -1,4 +1,4 @@
-ghost use Rattle.std.specs.Prelude.{◌≡◌, ◌≢◌, ◌<◌, ◌≤◌, ◌^◌, ◌==◌, ℕ, Bool, Option, length, map, slice_get, position, IfSome};
+ghost use Rattle.std.specs.Prelude.{◌≡◌, ◌<◌, ◌≤◌, ◌^◌, ◌==◌, ℕ, Bool, Option, length, map, position, IfSome};
 ghost use Rattle.column_defs.specs.Challenges.{honest_answer};
 ghost use Rattle.device_defs.specs.Cells.{Cells};
 ghost use Rattle.device_defs.specs.Faults.{one_more};
@@ -7,17 +7,15 @@ ghost use Rattle.machine_defs.specs.Actions.{Ask as AskAction};
 ghost use Rattle.machine_defs.specs.States.{State};
 ghost use Rattle.challenge.specs.Asked.{asked};
 ghost use Rattle.provider_model.specs.Seen.{provider_seen};
-ghost use Rattle.vault_core.specs.Coming.{core_left};
 ghost use Rattle.vault_core.specs.declared.pinned.Pinned.{Pinned as PinnedValue};
 ghost use Rattle.vault_open.specs.Devices.{devices};
 ghost use Rattle.vault.specs.Asking.{pin_among, pin_in, profile_or, IsQuestion, challenge_put, Asked, MayAsk, TellsAsk, IsAuditing, MayPut};
-ghost use Rattle.stripe_bench.specs.Calls.{sight, CalledOnce};
-ghost use Rattle.vault.specs.AtHand.{KeepsStreams};
+ghost use Rattle.stripe_bench.specs.Calls.{sight};
 ghost use Rattle.vault.specs.Desks.{DeskStands, IsAtWork, Comes, DeskMakesStep};
 ghost use Rattle.vault.specs.Running.{RunsIn};
+ghost use Rattle.vault.specs.Steps.{OnlyCalled, HasActed};
 ghost use Rattle.vault.specs.declared.turn.Turn.TheVariants as turn;
 
-use crate::benches::profile_at;
 use crate::desk::Desk;
 use crate::heard::Ask;
 use crate::question::Question;
@@ -25,6 +23,7 @@ use crate::tasks::{AuditTask, Task};
 use crate::turn::Turn;
 use audit_verdict::{judge_round, round_challenge};
 use challenge::Challenge;
+use code_points::profile_at;
 use file_layout::FileShape;
 use hail_field::Symbol;
 use hail_field::laws::symbol_is_number;
@@ -280,12 +279,9 @@ impl Desk {
             → DeskMakesStep w moment job result self.new
             (devices holds faults (map (sight is_told P.Provider) providers.old))
             (devices holds faults (map (sight is_told P.Provider) providers.new)) }
-        ensures count { length providers.new ≡ length providers.old }
-        ensures others { (k : ℕ) → k ≢ provider → slice_get providers.new k ≡ slice_get providers.old k }
-        ensures left { core_left self.new.core job < core_left self.old.core job }
+        ensures calls { OnlyCalled P.calls provider providers.old providers.new }
+        ensures acted { HasActed self.old.core self.new.core job result }
         ensures more { result ≡ turn.More }
-        ensures called { CalledOnce P.calls provider providers.old providers.new }
-        ensures streams { KeepsStreams self.old.core self.new.core }
     {
         let question = self.question(job, object, round);
         let place = self.place_of(job);

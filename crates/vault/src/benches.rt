@@ -1,35 +1,21 @@
 ghost use Rattle.std.specs.Prelude.{◌≡◌, ◌≤◌, ◌^◌, ◌∷◌, ℕ, true, position, IfOk, OnOk, OnErr, IsErrOf, IsErr};
 ghost use Rattle.std.specs.List.{list_any};
-ghost use Rattle.code_defs.specs.Profiles.{profile_of};
-ghost use Rattle.code_points.specs.Profile.{plain_profile};
 ghost use Rattle.machine_defs.specs.Events.{AreBytes};
 ghost use Rattle.vault_core.specs.declared.wish.BeginFault.TheVariants as fault;
 ghost use Rattle.vault.specs.Benches.{IsBenchFor, AreOfDesk, AreServed, is_sized, is_served};
 
 use crate::desk::Desk;
-use code_points::{Profile, find_profile};
+use code_points::profile_at;
 use column_codec::Bench;
 use file_layout::FileShape;
+use record_defs::LARGEST_FILE;
 use std::alloc::Global;
 use vault_core::BeginFault;
-
-/// The largest length of a file, in bytes.
-pub(crate) const LARGEST_FILE: u32 = 1 << 22;
 
 /// What a slice of bytes holds are bytes.
 pub(crate) fn bytes_are_bytes(bytes: &[u8])
     ensures { AreBytes bytes.now }
 {}
-
-/// The profile of a number; the last one of a greater number.
-pub(crate) fn profile_at(number: u8) -> Profile
-    ensures { plain_profile result ≡ profile_of number }
-{
-    match find_profile(number.min(4)) {
-        Some(profile) => profile,
-        None => unreachable!(),
-    }
-}
 
 /// One of these benches makes blocks of this size.
 fn has_size(benches: &[Bench], size: u32) -> bool

@@ -4,15 +4,14 @@ ghost use Rattle.machine_defs.specs.States.{State};
 ghost use Rattle.std.specs.Option.{option_map};
 ghost use Rattle.column_defs.specs.Verdicts.{Sums};
 ghost use Rattle.record_codec.specs.Entries.{counted, IsPadded};
-ghost use Rattle.vault_core.specs.Coming.{TakesReply, core_left};
+ghost use Rattle.vault_core.specs.Coming.{TakesReply};
 ghost use Rattle.vault_core.specs.View.{job_in, wants_in, CoreJob};
 ghost use Rattle.vault_open.specs.Devices.{Devices};
-ghost use Rattle.vault.specs.AtHand.{KeepsStreams};
 ghost use Rattle.vault.specs.Desks.{DeskStands, IsAtWork, Comes, DeskMakesStep};
 ghost use Rattle.vault.specs.Ending.{answer_at_end};
-ghost use Rattle.vault.specs.Outcomes.{IfEnded, IsNoAction, HasPaddedCounts};
+ghost use Rattle.vault.specs.Outcomes.{IsNoAction};
 ghost use Rattle.vault.specs.Running.{place_in, heard_of, IsStopped, RunsIn};
-ghost use Rattle.vault.specs.declared.turn.Turn.TheVariants as turn;
+ghost use Rattle.vault.specs.Steps.{HasActed};
 
 use crate::desk::Desk;
 use crate::heard::{HeardList, Parts};
@@ -182,10 +181,7 @@ impl Desk {
         requires at_work { IsAtWork self.old }
         ensures machine { (w : State) (moment : ℕ) (d : Devices) → DeskStands self.old d w
             → DeskMakesStep w moment job result self.new d d }
-        ensures left { result ≡ turn.More → core_left self.new.core job < core_left self.old.core job }
-        ensures padded { IfEnded result (λ ended. HasPaddedCounts ended.answer) }
-        ensures acted { IsNoAction result → ⊥ }
-        ensures streams { KeepsStreams self.old.core self.new.core }
+        ensures acted { HasActed self.old.core self.new.core job result }
     {
         let place = self.place_of(job);
         let number = self.subject_of(job);

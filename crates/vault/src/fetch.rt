@@ -1,18 +1,17 @@
-ghost use Rattle.std.specs.Prelude.{◌≡◌, ◌≢◌, slice_get, ℕ, Bool, List, Option, length, map, ◌<◌};
+ghost use Rattle.std.specs.Prelude.{◌≡◌, ◌<◌, ℕ, Bool, List, Option, length, map};
 ghost use Rattle.device_defs.specs.Cells.{Cells};
 ghost use Rattle.device_defs.specs.Faults.{one_more};
 ghost use Rattle.device_defs.specs.ProviderCalls.{Fetches as FetchesOf};
 ghost use Rattle.machine_defs.specs.Actions.{Fetch as FetchAction};
 ghost use Rattle.machine_defs.specs.States.{State};
 ghost use Rattle.provider_model.specs.Seen.{provider_seen};
-ghost use Rattle.vault_core.specs.Coming.{core_left};
 ghost use Rattle.vault_open.specs.Devices.{devices};
 ghost use Rattle.stripe_bench.specs.Blocks.{given_of};
 ghost use Rattle.vault.specs.Benches.{TurnsTo};
-ghost use Rattle.stripe_bench.specs.Calls.{sight, CalledOnce};
-ghost use Rattle.vault.specs.AtHand.{KeepsStreams};
+ghost use Rattle.stripe_bench.specs.Calls.{sight};
 ghost use Rattle.vault.specs.Desks.{DeskStands, IsAtWork, Comes, DeskMakesStep};
 ghost use Rattle.vault.specs.Fetching.{TakesFetch, HasRoomFor, GrowsFetches, HasRoomForFetch, fetch_size};
+ghost use Rattle.vault.specs.Steps.{OnlyCalled, HasActed};
 ghost use Rattle.vault.specs.declared.turn.Turn.TheVariants as turn;
 
 use crate::desk::Desk;
@@ -90,12 +89,9 @@ impl Desk {
             → DeskMakesStep w moment job result self.new
             (devices holds faults (map (sight is_told P.Provider) providers.old))
             (devices holds faults (map (sight is_told P.Provider) providers.new)) }
-        ensures count { length providers.new ≡ length providers.old }
-        ensures others { (k : ℕ) → k ≢ provider → slice_get providers.new k ≡ slice_get providers.old k }
-        ensures left { core_left self.new.core job < core_left self.old.core job }
+        ensures calls { OnlyCalled P.calls provider providers.old providers.new }
+        ensures acted { HasActed self.old.core self.new.core job result }
         ensures more { result ≡ turn.More }
-        ensures called { CalledOnce P.calls provider providers.old providers.new }
-        ensures streams { KeepsStreams self.old.core self.new.core }
     {
         let profile = self.profile_in(job, object);
         let place = self.place_of(job);

@@ -9,10 +9,11 @@ ghost use Rattle.vault_open.specs.Devices.{Devices};
 ghost use Rattle.vault.specs.Desks.{DeskStands};
 ghost use Rattle.vault.specs.Files.{IsShapeFor, AreShaped};
 
-use crate::benches::{LARGEST_FILE, profile_at};
 use crate::desk::Desk;
+use code_points::profile_at;
 use file_layout::FileShape;
 use hail_field::Memory;
+use record_defs::LARGEST_FILE;
 use std::alloc::Global;
 use vault_core::Pinned;
 

@@ -27,7 +27,7 @@ pub enum Moved {
 }
 
 impl Flight {
-    ghost use Rattle.std.specs.Prelude.{◌≡◌, ◌+◌, ◌^◌, ◌≤◌, ◌++◌, ◌∷◌, [], length, is_some};
+    ghost use Rattle.std.specs.Prelude.{◌≡◌, ◌+◌, ◌^◌, ◌≤◌, ◌++◌, ◌∷◌, [], length};
     ghost use Rattle.device_defs.specs.Faults.{HasCause, one_more};
     ghost use Rattle.device_defs.specs.Told.{Goes};
     ghost use Rattle.record_defs.specs.Records.{record_size};
@@ -35,7 +35,8 @@ impl Flight {
     ghost use Rattle.record_codec.specs.Entries.{entry_of, IsInGrammar};
     ghost use Rattle.journal_core.specs.Appends.{gate_of, body_of, moves_of};
     ghost use Rattle.journal_core.specs.Moves.{SameFrom};
-    ghost use Rattle.vault.specs.Flights.{MakesMove, ChangesCells, HasFailed};
+    ghost use Rattle.vault.specs.declared.flight.Moved.TheVariants as moved;
+    ghost use Rattle.vault.specs.Flights.{MakesMove, HasFailed};
 
     /// An append of this record at the gate at this offset, no move of which is made. Condition: the journal
     /// has room.
@@ -54,10 +55,9 @@ impl Flight {
     /// Makes the next move.
     pub fn turn<D: Disk>(self, disk: &mut D) -> Moved
         ensures made { MakesMove self.append (D.holds disk.old) result (D.holds disk.new) }
-        ensures cells { ChangesCells self.append (D.holds disk.old) result (D.holds disk.new) }
         ensures beyond { Goes (SameFrom (gate_of self.append + 1 + length (body_of self.append)))
             (D.holds disk.old) (D.holds disk.new) }
-        ensures tells { is_some (D.holds disk.new) ≡ is_some (D.holds disk.old) }
+        ensures no_fault { result ≡ moved.Memory → D.faults disk.new ≡ D.faults disk.old }
         ensures cause { HasCause (D.faults disk.old) (D.faults disk.new) (HasFailed result) }
         ensures called { D.calls disk.new ≡ one_more (D.calls disk.old) }
     {

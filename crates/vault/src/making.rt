@@ -5,33 +5,18 @@ ghost use Rattle.machine_defs.specs.Begins.{chosen};
 ghost use Rattle.machine_defs.specs.Jobs.{PutJob, GetJob, DropJob, AuditJob, RepairJob, UpgradeJob};
 ghost use Rattle.machine_defs.specs.States.{State};
 ghost use Rattle.vault_open.specs.Devices.{Devices};
-ghost use Rattle.vault.specs.Benches.{names_unknown};
 ghost use Rattle.vault.specs.Desks.{DeskStands, DeskMakesBegin};
 ghost use Rattle.vault.specs.AtHand.{KeepsStreams};
 ghost use Rattle.vault.specs.Running.{IsSameDesk};
 
-use crate::benches::{LARGEST_FILE, bytes_are_bytes};
+use crate::benches::bytes_are_bytes;
 use crate::desk::Desk;
 use crate::tasks::{AuditTask, GetTask, PutTask, Task};
+use code_points::is_unknown;
 use record_codec::Setup;
+use record_defs::{LARGEST_FILE, MOST_FILES};
 use stream_model::Bytes;
 use vault_core::{BeginFault, Wish};
-
-/// How many profiles there are.
-const PROFILES: u8 = 5;
-
-/// How many files can be in effect.
-const MOST_FILES: usize = 1024;
-
-/// A put names a profile that there is not.
-pub(crate) fn is_unknown(profile: Option<u8>) -> bool
-    ensures { result ≡ names_unknown profile }
-{
-    match profile {
-        Some(number) => number >= PROFILES,
-        None => false,
-    }
-}
 
 /// The profile of a put: the one that it names, or else the setup's.
 pub(crate) fn profile_of_put(profile: Option<u8>, setup: &Setup) -> u8

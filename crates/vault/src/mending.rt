@@ -2,9 +2,11 @@ ghost use Rattle.std.specs.Prelude.{◌≡◌, IfOk, IsErrOf, IsErr};
 ghost use Rattle.vault_core.specs.declared.wish.BeginFault.TheVariants as fault;
 ghost use Rattle.vault.specs.Benches.{IsNewRepair, HasTaken, TakesUp};
 
-use crate::benches::{LARGEST_FILE, place_of, profile_at};
+use crate::benches::place_of;
 use crate::desk::Desk;
 use crate::tasks::RepairTask;
+use code_points::profile_at;
+use record_defs::LARGEST_FILE;
 use std::mem;
 use stripe_bench::Blocks;
 use vault_core::BeginFault;

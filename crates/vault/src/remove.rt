@@ -1,15 +1,14 @@
-ghost use Rattle.std.specs.Prelude.{◌≡◌, ◌≢◌, slice_get, ℕ, Bool, Option, length, map, ◌<◌};
+ghost use Rattle.std.specs.Prelude.{◌≡◌, ◌<◌, ℕ, Bool, Option, length, map};
 ghost use Rattle.device_defs.specs.Cells.{Cells};
 ghost use Rattle.device_defs.specs.Faults.{one_more};
 ghost use Rattle.device_defs.specs.ProviderCalls.{Removes};
 ghost use Rattle.machine_defs.specs.Actions.{Remove};
 ghost use Rattle.machine_defs.specs.States.{State};
-ghost use Rattle.stripe_bench.specs.Calls.{sight, CalledOnce};
+ghost use Rattle.stripe_bench.specs.Calls.{sight};
 ghost use Rattle.vault_open.specs.Devices.{devices};
 ghost use Rattle.provider_model.specs.Seen.{provider_seen};
-ghost use Rattle.vault_core.specs.Coming.{core_left};
-ghost use Rattle.vault.specs.AtHand.{KeepsStreams};
 ghost use Rattle.vault.specs.Desks.{DeskStands, Comes, DeskMakesStep};
+ghost use Rattle.vault.specs.Steps.{OnlyCalled, HasActed};
 ghost use Rattle.vault.specs.declared.turn.Turn.TheVariants as turn;
 
 use crate::desk::Desk;
@@ -42,12 +41,9 @@ impl Desk {
             → DeskMakesStep w moment job result self.new
             (devices holds faults (map (sight is_told P.Provider) providers.old))
             (devices holds faults (map (sight is_told P.Provider) providers.new)) }
-        ensures count { length providers.new ≡ length providers.old }
-        ensures others { (k : ℕ) → k ≢ provider → slice_get providers.new k ≡ slice_get providers.old k }
-        ensures left { core_left self.new.core job < core_left self.old.core job }
+        ensures calls { OnlyCalled P.calls provider providers.old providers.new }
+        ensures acted { HasActed self.old.core self.new.core job result }
         ensures more { result ≡ turn.More }
-        ensures called { CalledOnce P.calls provider providers.old providers.new }
-        ensures streams { KeepsStreams self.old.core self.new.core }
     {
         let index = provider as usize;
         remove_from(&mut providers[index], object);

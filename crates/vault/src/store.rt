@@ -1,19 +1,16 @@
-ghost use Rattle.std.specs.Prelude.{◌≡◌, ◌≢◌, ◌<◌, ℕ, Bool, Option, length, map, slice_get};
+ghost use Rattle.std.specs.Prelude.{◌≡◌, ◌<◌, ℕ, Bool, Option, length, map};
 ghost use Rattle.column_defs.specs.Columns.{column_of_symbols};
 ghost use Rattle.device_defs.specs.Cells.{Cells};
 ghost use Rattle.device_defs.specs.Faults.{one_more};
 ghost use Rattle.machine_defs.specs.Actions.{Store};
 ghost use Rattle.machine_defs.specs.States.{State};
 ghost use Rattle.provider_model.specs.Seen.{StoresAs, provider_seen};
-ghost use Rattle.vault_core.specs.Coming.{core_left};
 ghost use Rattle.vault_open.specs.Devices.{devices};
-ghost use Rattle.stripe_bench.specs.Calls.{sight, CalledOnce};
-ghost use Rattle.vault.specs.AtHand.{KeepsStreams};
+ghost use Rattle.stripe_bench.specs.Calls.{sight};
 ghost use Rattle.vault.specs.Desks.{DeskStands, IsAtWork, Comes, DeskMakesStep};
-ghost use Rattle.vault.specs.Outcomes.{IfEnded, IsNoAction, HasPaddedCounts};
+ghost use Rattle.vault.specs.Steps.{OnlyCalled, HasActed};
 ghost use Rattle.column_codec.specs.Bench.{turned};
 ghost use Rattle.vault.specs.Storing.{stored_block, KeepsTask, IsStorer};
-ghost use Rattle.vault.specs.declared.turn.Turn.TheVariants as turn;
 
 use crate::desk::Desk;
 use crate::tasks::{PutTask, Task};
@@ -109,13 +106,8 @@ impl Desk {
             → DeskMakesStep w moment job result self.new
             (devices holds faults (map (sight is_told P.Provider) providers.old))
             (devices holds faults (map (sight is_told P.Provider) providers.new)) }
-        ensures count { length providers.new ≡ length providers.old }
-        ensures others { (k : ℕ) → k ≢ provider → slice_get providers.new k ≡ slice_get providers.old k }
-        ensures left { result ≡ turn.More → core_left self.new.core job < core_left self.old.core job }
-        ensures padded { IfEnded result (λ ended. HasPaddedCounts ended.answer) }
-        ensures acted { IsNoAction result → ⊥ }
-        ensures called { CalledOnce P.calls provider providers.old providers.new }
-        ensures streams { KeepsStreams self.old.core self.new.core }
+        ensures calls { OnlyCalled P.calls provider providers.old providers.new }
+        ensures acted { HasActed self.old.core self.new.core job result }
     {
         let place = self.place_of(job);
         let index = provider as usize;

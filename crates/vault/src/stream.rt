@@ -9,24 +9,24 @@ ghost use Rattle.record_codec.specs.Entries.{with_master};
 ghost use Rattle.record_defs.specs.Records.{largest_file};
 ghost use Rattle.column_codec.specs.Bench.{bench_object};
 ghost use Rattle.vault_core.specs.declared.wish.BeginFault.TheVariants as fault;
-ghost use Rattle.vault_core.specs.Coming.{core_left};
 ghost use Rattle.vault_core.specs.Streams.{stripe_size};
-ghost use Rattle.vault_core.specs.View.{job_in, told_in, wants_in};
+ghost use Rattle.vault_core.specs.View.{job_in, wants_in};
 ghost use Rattle.vault_open.specs.Devices.{Devices};
 ghost use Rattle.vault.specs.AtHand.{IsStreaming, piece_size, TakesPiece};
-ghost use Rattle.vault.specs.Benches.{names_unknown};
+ghost use Rattle.code_defs.specs.Profiles.{is_unknown};
 ghost use Rattle.vault.specs.Desks.{DeskStands, DeskMakesBegin, IsAtWork};
-ghost use Rattle.vault.specs.Running.{IsSameDesk};
 ghost use Rattle.vault.specs.Seen.{held_by, left_of, next_job_of, vault_setup, master_of, IsUnchanged};
 ghost use Rattle.vault.specs.Stands.{Stands, MakesBegin};
-ghost use Rattle.vault.specs.Streams.{wants_of, told_of, stripe_by, stripe_of, IsPiece, FitsPiece};
+ghost use Rattle.vault.specs.Streams.{wants_of, told_of, stripe_by, stripe_of, IsPiece, FitsPiece, OpensStream, TakesNext};
 
-use crate::benches::{LARGEST_FILE, bytes_are_bytes, profile_at};
+use crate::benches::bytes_are_bytes;
 use crate::desk::Desk;
-use crate::making::{is_unknown, profile_of_put};
+use crate::making::profile_of_put;
 use crate::tasks::{Running, StreamTask, Task};
 use crate::vault::Vault;
+use code_points::{is_unknown, profile_at};
 use record_codec::Name;
+use record_defs::LARGEST_FILE;
 use vault_core::BeginFault;
 
 /// How long a file is with so many bytes behind so many stripes.
@@ -110,12 +110,7 @@ impl Desk {
         ensures machine { (w : State) (d : Devices) (moment : ℕ) (bytes : List ℕ) → DeskStands self.old d w
             → AreBytes bytes → length bytes ≤ largest_file
             → DeskMakesBegin w moment (PutJob name.now bytes) profile result self.new d }
-        ensures unchanged { OnErr result (IsSameDesk self.old self.new) }
-        ensures number { IfOk result (λ job. job ≡ self.old.core.next_job) }
-        ensures open { IfOk result (λ job. told_in self.new.core.jobs job ≡ Some 0) }
-        ensures others { (other : ℕ) → (other ≡ self.old.core.next_job → ⊥)
-            → told_in self.new.core.jobs other ≡ told_in self.old.core.jobs other }
-        ensures setup { self.new.core.setup ≡ self.old.core.setup }
+        ensures opens { OpensStream self.old self.new result }
     {
         let name = self.checked_name(name)?;
         if is_unknown(profile) {
@@ -156,11 +151,7 @@ impl Desk {
             (wants_in self.old.core job) piece.now last (job_of w.jobs job)
             → DeskStands self.new d w }
         ensures at_work { IsAtWork self.new }
-        ensures more { (stripe : ℕ) → wants_in self.old.core job ≡ Some stripe → last ≡ false
-            → told_in self.new.core.jobs job ≡ Some (stripe + 1) }
-        ensures closed { last ≡ true → told_in self.new.core.jobs job ≡ None }
-        ensures wants { wants_in self.new.core job ≡ None }
-        ensures left { core_left self.new.core job ≤ core_left self.old.core job }
+        ensures takes { TakesNext self.old.core job last self.new.core }
     {
         let Some(stripe) = self.core.wants(job) else {
             unreachable!()
@@ -191,7 +182,7 @@ impl Vault {
     /// How many bytes a stripe of a put has: at the profile that it names, or else at the setup's. Condition:
     /// there is a profile of this number.
     pub fn stripe_size(&self, profile: Option<u8>) -> usize
-        requires { names_unknown profile ≡ false }
+        requires { is_unknown profile ≡ false }
         ensures { result ≡ stripe_size (with_master (vault_setup self.now) (master_of self.now))
             (chosen (with_master (vault_setup self.now) (master_of self.now)) profile) }
     {

@@ -3,12 +3,9 @@ ghost use Rattle.column_defs.specs.Objects.{bytes_of_symbols};
 ghost use Rattle.machine_defs.specs.Actions.{Work};
 ghost use Rattle.machine_defs.specs.States.{State};
 ghost use Rattle.vault_open.specs.Devices.{Devices};
-ghost use Rattle.vault_core.specs.Coming.{core_left};
-ghost use Rattle.vault.specs.AtHand.{KeepsStreams};
 ghost use Rattle.vault.specs.Desks.{DeskStands, IsAtWork, Comes, DeskMakesStep};
 ghost use Rattle.vault.specs.Opening.{WorksAs, CanWork};
-ghost use Rattle.vault.specs.Outcomes.{IfEnded, IsNoAction, HasPaddedCounts};
-ghost use Rattle.vault.specs.declared.turn.Turn.TheVariants as turn;
+ghost use Rattle.vault.specs.Steps.{HasActed};
 
 use crate::desk::Desk;
 use crate::tasks::{GetTask, RepairTask, Task};
@@ -95,10 +92,7 @@ impl Desk {
         requires at_work { IsAtWork self.old }
         ensures machine { (w : State) (moment : ℕ) (d : Devices) → DeskStands self.old d w
             → DeskMakesStep w moment job result self.new d d }
-        ensures left { result ≡ turn.More → core_left self.new.core job < core_left self.old.core job }
-        ensures padded { IfEnded result (λ ended. HasPaddedCounts ended.answer) }
-        ensures acted { IsNoAction result → ⊥ }
-        ensures streams { KeepsStreams self.old.core self.new.core }
+        ensures acted { HasActed self.old.core self.new.core job result }
     {
         let place = self.place_of(job);
         let task = &mut self.jobs[place].task;

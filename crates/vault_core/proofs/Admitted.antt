@@ -1,46 +1,18 @@
 -- A core with one more job: it is kept, and stands for the state after the begin.
-use Rattle.std.proofs.Common.{rules, ◌≡◌, ◌≢◌, ℕ, zero, suc, ◌+◌, ◌*◌, ◌^◌, ◌<◌, ◌≤◌, Bool, true, false, List, [], ◌∷◌, ◌++◌, Option, Some, None, Vec, Global, length, map, inl, inr, refl, ap, sym, subst, ◌∙◌, length-append, arith}
-use Rattle.std.specs.Prelude.{IsTrue, nat_lt, ◌==◌, ◌||◌, sum, sum_by, if◌then◌else◌, nat_le}
-use Rattle.std.specs.List.{All}
-use Rattle.std.specs.Prelude.{Result, Ok, Err, OnOk, OnErr, IfOk}
-use Rattle.std.proofs.lemmas.Bool.{cases_Bool, leb-false, lt-ltb}
-use Rattle.std.proofs.lemmas.Bool.Decides.{nat_tests}
-use Rattle.std.proofs.lemmas.List.Elements.{All-push}
-use Rattle.std.proofs.lemmas.List.Sums.{sum_by_push}
-use Rattle.std.proofs.lemmas.List.{length-map}
-use Rattle.algebra_laws.specs.Lists.{Each}
-use Rattle.record_defs.specs.Records.{Setup, Record, is_setup, largest_journal, all_profiles}
-use Rattle.machine_defs.specs.Jobs.{Kind, PutJob, GetJob, DropJob, AuditJob, RepairJob, UpgradeJob, Aim, ToPut, ToGet, ToDrop, ToAudit, ToRepair, ToUpgrade, aim_of}
-use Rattle.machine_defs.specs.Space.{room_left}
-use Rattle.machine_defs.specs.Events.{Begin, BeginAt, Begun, IsSpelledKind}
-use Rattle.machine_defs.specs.States.{State, Append, setup_in}
-use Rattle.machine_defs.specs.Begins.{refusal_of_begin, beginning, chosen}
-use Rattle.state_laws.specs.Sound.{IsSound}
+use Rattle.vault_core.proofs.Words.{rules, ◌≡◌, ◌≢◌, ℕ, zero, suc, ◌+◌, ◌^◌, ◌<◌, ◌≤◌, Bool, true, false, List, [], ◌∷◌, ◌++◌, Some, None, Global, length, map, inl, inr, refl, ap, sym, subst, ◌∙◌, arith, IsTrue, nat_lt, ◌==◌, sum, sum_by, if◌then◌else◌, nat_le, All, Result, Ok, Err, OnOk, OnErr, IfOk, IfErr, cases_Bool, leb-false, lt-ltb, nat_tests, All-push, sum_by_push, length-map, Each, Setup, Record, is_setup, largest_journal, all_profiles, Kind, PutJob, GetJob, DropJob, AuditJob, RepairJob, UpgradeJob, Aim, ToPut, ToGet, ToDrop, ToAudit, ToRepair, ToUpgrade, aim_of, room_left, Begin, BeginAt, Begun, IsSpelledKind, State, Append, setup_in, refusal_of_begin, beginning, chosen, IsSound, events-sound, Kept, Wish, Inside, CoreJob, CoreView, appends_in, HasLoneUpgrade, AreRising, job_in, told_by, told_in, HasNoStream, sizes_of, reserved_of, starts_by, starts_of, Reserves, written_as, written_of, IsKindOf, IsAimOf, IsShortAim, IsShortKindOf, IsPutUnder, IsJobOf, IsCoreFlight, CoreIs, job_begun, refusal_of, setup_kept, core_job, view_of, MayBegin, IsJobKept, IsCore, stripe_size, IsLongest, IsToldAs, IsTold, profile_of, Cause, is_upgrade, is_shut, are_numbers_used_up, are_jobs_in_the_way, causes, aim_of_wish, profile_named, IsShort, aims_in, sight_in, refusal_in, starts_for, appends_for, admitted, AreMore, IsMade}
+use Rattle.std.proofs.Common.{◌*◌, Option, Vec, length-append}
+use Rattle.std.specs.Prelude.{◌||◌}
 use Rattle.state_laws.proofs.Begun.{none-applies}
-use Rattle.state_laws.proofs.Events.{events-sound}
-use Rattle.vault_table.specs.Values.{Kept}
-use Rattle.vault_core.specs.declared.wish.Wish.{Wish}
 use Rattle.vault_core.specs.declared.wish.Wish.TheVariants as wish
 use Rattle.vault_core.specs.declared.wish.BeginFault.{BeginFault}
+use Rattle.vault_core.specs.declared.wish.BeginFault.TheVariants as fault
+use Rattle.vault_core.specs.Changes.{BeginsAs}
 use Rattle.vault_core.specs.declared.job.Job.{Job}
-use Rattle.vault_core.specs.declared.own.Core.TheInside.{Inside}
-use Rattle.vault_core.specs.View.{CoreJob, CoreView, appends_in, HasLoneUpgrade, AreRising, job_in, told_by, told_in, HasNoStream}
 use Rattle.vault_core.proofs.Lone.{lone_more}
 use Rattle.vault_core.proofs.Places.{any-map}
-use Rattle.vault_core.specs.Reserves.{sizes_of, reserved_of, starts_by, starts_of, Reserves}
-use Rattle.vault_core.specs.Coming.{written_as, written_of}
-use Rattle.vault_core.specs.Carried.{IsKindOf, IsAimOf, IsShortAim, IsJobOf, IsCoreFlight, CoreIs, job_begun}
-use Rattle.vault_core.specs.Parts.{setup_kept, core_job, view_of, MayBegin, IsJobKept, IsCore}
-use Rattle.vault_core.specs.Streams.{stripe_size, IsLongest, IsToldAs, IsTold}
 use Rattle.vault_core.proofs.Told.{streamless_push, told_push, in_push, in_push_other}
-use Rattle.code_defs.specs.Profiles.{profile_of}
 use Rattle.code_defs.proofs.Profiles.{some_kept}
-use Rattle.machine_defs.specs.Refusals.{Cause}
-use Rattle.machine_defs.specs.Sights.{is_upgrade, is_shut, are_numbers_used_up, are_jobs_in_the_way, causes}
 use Rattle.machine_defs.proofs.Refused.{left_false, right_false}
-use Rattle.vault_core.specs.Wished.{aim_of_wish, profile_named, IsShort}
-use Rattle.vault_core.specs.Refusing.{aims_in, sight_in, refusal_in}
-use Rattle.vault_core.specs.Making.{starts_for, appends_for, admitted, AreMore, IsMade}
 use Rattle.vault_core.proofs.Alike.{table-like}
 use Rattle.vault_core.proofs.Joins.{made-is}
 use Rattle.vault_core.proofs.Refusals.{way}
@@ -314,11 +286,7 @@ core-begun c w kind moment v job is of begins within spelled own allowed most ma
 -- the machine's kind of a wish that is not too long is not too long
 pub short-aim : (v : Wish) (k : Kind) → IsKindOf v k → IsShort v → IsShortAim (aim_of k)
 short-aim (wish.Put name size own) k e l = subst IsShortAim e l
-short-aim (wish.Get name) k e l = subst IsShortAim e tt
-short-aim (wish.Drop name) k e l = subst IsShortAim e tt
-short-aim wish.Audit k e l = subst IsShortAim e tt
-short-aim wish.Repair k e l = subst IsShortAim e tt
-short-aim wish.Upgrade k e l = subst IsShortAim e tt
+short-aim w k e l = subst IsShortAim e tt
 
 -- a setup within its limits has a primary provider
 pub primary : (s : Setup) → IsTrue (is_setup s) → 1 ≤ s.l
@@ -372,6 +340,44 @@ pub stream-others : (r : Result ℕ BeginFault) (c new : CoreView) → OnOk r (A
 stream-others (Ok job) c new h e other o = ap (λ (js : List CoreJob). told_in js other) h.jobs
     ∙ ap told_by (in_push_other c.jobs other h.job (λ m. o (sym m ∙ h.number)))
 stream-others (Err why) c new h e other o = ap (λ (x : CoreView). told_in x.jobs other) e
+
+-- what a begin says of all jobs of some kinds it says of fewer
+pub begins_among : (c new : CoreView) (kinds fewer : Kind → Type 0) (own : Option ℕ)
+    (r : Result ℕ BeginFault) → ((kind : Kind) → fewer kind → kinds kind) → BeginsAs c kinds own r new →
+    BeginsAs c fewer own r new
+begins_among c new kinds fewer own r among h = record {
+  begun = λ w kind moment is of. h.begun w kind moment is (among kind of);
+  accepted = λ w kind is of. h.accepted w kind is (among kind of);
+  number = h.number;
+  refused = λ w kind is of. h.refused w kind is (among kind of);
+  unchanged = h.unchanged;
+  setup = h.setup;
+}
+
+-- a begin that told why not
+pub begins_not : (c : CoreView) (kinds : Kind → Type 0) (own : Option ℕ) (why : BeginFault) →
+    ((w : State) (kind : Kind) → CoreIs c w → kinds kind → why ≢ fault.Memory →
+    refusal_of_begin 8 w kind own ≡ Some (refusal_of why)) → BeginsAs c kinds own (Err why) c
+begins_not c kinds own why refused = record {
+  begun = λ w kind moment is of spelled. tt;
+  accepted = λ w kind is of. tt;
+  number = tt;
+  refused = refused;
+  unchanged = refl;
+  setup = refl;
+}
+
+-- where an Err tells of memory alone, it tells of no other cause
+pub memory_alone : (r : Result ℕ BeginFault) (P : BeginFault → Type 0) → IfErr r (λ why. why ≡ fault.Memory) →
+    IfErr r (λ why. why ≢ fault.Memory → P why)
+memory_alone (Ok job) P h = tt
+memory_alone (Err why) P h = λ other. absurd (other h)
+
+-- a put of a name, of at most 2^22 bytes, is one that a stream of the name stands for
+pub put_under : (name : List ℕ) (own : Option ℕ) (kind : Kind) → IsPutUnder name kind →
+    IsShortKindOf (Some 0) (wish.Put name (2 ^ 22) own) kind
+put_under name own (PutJob n bytes) h = (ap (λ (x : List ℕ). ToPut x (2 ^ 22)) (sym h.0), h.1)
+put_under name own kind h = absurd h
 
 -- what a begin leaves of open streams, of a job that is none
 pub begun-told : (r : Result ℕ BeginFault) (c new : CoreView) → OnOk r (AreMore None c new) →

@@ -1,13 +1,6 @@
 -- What a core's table keeps is that of the machine's history, as well as that of the journal, which a pack may
 -- have put in its place: all but the started puts and the running audit.
-use Rattle.std.proofs.Common.{◌≡◌, ◌∙◌, List}
-use Rattle.record_defs.specs.Records.{Record}
-use Rattle.record_defs.specs.Table.{setup_of, version_of, next_id, next_audit, files_of, due_of}
-use Rattle.record_defs.specs.Packed.{AreAlike}
-use Rattle.machine_defs.specs.States.{State}
-use Rattle.vault_table.specs.Values.{Kept, IsFoldOf, id_after}
-use Rattle.vault_core.specs.View.{CoreView}
-use Rattle.vault_core.specs.Carried.{CoreIs}
+use Rattle.vault_core.proofs.Words.{◌≡◌, ◌∙◌, List, Record, setup_of, version_of, next_id, next_audit, files_of, due_of, AreAlike, State, Kept, IsFoldOf, id_after, CoreView, CoreIs}
 
 -- a table is like the fold of records
 pub record IsLikeFoldOf (rs : List Record) (t : Kept) : Type 0 where

@@ -1,30 +1,12 @@
 -- A job as it is made is kept: where it is, and how many steps it may still make.
-use Rattle.std.proofs.Common.{◌≡◌, ℕ, zero, suc, ◌+◌, ◌*◌, ◌-◌, ◌<◌, ◌≤◌, ◌^◌, Bool, true, false, List, [], ◌∷◌, ◌++◌, length, take, drop, get_or, inl, inr, refl, ap, sym, subst, ◌∙◌, length-append, arith}
-use Rattle.std.specs.Prelude.{nat_lt, IsTrue, sum_by, replicate, slice_get, if◌then◌else◌}
-use Rattle.std.specs.List.{All}
-use Rattle.std.proofs.lemmas.Bool.{cases_Bool, ltb-true, false≢true}
-use Rattle.record_defs.specs.Records.{Setup, all_profiles}
-use Rattle.machine_defs.specs.Begins.{chosen}
-use Rattle.machine_defs.specs.Actions.{Action}
-use Rattle.machine_defs.specs.Left.{removes_older}
-use Rattle.record_codec.specs.declared.counts.Counts.{Counts}
-use Rattle.record_codec.specs.Entries.{IsPadded}
-use Rattle.vault_table.specs.Values.{Kept}
+use Rattle.vault_core.proofs.Words.{◌≡◌, ℕ, zero, suc, ◌+◌, ◌-◌, ◌<◌, ◌≤◌, ◌^◌, Bool, true, false, List, [], ◌∷◌, ◌++◌, length, take, get_or, inl, inr, refl, ap, sym, subst, ◌∙◌, arith, nat_lt, IsTrue, sum_by, slice_get, if◌then◌else◌, All, cases_Bool, ltb-true, false≢true, Setup, all_profiles, chosen, Action, removes_older, Counts, IsPadded, Kept, Wish, Cursor, Task, planned, rest_in, closing_of, tasks_from, tasks_on, rest_of, targets_of, turns_for, tasks_made, most_of, plan_kept, core_job, is_caller, comes_to, IsWithin, MayBeAt, IsJobKept, IsShort, HasName, is_opener, aim_of_wish, profile_named, pins_for, size_of_turn, other_actions, subject_for, appends_for, cursor_on, cursor_first, IsMade}
+use Rattle.std.proofs.Common.{◌*◌, drop, length-append}
+use Rattle.std.specs.Prelude.{replicate}
 use Rattle.vault_core.specs.declared.pinned.Pinned.{Pinned}
-use Rattle.vault_core.specs.declared.wish.Wish.{Wish}
 use Rattle.vault_core.specs.declared.wish.Wish.TheVariants as wish
 use Rattle.vault_core.specs.declared.cursor.Move.TheVariants as move
-use Rattle.vault_core.specs.declared.cursor.Cursor.{Cursor}
 use Rattle.vault_core.specs.declared.cursor.Cursor.TheVariants as at
-use Rattle.vault_core.specs.declared.job.Task.{Task}
 use Rattle.vault_core.specs.declared.job.Job.{Job}
-use Rattle.vault_core.specs.View.{planned, rest_in}
-use Rattle.vault_core.specs.Rest.{closing_of, tasks_from, tasks_on, rest_of}
-use Rattle.vault_core.specs.Targets.{targets_of, turns_for, tasks_made}
-use Rattle.vault_core.specs.Coming.{most_of}
-use Rattle.vault_core.specs.Parts.{plan_kept, core_job, is_caller, comes_to, IsWithin, MayBeAt, IsJobKept}
-use Rattle.vault_core.specs.Wished.{IsShort, HasName, is_opener, aim_of_wish, profile_named}
-use Rattle.vault_core.specs.Making.{pins_for, size_of_turn, other_actions, subject_for, appends_for, cursor_on, cursor_first, IsMade}
 use Rattle.vault_core.proofs.Rests.{rest_is, task_here}
 use Rattle.vault_core.proofs.Counts.{gates, gates-append, last_appends, tasks_gates}
 use Rattle.vault_core.proofs.Whole.{front_of, whole, HasTasks}
@@ -65,10 +47,6 @@ all_first t ts h = h 0 t (omega arith)
 first-at : (n : ℕ) (job : Job) (w : Wish) → 0 < n → job.wish ≡ w →
     All (λ (t : Task). 0 < t.turns) job.tasks.items → (is_caller w ≡ false → job.tasks.items ≡ []) →
     MayBeAt n job (cursor_first w job.tasks.items) (front_of w ++ tasks_on n job job.tasks.items)
-first-at n job (wish.Put name size own) l e all idle = record
-    { comes = ap is_opener e; within = tt; rest = refl }
-first-at n job (wish.Drop name) l e all idle = record { comes = ap is_opener e; within = tt; rest = refl }
-first-at n job wish.Audit l e all idle = record { comes = ap is_opener e; within = tt; rest = refl }
 first-at n job (wish.Get name) l e all idle = by job.tasks.items refl all
   where
     by : (ts : List Task) → job.tasks.items ≡ ts → All (λ (t : Task). 0 < t.turns) ts →
@@ -96,6 +74,7 @@ first-at n job wish.Upgrade l e all idle = record {
   within = tt;
   rest = sym (ap (λ (ts : List Task). tasks_on n job ts) (idle refl) ∙ ap closing_of e);
 }
+first-at n job w l e all idle = record { comes = ap is_opener e; within = tt; rest = refl }
 
 -- a job of this wish has as many appends before it as it has at all
 front-gates : (n : ℕ) (v : Wish) (fl : List Bool) (ts : List Task) →
@@ -112,11 +91,8 @@ front-gates n v fl ts =
 few-more : (n : ℕ) (v : Wish) → extra (removes_older (aim_of_wish v)) (appends_for v) n
     + (length (front_of v) + length (closing_of v)) ≡ other_actions n v
 few-more n (wish.Put name size own) = let e : n + 9 ≡ 9 + n = omega arith in e
-few-more n (wish.Get name) = refl
 few-more n (wish.Drop name) = let e : n + 5 ≡ 5 + n = omega arith in e
-few-more n wish.Audit = refl
-few-more n wish.Repair = refl
-few-more n wish.Upgrade = refl
+few-more n w = refl
 
 no-tasks : (t : Kept) (s : Setup) (v : Wish) (profile : ℕ) (pins : List Pinned) → pins ≡ pins_for t v →
     is_caller v ≡ false → tasks_made (turns_for s v) (targets_of v profile 0 pins) ≡ []

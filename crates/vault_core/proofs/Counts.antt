@@ -1,21 +1,9 @@
 -- How many gates are among the actions that a job has not yet made.
-use Rattle.std.proofs.Common.{◌≡◌, ℕ, ◌+◌, Bool, true, false, cond, List, [], ◌∷◌, ◌++◌, Some, None, map, drop, inl, inr, refl, ap, subst, ◌∙◌, arith}
-use Rattle.std.specs.Prelude.{◌⊎◌, sum, count_by, slice_get, if◌then◌else◌}
-use Rattle.std.specs.List.{flat_map}
-use Rattle.std.proofs.lemmas.Bool.{cases_Bool}
-use Rattle.std.proofs.lemmas.List.Sums.{sum_by-cons, sum_by-append}
-use Rattle.machine_defs.specs.Actions.{Action, Work, Remove, End, ends_append}
-use Rattle.vault_core.specs.declared.wish.Wish.{Wish}
+use Rattle.vault_core.proofs.Words.{◌≡◌, ℕ, ◌+◌, Bool, true, false, cond, List, [], ◌∷◌, ◌++◌, Some, None, map, inl, inr, refl, ap, subst, ◌∙◌, arith, ◌⊎◌, sum, count_by, slice_get, if◌then◌else◌, flat_map, cases_Bool, sum_by-cons, sum_by-append, Action, Work, Remove, End, ends_append, Wish, Move, Cursor, Task, flag_at, numbers, call_of, calls_from, rewrite_of, rewrites_from, work_of, turn_of, turns_from, tasks_of, moves_from, closing_of, tasks_from, rest_from, is_opener, is_closer, comes_to}
+use Rattle.std.proofs.Common.{drop}
 use Rattle.vault_core.specs.declared.wish.Wish.TheVariants as wish
-use Rattle.vault_core.specs.declared.cursor.Move.{Move}
 use Rattle.vault_core.specs.declared.cursor.Move.TheVariants as move
-use Rattle.vault_core.specs.declared.cursor.Cursor.{Cursor}
 use Rattle.vault_core.specs.declared.cursor.Cursor.TheVariants as at
-use Rattle.vault_core.specs.declared.job.Task.{Task}
-use Rattle.vault_core.specs.View.{flag_at}
-use Rattle.vault_core.specs.Rest.{numbers, call_of, calls_from, rewrite_of, rewrites_from, work_of, turn_of, turns_from, tasks_of, moves_from, closing_of, tasks_from, rest_from}
-use Rattle.vault_core.specs.Wished.{is_opener, is_closer}
-use Rattle.vault_core.specs.Parts.{comes_to}
 use Rattle.vault_core.proofs.Rests.{by_call}
 
 -- how many gates are among these actions

@@ -1,35 +1,12 @@
 -- A stream that waits for a stripe and is told the length of its file is a put of this length as it is kept.
-use Rattle.std.proofs.Common.{◌≡◌, ℕ, ◌+◌, ◌*◌, ◌-◌, ◌/◌, ◌^◌, ◌<◌, ◌≤◌, Bool, true, false, List, [], ◌∷◌, ◌++◌, Some, None, length, drop, inl, inr, refl, ap, sym, subst, ◌∙◌, arith, Vec, Global}
-use Rattle.std.specs.Prelude.{Option, ◌⊎◌, ◌&&◌, nat_lt, if◌then◌else◌}
-use Rattle.std.specs.List.{All, flat_map, range_with_len}
-use Rattle.std.proofs.lemmas.Bool.{cases_lt, false≢true, lt-ltb, le-ltb, ne_eqb, eq-eqb}
-use Rattle.std.proofs.lemmas.List.{drop_at}
-use Rattle.std.proofs.lemmas.Nat.{le-div}
+use Rattle.vault_core.proofs.Words.{◌≡◌, ℕ, ◌+◌, ◌-◌, ◌/◌, ◌^◌, ◌<◌, ◌≤◌, Bool, true, false, List, [], ◌∷◌, ◌++◌, Some, None, length, inl, inr, refl, ap, sym, subst, ◌∙◌, arith, Global, ◌⊎◌, nat_lt, if◌then◌else◌, All, flat_map, range_with_len, cases_lt, false≢true, lt-ltb, le-ltb, ne_eqb, eq-eqb, drop_at, le-div, Setup, profiled, stripes_of, Aim, ToPut, Action, Store, End, append_actions, on_each_provider, plan_actions, removes_older, most_after, room_left, is_upgrade, Wish, Spot, Task, core_pins, plan_in, planned, planned_by, rest_in, appends_in, stripe_size, IsLongest, IsToldAs, of_length, cut_tasks, cursor_behind, steps_behind, turn_of, turns_from, rest_from, rest_of, reserved_of, starts_of, starts_by, targets_of, stripes_in, turns_for, tasks_made, most_of, listed_older, plan_kept, core_job, is_caller, comes_to, IsWithin, IsSteadyJob, IsJobKept, HasName, IsShort, aim_of_wish, profile_named}
+use Rattle.std.proofs.Common.{◌*◌, drop, Vec}
+use Rattle.std.specs.Prelude.{Option, ◌&&◌}
 use Rattle.std.proofs.Math.Nat.{div-mul-le_self}
-use Rattle.record_defs.specs.Records.{Setup}
-use Rattle.machine_defs.specs.Setups.{profiled, stripes_of}
-use Rattle.machine_defs.specs.Jobs.{Aim, ToPut}
-use Rattle.machine_defs.specs.Actions.{Action, Store, End, append_actions, on_each_provider, plan_actions}
-use Rattle.machine_defs.specs.Left.{removes_older, most_after}
-use Rattle.machine_defs.specs.Space.{room_left}
-use Rattle.machine_defs.specs.Sights.{is_upgrade}
-use Rattle.vault_core.specs.declared.wish.Wish.{Wish}
 use Rattle.vault_core.specs.declared.wish.Wish.TheVariants as wish
 use Rattle.vault_core.specs.declared.cursor.Move.TheVariants as move
 use Rattle.vault_core.specs.declared.cursor.Cursor.TheVariants as at
-use Rattle.vault_core.specs.declared.cursor.Spot.{Spot}
-use Rattle.vault_core.specs.declared.job.Task.{Task}
 use Rattle.vault_core.specs.declared.job.Job.{Job}
-use Rattle.vault_core.specs.View.{core_pins, plan_in, planned, planned_by, rest_in, appends_in}
-use Rattle.vault_core.specs.Streams.{stripe_size, IsLongest, IsToldAs}
-use Rattle.vault_core.specs.Cut.{of_length, cut_tasks, cursor_behind, steps_behind}
-use Rattle.vault_core.specs.Rest.{turn_of, turns_from, rest_from, rest_of}
-use Rattle.vault_core.specs.Reserves.{reserved_of, starts_of, starts_by}
-use Rattle.vault_core.specs.Targets.{targets_of, stripes_in, turns_for, tasks_made}
-use Rattle.vault_core.specs.Coming.{most_of}
-use Rattle.vault_core.specs.Going.{listed_older}
-use Rattle.vault_core.specs.Parts.{plan_kept, core_job, is_caller, comes_to, IsWithin, IsSteadyJob, IsJobKept}
-use Rattle.vault_core.specs.Wished.{HasName, IsShort, aim_of_wish, profile_named}
 use Rattle.vault_core.proofs.Begun.{tasks-all}
 use Rattle.vault_core.proofs.Counts.{gates}
 use Rattle.vault_core.proofs.Whole.{flat-same, put-turn}
@@ -47,11 +24,7 @@ record IsStreamWish (w : Wish) : Type 0 where
 stream-wish : (w : Wish) → IsLongest (aim_of_wish w) → IsStreamWish w
 stream-wish (wish.Put name size own) e =
     record { name = name; own = own; is = ap (λ (n : ℕ). wish.Put name n own) e }
-stream-wish (wish.Get name) e = absurd e
-stream-wish (wish.Drop name) e = absurd e
-stream-wish wish.Audit e = absurd e
-stream-wish wish.Repair e = absurd e
-stream-wish wish.Upgrade e = absurd e
+stream-wish w e = absurd e
 
 -- what a put has before it behind its first stripes
 rest-put : (s : Setup) (job : Job) (name : List ℕ) (size : ℕ) (own : Option ℕ) (k : ℕ) →

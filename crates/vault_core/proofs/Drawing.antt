@@ -1,18 +1,8 @@
 -- A job that begins an append takes its number.
-use Rattle.std.proofs.Common.{◌≡◌, ℕ, ◌+◌, ◌-◌, false, Some, drop, set, get_or, refl, ap, sym, subst, ◌∙◌, Global}
-use Rattle.std.specs.Prelude.{slice_get}
+use Rattle.vault_core.proofs.Words.{◌≡◌, ℕ, ◌+◌, ◌-◌, false, Some, set, get_or, refl, ap, sym, subst, ◌∙◌, Global, slice_get, Setup, Action, WriteBody, Kept, Inside, CoreJob, CoreView, rest_of, drawn_tasks, setup_kept, core_job, view_of, is_over, IsSteadyJob, IsJobKept, IsCore, first_at, stepped_job, number_as, number_drawn, drawn, aim_of_wish}
+use Rattle.std.proofs.Common.{drop}
 use Rattle.std.specs.declared.vec.Vec.{Vec}
-use Rattle.record_defs.specs.Records.{Setup}
-use Rattle.machine_defs.specs.Actions.{Action, WriteBody}
-use Rattle.vault_table.specs.Values.{Kept}
 use Rattle.vault_core.specs.declared.job.Job.{Job}
-use Rattle.vault_core.specs.declared.own.Core.TheInside.{Inside}
-use Rattle.vault_core.specs.View.{CoreJob, CoreView}
-use Rattle.vault_core.specs.Rest.{rest_of}
-use Rattle.vault_core.specs.Going.{drawn_tasks}
-use Rattle.vault_core.specs.Parts.{setup_kept, core_job, view_of, is_over, IsSteadyJob, IsJobKept, IsCore}
-use Rattle.vault_core.specs.Fed.{first_at, stepped_job, number_as, number_drawn, drawn}
-use Rattle.vault_core.specs.Wished.{aim_of_wish}
 use Rattle.vault_core.proofs.Gates.{action_at, first_is, cursor_at, not_over}
 use Rattle.vault_core.proofs.Goes.{drawn_kept}
 use Rattle.vault_core.proofs.Moving.{WentOn, went_on, went_needs}

@@ -1,30 +1,12 @@
 -- How many steps a job may still make falls with each of its steps.
-use Rattle.std.proofs.Common.{◌≡◌, ℕ, zero, suc, ◌+◌, ◌<◌, Bool, true, List, [], ◌∷◌, Some, None, length, map, set, get_or, inl, inr, refl, ap, sym, subst, ◌∙◌, arith}
-use Rattle.std.specs.Prelude.{Option, ◌==◌, position, slice_get, remove, unwrap_or, if◌then◌else◌}
-use Rattle.std.specs.List.{All}
-use Rattle.std.specs.Option.{option_map}
-use Rattle.std.proofs.lemmas.Bool.{cases_Bool, false≢true, ne_eqb, eqb-true, eq-eqb}
-use Rattle.std.proofs.lemmas.Option.{slice_get_within}
-use Rattle.record_defs.specs.Records.{Setup}
-use Rattle.machine_defs.specs.Actions.{Action, SyncGate, End}
-use Rattle.vault_table.specs.Values.{Kept}
-use Rattle.vault_core.specs.declared.wish.Wish.{Wish}
+use Rattle.vault_core.proofs.Words.{◌≡◌, ℕ, zero, suc, ◌+◌, ◌<◌, Bool, true, List, [], ◌∷◌, Some, None, length, map, set, get_or, inl, inr, refl, ap, sym, subst, ◌∙◌, arith, ◌==◌, position, slice_get, remove, unwrap_or, if◌then◌else◌, All, option_map, cases_Bool, false≢true, ne_eqb, eqb-true, eq-eqb, slice_get_within, Setup, Action, SyncGate, End, Kept, Wish, Cursor, Inside, ActionValue, Reply, Counts, CoreJob, CoreView, planned, rest_in, AreRising, job_in, rest_of, sums_kept, core_job, view_of, setup_kept, comes_to, IsSteadyJob, IsJobKept, IsCore, Coming, seen_action, action_next, next_in, is_idle, most_of, core_left, written_as, HasReply, TakesReply, first_action, first_at, goes_plainly, aim_of_wish}
+use Rattle.std.specs.Prelude.{Option}
 use Rattle.vault_core.specs.declared.wish.Wish.TheVariants as wish
-use Rattle.vault_core.specs.declared.cursor.Cursor.{Cursor}
 use Rattle.vault_core.specs.declared.cursor.Cursor.TheVariants as at
 use Rattle.vault_core.specs.declared.job.Job.{Job}
-use Rattle.vault_core.specs.declared.own.Core.TheInside.{Inside}
-use Rattle.vault_core.specs.declared.action.Action.{Action as ActionValue}
 use Rattle.vault_core.specs.declared.action.Action.TheVariants as act
-use Rattle.vault_core.specs.declared.reply.Reply.{Reply}
 use Rattle.vault_core.specs.declared.reply.Reply.TheVariants as reply
-use Rattle.record_codec.specs.declared.counts.Counts.{Counts}
-use Rattle.vault_core.specs.View.{CoreJob, CoreView, planned, rest_in, AreRising, job_in, wanted_by, wants_in}
-use Rattle.vault_core.specs.Rest.{rest_of}
-use Rattle.vault_core.specs.Parts.{sums_kept, core_job, view_of, setup_kept, comes_to, IsSteadyJob, IsJobKept, IsCore}
-use Rattle.vault_core.specs.Coming.{Coming, Acts, Waits, IsNoJob, IsBarred, seen_action, action_next, next_in, is_idle, most_of, core_left, written_as, HasReply, TakesReply}
-use Rattle.vault_core.specs.Fed.{first_action, first_at, goes_plainly, with_at, number_drawn, drawn}
-use Rattle.vault_core.specs.Wished.{aim_of_wish}
+use Rattle.vault_core.specs.Coming.{Acts}
 use Rattle.vault_core.proofs.Kept.{rising_set, gone, seen_at, behind}
 use Rattle.vault_core.proofs.Moving.{kept_at}
 use Rattle.vault_core.proofs.Places.{found_at, found_none, first_of_position}
@@ -167,9 +149,7 @@ takes_next c k r h = by (next_in c k) refl
   where
     by : (x : Coming) → next_in c k ≡ x → (a : Action) × ((next_in c k ≡ Acts a) × HasReply c k (Acts a) r)
     by (Acts a) e = (a, (e, subst (λ (y : Coming). HasReply c k y r) e h))
-    by (Waits holder) e = absurd (subst (λ (y : Coming). HasReply c k y r) e h)
-    by IsNoJob e = absurd (subst (λ (y : Coming). HasReply c k y r) e h)
-    by IsBarred e = absurd (subst (λ (y : Coming). HasReply c k y r) e h)
+    by x e = absurd (subst (λ (y : Coming). HasReply c k y r) e h)
 
 -- the job at a place, whose next action is this one
 pub record StepHere (c : CoreView) (k place : ℕ) (r : Reply) (action : Action) : Type 0 where
@@ -213,30 +193,6 @@ step_here a c k place job r action v h takes found at acts =
       next = next;
       replies = subst (λ (x : Action). HasReply c k (Acts x) r) same t.1.1;
     }
-
--- fewer steps at the place of a job are fewer steps of the job of the number
-pub step_left : (c new : CoreView) (k place : ℕ) (r : Reply) (a : Action) → StepHere c k place r a →
-    ((j : CoreJob) → slice_get c.jobs place ≡ Some j → core_left new j.number < core_left c j.number) →
-    core_left new k < core_left c k
-step_left c new k place r a s f = subst (λ (n : ℕ). core_left new n < core_left c n) s.number (f s.job s.here)
-
--- the job of a step does not wait for a stripe
-pub step_given : (c : CoreView) (k place : ℕ) (r : Reply) (a : Action) → StepHere c k place r a →
-    wants_in c k ≡ None → wanted_by c.setup (slice_get c.jobs place) ≡ None
-step_given c k place r a s free = ap (wanted_by c.setup) (s.here ∙ sym s.runs) ∙ free
-
--- the setup stays where a job goes on
-pub moved_setup : (c new : CoreView) (place : ℕ) (f : CoreJob → CoreJob) (j : CoreJob) →
-    ((k : CoreJob) → slice_get c.jobs place ≡ Some k → new ≡ with_at c place (f k)) →
-    slice_get c.jobs place ≡ Some j → new.setup ≡ c.setup
-moved_setup c new place f j e g = ap (λ (x : CoreView). x.setup) (e j g)
-
--- the setup stays where a job begins its append
-pub drawn_setup : (c new : CoreView) (place : ℕ) (j : CoreJob) →
-    ((k : CoreJob) → slice_get c.jobs place ≡ Some k →
-    new ≡ record (with_at c place (drawn k (number_drawn c.setup c.table k))) { append = Some k.number }) →
-    slice_get c.jobs place ≡ Some j → new.setup ≡ c.setup
-drawn_setup c new place j e g = ap (λ (x : CoreView). x.setup) (e j g)
 
 -- an action other than an idle drop's end is the head of those that are left
 head_is : (s : Setup) (t : Kept) (j : CoreJob) (a : Action) → action_next s t j ≡ Some a → (a ≡ End → ⊥) →

@@ -1,21 +1,8 @@
 -- The record that a job writes fits into the journal.
-use Rattle.std.proofs.Common.{◌≡◌, ℕ, ◌+◌, ◌≤◌, ◌^◌, Bool, true, List, [], ◌∷◌, Some, None, inl, inr, ap, sym, ◌∙◌, arith}
-use Rattle.std.specs.Prelude.{Option, IfSome, if◌then◌else◌, ◌==◌, slice_get, sum_by}
-use Rattle.std.specs.Option.{option_map}
-use Rattle.std.proofs.lemmas.Bool.{cases_Bool}
-use Rattle.std.proofs.lemmas.List.Sums.{sum_by-cons}
-use Rattle.record_defs.specs.Records.{Setup, Record, record_size}
+use Rattle.vault_core.proofs.Words.{◌≡◌, ℕ, ◌+◌, ◌≤◌, ◌^◌, Bool, true, List, [], ◌∷◌, Some, None, inl, inr, ap, sym, ◌∙◌, arith, IfSome, if◌then◌else◌, ◌==◌, slice_get, sum_by, option_map, cases_Bool, sum_by-cons, Setup, Record, record_size, entry_of, Action, Kept, CoreJob, CoreView, job_in, planned, rest_of, is_move, written_as, written_by, entry_of_job, reserved_of, Reserves, plan_kept, sums_kept, core_job, IsJobKept, aim_of_wish}
+use Rattle.std.specs.Prelude.{Option}
 use Rattle.record_codec.specs.declared.records.Record.{Record as RecordValue}
-use Rattle.record_codec.specs.Entries.{entry_of}
-use Rattle.machine_defs.specs.Actions.{Action}
-use Rattle.vault_table.specs.Values.{Kept}
 use Rattle.vault_core.specs.declared.job.Job.{Job}
-use Rattle.vault_core.specs.View.{CoreJob, CoreView, job_in, planned}
-use Rattle.vault_core.specs.Rest.{rest_of}
-use Rattle.vault_core.specs.Coming.{is_move, written_as, written_by, entry_of_job}
-use Rattle.vault_core.specs.Reserves.{reserved_of, Reserves}
-use Rattle.vault_core.specs.Parts.{plan_kept, sums_kept, core_job, IsJobKept}
-use Rattle.vault_core.specs.Wished.{aim_of_wish}
 use Rattle.vault_core.proofs.Gates.{action_at, first_is}
 use Rattle.vault_core.proofs.Gating.{room_of_entry}
 use Rattle.vault_core.proofs.Standing.{head_moves, in_append, get-first}

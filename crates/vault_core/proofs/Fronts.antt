@@ -1,28 +1,12 @@
 -- The actions of two puts of one object begin alike: with the first append, and the stores of each stripe
 -- that both files have.
-use Rattle.std.proofs.Common.{◌≡◌, ℕ, zero, suc, ◌+◌, ◌*◌, ◌-◌, ◌^◌, ◌<◌, ◌≤◌, true, false, List, [], ◌∷◌, ◌++◌, Some, None, length, map, drop, inl, inr, refl, ap, sym, subst, ◌∙◌, append_assoc, length-append, arith}
-use Rattle.std.specs.Prelude.{Option, slice_get}
-use Rattle.std.specs.List.{flat_map, range_with_len}
-use Rattle.std.proofs.lemmas.Bool.{cases_lt, false≢true}
+use Rattle.vault_core.proofs.Words.{◌≡◌, ℕ, zero, suc, ◌+◌, ◌-◌, ◌^◌, ◌<◌, ◌≤◌, true, false, List, [], ◌∷◌, ◌++◌, Some, None, length, map, inl, inr, refl, ap, sym, subst, ◌∙◌, append_assoc, arith, slice_get, flat_map, range_with_len, cases_lt, false≢true, length-map, drop-append-le, length-range_with_len, le-div, Each, each_get, each_map, each_flat, upto, Setup, profiled, stripes_of, Kind, PutJob, GetJob, aim_of, Action, WriteBody, Store, Remove, End, append_actions, on_each_provider, remove_plan, Plan, plan_actions, actions_by, actions_of, appends_left, moves_before, stripe_size, CoreJob, core_pins, plan_in, planned, planned_by, appends_in, seen_plan, longest, shown, IsPutFrom, HasTold, IsJobOf, is_move, IsToldAs}
+use Rattle.std.proofs.Common.{◌*◌, drop, length-append}
+use Rattle.std.specs.Prelude.{Option}
 use Rattle.std.proofs.lemmas.Grind.{flat_map-append}
-use Rattle.std.proofs.lemmas.List.{length-map, drop-append-le}
-use Rattle.std.proofs.lemmas.List.FromFn.{length-range_with_len}
-use Rattle.std.proofs.lemmas.Nat.{le-div}
-use Rattle.algebra_laws.specs.Lists.{Each}
-use Rattle.algebra_laws.proofs.Each.{each_get, each_map, each_flat}
-use Rattle.code_defs.specs.Points.{upto}
 use Rattle.code_defs.proofs.Points.{range_with_len-append}
-use Rattle.record_defs.specs.Records.{Setup}
-use Rattle.machine_defs.specs.Setups.{profiled, stripes_of}
-use Rattle.machine_defs.specs.Jobs.{Kind, PutJob, GetJob, DropJob, AuditJob, RepairJob, UpgradeJob, aim_of, Job}
-use Rattle.machine_defs.specs.Actions.{Action, WriteBody, Store, Remove, End, append_actions, on_each_provider, remove_plan, Plan, plan_actions, actions_by, actions_of, appends_left}
-use Rattle.state_laws.specs.Orders.{moves_before}
+use Rattle.machine_defs.specs.Jobs.{Job}
 use Rattle.vault_core.specs.declared.pinned.Pinned.{Pinned}
-use Rattle.vault_core.specs.Streams.{stripe_size}
-use Rattle.vault_core.specs.View.{CoreJob, core_pins, plan_in, planned, planned_by, appends_in}
-use Rattle.vault_core.specs.Carried.{seen_plan, longest, shown, IsPutFrom, HasTold, IsJobOf}
-use Rattle.vault_core.specs.Coming.{is_move}
-use Rattle.vault_core.specs.Streams.{IsToldAs}
 use Rattle.vault_core.proofs.Counts.{gates, gates-append, none_map, none_flat, removes_none}
 use Rattle.vault_core.proofs.Turns.{length-each}
 
@@ -206,10 +190,7 @@ shared s c m k is told kept = by m.kind refl (subst (λ (o : Option ℕ). HasTol
           (fits s m.profile k (length bytes) some l);
     }
     by (GetJob name) e l = absurd l
-    by (DropJob name) e l = absurd l
-    by AuditJob e l = absurd l
-    by RepairJob e l = absurd l
-    by UpgradeJob e l = absurd l
+    by kind e l = absurd l
 
 module _ (s : Setup) (c : CoreJob) (m : Job) (k : ℕ) (place : c.place ≡ m.place) (sh : Shared s c m k) where
   -- up to the stripes given so far both have the same action next

@@ -1,27 +1,12 @@
 -- The first of the actions that a job has not yet made, and where a job is behind it.
-use Rattle.std.proofs.Common.{◌≡◌, ℕ, ◌+◌, ◌-◌, ◌<◌, Bool, true, false, List, [], ◌∷◌, Some, None, length, map, drop, inl, inr, refl, ap, sym, ◌∙◌, arith}
-use Rattle.std.specs.Prelude.{◌⊎◌, ◌==◌, ◌&&◌, not, Option, is_some, slice_get}
-use Rattle.std.specs.Option.{option_map}
-use Rattle.std.proofs.lemmas.Bool.{false≢true}
-use Rattle.std.proofs.lemmas.List.{length-append, length-map}
-use Rattle.std.proofs.lemmas.List.FromFn.{length-range_with_len}
-use Rattle.std.proofs.lemmas.Option.{slice_get_within}
-use Rattle.machine_defs.specs.Actions.{Action, WriteBody, SyncBody, WriteGate, SyncGate, Store, Ask, Work, Remove, End}
-use Rattle.machine_defs.specs.Left.{removes_older}
-use Rattle.vault_core.specs.declared.wish.Wish.{Wish}
+use Rattle.vault_core.proofs.Words.{◌≡◌, ℕ, ◌+◌, ◌-◌, ◌<◌, Bool, true, false, List, [], ◌∷◌, Some, None, length, map, inl, inr, refl, ap, sym, ◌∙◌, arith, ◌⊎◌, ◌==◌, subst, IsTrue, nat_lt, All, is_some, slice_get, option_map, false≢true, length-map, length-range_with_len, slice_get_within, Action, WriteBody, SyncBody, WriteGate, SyncGate, Store, Ask, Work, Remove, End, removes_older, Wish, Move, Cursor, numbers, call_of, rest_at, rest_of, File, find_file, Kept, begins_append, is_last_ask, is_move, is_gone, is_idle, is_taker, removals_of, comes_to, is_start, is_over, is_caller, core_job, IsWithin, IsSet, MayBeAt, IsSteadyJob, IsPadded, all_profiles, Task, HasName, IsShort, profile_named, aim_of_wish}
+use Rattle.std.proofs.Common.{drop}
+use Rattle.std.specs.Prelude.{◌&&◌, not, Option}
+use Rattle.std.proofs.lemmas.List.{length-append}
 use Rattle.vault_core.specs.declared.wish.Wish.TheVariants as wish
-use Rattle.vault_core.specs.declared.cursor.Move.{Move}
 use Rattle.vault_core.specs.declared.cursor.Move.TheVariants as move
-use Rattle.vault_core.specs.declared.cursor.Cursor.{Cursor}
 use Rattle.vault_core.specs.declared.cursor.Cursor.TheVariants as at
 use Rattle.vault_core.specs.declared.job.Job.{Job}
-use Rattle.vault_core.specs.Rest.{numbers, call_of, rest_at, rest_of}
-use Rattle.record_defs.specs.Table.{File, find_file}
-use Rattle.vault_table.specs.Values.{Kept}
-use Rattle.vault_core.specs.Coming.{begins_append, is_last_ask, is_move, is_gone, is_idle}
-use Rattle.vault_core.specs.Going.{is_taker, removals_of}
-use Rattle.vault_core.specs.Parts.{comes_to, is_start, is_over, core_job, IsWithin, MayBeAt, IsSteadyJob}
-use Rattle.vault_core.specs.Wished.{aim_of_wish}
 use Rattle.vault_core.proofs.Rests.{numbers_here, calls_here, rewrites_take, first_work, first_of_front, by_call}
 
 -- the action at a cursor
@@ -111,30 +96,33 @@ pub not_over : (n : ℕ) (job : Job) (a : Action) → IsSteadyJob n job → slic
 not_over n job a kept e h = by job.cursor (cursor_at n job a kept e)
   where
     by : (c : Cursor) → action_at job.wish c ≡ a → is_over c ≡ false
-    by (at.Opening m) f = refl
-    by (at.Calling spot j) f = refl
-    by (at.Working spot) f = refl
-    by (at.Rewriting spot j) f = refl
-    by (at.Closing m) f = refl
-    by (at.Removing object j) f = refl
     by at.Ending f = absurd (h (sym f))
+    by c f = refl
 
 -- ---- a job that has gone on
+
+-- what stays of a job stays of one with the same wish, profile and flags, whatever its tasks and counts
+pub set_with : (n : ℕ) (old new : Job) → new.wish ≡ old.wish → new.profile ≡ old.profile →
+    new.flagged ≡ old.flagged → All (λ (t : Task). 0 < t.turns) new.tasks.items →
+    (is_caller new.wish ≡ false → new.tasks.items ≡ []) → new.counts.n ≡ n → IsPadded new.counts →
+    IsSet n old → IsSet n new
+set_with n old new w p f tasks idle counts padded is = record {
+  tasks = tasks;
+  idle = idle;
+  wishable = subst (λ (x : Wish). HasName x × IsShort x) (sym w) is.wishable;
+  known = subst (λ (x : ℕ). IsTrue (nat_lt x all_profiles)) (sym p) is.known;
+  own = λ x named. p ∙ is.own x (ap profile_named (sym w) ∙ named);
+  flags = ap (λ (fs : List Bool). length fs) f ∙ is.flags;
+  counts = counts;
+  padded = padded;
+}
 
 -- a steady job stays so at a cursor where it may be, whatever was counted
 pub steady_at : (n : ℕ) (job : Job) (c : Cursor) (p l : ℕ) (xs : List Action) → IsSteadyJob n job →
     MayBeAt n job c xs → IsSteadyJob n (record job { cursor = c; place = p; left = l })
 steady_at n job c p l xs kept is = record {
-  stays = record {
-    tasks = kept.stays.tasks;
-    idle = kept.stays.idle;
-    wishable = kept.stays.wishable;
-    known = kept.stays.known;
-    own = kept.stays.own;
-    flags = kept.stays.flags;
-    counts = kept.stays.counts;
-    padded = kept.stays.padded;
-  };
+  stays = set_with n job (record job { cursor = c; place = p; left = l }) refl refl refl kept.stays.tasks
+      kept.stays.idle kept.stays.counts kept.stays.padded kept.stays;
   comes = is.comes;
   within = is.within;
 }
@@ -143,16 +131,8 @@ steady_at n job c p l xs kept is = record {
 pub steady_with : (n : ℕ) (job : Job) (older : Option ℕ) (k : ℕ) → IsSteadyJob n job →
     IsSteadyJob n (record job { older = older; appends = k })
 steady_with n job older k kept = record {
-  stays = record {
-    tasks = kept.stays.tasks;
-    idle = kept.stays.idle;
-    wishable = kept.stays.wishable;
-    known = kept.stays.known;
-    own = kept.stays.own;
-    flags = kept.stays.flags;
-    counts = kept.stays.counts;
-    padded = kept.stays.padded;
-  };
+  stays = set_with n job (record job { older = older; appends = k }) refl refl refl kept.stays.tasks
+      kept.stays.idle kept.stays.counts kept.stays.padded kept.stays;
   comes = kept.comes;
   within = kept.within;
 }

@@ -1,41 +1,13 @@
 -- A job whose append is done.
-use Rattle.std.proofs.Common.{◌≡◌, ℕ, ◌+◌, ◌-◌, ◌<◌, ◌≤◌, Bool, true, false, List, [], ◌∷◌, Some, None, length, map, set, get_or, inl, inr, refl, ap, sym, subst, ◌∙◌, arith, Global}
-use Rattle.std.specs.Prelude.{Option, Result, Ok, Err, is_err, IfErr, OnOk, IsErrOf, IsTrue, sum, sum_by, drop, ◌==◌, ◌*◌, slice_get, if◌then◌else◌}
-use Rattle.std.proofs.lemmas.Bool.{cases_Bool, false≢true, eqb-true, ne_eqb}
-use Rattle.std.proofs.Common.{rules}
-use Rattle.std.specs.List.{All}
-use Rattle.std.proofs.lemmas.List.{length-map, length-take-le, map-set, length-set}
-use Rattle.std.proofs.lemmas.List.Elements.{All-set}
-use Rattle.std.proofs.lemmas.List.Sums.{sum_by-set, sum_by-remove}
-use Rattle.std.proofs.lemmas.Option.{slice_get_within, get_or_from_slice_get}
+use Rattle.vault_core.proofs.Words.{◌≡◌, ℕ, ◌+◌, ◌-◌, ◌<◌, ◌≤◌, Bool, true, false, List, [], ◌∷◌, Some, None, length, map, set, get_or, inl, inr, refl, ap, sym, subst, ◌∙◌, arith, Global, Result, Ok, Err, is_err, IfErr, OnOk, IsErrOf, IsTrue, sum, sum_by, ◌==◌, slice_get, if◌then◌else◌, cases_Bool, false≢true, eqb-true, ne_eqb, rules, All, length-map, length-take-le, map-set, length-set, All-set, sum_by-set, sum_by-remove, slice_get_within, get_or_from_slice_get, Sums, Aim, ToPut, ToGet, ToDrop, ToAudit, ToRepair, ToUpgrade, Action, SyncGate, room_left, Setup, Record, is_setup, PutStart, PutDone, PutDoneIn, Drop, AuditStart, AuditDone, RepairDone, Version, record_size, done_record, refused, Kept, id_after, IsFoldOf, counted, Wish, Inside, is_upgrade, CoreJob, CoreView, appends_in, is_upgrading, HasLoneUpgrade, AreRising, rest_of, is_move, written_as, written_by, decides_on, listed_older, removals_of, LeavesBehind, setup_kept, sums_kept, core_job, view_of, IsCore, IsSteadyJob, MayFinish, IsJobKept, IsTold, first_action, first_at, taken_as, taken_by, gated_by, gated, HasGated, sizes_of, room_behind, reserved_of, starts_by, starts_of, aim_of_wish, is_opener, is_closer}
+use Rattle.std.specs.Prelude.{Option, drop, ◌*◌}
 use Rattle.std.specs.declared.vec.Vec.{Vec}
-use Rattle.column_defs.specs.Verdicts.{Sums}
-use Rattle.machine_defs.specs.Jobs.{Aim, ToPut, ToGet, ToDrop, ToAudit, ToRepair, ToUpgrade}
-use Rattle.machine_defs.specs.Actions.{Action, SyncGate}
-use Rattle.machine_defs.specs.Space.{room_left}
-use Rattle.record_defs.specs.Records.{Setup, Record, is_setup, PutStart, PutDone, PutDoneIn, Drop, AuditStart, AuditDone, RepairDone, Version, record_size}
-use Rattle.machine_defs.specs.Appends.{done_record}
-use Rattle.record_defs.specs.Acceptance.{refused, NoSetup, SecondSetup, BadId, NotStarted, TooMany, NoName, BadAudit, NoRepair, OldKind, OldVersion, NewVersion, BadResume, NameTwice}
-use Rattle.vault_table.specs.Values.{Kept, id_after, IsFoldOf}
 use Rattle.vault_table.specs.Causes.{is_put_start, is_version, IsCause}
 use Rattle.vault_table.specs.declared.entry.Refused.{Refused}
 use Rattle.vault_table.specs.declared.entry.Refused.TheVariants as fault
-use Rattle.record_codec.specs.Entries.{counted}
-use Rattle.vault_core.specs.declared.wish.Wish.{Wish}
 use Rattle.vault_core.specs.declared.wish.Wish.TheVariants as wish
 use Rattle.vault_core.specs.declared.job.Job.{Job}
-use Rattle.vault_core.specs.declared.own.Core.TheInside.{Inside}
-use Rattle.machine_defs.specs.Sights.{is_upgrade}
-use Rattle.vault_core.specs.View.{CoreJob, CoreView, appends_in, is_upgrading, HasLoneUpgrade, AreRising}
 use Rattle.vault_core.proofs.Lone.{lone_set, lone_sum, any_here}
-use Rattle.vault_core.specs.Rest.{rest_of}
-use Rattle.vault_core.specs.Coming.{is_move, written_as, written_by}
-use Rattle.vault_core.specs.Going.{decides_on, listed_older, removals_of, LeavesBehind}
-use Rattle.vault_core.specs.Parts.{setup_kept, sums_kept, core_job, view_of, IsCore, IsSteadyJob, MayFinish, IsJobKept}
-use Rattle.vault_core.specs.Streams.{IsTold}
-use Rattle.vault_core.specs.Fed.{first_action, first_at, taken_as, taken_by, gated_by, gated, HasGated}
-use Rattle.vault_core.specs.Reserves.{sizes_of, room_behind, reserved_of, starts_by, starts_of}
-use Rattle.vault_core.specs.Wished.{aim_of_wish, is_opener, is_closer}
 use Rattle.vault_core.proofs.Counts.{MayHave, last_appends, one, two}
 use Rattle.vault_core.proofs.Gates.{not_over, removals_length}
 use Rattle.vault_core.proofs.Goes.{may_have, gate_some, left_some, decides_left, undecided_none, finished_kept}
@@ -45,13 +17,13 @@ use Rattle.vault_core.proofs.Kept.{seen_at, rising_set}
 -- ---- room and starts
 
 -- the size of a record that a job writes of which so many appends have not ended
-abbrev pub entry_size : ℕ → ℕ → Wish → ℕ → ℕ
-entry_size v n (wish.Put name size own) k = if k == 2 then 10 + length name else (if v == 2 then 14 else 13)
-entry_size v n (wish.Get name) k = 0
-entry_size v n (wish.Drop name) k = 2 + length name
-entry_size v n wish.Audit k = if k == 2 then 9 else 14 + 4 * n
-entry_size v n wish.Repair k = 9
-entry_size v n wish.Upgrade k = 2
+abbrev pub entry_size : ℕ → ℕ → Aim → ℕ → ℕ
+entry_size v n (ToPut name size) k = if k == 2 then 10 + length name else (if v == 2 then 14 else 13)
+entry_size v n (ToGet name) k = 0
+entry_size v n (ToDrop name) k = 2 + length name
+entry_size v n ToAudit k = if k == 2 then 9 else 14 + 4 * n
+entry_size v n ToRepair k = 9
+entry_size v n ToUpgrade k = 2
 
 -- the size of a put's last record, and of its gate too
 done_entry : (v id size profile : ℕ) → ◌≡◌ {A = ℕ} (if v == 2 then 14 else 13)
@@ -70,32 +42,57 @@ done_gate v = by (v == 2)
     by true = refl
     by false = refl
 
+same_some : (x y : Record) → Some x ≡ Some y → x ≡ y
+same_some x y e = cc
+
+-- what holds of each record that a job of an aim may write holds of the one that it writes
+pub by_written : (t : Kept) (k profile subject : ℕ) (sums : Sums) (P : Aim → Record → Type 0) →
+    ((name : List ℕ) (size : ℕ) → (k == 2) ≡ true → P (ToPut name size) (PutStart (id_after t) name)) →
+    ((name : List ℕ) (size : ℕ) → (k == 2) ≡ false →
+    P (ToPut name size) (done_record t.version subject size profile)) →
+    ((name : List ℕ) → P (ToDrop name) (Drop name)) → ((k == 2) ≡ true → P ToAudit (AuditStart t.next_audit)) →
+    ((k == 2) ≡ false → P ToAudit (AuditDone subject sums.undecided sums.counts)) →
+    P ToRepair (RepairDone subject) → P ToUpgrade Version → (aim : Aim) (entry : Record) →
+    written_as t k profile subject sums aim ≡ Some entry → P aim entry
+by_written t k profile subject sums P starts ends drops begins judges repairs raises aim entry = by aim
+  where
+    is : (a : Aim) (x : Record) → P a x → Some x ≡ Some entry → P a entry
+    is a x p e = subst (P a) (same_some x entry e) p
+
+    by : (a : Aim) → written_as t k profile subject sums a ≡ Some entry → P a entry
+    by (ToPut name size) h = elim (cases_Bool (k == 2)) [
+      | inl b ↦ is (ToPut name size) (PutStart (id_after t) name) (starts name size b)
+          (ap (λ (o : Bool). Some (if o then PutStart (id_after t) name
+          else done_record t.version subject size profile)) (sym b) ∙ h)
+      | inr b ↦ is (ToPut name size) (done_record t.version subject size profile) (ends name size b)
+          (ap (λ (o : Bool). Some (if o then PutStart (id_after t) name
+          else done_record t.version subject size profile)) (sym b) ∙ h)
+    ]
+    by (ToGet name) h = (let s : None ≡ Some entry = h in cc)
+    by (ToDrop name) h = is (ToDrop name) (Drop name) (drops name) h
+    by ToAudit h = elim (cases_Bool (k == 2)) [
+      | inl b ↦ is ToAudit (AuditStart t.next_audit) (begins b)
+          (ap (λ (o : Bool). Some (if o then AuditStart t.next_audit
+          else AuditDone subject sums.undecided sums.counts)) (sym b) ∙ h)
+      | inr b ↦ is ToAudit (AuditDone subject sums.undecided sums.counts) (judges b)
+          (ap (λ (o : Bool). Some (if o then AuditStart t.next_audit
+          else AuditDone subject sums.undecided sums.counts)) (sym b) ∙ h)
+    ]
+    by ToRepair h = is ToRepair (RepairDone subject) repairs h
+    by ToUpgrade h = is ToUpgrade Version raises h
+
 -- an upgrade's record alone raises the version
-raises : (t : Kept) (profile subject : ℕ) (sums : Sums) (w : Wish) (k : ℕ) (entry : Record) →
-    written_as t k profile subject sums (aim_of_wish w) ≡ Some entry →
-    is_version entry ≡ is_upgrade (aim_of_wish w)
-raises t profile subject sums (wish.Put name size own) k entry h = by (k == 2) (t.version == 2) h
+raises : (t : Kept) (profile subject : ℕ) (sums : Sums) (aim : Aim) (k : ℕ) (entry : Record) →
+    written_as t k profile subject sums aim ≡ Some entry → is_version entry ≡ is_upgrade aim
+raises t profile subject sums aim k entry h =
+    by_written t k profile subject sums (λ (a : Aim) (x : Record). is_version x ≡ is_upgrade a)
+    (λ name size b. refl) (λ name size b. done size (t.version == 2)) (λ name. refl) (λ b. refl) (λ b. refl)
+    refl refl aim entry h
   where
-    by : (a b : Bool) → Some (if a then PutStart (id_after t) name
-        else (if b then PutDoneIn subject size profile else PutDone subject size)) ≡ Some entry →
-        is_version entry ≡ false
-    by true b e = (let r : PutStart (id_after t) name ≡ entry = cc in ap is_version (sym r))
-    by false true e = (let r : PutDoneIn subject size profile ≡ entry = cc in ap is_version (sym r))
-    by false false e = (let r : PutDone subject size ≡ entry = cc in ap is_version (sym r))
-raises t profile subject sums (wish.Get name) k entry h = let s : None ≡ Some entry = h in cc
-raises t profile subject sums (wish.Drop name) k entry h =
-    let s : Some (Drop name) ≡ Some entry = h in let r : Drop name ≡ entry = cc in ap is_version (sym r)
-raises t profile subject sums wish.Audit k entry h = by (k == 2) h
-  where
-    by : (a : Bool) → Some (if a then AuditStart t.next_audit
-        else AuditDone subject sums.undecided sums.counts) ≡ Some entry → is_version entry ≡ false
-    by true e = (let r : AuditStart t.next_audit ≡ entry = cc in ap is_version (sym r))
-    by false e = (let r : AuditDone subject sums.undecided sums.counts ≡ entry = cc in ap is_version (sym r))
-raises t profile subject sums wish.Repair k entry h =
-    let s : Some (RepairDone subject) ≡ Some entry = h in let r : RepairDone subject ≡ entry = cc in
-    ap is_version (sym r)
-raises t profile subject sums wish.Upgrade k entry h =
-    let s : Some Version ≡ Some entry = h in let r : Version ≡ entry = cc in ap is_version (sym r)
+    done : (size : ℕ) (b : Bool) →
+        is_version (if b then PutDoneIn subject size profile else PutDone subject size) ≡ false
+    done size true = refl
+    done size false = refl
 
 -- a kept job counts once for each provider
 pub length_counted : (n : ℕ) (job : Job) → IsSteadyJob n job → length (counted job.counts) ≡ n
@@ -103,49 +100,19 @@ length_counted n job kept = length-take-le job.counts.n job.counts.by
     (subst (λ (k : ℕ). job.counts.n ≤ k) (sym kept.stays.padded.room) kept.stays.padded.at_most)
     ∙ kept.stays.counts
 
-same_some : (x y : Record) → Some x ≡ Some y → x ≡ y
-same_some x y e = cc
-
 -- the record of an append has the size that was reserved for it
-size_of_entry : (n : ℕ) (t : Kept) (profile subject : ℕ) (sums : Sums) (w : Wish) (k : ℕ) (entry : Record) →
-    length sums.counts ≡ n → written_as t k profile subject sums (aim_of_wish w) ≡ Some entry →
-    entry_size t.version n w k ≡ record_size entry
-size_of_entry n t profile subject sums (wish.Put name size own) k entry l h = elim (cases_Bool (k == 2)) [
-  | inl b ↦ (let s : Some (PutStart (id_after t) name) ≡ Some entry =
-      ap (λ (o : Bool). Some (if o then PutStart (id_after t) name
-      else done_record t.version subject size profile)) (sym b)
-      ∙ h in let r : PutStart (id_after t) name ≡ entry = cc in
-      ap (λ (o : Bool). if o then 10 + length name else (if t.version == 2 then 14 else 13)) b
-      ∙ ap record_size r)
-  | inr b ↦ (let s : Some (done_record t.version subject size profile) ≡ Some entry =
-      ap (λ (o : Bool). Some (if o then PutStart (id_after t) name
-      else done_record t.version subject size profile)) (sym b)
-      ∙ h in let r : done_record t.version subject size profile ≡ entry =
-      same_some (done_record t.version subject size profile) entry s in
-      ap (λ (o : Bool). if o then 10 + length name else (if t.version == 2 then 14 else 13)) b
-      ∙ (done_entry t.version subject size profile ∙ ap record_size r))
-]
-size_of_entry n t profile subject sums (wish.Get name) k entry l h = let s : None ≡ Some entry = h in cc
-size_of_entry n t profile subject sums (wish.Drop name) k entry l h =
-    ap record_size (let s : Some (Drop name) ≡ Some entry = h in let r : Drop name ≡ entry = cc in r)
-size_of_entry n t profile subject sums wish.Audit k entry l h = elim (cases_Bool (k == 2)) [
-  | inl b ↦ (let s : Some (AuditStart t.next_audit) ≡ Some entry =
-      ap (λ (o : Bool). Some (if o then AuditStart t.next_audit
-      else AuditDone subject sums.undecided sums.counts)) (sym b) ∙ h in
-      let r : AuditStart t.next_audit ≡ entry = cc in
-      ap (λ (o : Bool). if o then 9 else 14 + 4 * n) b ∙ ap record_size r)
-  | inr b ↦ (let s : Some (AuditDone subject sums.undecided sums.counts) ≡ Some entry =
-      ap (λ (o : Bool). Some (if o then AuditStart t.next_audit
-      else AuditDone subject sums.undecided sums.counts)) (sym b) ∙ h in
-      let r : AuditDone subject sums.undecided sums.counts ≡ entry = cc in
-      ap (λ (o : Bool). if o then 9 else 14 + 4 * n) b
-      ∙ (ap (λ (m : ℕ). 14 + 4 * m) (sym l) ∙ ap record_size r))
-]
-size_of_entry n t profile subject sums wish.Repair k entry l h = ap record_size
-    (let s : Some (RepairDone subject) ≡ Some entry = h in
-    let r : RepairDone subject ≡ entry = cc in r)
-size_of_entry n t profile subject sums wish.Upgrade k entry l h = ap record_size
-    (let s : Some Version ≡ Some entry = h in let r : Version ≡ entry = cc in r)
+size_of_entry : (n : ℕ) (t : Kept) (profile subject : ℕ) (sums : Sums) (aim : Aim) (k : ℕ) (entry : Record) →
+    length sums.counts ≡ n → written_as t k profile subject sums aim ≡ Some entry →
+    entry_size t.version n aim k ≡ record_size entry
+size_of_entry n t profile subject sums aim k entry l h = by_written t k profile subject sums
+    (λ (a : Aim) (x : Record). entry_size t.version n a k ≡ record_size x)
+    (λ name size b.
+    ap (λ (o : Bool). if o then 10 + length name else (if t.version == 2 then 14 else 13)) b)
+    (λ name size b. ap (λ (o : Bool). if o then 10 + length name else (if t.version == 2 then 14 else 13)) b
+    ∙ done_entry t.version subject size profile)
+    (λ name. refl) (λ b. ap (λ (o : Bool). if o then 9 else 14 + 4 * n) b)
+    (λ b. ap (λ (o : Bool). if o then 9 else 14 + 4 * n) b ∙ ap (λ (m : ℕ). 14 + 4 * m) (sym l)) refl refl aim
+    entry h
 
 -- with two, it needs the room of all its records
 pub room_all : (i n : ℕ) (w : Wish) (k : ℕ) → 2 ≤ k → sum (sizes_of i n w) ≡ room_behind i n w k
@@ -153,20 +120,16 @@ room_all i n w k l = ap (λ (m : ℕ). sum (drop m (sizes_of i n w))) (none w)
   where
     none : (v : Wish) → 0 ≡ length (sizes_of i n v) - k
     none (wish.Put name size own) = omega arith
-    none (wish.Get name) = omega arith
-    none (wish.Drop name) = omega arith
-    none wish.Audit = omega arith
-    none wish.Repair = omega arith
-    none wish.Upgrade = omega arith
+    none w = omega arith
 
 -- the room that a job needs before its append ends is that behind it, and the record that the append writes
 room_at : (i : ℕ) (s : Setup) (w : Wish) (k : ℕ) → MayHave w k →
-    room_left i s (aim_of_wish w) (k - 1) + (1 + entry_size i s.n w k) ≡ room_left i s (aim_of_wish w) k
-room_at i s w k (inl p) = subst (λ (m : ℕ). room_left i s (aim_of_wish w) (m - 1) + (1 + entry_size i s.n w m)
+    room_left i s (aim_of_wish w) (k - 1) + (1 + entry_size i s.n (aim_of_wish w) k) ≡ room_left i s (aim_of_wish w) k
+room_at i s w k (inl p) = subst (λ (m : ℕ). room_left i s (aim_of_wish w) (m - 1) + (1 + entry_size i s.n (aim_of_wish w) m)
     ≡ room_left i s (aim_of_wish w) m) (sym p.0) (opening w p.1)
   where
     opening : (v : Wish) → is_opener v ≡ true →
-        room_left i s (aim_of_wish v) (1 + last_appends v - 1) + (1 + entry_size i s.n v (1 + last_appends v))
+        room_left i s (aim_of_wish v) (1 + last_appends v - 1) + (1 + entry_size i s.n (aim_of_wish v) (1 + last_appends v))
         ≡ room_left i s (aim_of_wish v) (1 + last_appends v)
     opening (wish.Put name size own) h =
         (let a = one (if i == 2 then 15 else 14) in
@@ -175,10 +138,10 @@ room_at i s w k (inl p) = subst (λ (m : ℕ). room_left i s (aim_of_wish w) (m 
     opening wish.Audit h = (let a = one (15 + 4 * s.n) in let d = two 10 (15 + 4 * s.n) in
         omega (arith, a, d))
     opening v h = absurd (false≢true h)
-room_at i s w k (inr p) = subst (λ (m : ℕ). room_left i s (aim_of_wish w) (m - 1) + (1 + entry_size i s.n w m)
+room_at i s w k (inr p) = subst (λ (m : ℕ). room_left i s (aim_of_wish w) (m - 1) + (1 + entry_size i s.n (aim_of_wish w) m)
     ≡ room_left i s (aim_of_wish w) m) (sym p.0) (closing w p.1)
   where
-    closing : (v : Wish) → is_closer v ≡ true → room_left i s (aim_of_wish v) 0 + (1 + entry_size i s.n v 1)
+    closing : (v : Wish) → is_closer v ≡ true → room_left i s (aim_of_wish v) 0 + (1 + entry_size i s.n (aim_of_wish v) 1)
         ≡ room_left i s (aim_of_wish v) 1
     closing (wish.Put name size own) h =
         (let a = one (if i == 2 then 15 else 14) in let g = done_gate i in omega (arith, a, g))
@@ -195,7 +158,7 @@ pub room_of_entry : (s : Setup) (job : Job) (t : Kept) (a : Action) (entry : Rec
     ≡ reserved_of t.version s (core_job job)
 room_of_entry s job t a entry kept h m w =
     ap (λ (k : ℕ). room_left t.version s (aim_of_wish job.wish) (job.appends - 1) + (1 + k))
-    (sym (size_of_entry s.n t job.profile job.subject (sums_kept job) job.wish job.appends entry
+    (sym (size_of_entry s.n t job.profile job.subject (sums_kept job) (aim_of_wish job.wish) job.appends entry
     (length_counted s.n job kept.steady) w))
     ∙ (room_at t.version s job.wish job.appends (may_have s job kept a h m)
     ∙ ap (room_left t.version s (aim_of_wish job.wish)) kept.appends)
@@ -213,61 +176,24 @@ done_start v id size profile = by (v == 2)
 starts_ended : (t : Kept) (profile subject : ℕ) (sums : Sums) (aim : Aim) (k : ℕ) (entry : Record) → k ≤ 2 →
     written_as t k profile subject sums aim ≡ Some entry →
     starts_by aim (k - 1) + (if is_put_start entry then 1 else 0) ≤ starts_by aim k
-starts_ended t profile subject sums (ToPut name size) k entry few h = elim (cases_Bool (k == 2)) [
-  | inl b ↦ (let s : Some (PutStart (id_after t) name) ≡ Some entry =
-      ap (λ (o : Bool). Some (if o then PutStart (id_after t) name
-      else done_record t.version subject size profile)) (sym b)
-      ∙ h in let r : PutStart (id_after t) name ≡ entry = cc in
-      let p = ap {B = ℕ} (λ (x : Record). if is_put_start x then 1 else 0) r in
-      let two_ = eqb-true k 2 b in
-      let q = ap (starts_by (ToPut name size)) two_ in
-      let z = ap (λ (m : ℕ). starts_by (ToPut name size) (m - 1)) two_ in
-      omega (arith, p, q, z))
-  | inr b ↦ (let s : Some (done_record t.version subject size profile) ≡ Some entry =
-      ap (λ (o : Bool). Some (if o then PutStart (id_after t) name
-      else done_record t.version subject size profile)) (sym b)
-      ∙ h in let r : done_record t.version subject size profile ≡ entry =
-      same_some (done_record t.version subject size profile) entry s in
-      let p = done_start t.version subject size profile
-      ∙ ap {B = ℕ} (λ (x : Record). if is_put_start x then 1 else 0) r in
-      let q = ap {B = ℕ} (λ (o : Bool). if o then 1 else 0)
-      (ne_eqb (k - 1) 2 (λ e. absurd (omega (arith, e, few)))) in
-      omega (arith, p, q))
-]
-starts_ended t profile subject sums (ToGet name) k entry few h = let s : None ≡ Some entry = h in cc
-starts_ended t profile subject sums (ToDrop name) k entry few h =
-    let s : Some (Drop name) ≡ Some entry = h in let r : Drop name ≡ entry = cc in
-    let p = ap {B = ℕ} (λ (x : Record). if is_put_start x then 1 else 0) r in omega (arith, p)
-starts_ended t profile subject sums ToAudit k entry few h = elim (cases_Bool (k == 2)) [
-  | inl b ↦ (let s : Some (AuditStart t.next_audit) ≡ Some entry =
-      ap (λ (o : Bool). Some (if o then AuditStart t.next_audit
-      else AuditDone subject sums.undecided sums.counts)) (sym b) ∙ h in
-      let r : AuditStart t.next_audit ≡ entry = cc in
-      let p = ap {B = ℕ} (λ (x : Record). if is_put_start x then 1 else 0) r in omega (arith, p))
-  | inr b ↦ (let s : Some (AuditDone subject sums.undecided sums.counts) ≡ Some entry =
-      ap (λ (o : Bool). Some (if o then AuditStart t.next_audit
-      else AuditDone subject sums.undecided sums.counts)) (sym b) ∙ h in
-      let r : AuditDone subject sums.undecided sums.counts ≡ entry = cc in
-      let p = ap {B = ℕ} (λ (x : Record). if is_put_start x then 1 else 0) r in omega (arith, p))
-]
-starts_ended t profile subject sums ToRepair k entry few h =
-    let s : Some (RepairDone subject) ≡ Some entry = h in
-    let r : RepairDone subject ≡ entry = cc in
-    let p = ap {B = ℕ} (λ (x : Record). if is_put_start x then 1 else 0) r in omega (arith, p)
-starts_ended t profile subject sums ToUpgrade k entry few h =
-    let s : Some Version ≡ Some entry = h in let r : Version ≡ entry = cc in
-    let p = ap {B = ℕ} (λ (x : Record). if is_put_start x then 1 else 0) r in omega (arith, p)
+starts_ended t profile subject sums aim k entry few h = by_written t k profile subject sums
+    (λ (a : Aim) (x : Record). starts_by a (k - 1) + (if is_put_start x then 1 else 0) ≤ starts_by a k)
+    (λ name size b.
+    let is_two = eqb-true k 2 b in
+    let p = ap (starts_by (ToPut name size)) is_two in
+    let q = ap (λ (m : ℕ). starts_by (ToPut name size) (m - 1)) is_two in omega (arith, p, q))
+    (λ name size b.
+    let p = done_start t.version subject size profile in
+    let q = ap {B = ℕ} (λ (o : Bool). if o then 1 else 0)
+    (ne_eqb (k - 1) 2 (λ e. absurd (omega (arith, e, few)))) in omega (arith, p, q))
+    (λ name. omega arith) (λ b. omega arith) (λ b. omega arith) (omega arith) (omega arith) aim entry h
 
 few_have : (w : Wish) (k : ℕ) → MayHave w k → k ≤ 2
 few_have w k (inl p) = let e = p.0 in let l = last w in omega (arith, e, l)
   where
     last : (v : Wish) → last_appends v ≤ 1
     last (wish.Put name size own) = omega arith
-    last (wish.Get name) = omega arith
-    last (wish.Drop name) = omega arith
-    last wish.Audit = omega arith
-    last wish.Repair = omega arith
-    last wish.Upgrade = omega arith
+    last w = omega arith
 few_have w k (inr p) = let e = p.0 in omega (arith, e)
 
 -- ---- the job at a place
@@ -530,7 +456,7 @@ gated_core a t v place z old new one_ wrote items here here1 kept kept1 gate num
     let count : appends_in s (core_job new) ≡ old.appends - 1 = sym next.appends ∙ fewer in
     let versions : t.version ≡ (if is_upgrade (aim_of_wish old.wish) then 2 else a.table.version) = version
     ∙ ap (λ (b : Bool). if b then 2 else a.table.version)
-    (raises a.table old.profile old.subject (sums_kept old) old.wish old.appends wrote wr) in
+    (raises a.table old.profile old.subject (sums_kept old) (aim_of_wish old.wish) old.appends wrote wr) in
     let have = may_have s old kept SyncGate gate refl in
     let room_new : reserved_of a.table.version s (core_job new)
     ≡ room_left a.table.version s (aim_of_wish old.wish) (old.appends - 1) =
@@ -595,27 +521,9 @@ pub not_refused : (r : Result Unit Refused) (entry : Record) (rs : List Record) 
     (IsErrOf r fault.Memory → IsTrue (is_put_start entry)) → (IsErrOf r fault.Memory → spare ≡ 0) →
     (IsTrue (is_put_start entry) → 0 < spare) → ⊥
 not_refused (Ok x) entry rs spare e c a m s p = false≢true (sym e)
-not_refused (Err fault.NoSetup) entry rs spare e c a m s p = (let x : None ≡ Some NoSetup = sym a ∙ c in cc)
-not_refused (Err fault.SecondSetup) entry rs spare e c a m s p =
-    (let x : None ≡ Some SecondSetup = sym a ∙ c in cc)
-not_refused (Err fault.BadId) entry rs spare e c a m s p = (let x : None ≡ Some BadId = sym a ∙ c in cc)
-not_refused (Err fault.NotStarted) entry rs spare e c a m s p =
-    (let x : None ≡ Some NotStarted = sym a ∙ c in cc)
-not_refused (Err fault.TooMany) entry rs spare e c a m s p = (let x : None ≡ Some TooMany = sym a ∙ c in cc)
-not_refused (Err fault.NoName) entry rs spare e c a m s p = (let x : None ≡ Some NoName = sym a ∙ c in cc)
-not_refused (Err fault.BadAudit) entry rs spare e c a m s p = (let x : None ≡ Some BadAudit = sym a ∙ c in cc)
-not_refused (Err fault.NoRepair) entry rs spare e c a m s p = (let x : None ≡ Some NoRepair = sym a ∙ c in cc)
-not_refused (Err fault.OldKind) entry rs spare e c a m s p = (let x : None ≡ Some OldKind = sym a ∙ c in cc)
-not_refused (Err fault.OldVersion) entry rs spare e c a m s p =
-    (let x : None ≡ Some OldVersion = sym a ∙ c in cc)
-not_refused (Err fault.NewVersion) entry rs spare e c a m s p =
-    (let x : None ≡ Some NewVersion = sym a ∙ c in cc)
-not_refused (Err fault.BadResume) entry rs spare e c a m s p =
-    (let x : None ≡ Some BadResume = sym a ∙ c in cc)
-not_refused (Err fault.NameTwice) entry rs spare e c a m s p =
-    (let x : None ≡ Some NameTwice = sym a ∙ c in cc)
 not_refused (Err fault.Memory) entry rs spare e c a m s p =
     (let x = p (m refl) in let y = s refl in omega (arith, x, y))
+not_refused (Err why) entry rs spare e c a m s p = (let x : IsCause why None = subst (IsCause why) a c in cc)
 
 -- a setup within its limits has four to sixteen providers
 pub providers : (s : Setup) → IsTrue (is_setup s) → (4 ≤ s.n) × (s.n ≤ 16)

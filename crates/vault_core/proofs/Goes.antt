@@ -1,38 +1,15 @@
 -- A job as it is kept stays so when it goes on.
-use Rattle.std.proofs.Common.{◌≡◌, ℕ, zero, suc, ◌+◌, ◌-◌, ◌*◌, ◌<◌, ◌≤◌, Bool, true, false, cond, List, [], ◌∷◌, ◌++◌, Option, Some, None, length, map, drop, inl, inr, refl, ap, sym, subst, ◌∙◌, length-append, arith, Vec, Global}
-use Rattle.std.specs.Prelude.{◌⊎◌, ◌==◌, ◌&&◌, nat_lt, sum_by, slice_get, if◌then◌else◌}
-use Rattle.std.specs.List.{All}
-use Rattle.std.proofs.lemmas.Bool.{cases_Bool, false≢true, and_parts, eqb-true, lt-ltb}
-use Rattle.std.proofs.lemmas.List.{length-drop}
-use Rattle.std.proofs.lemmas.List.Sums.{sum_by-cons}
-use Rattle.std.proofs.lemmas.List.Elements.{All-map}
-use Rattle.record_defs.specs.Records.{Setup}
-use Rattle.machine_defs.specs.Jobs.{Aim, ToPut, ToAudit}
-use Rattle.machine_defs.specs.Actions.{Action, WriteBody, SyncGate, Remove, End, append_actions, plan_actions, ends_append}
-use Rattle.machine_defs.specs.Left.{removes_older, most_after}
-use Rattle.record_codec.specs.declared.counts.Counts.{Counts}
-use Rattle.record_codec.specs.Entries.{IsPadded}
-use Rattle.vault_table.specs.Values.{Kept}
+use Rattle.vault_core.proofs.Words.{◌≡◌, ℕ, zero, suc, ◌+◌, ◌-◌, ◌<◌, ◌≤◌, Bool, true, false, cond, List, [], ◌∷◌, ◌++◌, Some, None, length, map, inl, inr, refl, ap, sym, subst, ◌∙◌, arith, Global, ◌⊎◌, ◌==◌, nat_lt, sum_by, slice_get, if◌then◌else◌, All, cases_Bool, false≢true, and_parts, eqb-true, lt-ltb, length-drop, sum_by-cons, All-map, Setup, Aim, ToPut, ToAudit, Action, WriteBody, SyncGate, Remove, End, append_actions, plan_actions, ends_append, removes_older, most_after, Counts, IsPadded, Kept, Wish, Cursor, Task, CoreJob, core_pins, plan_in, planned, planned_by, rest_in, appends_in, numbers, tasks_from, rest_from, rest_of, closing_of, targets_of, stripes_in, turns_for, tasks_made, most_of, is_move, number_as, taken_as, aimed, is_taker, decides_on, drawn_tasks, listed_older, removals_of, LeavesBehind, comes_to, is_caller, plan_kept, core_job, IsSteadyJob, IsJobKept, size_of_turn, aim_of_wish, is_opener}
+use Rattle.std.proofs.Common.{◌*◌, Option, drop, length-append, Vec}
+use Rattle.std.specs.Prelude.{◌&&◌}
 use Rattle.vault_core.specs.declared.pinned.Pinned.{Pinned}
-use Rattle.vault_core.specs.declared.wish.Wish.{Wish}
 use Rattle.vault_core.specs.declared.wish.Wish.TheVariants as wish
 use Rattle.vault_core.specs.declared.cursor.Move.TheVariants as move
-use Rattle.vault_core.specs.declared.cursor.Cursor.{Cursor}
 use Rattle.vault_core.specs.declared.cursor.Cursor.TheVariants as at
-use Rattle.vault_core.specs.declared.job.Task.{Task}
 use Rattle.vault_core.specs.declared.job.Job.{Job}
-use Rattle.vault_core.specs.View.{CoreJob, core_pins, plan_in, planned, planned_by, rest_in, appends_in}
-use Rattle.vault_core.specs.Rest.{numbers, tasks_from, rest_from, rest_of, closing_of}
-use Rattle.vault_core.specs.Targets.{targets_of, stripes_in, turns_for, tasks_made}
-use Rattle.vault_core.specs.Coming.{most_of, is_move}
-use Rattle.vault_core.specs.Fed.{number_as, taken_as}
-use Rattle.vault_core.specs.Going.{aimed, is_taker, decides_on, drawn_tasks, listed_older, removals_of, LeavesBehind}
-use Rattle.vault_core.specs.Parts.{comes_to, is_caller, plan_kept, core_job, IsSteadyJob, IsJobKept}
-use Rattle.vault_core.specs.Making.{size_of_turn}
-use Rattle.vault_core.specs.Wished.{aim_of_wish, is_opener}
 use Rattle.vault_core.proofs.Rests.{rest_is, by_call}
 use Rattle.vault_core.proofs.Counts.{gates, gates-append, gates_behind, last_appends, moves_gates, closing_gates, removes_none, MayHave, moves_have}
-use Rattle.vault_core.proofs.Gates.{action_at, cursor_at, move_at, rest_some, takes, removals_length}
+use Rattle.vault_core.proofs.Gates.{set_with, action_at, cursor_at, move_at, rest_some, takes, removals_length}
 use Rattle.vault_core.proofs.Whole.{front_of, whole, behind_last}
 use Rattle.vault_core.proofs.Turns.{length-from}
 
@@ -136,16 +113,8 @@ pub judged_kept : (s : Setup) (job : Job) (u : ℕ) (cs : Counts) → IsJobKept 
 unfolding rest_of
 judged_kept s job u cs kept e padded = record {
   steady = record {
-    stays = record {
-      tasks = kept.steady.stays.tasks;
-      idle = kept.steady.stays.idle;
-      wishable = kept.steady.stays.wishable;
-      known = kept.steady.stays.known;
-      own = kept.steady.stays.own;
-      flags = kept.steady.stays.flags;
-      counts = e;
-      padded = padded;
-    };
+    stays = set_with s.n job (record job { undecided = u; counts = cs }) refl refl refl
+        kept.steady.stays.tasks kept.steady.stays.idle e padded kept.steady.stays;
     comes = kept.steady.comes;
     within = kept.steady.within;
   };
@@ -224,17 +193,11 @@ module _ (s : Setup) (job : Job) (k : ℕ) (v : Vec Task Global) (kept : IsJobKe
 
   steady_taken : IsSteadyJob s.n taken
   steady_taken = record {
-    stays = record {
-      tasks = subst (All (λ (t : Task). 0 < t.turns)) (sym is)
-          (drawn_turns k job.wish job.tasks.items kept.steady.stays.tasks);
-      idle = λ h. is ∙ drawn_idle k job.wish job.tasks.items (kept.steady.stays.idle h);
-      wishable = kept.steady.stays.wishable;
-      known = kept.steady.stays.known;
-      own = kept.steady.stays.own;
-      flags = kept.steady.stays.flags;
-      counts = kept.steady.stays.counts;
-      padded = kept.steady.stays.padded;
-    };
+    stays = set_with s.n job taken refl refl refl
+        (subst (All (λ (t : Task). 0 < t.turns)) (sym is)
+        (drawn_turns k job.wish job.tasks.items kept.steady.stays.tasks))
+        (λ h. is ∙ drawn_idle k job.wish job.tasks.items (kept.steady.stays.idle h))
+        kept.steady.stays.counts kept.steady.stays.padded kept.steady.stays;
     comes = kept.steady.comes;
     within = kept.steady.within;
   }
@@ -334,10 +297,7 @@ two_left : (w : Wish) (k : ℕ) → MayHave w k → is_taker w ≡ true → (k �
 two_left (wish.Put name size own) k (inl p) t n = p.0
 two_left (wish.Drop name) k (inl p) t n = absurd (n p.0)
 two_left w k (inr p) t n = absurd (n p.0)
-two_left (wish.Get name) k (inl p) t n = absurd (false≢true t)
-two_left wish.Audit k (inl p) t n = absurd (false≢true t)
-two_left wish.Repair k (inl p) t n = absurd (false≢true t)
-two_left wish.Upgrade k (inl p) t n = absurd (false≢true t)
+two_left w k (inl p) t n = absurd (false≢true t)
 
 module _ (s : Setup) (job : Job) (kept : IsJobKept s job) (gate : slice_get (rest_of s.n job)
     0 ≡ Some SyncGate)
@@ -387,10 +347,7 @@ module _ (s : Setup) (job : Job) (kept : IsJobKept s job) (gate : slice_get (res
             drops : job.appends ≡ 2 → MayHave (wish.Drop name) job.appends → ⊥
             drops k (inl p) = (let q = p.0 in omega (arith, k, q))
             drops k (inr p) = (let q = p.0 in omega (arith, k, q))
-        by (wish.Get name) e = refl
-        by wish.Audit e = refl
-        by wish.Repair e = refl
-        by wish.Upgrade e = refl
+        by w e = refl
 
     -- what is left of a job that decides
     decides_rest : decides_on job ≡ true → rest_of s.n job ≡ SyncGate ∷ End ∷ []

@@ -1,15 +1,6 @@
 -- Records of jobs are in the grammar.
-use Rattle.std.proofs.Common.{◌≡◌, ℕ, ◌<◌, ◌≤◌, ◌^◌, true, length, take, List, subst, sym}
-use Rattle.std.specs.Prelude.{nat_lt}
-use Rattle.std.specs.List.{All, list_all}
-use Rattle.std.proofs.lemmas.Bool.{lt-ltb, le-leb}
-use Rattle.std.proofs.lemmas.List.{length-take-le}
-use Rattle.std.proofs.lemmas.List.Elements.{All-take}
-use Rattle.std.proofs.lemmas.List.Sums.{list_all-from_AllPass}
-use Rattle.record_defs.specs.Records.{AuditDone, is_in_grammar}
-use Rattle.record_codec.specs.declared.counts.Counts.{Counts}
+use Rattle.vault_core.proofs.Words.{◌≡◌, ℕ, ◌<◌, ◌≤◌, ◌^◌, true, length, take, List, subst, sym, nat_lt, All, list_all, lt-ltb, le-leb, length-take-le, All-take, list_all-from_AllPass, AuditDone, is_in_grammar, Counts, IsPadded, IsInGrammar}
 use Rattle.record_codec.specs.declared.records.Record.TheVariants as kind
-use Rattle.record_codec.specs.Entries.{IsPadded, IsInGrammar}
 
 fit_all : (xs : List ℕ) → All (λ k. k < 2 ^ 32) xs → list_all (λ k. nat_lt k (2 ^ 32)) xs ≡ true
 fit_all xs h = list_all-from_AllPass (λ k. nat_lt k (2 ^ 32)) xs (λ k d l. lt-ltb _ _ (h k d l))

@@ -1,20 +1,7 @@
 -- A core that what runs alone has told something.
-use Rattle.std.proofs.Common.{◌≡◌, ◌∙◌, ℕ, ◌+◌, true, false, List, [], ◌∷◌, Option, Some, None, refl, ap, sym, subst, arith}
-use Rattle.std.specs.Prelude.{is_some}
-use Rattle.record_defs.specs.Records.{Setup}
-use Rattle.record_defs.specs.Table.{setup_of, version_of}
-use Rattle.record_defs.specs.Packed.{packed}
-use Rattle.record_defs.specs.Areas.{other_area, end_in}
-use Rattle.machine_defs.specs.States.{State, Append, setup_in}
-use Rattle.machine_defs.specs.Alone.{switched}
-use Rattle.machine_defs.specs.Appends.{barred}
-use Rattle.state_laws.specs.Sound.{IsSound}
-use Rattle.vault_table.specs.Values.{IsFoldOf, forgotten}
+use Rattle.vault_core.proofs.Words.{◌≡◌, ◌∙◌, ℕ, ◌+◌, true, false, List, [], ◌∷◌, Some, None, refl, ap, sym, subst, arith, is_some, Setup, setup_of, version_of, packed, other_area, end_in, State, Append, setup_in, switched, barred, IsSound, IsFoldOf, forgotten, Inside, CoreJob, CoreView, AreRising, view_of, IsCore, IsCoreFlight, CoreIs}
+use Rattle.std.proofs.Common.{Option}
 use Rattle.vault_table.proofs.Fold.{is_packed}
-use Rattle.vault_core.specs.declared.own.Core.TheInside.{Inside}
-use Rattle.vault_core.specs.View.{CoreJob, CoreView, AreRising}
-use Rattle.vault_core.specs.Parts.{view_of, IsCore}
-use Rattle.vault_core.specs.Carried.{IsCoreFlight, CoreIs}
 
 rising_more : (low : ℕ) (js : List CoreJob) (next : ℕ) → AreRising low js next → AreRising low js (next + 1)
 rising_more low [] next h = (let a = h in omega arith)

@@ -1,17 +1,7 @@
 -- The record of the append in flight.
-use Rattle.std.proofs.Common.{◌≡◌, ◌+◌, ◌*◌, ◌<◌, ℕ, inl, inr, refl, Bool, true, Option, None, Some, sym, ap, subst, ◌∙◌, arith}
-use Rattle.std.specs.Prelude.{if◌then◌else◌, ◌==◌, slice_get}
-use Rattle.std.proofs.lemmas.Bool.{cases_Bool, eqb-true}
+use Rattle.vault_core.proofs.Words.{◌≡◌, ◌+◌, ◌<◌, ℕ, inl, inr, refl, Bool, true, None, Some, sym, ap, subst, ◌∙◌, arith, if◌then◌else◌, ◌==◌, slice_get, cases_Bool, eqb-true, Action, actions_of, moves_before, Setup, State, Append, setup_in, next_action, CoreJob, CoreView, job_in, wanted_at, action_next, is_move, written_by, written_of, written_in, entry_of_found, entry_in, IsToldAs, IsJobOf, IsCoreFlight, CoreIs}
+use Rattle.std.proofs.Common.{◌*◌, Option}
 use Rattle.machine_defs.specs.Jobs.{Job}
-use Rattle.machine_defs.specs.Actions.{Action, actions_of}
-use Rattle.state_laws.specs.Orders.{moves_before}
-use Rattle.record_defs.specs.Records.{Setup}
-use Rattle.machine_defs.specs.States.{State, Append, setup_in}
-use Rattle.machine_defs.specs.Steps.{next_action}
-use Rattle.vault_core.specs.View.{CoreJob, CoreView, job_in, wanted_at}
-use Rattle.vault_core.specs.Coming.{action_next, is_move, written_by, written_of, written_in, entry_of_found, entry_in}
-use Rattle.vault_core.specs.Streams.{IsToldAs}
-use Rattle.vault_core.specs.Carried.{IsJobOf, IsCoreFlight, CoreIs}
 use Rattle.vault_core.proofs.Alike.{table-like}
 use Rattle.vault_core.proofs.Pairs.{pair_some}
 use Rattle.vault_core.proofs.Standing.{same_job}

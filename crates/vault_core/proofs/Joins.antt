@@ -1,34 +1,12 @@
 -- A job as it is made stands for the job that the machine adds.
-use Rattle.std.proofs.Common.{◌≡◌, ℕ, ◌*◌, ◌^◌, ◌≤◌, Bool, true, false, List, [], ◌∷◌, Option, Some, None, length, map, inl, inr, refl, ap, sym, subst, ◌∙◌, arith}
-use Rattle.std.specs.Prelude.{nat_lt, ◌&&◌, not, replicate, slice_get}
-use Rattle.std.proofs.lemmas.Bool.{cases_Bool, false≢true}
-use Rattle.algebra_laws.specs.Lists.{In}
-use Rattle.column_defs.specs.Verdicts.{Sums}
-use Rattle.record_defs.specs.Records.{Setup}
-use Rattle.record_defs.specs.Table.{File, Due, find_file, files_of, due_of}
-use Rattle.record_defs.proofs.FilesLaws.{find-files_of}
-use Rattle.machine_defs.specs.Jobs.{Kind, PutJob, GetJob, DropJob, AuditJob, RepairJob, UpgradeJob, ToPut, ToGet, ToDrop, ToAudit, ToRepair, ToUpgrade, Aim, aim_of}
-use Rattle.machine_defs.specs.Jobs.{Pinned as PinnedBytes}
-use Rattle.machine_defs.specs.Actions.{actions_of, machine_pins}
-use Rattle.machine_defs.specs.Begins.{pinned_file, pinned_for, due_number, due_flags, subject_at_begin, chosen, beginning, pin_by, pin_each, pin_found, pins_by}
-use Rattle.machine_defs.specs.States.{State, setup_in, file_in}
+use Rattle.vault_core.proofs.Words.{◌≡◌, ℕ, ◌^◌, ◌≤◌, Bool, true, false, List, [], ◌∷◌, Some, None, length, map, inl, inr, refl, ap, sym, subst, ◌∙◌, arith, nat_lt, slice_get, cases_Bool, false≢true, In, Sums, Setup, File, Due, find_file, files_of, due_of, find-files_of, Kind, PutJob, RepairJob, ToPut, ToGet, ToAudit, ToRepair, Aim, aim_of, PinnedBytes, actions_of, machine_pins, pinned_file, pinned_for, due_number, due_flags, subject_at_begin, chosen, beginning, pin_by, pin_each, pin_found, pins_by, State, setup_in, file_in, Counts, counted, Kept, Wish, core_pins, plan_in, flag_at, stripe_size, IsLongest, IsTold, IsKindOf, IsAimOf, pin_of, seen_plan, sums_at_start, is_audit_kind, longest, shown, IsPutFrom, HasTold, IsJobOf, asks_next, listed_older, plan_kept, core_job, sums_kept, MayBegin, pin_of_file, pins_for, subject_for, IsMade, aim_of_wish, profile_named}
+use Rattle.std.proofs.Common.{◌*◌, Option}
+use Rattle.std.specs.Prelude.{◌&&◌, not, replicate}
 use Rattle.machine_defs.proofs.RecordFacts.{listed_file}
 use Rattle.state_laws.specs.Follows.{AreHeld}
-use Rattle.record_codec.specs.declared.counts.Counts.{Counts}
-use Rattle.record_codec.specs.Entries.{counted}
-use Rattle.vault_table.specs.Values.{Kept}
 use Rattle.vault_core.specs.declared.pinned.Pinned.{Pinned}
-use Rattle.vault_core.specs.declared.wish.Wish.{Wish}
 use Rattle.vault_core.specs.declared.wish.Wish.TheVariants as wish
 use Rattle.vault_core.specs.declared.job.Job.{Job}
-use Rattle.vault_core.specs.View.{core_pins, plan_in, flag_at}
-use Rattle.vault_core.specs.Streams.{stripe_size, IsLongest, IsTold}
-use Rattle.vault_core.specs.Carried.{IsKindOf, IsAimOf, pin_of, seen_plan, sums_at_start, is_audit_kind, longest, shown, IsPutFrom, HasTold, IsJobOf}
-use Rattle.vault_core.specs.Coming.{asks_next}
-use Rattle.vault_core.specs.Going.{listed_older}
-use Rattle.vault_core.specs.Parts.{plan_kept, core_job, sums_kept, MayBegin}
-use Rattle.vault_core.specs.Making.{pin_of_file, pins_for, subject_for, IsMade}
-use Rattle.vault_core.specs.Wished.{aim_of_wish, profile_named}
 use Rattle.vault_core.proofs.Alike.{IsLikeFoldOf}
 use Rattle.vault_core.proofs.Links.{shown_aim}
 use Rattle.vault_core.proofs.Begun.{take-zeros}
@@ -71,13 +49,11 @@ pins-aim t w aim fold held = by aim
 
     by : (x : Aim) → pins_by core_pins pin_of_file (find_file t.files) t.files x
         ≡ map pin_of (pins_by machine_pins (pinned_file w) (file_in w) (files_of w.records) x)
-    by (ToPut name size) = refl
     by (ToGet name) = ap (pin_found pin_of_file) (ap (λ (fs : List File). find_file fs name) fold.files
         ∙ find-files_of w.records name) ∙ pins-one w (file_in w name) (λ f e. (held name f e).1)
-    by (ToDrop name) = refl
     by ToAudit = all
     by ToRepair = all
-    by ToUpgrade = refl
+    by aim = refl
 
 -- the files that a job of a wish works on are those that the machine pins
 pub pins-are : (t : Kept) (w : State) (v : Wish) (k : Kind) → IsLikeFoldOf w.records t → AreHeld w.bytes w.records →
@@ -115,11 +91,7 @@ module _ (t : Kept) (s : Setup) (w : State) (moment : ℕ) (v : Wish) (k : Kind)
     where
       level : (aim : Aim) → f (longest aim) ≡ f aim
       level (ToPut name size) = h name (2 ^ 22) size
-      level (ToGet name) = refl
-      level (ToDrop name) = refl
-      level ToAudit = refl
-      level ToRepair = refl
-      level ToUpgrade = refl
+      level aim = refl
 
       by : (o : Option ℕ) → IsAimOf o v k → f (aim_of_wish v) ≡ f (aim_of k)
       by None e = ap f e
@@ -180,11 +152,7 @@ module _ (t : Kept) (s : Setup) (w : State) (moment : ℕ) (v : Wish) (k : Kind)
       put : (n size : ℕ) (x : Kind) → n ≡ 0 → IsLongest (longest (aim_of x)) →
           IsPutFrom (n * size) (aim_of x)
       put n size (PutJob name bytes) z l = subst (λ (m : ℕ). m * size ≤ length bytes) (sym z) (omega arith)
-      put n size (GetJob name) z l = absurd l
-      put n size (DropJob name) z l = absurd l
-      put n size AuditJob z l = absurd l
-      put n size RepairJob z l = absurd l
-      put n size UpgradeJob z l = absurd l
+      put n size kind z l = absurd l
 
       by : (o : Option ℕ) → IsAimOf o v k → MayBegin o v →
           HasTold s o (beginning w moment k (profile_named v))

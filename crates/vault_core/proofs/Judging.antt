@@ -1,27 +1,9 @@
 -- A job of a core stands for a job of the machine after an action: most of all, the sums of an audit.
-use Rattle.std.proofs.Common.{◌≡◌, ℕ, ◌+◌, ◌<◌, ◌≤◌, Bool, true, false, List, Some, None, drop, inl, inr, refl, ap, sym, subst, ◌∙◌, arith}
-use Rattle.std.specs.Prelude.{Option, ◌⊎◌, ◌&&◌, not, slice_get, IsTrue, if◌then◌else◌}
-use Rattle.std.specs.List.{AllZip}
-use Rattle.std.proofs.lemmas.Bool.{cases_lt, false≢true, not-true, and_parts, le-ltb, ltb-false}
-use Rattle.column_defs.specs.Verdicts.{Sums}
-use Rattle.record_defs.specs.Records.{Setup}
-use Rattle.record_defs.specs.Table.{next_audit}
-use Rattle.machine_defs.specs.Jobs.{Kind, AuditJob, Given, Job}
-use Rattle.machine_defs.specs.Actions.{Action, WriteBody, SyncGate, Ask, End, actions_of}
-use Rattle.machine_defs.specs.States.{State, setup_in}
-use Rattle.machine_defs.specs.Appends.{is_first_append, subject_drawn, taken_out}
-use Rattle.machine_defs.specs.Audits.{HasSums}
-use Rattle.machine_defs.specs.Steps.{next_action}
-use Rattle.machine_defs.proofs.NextActions.{next_stands}
-use Rattle.state_laws.proofs.Orders.{get-drop, audit-list, audit_rest}
-use Rattle.state_laws.proofs.Gates.{decided, audit-same}
+use Rattle.vault_core.proofs.Words.{◌≡◌, ℕ, ◌+◌, ◌<◌, ◌≤◌, Bool, true, false, List, Some, None, inl, inr, refl, ap, sym, subst, ◌∙◌, arith, ◌⊎◌, slice_get, IsTrue, if◌then◌else◌, AllZip, cases_lt, false≢true, not-true, and_parts, le-ltb, ltb-false, Sums, Setup, next_audit, Kind, AuditJob, Given, Action, WriteBody, SyncGate, Ask, End, actions_of, State, setup_in, is_first_append, subject_drawn, taken_out, HasSums, next_action, next_stands, get-drop, audit-list, audit_rest, decided, audit-same, onward, actions-onward, Kept, CoreJob, rest_in, wanted_at, asks_next, begins_append, is_last_ask, seen_plan, is_audit_kind, has_asked, IsJobOf, goes_plainly, stepped_job, judged, number_drawn, drawn, gated}
+use Rattle.std.proofs.Common.{drop}
+use Rattle.std.specs.Prelude.{Option, ◌&&◌, not}
+use Rattle.machine_defs.specs.Jobs.{Job}
 use Rattle.state_laws.proofs.Done.{gate-within}
-use Rattle.state_laws.proofs.Going.{onward, actions-onward}
-use Rattle.vault_table.specs.Values.{Kept}
-use Rattle.vault_core.specs.View.{CoreJob, rest_in, wanted_at}
-use Rattle.vault_core.specs.Coming.{asks_next, begins_append, is_last_ask}
-use Rattle.vault_core.specs.Carried.{seen_plan, is_audit_kind, has_asked, IsJobOf}
-use Rattle.vault_core.specs.Fed.{goes_plainly, stepped_job, judged, number_drawn, drawn, gated}
 use Rattle.vault_core.proofs.Alike.{IsLikeFoldOf}
 use Rattle.vault_core.proofs.Onward.{sums-same, no-sums, asks-none, ask-then, past-first, no-ask-first}
 use Rattle.vault_core.proofs.Told.{told_on}

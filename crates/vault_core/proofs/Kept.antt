@@ -1,26 +1,11 @@
 -- A core stays one as it is kept while its jobs change.
-use Rattle.std.proofs.Common.{◌≡◌, ℕ, zero, suc, ◌+◌, ◌<◌, ◌≤◌, Bool, List, [], ◌∷◌, ◌++◌, Some, None, length, map, take, drop, set, get_or, refl, ap, sym, subst, ◌∙◌, arith, Global}
-use Rattle.std.specs.Option.{option_map, option_eq}
-use Rattle.std.specs.Prelude.{Option, if◌then◌else◌, eqb, slice_get, remove}
-use Rattle.std.specs.List.{All, AllZip}
-use Rattle.std.proofs.lemmas.Bool.{ne_eqb}
-use Rattle.std.proofs.lemmas.Option.{slice_get_within, slice_get-map, slice_get_read, get_or_from_slice_get}
-use Rattle.std.proofs.lemmas.List.{map-set, length-map, length-set}
+use Rattle.vault_core.proofs.Words.{◌≡◌, ℕ, zero, suc, ◌+◌, ◌<◌, ◌≤◌, Bool, List, [], ◌∷◌, ◌++◌, Some, None, length, map, take, set, get_or, refl, ap, sym, subst, ◌∙◌, arith, Global, option_map, option_eq, if◌then◌else◌, eqb, slice_get, remove, All, AllZip, ne_eqb, slice_get_within, slice_get-map, slice_get_read, get_or_from_slice_get, map-set, length-map, length-set, All-take, All-drop, All-append, All-set, sum_by-set, sum_by-remove, Setup, Aim, room_left, Inside, setup_kept, core_job, view_of, IsJobKept, IsCore, IsTold, AreTold, is_upgrading, HasLoneUpgrade, CoreJob, CoreView, appends_in, AreRising, job_in, reserved_of, starts_by, starts_of, Reserves, is_own, freed}
+use Rattle.std.proofs.Common.{drop}
+use Rattle.std.specs.Prelude.{Option}
 use Rattle.std.proofs.lemmas.List.Edits.{length-remove}
-use Rattle.std.proofs.lemmas.List.Elements.{All-take, All-drop, All-append, All-set}
-use Rattle.std.proofs.lemmas.List.Sums.{sum_by-set, sum_by-remove}
-use Rattle.record_defs.specs.Records.{Setup}
-use Rattle.machine_defs.specs.Jobs.{Aim}
-use Rattle.machine_defs.specs.Space.{room_left}
 use Rattle.vault_core.specs.declared.job.Job.{Job}
 use Rattle.std.specs.declared.vec.Vec.{Vec}
-use Rattle.vault_core.specs.declared.own.Core.TheInside.{Inside}
-use Rattle.vault_core.specs.Parts.{setup_kept, core_job, view_of, IsJobKept, IsCore}
-use Rattle.vault_core.specs.Streams.{IsTold, AreTold}
 use Rattle.vault_core.proofs.Lone.{lone_less, lone_set}
-use Rattle.vault_core.specs.View.{is_upgrading, HasLoneUpgrade, CoreJob, CoreView, appends_in, AreRising, job_in}
-use Rattle.vault_core.specs.Reserves.{reserved_of, starts_by, starts_of, Reserves}
-use Rattle.vault_core.specs.Fed.{is_own, freed}
 
 -- to map a list without an element is to leave out that element of the mapped list
 pub map-remove : {X Y : Type 0} (f : X → Y) (xs : List X) (i : ℕ) → map f (remove xs i) ≡ remove (map f xs) i

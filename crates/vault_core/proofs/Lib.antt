@@ -1,3 +1,4 @@
+mod Words
 pub mod Rests
 pub mod Counts
 pub mod Gates
@@ -28,6 +29,7 @@ pub mod Joins
 pub mod Idle
 pub mod Admitted
 pub mod Falls
+pub mod Advancing
 pub mod Steps
 pub mod InFlight
 pub mod Cut

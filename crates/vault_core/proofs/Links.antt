@@ -1,31 +1,11 @@
 -- A job of a core and the job of the machine that it stands for: what comes next, what is left, and what it
 -- draws and takes away.
-use Rattle.std.proofs.Common.{◌≡◌, ℕ, ◌+◌, ◌*◌, ◌^◌, ◌<◌, ◌≤◌, Bool, true, false, List, [], ◌∷◌, ◌++◌, Some, None, map, drop, inl, inr, refl, ap, sym, subst, ◌∙◌, arith}
-use Rattle.std.specs.Prelude.{◌⊎◌, Option, if◌then◌else◌, ◌==◌, ◌&&◌, ◌||◌, not, is_some, slice_get, count_by}
-use Rattle.std.specs.List.{AllZip, flat_map, list_any}
-use Rattle.std.proofs.lemmas.Bool.{cases_lt, lt-ltb, le-ltb, ne_eqb, eq-eqb}
+use Rattle.vault_core.proofs.Words.{◌≡◌, ℕ, ◌+◌, ◌^◌, ◌<◌, ◌≤◌, Bool, true, false, List, [], ◌∷◌, ◌++◌, Some, None, map, inl, inr, refl, ap, sym, subst, ◌∙◌, arith, ◌⊎◌, if◌then◌else◌, ◌==◌, is_some, slice_get, count_by, AllZip, flat_map, list_any, cases_lt, lt-ltb, le-ltb, ne_eqb, eq-eqb, Setup, File, find_file, next_id, next_audit, find-files_of, profiled, Kind, PutJob, GetJob, DropJob, AuditJob, RepairJob, Aim, ToPut, aim_of, PinnedBytes, Action, WriteBody, End, append_actions, on_each_provider, on_each_stripe, open_actions, rewrite_plan, rounds_of, Ask, Plan, plan_actions, actions_by, actions_of, actions_left, appends_left, ends_append, State, setup_in, file_in, is_first_append, subject_drawn, removable, taken_out, is_idle_drop, next_action, next_stands, stripe_size, next-left, get-drop, put-first, put-later, audit-first, audit-later, put-second, audit-second, gates, onward, count-onward, Kept, id_after, CoreJob, core_pins, planned, planned_by, rest_in, appends_in, wanted_at, is_gone, is_idle, action_next, pin_of, seen_plan, longest, shown, IsPutFrom, HasTold, IsJobOf, IsToldAs, is_pinned_in, removable_in, number_as, number_drawn, taken_as, taken_by}
+use Rattle.std.proofs.Common.{◌*◌, drop}
+use Rattle.std.specs.Prelude.{Option, ◌&&◌, ◌||◌, not}
 use Rattle.std.proofs.lemmas.List.Folds.{flat_map-map}
-use Rattle.record_defs.specs.Records.{Setup}
-use Rattle.record_defs.specs.Table.{File, find_file, next_id, next_audit}
-use Rattle.record_defs.proofs.FilesLaws.{find-files_of}
-use Rattle.machine_defs.specs.Setups.{profiled}
-use Rattle.machine_defs.specs.Jobs.{Kind, PutJob, GetJob, DropJob, AuditJob, RepairJob, UpgradeJob, Aim, ToPut, ToGet, ToDrop, ToAudit, ToRepair, ToUpgrade, aim_of, Job}
-use Rattle.machine_defs.specs.Jobs.{Pinned as PinnedBytes}
-use Rattle.machine_defs.specs.Actions.{Action, WriteBody, End, append_actions, on_each_provider, on_each_stripe, open_actions, rewrite_plan, rounds_of, Ask, Plan, plan_actions, actions_by, actions_of, actions_left, appends_left, ends_append}
-use Rattle.machine_defs.specs.States.{State, setup_in, file_in}
-use Rattle.machine_defs.specs.Appends.{is_first_append, subject_drawn, removable, taken_out}
-use Rattle.machine_defs.specs.Steps.{is_idle_drop, next_action}
-use Rattle.machine_defs.proofs.NextActions.{next_stands}
-use Rattle.vault_core.specs.Streams.{stripe_size}
-use Rattle.state_laws.proofs.Orders.{next-left, get-drop, put-first, put-later, audit-first, audit-later, put-second, audit-second, gates}
-use Rattle.state_laws.proofs.Going.{onward, count-onward}
-use Rattle.vault_table.specs.Values.{Kept, id_after}
+use Rattle.machine_defs.specs.Jobs.{Job}
 use Rattle.vault_core.specs.declared.pinned.Pinned.{Pinned}
-use Rattle.vault_core.specs.View.{CoreJob, core_pins, planned, planned_by, rest_in, appends_in, wanted_at}
-use Rattle.vault_core.specs.Coming.{is_gone, is_idle, action_next}
-use Rattle.vault_core.specs.Carried.{pin_of, seen_plan, longest, shown, IsPutFrom, HasTold, IsJobOf}
-use Rattle.vault_core.specs.Streams.{IsToldAs}
-use Rattle.vault_core.specs.Fed.{is_pinned_in, removable_in, number_as, number_drawn, taken_as, taken_by}
 use Rattle.vault_core.proofs.Alike.{IsLikeFoldOf}
 use Rattle.vault_core.proofs.Places.{any-map}
 use Rattle.vault_core.proofs.Told.{below}
@@ -39,18 +19,16 @@ unfolding planned_by actions_of
 planned-seen s m = by m.kind
   where
     by : (k : Kind) → plan_actions core_pins s (seen_plan m) (aim_of k) ≡ actions_by s m k
-    by (PutJob name bytes) = refl
     by (GetJob name) = ap (λ (xs : List Action). xs ++ End ∷ [])
         (flat_map-map (λ (f : Pinned). on_each_stripe (profiled s f.profile) f.length (open_actions s f.id))
         pin_of m.pinned)
-    by (DropJob name) = refl
     by AuditJob = ap (λ (xs : List Action). append_actions ++ (xs ++ (append_actions ++ End ∷ [])))
         (flat_map-map (λ (f : Pinned). flat_map (λ round. on_each_provider s (λ j. Ask j f.id round))
         (rounds_of (profiled s f.profile) f.length)) pin_of m.pinned)
     by RepairJob = ap (λ (xs : List Action). xs ++ (append_actions ++ End ∷ []))
         (flat_map-map (λ (f : Pinned). on_each_stripe (profiled s f.profile) f.length
         (λ stripe. open_actions s f.id stripe ++ rewrite_plan s m.flagged f.id stripe)) pin_of m.pinned)
-    by UpgradeJob = refl
+    by kind = refl
 
 -- ---- the parts of a plan
 
@@ -99,13 +77,8 @@ module _ (s : Setup) (c : CoreJob) (m : Job) (is : IsJobOf s c m) where
   aim-alike f h = ap f aim-is ∙ by c.told (aim_of m.kind)
     where
       by : (o : Option ℕ) (aim : Aim) → f (shown_aim o aim) ≡ f aim
-      by None aim = refl
       by (Some k) (ToPut name size) = h name (2 ^ 22) size
-      by (Some k) (ToGet name) = refl
-      by (Some k) (ToDrop name) = refl
-      by (Some k) ToAudit = refl
-      by (Some k) ToRepair = refl
-      by (Some k) ToUpgrade = refl
+      by o aim = refl
 
   module _ (closed : c.told ≡ None) where
     -- a job that is no open stream has the same actions
@@ -209,10 +182,7 @@ number_same w t c m f is =
         ∙ ap (λ (i : ℕ). if is_first_append m then i else m.subject) f.id
     by AuditJob e = ap (λ (b : Bool). if b then t.next_audit else m.subject) (audit-two (setup_in w) m e)
         ∙ ap (λ (i : ℕ). if is_first_append m then i else m.subject) f.audit
-    by (GetJob name) e = refl
-    by (DropJob name) e = refl
-    by RepairJob e = refl
-    by UpgradeJob e = refl
+    by kind e = refl
 
 -- ---- what is pinned, and what is taken away
 
@@ -253,10 +223,7 @@ taken_same w t cs c m f all is =
         (put-two (setup_in w) m name bytes e)
         ∙ ap (λ (xs : List ℕ). if is_first_append m then [] else xs) (here name)
     by (DropJob name) e = here name
-    by (GetJob name) e = refl
-    by AuditJob e = refl
-    by RepairJob e = refl
-    by UpgradeJob e = refl
+    by kind e = refl
 
 -- ---- what comes next
 
@@ -277,11 +244,7 @@ idle_same w t c m f is = by m.kind
     by : (k : Kind) → is_idle_drop w m k ≡ (is_gone t (aim_of k) && (m.place == 0))
     by (DropJob name) = swap (m.place == 0) (not (is_some (file_in w name)))
         ∙ ap (λ (o : Option File). not (is_some o) && (m.place == 0)) (sym (file_here t w name f))
-    by (PutJob name bytes) = refl
-    by (GetJob name) = refl
-    by AuditJob = refl
-    by RepairJob = refl
-    by UpgradeJob = refl
+    by kind = refl
 
 -- the next action is the same
 pub next_same : (w : State) (t : Kept) (c : CoreJob) (m : Job) → IsLikeFoldOf w.records t →
@@ -327,7 +290,4 @@ drawn-appends w m next = by m.kind refl (cases_lt m.place 4)
         k next l refl refl).1
     by AuditJob k (inr l) = same (ap (subject_drawn w m) k
         ∙ ap (λ (b : Bool). if b then next_audit w.records else m.subject) (le-ltb m.place 4 l))
-    by (GetJob name) k p = same (ap (subject_drawn w m) k)
-    by (DropJob name) k p = same (ap (subject_drawn w m) k)
-    by RepairJob k p = same (ap (subject_drawn w m) k)
-    by UpgradeJob k p = same (ap (subject_drawn w m) k)
+    by kind k p = same (ap (subject_drawn w m) k)

@@ -1,13 +1,6 @@
 -- An upgrade is the only job that runs.
-use Rattle.std.proofs.Common.{◌≡◌, ℕ, zero, suc, ◌≤◌, ◌||◌, Bool, true, false, List, [], ◌∷◌, ◌++◌, length, map, Some, None, refl, sym, ap, ◌∙◌, inl, inr, arith, length-append}
-use Rattle.std.specs.Prelude.{slice_get, slice_set, remove, sum_by}
-use Rattle.std.specs.List.{list_any}
-use Rattle.std.proofs.lemmas.Bool.{cases_Bool, false≢true, ltb-false}
-use Rattle.std.proofs.lemmas.List.{length-map, length-set}
-use Rattle.std.proofs.lemmas.List.Sums.{sum_by-cons}
-use Rattle.machine_defs.specs.Jobs.{Aim, ToPut, ToGet, ToDrop, ToAudit, ToRepair, ToUpgrade}
-use Rattle.machine_defs.specs.Sights.{is_upgrade, are_jobs_in_the_way}
-use Rattle.vault_core.specs.View.{CoreJob, HasLoneUpgrade, is_upgrading}
+use Rattle.vault_core.proofs.Words.{◌≡◌, ℕ, zero, suc, ◌≤◌, Bool, true, false, List, [], ◌∷◌, ◌++◌, length, map, Some, None, refl, sym, ap, ◌∙◌, inl, inr, arith, slice_get, slice_set, remove, sum_by, list_any, cases_Bool, false≢true, ltb-false, length-map, length-set, sum_by-cons, Aim, ToUpgrade, is_upgrade, are_jobs_in_the_way, CoreJob, HasLoneUpgrade, is_upgrading}
+use Rattle.std.proofs.Common.{◌||◌, length-append}
 
 -- another job for the same end in place of one
 pub any_set : {X : Type 0} (p : X → Bool) (xs : List X) (i : ℕ) (x y : X) → slice_get xs i ≡ Some x →
@@ -88,11 +81,7 @@ any_push p (x ∷ xs) y n h = elim (cases_Bool (p x)) [
 none_before : (aim : Aim) (n : ℕ) (aims : List Aim) → is_upgrade aim ≡ true →
     are_jobs_in_the_way n aims aim ≡ false → length aims ≤ 0
 none_before ToUpgrade n aims u w = ltb-false 0 (length aims) w
-none_before (ToPut name size) n aims u w = absurd (false≢true u)
-none_before (ToGet name) n aims u w = absurd (false≢true u)
-none_before (ToDrop name) n aims u w = absurd (false≢true u)
-none_before ToAudit n aims u w = absurd (false≢true u)
-none_before ToRepair n aims u w = absurd (false≢true u)
+none_before aim n aims u w = absurd (false≢true u)
 
 -- it is so behind a begin
 pub lone_more : (js : List CoreJob) (y : CoreJob) → list_any is_upgrading js ≡ false →

@@ -1,24 +1,10 @@
 -- A job as it is kept and a job as a contract sees it go on alike.
-use Rattle.std.proofs.Common.{◌≡◌, ℕ, ◌+◌, ◌-◌, ◌<◌, ◌≤◌, true, false, List, Some, None, length, map, drop, set, get_or, refl, ap, sym, subst, ◌∙◌, arith, Global}
-use Rattle.std.specs.Prelude.{Option, slice_get}
-use Rattle.std.proofs.lemmas.Bool.{false≢true}
-use Rattle.std.proofs.lemmas.Option.{slice_get_within}
-use Rattle.std.proofs.lemmas.List.{length-map}
-use Rattle.std.proofs.lemmas.List.Elements.{All-get_or}
+use Rattle.vault_core.proofs.Words.{◌≡◌, ℕ, ◌+◌, ◌-◌, ◌<◌, ◌≤◌, true, false, List, Some, None, length, map, set, get_or, refl, ap, sym, subst, ◌∙◌, arith, Global, slice_get, false≢true, slice_get_within, length-map, All-get_or, Setup, Action, WriteBody, SyncGate, End, ends_append, Counts, IsPadded, Inside, CoreJob, CoreView, rest_of, setup_kept, core_job, view_of, is_over, IsSteadyJob, IsJobKept, IsCore, reserved_of, starts_of, aim_of_wish, first_action, first_at, goes_plainly}
+use Rattle.std.proofs.Common.{drop}
+use Rattle.std.specs.Prelude.{Option}
 use Rattle.std.specs.declared.vec.Vec.{Vec}
-use Rattle.record_defs.specs.Records.{Setup}
-use Rattle.machine_defs.specs.Actions.{Action, WriteBody, SyncGate, End, ends_append}
-use Rattle.record_codec.specs.declared.counts.Counts.{Counts}
-use Rattle.record_codec.specs.Entries.{IsPadded}
 use Rattle.vault_core.specs.declared.job.Job.{Job}
-use Rattle.vault_core.specs.declared.own.Core.TheInside.{Inside}
-use Rattle.vault_core.specs.View.{CoreJob, CoreView}
-use Rattle.vault_core.specs.Rest.{rest_of}
-use Rattle.vault_core.specs.Parts.{setup_kept, core_job, view_of, is_over, IsSteadyJob, IsJobKept, IsCore}
-use Rattle.vault_core.specs.Reserves.{reserved_of, starts_of}
-use Rattle.vault_core.specs.Wished.{aim_of_wish}
 use Rattle.vault_core.proofs.Goes.{moved_kept, judged_kept, judged_rest}
-use Rattle.vault_core.specs.Fed.{first_action, first_at, goes_plainly}
 use Rattle.vault_core.proofs.Gates.{not_over}
 use Rattle.vault_core.proofs.Kept.{seen_at, other_view, same_needs}
 

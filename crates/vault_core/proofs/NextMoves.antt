@@ -1,8 +1,6 @@
 -- A move that comes next is the next action of a job.
-use Rattle.std.proofs.Common.{◌≡◌, ℕ, Bool, true, false, cond, Option, None, Some, refl, subst}
-use Rattle.machine_defs.specs.Actions.{Action, WriteBody}
-use Rattle.vault_core.specs.View.{CoreJob, CoreView, job_in}
-use Rattle.vault_core.specs.Coming.{Coming, IsBarred, action_next, is_move, calls_disk, waits_or_acts, next_of, next_in}
+use Rattle.vault_core.proofs.Words.{◌≡◌, ℕ, Bool, true, false, cond, None, Some, refl, subst, Action, WriteBody, CoreJob, CoreView, job_in, Coming, IsBarred, action_next, is_move, calls_disk, waits_or_acts, next_of, next_in}
+use Rattle.std.proofs.Common.{Option}
 
 -- a job that may go on and has a move next has this move as its next action
 moves-acts : (flight : Option ℕ) (o : Option Action) → calls_disk (waits_or_acts flight o) ≡ true →

@@ -1,21 +1,9 @@
 -- The asks of an audit, and the sums of what they gave.
-use Rattle.std.proofs.Common.{◌≡◌, ℕ, zero, suc, ◌+◌, ◌<◌, ◌≤◌, true, false, List, [], ◌∷◌, ◌++◌, Some, length, map, replicate, inl, inr, refl, ap, sym, subst, ◌∙◌, arith}
-use Rattle.std.specs.Prelude.{◌⊎◌, slice_get}
-use Rattle.std.specs.List.{flat_map, range_with_len}
-use Rattle.std.proofs.lemmas.Bool.{false≢true}
-use Rattle.algebra_laws.specs.Lists.{Each}
-use Rattle.algebra_laws.proofs.Each.{each_get, each_append}
-use Rattle.code_defs.specs.Points.{upto}
-use Rattle.column_defs.specs.Verdicts.{Sums, Judges}
+use Rattle.vault_core.proofs.Words.{◌≡◌, ℕ, zero, suc, ◌+◌, ◌<◌, ◌≤◌, true, false, List, [], ◌∷◌, ◌++◌, Some, length, map, inl, inr, refl, ap, sym, subst, ◌∙◌, arith, ◌⊎◌, slice_get, flat_map, range_with_len, false≢true, Each, each_get, each_append, upto, Sums, Judges, Setup, profiled, object_of, AuditJob, Given, Action, WriteBody, SyncBody, WriteGate, SyncGate, Store, Fetch, Ask, Work, Remove, End, append_actions, on_each_provider, rounds_of, ask_actions, actions_of, JudgesRounds, JudgesFiles, HasSums, each-ask, audit-list, audit_rest, asks_next, begins_append}
+use Rattle.std.proofs.Common.{replicate}
 use Rattle.column_defs.specs.Challenges.{challenge_of}
-use Rattle.record_defs.specs.Records.{Setup}
-use Rattle.machine_defs.specs.Setups.{profiled, object_of}
-use Rattle.machine_defs.specs.Jobs.{AuditJob, Pinned, Given, Job}
-use Rattle.machine_defs.specs.Actions.{Action, WriteBody, SyncBody, WriteGate, SyncGate, Store, Fetch, Ask, Work, Remove, End, append_actions, on_each_provider, rounds_of, ask_actions, actions_of}
+use Rattle.machine_defs.specs.Jobs.{Pinned, Job}
 use Rattle.machine_defs.specs.Given.{answers_given}
-use Rattle.machine_defs.specs.Audits.{JudgesRounds, JudgesFiles, HasSums}
-use Rattle.state_laws.proofs.Orders.{each-ask, audit-list, audit_rest}
-use Rattle.vault_core.specs.Coming.{asks_next, begins_append}
 
 -- ---- the sums of an audit
 

@@ -1,14 +1,7 @@
 -- Jobs of a core and jobs of the machine, in order.
-use Rattle.std.proofs.Common.{◌≡◌, ℕ, zero, suc, ◌+◌, Bool, List, [], ◌∷◌, Some, None, length, set, inl, inr, refl, ap, sym, subst, ◌∙◌, arith}
-use Rattle.std.specs.Prelude.{Option, if◌then◌else◌, ◌==◌, remove}
-use Rattle.std.specs.List.{AllZip}
-use Rattle.std.proofs.lemmas.Bool.{cases_Bool, eqb-true, eq-eqb, ne_eqb}
-use Rattle.record_defs.specs.Records.{Setup}
-use Rattle.machine_defs.specs.Jobs.{Job, job_of, with_job, without_job}
-use Rattle.state_laws.specs.Orders.{AreNumbered}
-use Rattle.state_laws.proofs.JobLists.{without_job-none}
-use Rattle.vault_core.specs.View.{CoreJob, job_in}
-use Rattle.vault_core.specs.Carried.{IsJobOf}
+use Rattle.vault_core.proofs.Words.{◌≡◌, ℕ, zero, suc, ◌+◌, Bool, List, [], ◌∷◌, Some, None, length, set, inl, inr, refl, ap, sym, subst, ◌∙◌, arith, if◌then◌else◌, ◌==◌, remove, AllZip, cases_Bool, eqb-true, eq-eqb, ne_eqb, Setup, job_of, with_job, without_job, AreNumbered, without_job-none, CoreJob, job_in, IsJobOf}
+use Rattle.std.specs.Prelude.{Option}
+use Rattle.machine_defs.specs.Jobs.{Job}
 
 -- the job of a core that runs under a number, and that of the machine
 pub record Pair (s : Setup) (js : List Job) (number : ℕ) (c : CoreJob) : Type 0 where

@@ -1,26 +1,9 @@
 -- How a new job is made, piece by piece.
-use Rattle.std.proofs.Common.{◌≡◌, ℕ, zero, suc, ◌+◌, ◌-◌, ◌<◌, ◌≤◌, Bool, true, false, List, [], ◌∷◌, ◌++◌, Option, Some, length, take, drop, min, get_or, inl, inr, refl, ap, sym, subst, ◌∙◌, arith}
-use Rattle.std.specs.Prelude.{nat_lt, ◌==◌, replicate, slice_get, if◌then◌else◌}
-use Rattle.std.proofs.lemmas.Bool.{cases_Bool, cases_lt, le-ltb}
-use Rattle.std.proofs.lemmas.Bool.Decides.{nat_tests}
-use Rattle.algebra_laws.proofs.Lists.{drop-get, get_or-zeros}
-use Rattle.record_defs.specs.Records.{Setup}
-use Rattle.record_defs.specs.Table.{File}
-use Rattle.code_defs.specs.Profiles.{profile_of}
-use Rattle.std.proofs.lemmas.List.{length-take-le, get_or_past}
-use Rattle.record_codec.specs.declared.counts.Counts.{Counts}
-use Rattle.record_codec.specs.Entries.{counted, IsPadded}
+use Rattle.vault_core.proofs.Words.{◌≡◌, ℕ, zero, suc, ◌+◌, ◌-◌, ◌<◌, ◌≤◌, Bool, true, false, List, [], ◌∷◌, ◌++◌, Some, length, take, min, get_or, inl, inr, refl, ap, sym, subst, ◌∙◌, arith, nat_lt, ◌==◌, slice_get, if◌then◌else◌, cases_Bool, cases_lt, le-ltb, nat_tests, drop-get, get_or-zeros, Setup, File, profile_of, length-take-le, get_or_past, Counts, counted, IsPadded, Wish, Task, core_pins, flag_at, Kept, due_number, pin_by, pin_each, is_rewriter, rewrites_from, pin_of_file, subject_for, stripes_in, turns_for, tasks_made, targets_of}
+use Rattle.std.proofs.Common.{Option, drop}
+use Rattle.std.specs.Prelude.{replicate}
 use Rattle.vault_core.specs.declared.pinned.Pinned.{Pinned}
-use Rattle.vault_core.specs.declared.wish.Wish.{Wish}
 use Rattle.vault_core.specs.declared.wish.Wish.TheVariants as wish
-use Rattle.vault_core.specs.declared.job.Task.{Task}
-use Rattle.vault_core.specs.View.{core_pins, flag_at}
-use Rattle.vault_table.specs.Values.{Kept}
-use Rattle.machine_defs.specs.Begins.{due_number, pin_by, pin_each}
-use Rattle.vault_core.specs.Parts.{is_rewriter}
-use Rattle.vault_core.specs.Rest.{rewrites_from}
-use Rattle.vault_core.specs.Making.{pin_of_file, subject_for}
-use Rattle.vault_core.specs.Targets.{stripes_in, turns_for, tasks_made, targets_of}
 use Rattle.vault_core.proofs.Rests.{rewrites_take, rewrites_skip}
 
 -- ---- flags
@@ -103,15 +86,6 @@ pub turns_other : (s : Setup) (w : Wish) (f : Pinned) (k : ℕ) → (w ≡ wish.
     k ≡ turns_for s w f
 turns_other s wish.Audit f k n h = absurd (n refl)
 turns_other s w f k n h = h
-
--- a number above the last profile's is that of the last one
-pub profile_capped : (p : ℕ) → profile_of (min p 4) ≡ profile_of p
-profile_capped zero = refl
-profile_capped (suc zero) = refl
-profile_capped (suc (suc zero)) = refl
-profile_capped (suc (suc (suc zero))) = refl
-profile_capped (suc (suc (suc (suc more)))) =
-    ap profile_of (let e : min (suc (suc (suc (suc more)))) 4 ≡ 4 = omega arith in e)
 
 -- ---- tasks
 

@@ -1,11 +1,6 @@
 -- The place of the job of a number.
-use Rattle.std.proofs.Common.{◌≡◌, ℕ, suc, ◌+◌, ◌<◌, Bool, cond, List, [], ◌∷◌, Some, None, length, map, refl, ap, sym, subst, ◌∙◌, inl, inr, arith}
-use Rattle.std.specs.Prelude.{◌==◌, ◌||◌, nat_lt, not, slice_get, position}
-use Rattle.std.specs.List.{list_any, position_or_len}
-use Rattle.std.proofs.lemmas.Bool.{cases_Bool, cases_lt, lt-ltb, le-ltb, eqb-true, eq-eqb, false≢true}
-use Rattle.std.proofs.lemmas.Option.{slice_get_past}
-use Rattle.std.proofs.lemmas.List.{length-map}
-use Rattle.vault_core.specs.View.{CoreJob, job_in}
+use Rattle.vault_core.proofs.Words.{◌≡◌, ℕ, suc, ◌+◌, ◌<◌, Bool, cond, List, [], ◌∷◌, Some, None, length, map, refl, ap, sym, subst, ◌∙◌, inl, inr, arith, ◌==◌, nat_lt, slice_get, position, list_any, position_or_len, cases_Bool, cases_lt, lt-ltb, le-ltb, eqb-true, eq-eqb, false≢true, slice_get_past, length-map, CoreJob, job_in}
+use Rattle.std.specs.Prelude.{◌||◌, not}
 use Rattle.vault_core.proofs.Pairs.{IsFirst}
 
 place_map : {X Y : Type 0} (f : X → Y) (p : Y → Bool) (xs : List X) →

@@ -1,39 +1,14 @@
 -- Why no job begins: what a core sees is what the machine sees.
-use Rattle.std.proofs.Common.{◌≡◌, ℕ, suc, ◌+◌, ◌<◌, ◌≤◌, ◌^◌, Bool, true, false, not, ◌&&◌, ◌||◌, List, [], ◌∷◌, Option, Some, None, min, length, map, inl, inr, refl, ap, sym, subst, ◌∙◌, arith}
-use Rattle.std.specs.Prelude.{◌==◌, nat_lt, nat_le, nat_eq, is_some, sum, sum_by, if◌then◌else◌}
-use Rattle.std.specs.List.{All, list_any, AllZip}
-use Rattle.std.proofs.lemmas.List.Elements.{All-head, All-tail}
-use Rattle.std.specs.Cmp.Lexicographic.{pointwise}
-use Rattle.std.specs.Option.{option_map}
-use Rattle.std.proofs.lemmas.Bool.{cases_Bool, lt-ltb, ltb-true, lt-leb}
+use Rattle.vault_core.proofs.Words.{◌≡◌, ℕ, suc, ◌+◌, ◌<◌, ◌≤◌, ◌^◌, Bool, true, false, List, [], ◌∷◌, Some, None, min, length, map, inl, inr, refl, ap, sym, subst, ◌∙◌, arith, ◌==◌, nat_lt, nat_le, nat_eq, is_some, sum, sum_by, if◌then◌else◌, All, list_any, AllZip, All-head, All-tail, pointwise, option_map, cases_Bool, lt-ltb, ltb-true, lt-leb, nat_tests, length-map, sum_by-cons, Setup, largest_file, largest_journal, most_files, File, is_same_name, find_file, Kind, Aim, ToPut, ToGet, ToDrop, ToAudit, ToRepair, ToUpgrade, aim_of, MachineJob, Refusal, State, Alone, setup_in, appends_left, append_sizes, room_left, reserved, puts_name, Sight, sight_of, aims_of, room_used, is_put_or_check, is_check, is_upgrade, is_shut, are_jobs_in_the_way, is_busy, is_name_among, with_name, names_in, with_puts, is_crowded_for, is_full, is_too_full, are_numbers_used_up, causes, Wish, Inside, CoreJob, CoreView, aim_of_wish, profile_named, setup_kept, core_job, view_of, IsJobKept, IsCore, sizes_of, room_behind, reserved_of, longest, IsAimOf, IsShortAim, IsJobOf, CoreIs, aims_in, sight_in, aims_kept, taken_names}
+use Rattle.std.proofs.Common.{not, ◌&&◌, ◌||◌, Option}
 use Rattle.std.proofs.Math.Bool.{or-false}
-use Rattle.std.proofs.lemmas.Bool.Decides.{nat_tests}
-use Rattle.std.proofs.lemmas.List.{length-map}
-use Rattle.std.proofs.lemmas.List.Sums.{sum_by-cons}
-use Rattle.record_defs.specs.Records.{Setup, largest_file, largest_journal, most_files}
-use Rattle.record_defs.specs.Table.{File, is_same_name, find_file}
-use Rattle.machine_defs.specs.Jobs.{Kind, Aim, ToPut, ToGet, ToDrop, ToAudit, ToRepair, ToUpgrade, aim_of}
-use Rattle.machine_defs.specs.Jobs.{Job as MachineJob}
 use Rattle.machine_defs.specs.Refusals as refusal
-use Rattle.machine_defs.specs.Refusals.{Refusal}
-use Rattle.machine_defs.specs.States.{State, Alone, setup_in}
-use Rattle.machine_defs.specs.Actions.{appends_left}
-use Rattle.machine_defs.specs.Space.{append_sizes, room_left, reserved}
-use Rattle.machine_defs.specs.Sights.{puts_name, Sight, sight_of, aims_of, room_used, is_put_or_check, is_check, is_upgrade, is_shut, are_jobs_in_the_way, is_busy, is_name_among, with_name, names_in, with_puts, is_crowded_for, is_full, is_too_full, are_numbers_used_up, causes}
 use Rattle.state_laws.proofs.NamesTaken.{listed-with_puts, listed-files, length-names_in}
-use Rattle.vault_core.specs.declared.wish.Wish.{Wish}
 use Rattle.vault_core.specs.declared.wish.Wish.TheVariants as wish
 use Rattle.vault_core.specs.declared.job.Job.{Job}
-use Rattle.vault_core.specs.declared.own.Core.TheInside.{Inside}
-use Rattle.vault_core.specs.View.{CoreJob, CoreView}
 use Rattle.vault_core.proofs.Pairs.{pair_length}
 use Rattle.vault_core.proofs.Places.{any-map}
-use Rattle.vault_core.specs.Wished.{aim_of_wish, profile_named}
-use Rattle.vault_core.specs.Parts.{setup_kept, core_job, view_of, IsJobKept, IsCore}
-use Rattle.vault_core.specs.Reserves.{sizes_of, room_behind, reserved_of}
-use Rattle.vault_core.specs.Carried.{longest, IsAimOf, IsShortAim, IsJobOf, CoreIs}
 use Rattle.vault_core.proofs.Links.{appends-is, aim-alike}
-use Rattle.vault_core.specs.Refusing.{aims_in, sight_in, aims_kept, taken_names}
 use Rattle.vault_core.proofs.Alike.{IsLikeFoldOf, table-like}
 
 -- ---- lists of jobs, as they are kept and as they are seen
@@ -217,18 +192,24 @@ full-cases x (wish.Get name) h = absurd (h name refl)
 full-cases x w h = refl
 
 -- the room of a job behind that of those that run, and whether its number comes too near the last one
-pub full : (a : Inside) (v : CoreView) (w : Wish) (room size : ℕ) (used : Bool) → view_of a ≡ v →
-    ((name : List ℕ) → w ≡ wish.Get name → ⊥) →
-    IsCore a → room ≡ sum_by (λ (j : Job). room_behind a.table.version a.setup.n j.wish j.appends)
-    a.jobs.items →
-    size ≡ sum (sizes_of a.table.version a.setup.n w) →
+pub full : (a : Inside) (v : CoreView) (w : Wish) (version : ℕ) (jobs : List Job) (room size : ℕ)
+    (used : Bool) → view_of a ≡ v → ((name : List ℕ) → w ≡ wish.Get name → ⊥) → IsCore a →
+    version ≡ a.table.version → jobs ≡ a.jobs.items →
+    room ≡ sum_by (λ (j : Job). room_behind version a.setup.n j.wish j.appends) jobs →
+    size ≡ sum (sizes_of version a.setup.n w) →
     used ≡ (nat_lt largest_journal (a.end + room + size) || are_numbers_used_up (sight_in (view_of a))
     (aim_of_wish w)) → used ≡ is_full (sight_in v) (aim_of_wish w)
-full a v w room size used e get core r z h =
+full a v w version jobs room size used e get core of items behind sizes h =
     subst (λ (c : CoreView). used ≡ is_full (sight_in c) (aim_of_wish w)) e
     (h ∙ (ap (λ (k : ℕ). nat_lt largest_journal k || are_numbers_used_up (sight_in (view_of a))
     (aim_of_wish w)) all ∙ sym (full-cases (sight_in (view_of a)) w get)))
   where
+    r : room ≡ sum_by (λ (j : Job). room_behind a.table.version a.setup.n j.wish j.appends) a.jobs.items
+    r = behind ∙ (λ i. sum_by (λ (j : Job). room_behind (of i) a.setup.n j.wish j.appends) (items i))
+
+    z : size ≡ sum (sizes_of a.table.version a.setup.n w)
+    z = sizes ∙ ap (λ (n : ℕ). sum (sizes_of n a.setup.n w)) of
+
     all : (a.end + room + size)
         ≡ ((sight_in (view_of a)).used + sum (append_sizes a.table.version (sight_in (view_of a)).setup
         (aim_of_wish w)))
@@ -339,9 +320,7 @@ way-bare aims aim = by aim
     by ToAudit = λ i. long i || any-bare is_put_or_check (λ name size. refl) aims i
     by ToRepair = λ i. long i || any-bare is_check (λ name size. refl) aims i
     by ToUpgrade = ap (nat_lt 0) (length-map aims bare)
-    by (ToPut name size) = long
-    by (ToGet name) = long
-    by (ToDrop name) = long
+    by aim = long
 
 busy-bare : (x : Sight) (aim : Aim) → is_busy 8 (bare_sight x) aim ≡ is_busy 8 x aim
 busy-bare x aim = λ i. shut-bare x i || way-bare x.aims aim i

@@ -1,25 +1,10 @@
 -- How the actions that a job has not yet made follow one another.
-use Rattle.std.proofs.Common.{◌≡◌, ℕ, zero, suc, ◌+◌, ◌-◌, ◌<◌, ◌≤◌, Bool, true, false, List, [], ◌∷◌, ◌++◌, Some, length, map, take, drop, set, get_or, None, inl, inr, refl, ap, sym, subst, ◌∙◌, append_assoc, arith}
-use Rattle.std.specs.Prelude.{slice_get}
-use Rattle.std.proofs.lemmas.Bool.{cases_Bool}
-use Rattle.std.proofs.lemmas.List.Elements.{All-get_or}
-use Rattle.std.proofs.lemmas.List.{drop_all}
-use Rattle.std.proofs.lemmas.Option.{get_or_from_slice_get, slice_get_within}
-use Rattle.std.specs.List.{flat_map, range_with_len}
-use Rattle.algebra_laws.proofs.Lists.{drop-get}
-use Rattle.machine_defs.specs.Actions.{Action, Store, Work, Remove, End, Ask, Fetch}
-use Rattle.vault_core.specs.declared.wish.Wish.{Wish}
+use Rattle.vault_core.proofs.Words.{◌≡◌, ℕ, zero, suc, ◌+◌, ◌-◌, ◌<◌, ◌≤◌, Bool, true, false, List, [], ◌∷◌, ◌++◌, Some, length, map, take, set, get_or, None, inl, inr, refl, ap, sym, subst, ◌∙◌, append_assoc, arith, slice_get, cases_Bool, All-get_or, drop_all, get_or_from_slice_get, slice_get_within, flat_map, range_with_len, drop-get, Action, Store, Work, Remove, End, Ask, Fetch, Wish, Move, Spot, Cursor, Task, flag_at, numbers, call_of, calls_from, rewrite_of, rewrites_from, work_of, turn_of, turns_from, tasks_of, moves_from, actions_after, closing_of, tasks_on, beyond, rest_at, rest_of, comes_to, is_caller, is_worker, is_rewriter, IsWithin, IsSet, MayBeAt}
+use Rattle.std.proofs.Common.{drop}
 use Rattle.vault_core.specs.declared.wish.Wish.TheVariants as wish
-use Rattle.vault_core.specs.declared.cursor.Move.{Move}
 use Rattle.vault_core.specs.declared.cursor.Move.TheVariants as move
-use Rattle.vault_core.specs.declared.cursor.Spot.{Spot}
-use Rattle.vault_core.specs.declared.cursor.Cursor.{Cursor}
 use Rattle.vault_core.specs.declared.cursor.Cursor.TheVariants as at
-use Rattle.vault_core.specs.declared.job.Task.{Task}
 use Rattle.vault_core.specs.declared.job.Job.{Job}
-use Rattle.vault_core.specs.View.{flag_at}
-use Rattle.vault_core.specs.Rest.{numbers, call_of, calls_from, rewrite_of, rewrites_from, work_of, turn_of, turns_from, tasks_of, moves_from, actions_after, closing_of, tasks_on, beyond, rest_at, rest_of}
-use Rattle.vault_core.specs.Parts.{comes_to, is_caller, is_worker, is_rewriter, IsWithin, IsSet, MayBeAt}
 
 -- numbers from a on start with a
 pub numbers_here : (a b : ℕ) → a < b → numbers a b ≡ a ∷ numbers (a + 1) b
@@ -32,11 +17,8 @@ numbers_none a b l = let e : b - a ≡ 0 = omega arith in ap (range_with_len a) 
 pub by_call : (P : Action → Type 0) (w : Wish) (o t j : ℕ) → P (Store j o t) → P (Ask j o t) →
     P (Fetch j o t) → P (call_of w o t j)
 by_call P (wish.Put name size own) o t j stores asks fetches = stores
-by_call P (wish.Get name) o t j stores asks fetches = fetches
-by_call P (wish.Drop name) o t j stores asks fetches = fetches
 by_call P wish.Audit o t j stores asks fetches = asks
-by_call P wish.Repair o t j stores asks fetches = fetches
-by_call P wish.Upgrade o t j stores asks fetches = fetches
+by_call P w o t j stores asks fetches = fetches
 
 -- the calls from a provider on start with that provider's
 pub calls_here : (j n : ℕ) (w : Wish) (o t : ℕ) → j < n →
@@ -278,10 +260,7 @@ work_shift : (n : ℕ) (w : Wish) (fl : List Bool) (o t : ℕ) (more : List Acti
     drop 1 (work_of n w fl o t ++ more) ≡ drop 1 (work_of n w fl o t) ++ more
 work_shift n (wish.Get name) fl o t more h = refl
 work_shift n wish.Repair fl o t more h = refl
-work_shift n (wish.Put name size own) fl o t more h = cc
-work_shift n (wish.Drop name) fl o t more h = cc
-work_shift n wish.Audit fl o t more h = cc
-work_shift n wish.Upgrade fl o t more h = cc
+work_shift n w fl o t more h = cc
 
 -- behind the work on a stripe come the stores of a repair, and what is beyond
 pub rest_working : (n : ℕ) (job : Job) (spot : Spot) → job.cursor ≡ at.Working spot →

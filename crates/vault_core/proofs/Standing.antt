@@ -1,32 +1,14 @@
 -- What comes next for a job, in a core and in a state of the machine that it stands for.
-use Rattle.std.proofs.Common.{◌≡◌, ℕ, ◌+◌, ◌*◌, Bool, true, false, List, [], ◌∷◌, Some, None, length, drop, inl, inr, refl, ap, sym, subst, ◌∙◌, arith}
-use Rattle.std.specs.Prelude.{Option, is_some, ◌==◌, ◌⊎◌, if◌then◌else◌, slice_get}
-use Rattle.std.specs.Option.{option_map}
-use Rattle.std.proofs.lemmas.Bool.{cases_Bool, cases_lt, lt-ltb, le-ltb, false≢true}
-use Rattle.algebra_laws.proofs.Each.{each_get, each_append, each_map, each_flat}
-use Rattle.column_defs.specs.Verdicts.{Sums}
-use Rattle.record_defs.specs.Records.{Setup, Record, PutStart, AuditStart, AuditDone}
-use Rattle.record_defs.specs.Table.{next_id}
-use Rattle.machine_defs.specs.Jobs.{Kind, PutJob, GetJob, DropJob, AuditJob, RepairJob, UpgradeJob, Aim, Pinned, aim_of, Job, job_of}
-use Rattle.machine_defs.specs.Actions.{Action, WriteBody, Fetch, Ask, Work, End, on_each_provider, on_each_stripe, open_actions, read_actions, actions_by, actions_of, actions_left, appends_left}
-use Rattle.code_defs.specs.Points.{upto}
-use Rattle.machine_defs.specs.Setups.{profiled, stripes_of}
-use Rattle.machine_defs.specs.States.{State, Append, setup_in}
-use Rattle.machine_defs.specs.Appends.{Writes, done_record, is_first_append}
-use Rattle.machine_defs.specs.Left.{most_left, most_after}
-use Rattle.machine_defs.specs.Steps.{is_idle_drop, next_action, holder_of}
-use Rattle.vault_table.specs.Values.{Kept, id_after}
-use Rattle.state_laws.proofs.Orders.{in_order-first, get-drop}
-use Rattle.vault_core.specs.declared.action.Action.{Action as ActionValue}
+use Rattle.vault_core.proofs.Words.{◌≡◌, ℕ, ◌+◌, Bool, true, false, List, [], ◌∷◌, Some, None, length, inl, inr, refl, ap, sym, subst, ◌∙◌, arith, is_some, ◌==◌, ◌⊎◌, if◌then◌else◌, slice_get, option_map, cases_Bool, cases_lt, lt-ltb, le-ltb, false≢true, each_get, each_append, each_map, each_flat, Sums, Setup, Record, PutStart, AuditStart, AuditDone, next_id, Kind, PutJob, GetJob, DropJob, AuditJob, RepairJob, UpgradeJob, Aim, aim_of, job_of, Action, WriteBody, Fetch, Ask, Work, End, on_each_provider, on_each_stripe, open_actions, read_actions, actions_by, actions_of, actions_left, appends_left, upto, profiled, stripes_of, State, Append, setup_in, Writes, done_record, is_first_append, most_left, most_after, is_idle_drop, next_action, holder_of, Kept, id_after, in_order-first, get-drop, ActionValue, CoreJob, CoreView, planned, rest_in, appends_in, job_in, wanted_at, wanted_by, wants_in, is_open_stream, IsToldAs, Coming, Waits, IsNoJob, IsBarred, seen_action, seen_next, is_idle, action_next, is_move, asks_next, waits_or_acts, next_of, next_in, most_of, left_in, written_as, written_by, entry_of_job, entry_of_found, entry_in, IsJobOf, IsCoreFlight, CoreIs, ComesNext, IsNextOf, IsEntryOf}
+use Rattle.std.proofs.Common.{◌*◌, drop}
+use Rattle.std.specs.Prelude.{Option}
+use Rattle.machine_defs.specs.Jobs.{Pinned, Job}
 use Rattle.vault_core.specs.declared.action.Action.TheVariants as act
 use Rattle.vault_core.specs.declared.action.Next.{Next}
 use Rattle.vault_core.specs.declared.action.Next.TheVariants as next
-use Rattle.vault_core.specs.View.{CoreJob, CoreView, planned, rest_in, appends_in, job_in, wanted_at, wanted_by, wants_in, is_open_stream}
-use Rattle.vault_core.specs.Streams.{IsToldAs}
 use Rattle.vault_core.proofs.Told.{below}
 use Rattle.vault_core.proofs.Fronts.{shared, shared-early}
-use Rattle.vault_core.specs.Coming.{Acts, Waits, IsNoJob, IsBarred, seen_action, seen_next, is_idle, action_next, is_move, asks_next, waits_or_acts, next_of, next_in, most_of, left_in, written_as, written_by, entry_of_job, entry_of_found, entry_in}
-use Rattle.vault_core.specs.Carried.{IsJobOf, IsCoreFlight, CoreIs, ComesNext, IsNextOf, IsEntryOf}
+use Rattle.vault_core.specs.Coming.{Acts}
 use Rattle.vault_core.proofs.Alike.{IsLikeFoldOf, table-like}
 use Rattle.vault_core.proofs.Pairs.{pair_some, pair_none}
 use Rattle.vault_core.proofs.Links.{shown_aim, aim-is, profile-is, subject-is, aim-alike, rest-is, appends-is, stands-is, put-two, audit-two, next_same}
@@ -174,9 +156,8 @@ coming_action c k j b e = coming_job c k b ∙ ap (next_of c) e
 
 acts_default : (flight : Option ℕ) (a : ActionValue) → (a ≡ act.WriteBody → ⊥) →
     waits_or_acts flight (Some (seen_action a)) ≡ Acts (seen_action a)
-acts_default None a other = refl
 acts_default (Some h) act.WriteBody other = absurd (other refl)
-acts_default (Some h) a other = refl
+acts_default o a other = refl
 
 -- where an action other than the first move of an append comes next
 pub acts_next : (c : CoreView) (k : ℕ) (j : CoreJob) (a : ActionValue) → c.barred ≡ false →
@@ -186,110 +167,60 @@ pub acts_next : (c : CoreView) (k : ℕ) (j : CoreJob) (a : ActionValue) → c.b
 acts_next c k j a b e x other = sym (coming_action c k j b e ∙ ap (waits_or_acts c.append) x
     ∙ acts_default c.append a other)
 
--- where an action comes next
-pub acts_comes : (c : CoreView) (k : ℕ) (a : Action) → next_in c k ≡ Acts a → Comes c k a None
-acts_comes c k a h = elim (cases_Bool c.barred) [
-  | inl b ↦ (let e : IsBarred ≡ Acts a =
-      sym (ap (λ (x : Bool). if x then IsBarred else next_of c (job_in c.jobs k)) b) ∙ h in cc)
-  | inr b ↦ of_job b (job_in c.jobs k) refl
+-- what holds of each thing that may come next holds of what comes next for the job of a number
+by_coming : (c : CoreView) (k : ℕ) (P : Coming → Type 0) → (c.barred ≡ true → P IsBarred) →
+    (c.barred ≡ false → job_in c.jobs k ≡ None → P IsNoJob) →
+    (c.barred ≡ false → (j : CoreJob) → job_in c.jobs k ≡ Some j → action_next c.setup c.table j ≡ None →
+    P IsNoJob) →
+    ((a : Action) → Comes c k a None → P (Acts a)) →
+    ((a : Action) (held : ℕ) → Comes c k a (Some held) → P (Waits held)) → P (next_in c k)
+by_coming c k P barred none stops acts waits = elim (cases_Bool c.barred) [
+  | inl b ↦ subst P (sym (ap (λ (x : Bool). if x then IsBarred else next_of c (job_in c.jobs k)) b)) (barred b)
+  | inr b ↦ subst P (sym (coming_job c k b)) (of_job b (job_in c.jobs k) refl)
 ]
   where
     of_action : (b : c.barred ≡ false) (j : CoreJob) (o : Option Action) → job_in c.jobs k ≡ Some j →
-        action_next c.setup c.table j ≡ o → Comes c k a None
-    of_action b j None e f =
-        (let g : IsNoJob ≡ Acts a = sym (coming_action c k j b e ∙ ap (waits_or_acts c.append) f) ∙ h in cc)
+        action_next c.setup c.table j ≡ o → P (waits_or_acts c.append o)
+    of_action b j None e f = stops b j e f
     of_action b j (Some x) e f = elim (acts_or_waits c.append x) [
-      | inl w ↦ (let g : Acts x ≡ Acts a =
-          sym (coming_action c k j b e ∙ (ap (waits_or_acts c.append) f ∙ w.0)) ∙ h in let m : x ≡ a = cc in
-          record {
-            unbarred = b;
-            job = j;
-            runs = e;
-            comes = f ∙ ap Some m;
-            waits = ap (core_holder c.append) (sym m) ∙ w.1;
-          })
-      | inr w ↦ (let g : Waits w.0 ≡ Acts a =
-          sym (coming_action c k j b e ∙ (ap (waits_or_acts c.append) f ∙ w.1.0)) ∙ h in cc)
+      | inl w ↦ subst P (sym w.0)
+          (acts x (record { unbarred = b; job = j; runs = e; comes = f; waits = w.1 }))
+      | inr w ↦ subst P (sym w.1.0)
+          (waits x w.0 (record { unbarred = b; job = j; runs = e; comes = f; waits = w.1.1 }))
     ]
 
-    of_job : (b : c.barred ≡ false) (o : Option CoreJob) → job_in c.jobs k ≡ o → Comes c k a None
-    of_job b None e = (let g : IsNoJob ≡ Acts a = sym (coming_job c k b ∙ ap (next_of c) e) ∙ h in cc)
+    of_job : (b : c.barred ≡ false) (o : Option CoreJob) → job_in c.jobs k ≡ o → P (next_of c o)
+    of_job b None e = none b e
     of_job b (Some j) e = of_action b j (action_next c.setup c.table j) e refl
+
+-- where an action comes next
+pub acts_comes : (c : CoreView) (k : ℕ) (a : Action) → next_in c k ≡ Acts a → Comes c k a None
+acts_comes c k a h = by_coming c k (λ (x : Coming). x ≡ Acts a → Comes c k a None) (λ b e. cc) (λ b n e. cc)
+    (λ b j r n e. cc)
+    (λ x w e. let same : x ≡ a = cc in subst (λ (y : Action). Comes c k y None) same w) (λ x held w e. cc) h
 
 -- where a job waits
 waits_comes : (c : CoreView) (k held : ℕ) → next_in c k ≡ Waits held → (a : Action) × Comes c k a (Some held)
-waits_comes c k held h = elim (cases_Bool c.barred) [
-  | inl b ↦ (let e : IsBarred ≡ Waits held =
-      sym (ap (λ (x : Bool). if x then IsBarred else next_of c (job_in c.jobs k)) b) ∙ h in cc)
-  | inr b ↦ of_job b (job_in c.jobs k) refl
-]
-  where
-    of_action : (b : c.barred ≡ false) (j : CoreJob) (o : Option Action) → job_in c.jobs k ≡ Some j →
-        action_next c.setup c.table j ≡ o → (a : Action) × Comes c k a (Some held)
-    of_action b j None e f =
-        (let g : IsNoJob ≡ Waits held = sym (coming_action c k j b e ∙ ap (waits_or_acts c.append) f) ∙ h in
-        cc)
-    of_action b j (Some x) e f = elim (acts_or_waits c.append x) [
-      | inl w ↦ (let g : Acts x ≡ Waits held =
-          sym (coming_action c k j b e ∙ (ap (waits_or_acts c.append) f ∙ w.0)) ∙ h in cc)
-      | inr w ↦ (let g : Waits w.0 ≡ Waits held = sym
-          (coming_action c k j b e ∙ (ap (waits_or_acts c.append) f ∙ w.1.0)) ∙ h in
-          let m : w.0 ≡ held = cc in
-          (x, record { unbarred = b; job = j; runs = e; comes = f; waits = w.1.1 ∙ ap Some m }))
-    ]
-
-    of_job : (b : c.barred ≡ false) (o : Option CoreJob) → job_in c.jobs k ≡ o →
-        (a : Action) × Comes c k a (Some held)
-    of_job b None e = (let g : IsNoJob ≡ Waits held = sym (coming_job c k b ∙ ap (next_of c) e) ∙ h in cc)
-    of_job b (Some j) e = of_action b j (action_next c.setup c.table j) e refl
+waits_comes c k held h = by_coming c k
+    (λ (x : Coming). x ≡ Waits held → (a : Action) × Comes c k a (Some held)) (λ b e. cc) (λ b n e. cc)
+    (λ b j r n e. cc) (λ x w e. cc)
+    (λ x other w e. let same : other ≡ held = cc in
+    (x, subst (λ (n : ℕ). Comes c k x (Some n)) same w)) h
 
 -- where no such job runs, or its list of actions is at its end
 pub missing : (c : CoreView) (k : ℕ) → next_in c k ≡ IsNoJob →
     (c.barred ≡ false) × ((job_in c.jobs k ≡ None) ⊎
     ((j : CoreJob) × ((job_in c.jobs k ≡ Some j) × (action_next c.setup c.table j ≡ None))))
-missing c k h = elim (cases_Bool c.barred) [
-  | inl b ↦ (let e : IsBarred ≡ IsNoJob =
-      sym (ap (λ (x : Bool). if x then IsBarred else next_of c (job_in c.jobs k)) b) ∙ h in cc)
-  | inr b ↦ (b, of_job b (job_in c.jobs k) refl)
-]
-  where
-    of_action : (b : c.barred ≡ false) (j : CoreJob) (o : Option Action) → job_in c.jobs k ≡ Some j →
-        action_next c.setup c.table j ≡ o → action_next c.setup c.table j ≡ None
-    of_action b j None e f = f
-    of_action b j (Some x) e f = elim (acts_or_waits c.append x) [
-      | inl w ↦ (let g : Acts x ≡ IsNoJob =
-          sym (coming_action c k j b e ∙ (ap (waits_or_acts c.append) f ∙ w.0)) ∙ h in cc)
-      | inr w ↦ (let g : Waits w.0 ≡ IsNoJob =
-          sym (coming_action c k j b e ∙ (ap (waits_or_acts c.append) f ∙ w.1.0)) ∙ h in cc)
-    ]
-
-    of_job : (b : c.barred ≡ false) (o : Option CoreJob) → job_in c.jobs k ≡ o →
-        (job_in c.jobs k ≡ None) ⊎
-        ((j : CoreJob) × ((job_in c.jobs k ≡ Some j) × (action_next c.setup c.table j ≡ None)))
-    of_job b None e = inl e
-    of_job b (Some j) e = inr (j, (e, of_action b j (action_next c.setup c.table j) e refl))
+missing c k h = by_coming c k
+    (λ (x : Coming). x ≡ IsNoJob → (c.barred ≡ false) × ((job_in c.jobs k ≡ None) ⊎
+    ((j : CoreJob) × ((job_in c.jobs k ≡ Some j) × (action_next c.setup c.table j ≡ None)))))
+    (λ b e. cc) (λ b n e. (b, inl n)) (λ b j r n e. (b, inr (j, (r, n)))) (λ x w e. cc)
+    (λ x held w e. cc) h
 
 -- only a core that is barred tells a job so
 pub bars : (c : CoreView) (k : ℕ) → next_in c k ≡ IsBarred → c.barred ≡ true
-bars c k h = elim (cases_Bool c.barred) [
-  | inl b ↦ b
-  | inr b ↦ of_job b (job_in c.jobs k) refl
-]
-  where
-    of_action : (b : c.barred ≡ false) (j : CoreJob) (o : Option Action) → job_in c.jobs k ≡ Some j →
-        action_next c.setup c.table j ≡ o → c.barred ≡ true
-    of_action b j None e f =
-        (let g : IsNoJob ≡ IsBarred = sym (coming_action c k j b e ∙ ap (waits_or_acts c.append) f) ∙ h in cc)
-    of_action b j (Some x) e f = elim (acts_or_waits c.append x) [
-      | inl w ↦ (let g : Acts x ≡ IsBarred =
-          sym (coming_action c k j b e ∙ (ap (waits_or_acts c.append) f ∙ w.0)) ∙ h in cc)
-      | inr w ↦ (let g : Waits w.0 ≡ IsBarred =
-          sym (coming_action c k j b e ∙ (ap (waits_or_acts c.append) f ∙ w.1.0)) ∙ h in cc)
-    ]
-
-    of_job : (b : c.barred ≡ false) (o : Option CoreJob) → job_in c.jobs k ≡ o → c.barred ≡ true
-    of_job b None e = (let g : IsNoJob ≡ IsBarred = sym (coming_job c k b ∙ ap (next_of c) e) ∙ h in cc)
-    of_job b (Some j) e = of_action b j (action_next c.setup c.table j) e refl
+bars c k h = by_coming c k (λ (x : Coming). x ≡ IsBarred → c.barred ≡ true) (λ b e. b) (λ b n e. cc)
+    (λ b j r n e. cc) (λ x w e. cc) (λ x held w e. cc) h
 
 -- ---- what comes next in the machine
 

@@ -1,47 +1,18 @@
 -- A core after a step of a job, and the state of the machine that it stands for then.
-use Rattle.std.proofs.Common.{◌≡◌, ℕ, ◌+◌, ◌<◌, ◌≤◌, ◌^◌, Bool, true, false, cond, List, [], ◌∷◌, Some, None, set, inl, inr, refl, ap, sym, subst, ◌∙◌, arith}
-use Rattle.std.specs.Prelude.{is_some, ◌==◌, Option, ◌⊎◌, if◌then◌else◌, ◌&&◌, not, slice_get, remove}
-use Rattle.std.specs.List.{AllZip}
-use Rattle.std.proofs.lemmas.Bool.{eq-eqb, ne_eqb, false≢true}
-use Rattle.column_defs.specs.Verdicts.{Sums}
-use Rattle.record_defs.specs.Records.{Record, Setup, PutStart, PutDone, PutDoneIn, Drop, AuditStart, AuditDone, RepairDone, Version, record_size}
-use Rattle.record_defs.specs.Areas.{end_in}
-use Rattle.record_defs.specs.Table.{setup_of}
-use Rattle.record_defs.specs.Acceptance.{refused}
-use Rattle.machine_defs.specs.Jobs.{Kind, PutJob, GetJob, DropJob, AuditJob, RepairJob, UpgradeJob, Aim, ToPut, ToGet, ToDrop, ToAudit, ToRepair, ToUpgrade, Given, Fetched, Answered, Worked, Job, job_of, with_job, without_job}
-use Rattle.machine_defs.specs.Actions.{Action, WriteBody, SyncBody, WriteGate, SyncGate, Store, Fetch, Ask, Work, Remove, End, ends_append, actions_of, actions_left, appends_left}
+use Rattle.vault_core.proofs.Words.{◌≡◌, ℕ, ◌+◌, ◌<◌, ◌≤◌, ◌^◌, Bool, true, false, cond, List, [], ◌∷◌, Some, None, set, inl, inr, refl, ap, sym, subst, ◌∙◌, arith, is_some, ◌==◌, ◌⊎◌, if◌then◌else◌, slice_get, remove, AllZip, eq-eqb, ne_eqb, false≢true, Sums, Record, Setup, PutStart, PutDone, PutDoneIn, AuditStart, AuditDone, record_size, end_in, setup_of, refused, Kind, DropJob, AuditJob, Aim, ToPut, ToAudit, Given, Fetched, Answered, Worked, job_of, with_job, without_job, Action, WriteBody, SyncBody, WriteGate, SyncGate, Store, Fetch, Ask, Work, Remove, End, ends_append, actions_of, actions_left, appends_left, Outcome, More, Ended, Step, State, Append, Alone, setup_in, journal_end, file_in, going_on, ended, with_provider, HasSums, Moves, subject_drawn, taken_out, begun_append, done_append, done_record, Steps, StepsOpen, StepsOne, StepsJob, StepsOn, ActsOrWaits, is_idle_drop, next_action, holder_of, number_of, found_itself, same_value, IsSound, moves_before, moves_made, IsInOrder, get-drop, moves-first, events-sound, onward, mine, decided, drop-list, Counts, counted, Kept, IsFoldOf, id_after, next_stands, ActionValue, Reply, CoreJob, CoreView, planned, rest_in, appends_in, job_in, wanted_at, wants_in, ActsNext, seen_action, HasReply, is_last_ask_of, begins_append, action_next, is_move, asks_next, is_last_ask, written_as, written_by, written_of, written_in, entry_of_job, entry_of_found, entry_in, IsJobOf, IsCoreFlight, CoreIs, is_own, freed, ended_at, barred_at, with_at, stepped_job, judged, goes_plainly, number_as, number_drawn, drawn, gated, HasGated, IsEndAnswer, Tells, Inside, view_of, core_job, get_or, position, IsCore, IsJobKept, TakesReply, core_left, barred}
+use Rattle.std.specs.Prelude.{Option, ◌&&◌, not}
+use Rattle.machine_defs.specs.Appends.{moved, doubted}
+use Rattle.machine_defs.specs.Jobs.{Job}
+use Rattle.machine_defs.specs.States.{Doubt, DiskFails}
 use Rattle.machine_defs.specs.Answers.{Answer, Lost, ProviderFault, DiskFault, Memory}
-use Rattle.machine_defs.specs.Events.{Outcome, More, Ended, Step}
-use Rattle.machine_defs.specs.States.{State, Append, Alone, setup_in, journal_end, file_in, going_on, ended, with_provider}
 use Rattle.device_defs.specs.Providers.{Provider}
-use Rattle.machine_defs.specs.Audits.{HasSums}
-use Rattle.machine_defs.specs.Appends.{Moves, subject_drawn, taken_out, begun_append, done_append, done_record}
-use Rattle.machine_defs.specs.Steps.{Acts, Steps, StepsOpen, StepsOne, StepsJob, StepsOn, ActsOrWaits, is_idle_drop, next_action, holder_of}
+use Rattle.machine_defs.specs.Steps.{Acts}
 use Rattle.machine_defs.specs.Machine.{Happens}
-use Rattle.machine_defs.proofs.JobLists.{number_of, found_itself, same_value}
 use Rattle.machine_defs.proofs.PinFacts.{setup_same}
-use Rattle.state_laws.specs.Sound.{IsSound}
 use Rattle.state_laws.specs.SoundJobs.{IsSoundJob}
-use Rattle.state_laws.specs.Orders.{moves_before, moves_made, IsInOrder}
-use Rattle.state_laws.proofs.Orders.{get-drop, moves-first}
-use Rattle.state_laws.proofs.Events.{events-sound}
-use Rattle.state_laws.proofs.Going.{onward}
-use Rattle.state_laws.proofs.JobLists.{mine}
 use Rattle.state_laws.proofs.Written.{setup-providers}
-use Rattle.state_laws.proofs.Gates.{decided, drop-list}
-use Rattle.record_codec.specs.declared.counts.Counts.{Counts}
-use Rattle.record_codec.specs.Entries.{counted}
-use Rattle.vault_table.specs.Values.{Kept, IsFoldOf, id_after}
-use Rattle.machine_defs.proofs.NextActions.{next_stands}
-use Rattle.vault_core.specs.declared.action.Action.{Action as ActionValue}
 use Rattle.vault_core.specs.declared.action.Action.TheVariants as act
-use Rattle.vault_core.specs.declared.reply.Reply.{Reply}
-use Rattle.vault_core.specs.View.{CoreJob, CoreView, planned, rest_in, appends_in, job_in, wanted_at, wants_in}
-use Rattle.vault_core.specs.Coming.{Acts as ActsNext, seen_action, HasReply, is_last_ask_of, begins_append, action_next, is_move, asks_next, is_last_ask, written_as, written_by, written_of, written_in, entry_of_job, entry_of_found, entry_in}
-use Rattle.vault_core.specs.Carried.{IsJobOf, IsCoreFlight, CoreIs}
-use Rattle.vault_core.specs.Fed.{is_own, freed, ended_at, barred_at, with_at, stepped_job, judged, goes_plainly, number_as, number_drawn, drawn, gated, HasGated}
 use Rattle.vault_core.specs.declared.reply.Reply.TheVariants as reply
-use Rattle.vault_core.specs.Replies.{IsEndAnswer, Tells}
 use Rattle.vault_core.proofs.Alike.{table-like}
 use Rattle.vault_core.proofs.Pairs.{IsFirst, pair_some, pair_with, pair_without, in_set_same, in_set_other, in_remove_other}
 use Rattle.vault_core.proofs.Standing.{acts_comes, comes_next, same_job, free_here, in_append}
@@ -49,13 +20,17 @@ use Rattle.vault_core.proofs.Judging.{sums-on, on-moved, on-judged, on-drawn, on
 use Rattle.vault_core.proofs.Onward.{audit-action}
 use Rattle.vault_core.proofs.Links.{head-here, appends-is, drawn-appends}
 use Rattle.vault_core.proofs.Counts.{gates, gates_behind}
+use Rattle.vault_core.proofs.Gating.{by_written}
 use Rattle.vault_core.proofs.Goes.{drop_one}
-use Rattle.vault_core.proofs.Falls.{StepHere}
+use Rattle.vault_core.specs.declared.job.Job.{Job as KeptJob}
+use Rattle.vault_core.specs.Changes.{GoesOnBy}
+use Rattle.vault_core.proofs.Falls.{StepHere, step_here, removed_falls}
+use Rattle.vault_core.proofs.Told.{LeavesTold, leaves_set, leaves_removed}
 
 -- ---- the machine's side of a step
 
 -- the job of the machine, and what its action has come to
-pub record OnMachine (c : CoreView) (w new : State) (k place : ℕ) (cj : CoreJob) (action : Action)
+pub record OnMachine (c : CoreView) (k place : ℕ) (cj : CoreJob) (w new : State) (action : Action)
     (outcome : Outcome) : Type 0 where
   pub job : Job
   pub found : job_of w.jobs k ≡ Some job
@@ -78,7 +53,7 @@ pub record OnMachine (c : CoreView) (w new : State) (k place : ℕ) (cj : CoreJo
 pub on_machine : (c : CoreView) (w new : State) (k place : ℕ) (r : Reply) (action : Action)
     (outcome : Outcome) (moment : ℕ) → (s : StepHere c k place r action) → CoreIs c w →
     wants_in c k ≡ None → k < 2 ^ 32 → Happens 8 moment w (Step k) outcome new →
-    OnMachine c w new k place s.job action outcome
+    OnMachine c k place s.job w new action outcome
 on_machine c w new k place r action outcome moment s is free l h =
     let n = comes_next c w k action None is free (acts_comes c k action s.coming) in
     let p = pair_some c.setup c.jobs w.jobs k s.job is.jobs s.runs in
@@ -125,6 +100,37 @@ pub record Stays (w new : State) : Type 0 where
   pub next_job : new.next_job ≡ w.next_job
   pub alone : new.alone ≡ w.alone
 
+-- so much stays where the new state is one of which it does
+pub stays_as : (w new m : State) → new ≡ m → m.is_open ≡ w.is_open → m.records ≡ w.records →
+    m.journal ≡ w.journal → journal_end m ≡ journal_end w → m.next_job ≡ w.next_job → m.alone ≡ w.alone →
+    Stays w new
+stays_as w new m e opened records journal end next alone = subst (Stays w) (sym e) (record {
+  is_open = opened;
+  records = records;
+  journal = journal;
+  end = end;
+  next_job = next;
+  alone = alone;
+})
+
+-- a core with other jobs stands for a state in which so much stays
+pub jobs_stand : (c : CoreView) (w new : State) (jobs : List CoreJob) (flight : Option ℕ) (b : Bool) →
+    CoreIs c w → IsSound 8 new → Stays w new → AllZip (IsJobOf c.setup) jobs new.jobs → b ≡ new.is_barred →
+    IsCoreFlight (record c { jobs = jobs; append = flight; barred = b }) new.append →
+    CoreIs (record c { jobs = jobs; append = flight; barred = b }) new
+jobs_stand c w new jobs flight b is sound stays js bar fl = record {
+  sound = sound;
+  is_open = stays.is_open ∙ is.is_open;
+  none_alone = stays.alone ∙ is.none_alone;
+  table = subst (λ (rs : List Record). IsFoldOf rs c.table) (sym stays.journal) is.table;
+  setup = is.setup ∙ sym (setup_same new w (ap setup_of stays.records));
+  end = is.end ∙ sym stays.end;
+  jobs = js;
+  next_job = is.next_job ∙ sym stays.next_job;
+  append = fl;
+  barred = bar;
+}
+
 -- a job goes on
 set_stands : (c : CoreView) (w new : State) (k place : ℕ) (cj : CoreJob) (m : Job) (flight : Option ℕ) →
     CoreIs c w → IsSound 8 new → IsFirst c.jobs k place → Stays w new →
@@ -132,21 +138,11 @@ set_stands : (c : CoreView) (w new : State) (k place : ℕ) (cj : CoreJob) (m : 
     IsCoreFlight (record (with_at c place cj) { append = flight }) new.append →
     CoreIs (record (with_at c place cj) { append = flight }) new
 set_stands c w new k place cj m flight is sound first stays bar js number job fl =
-    let setup : setup_in new ≡ setup_in w = setup_same new w (ap setup_of stays.records) in
-    record {
-      sound = sound;
-      is_open = stays.is_open ∙ is.is_open;
-      none_alone = stays.alone ∙ is.none_alone;
-      table = subst (λ (rs : List Record). IsFoldOf rs c.table) (sym stays.journal) is.table;
-      setup = is.setup ∙ sym setup;
-      end = is.end ∙ sym stays.end;
-      jobs = subst (AllZip (IsJobOf c.setup) (set c.jobs place cj)) (sym js)
-          (pair_with c.setup c.jobs w.jobs k place cj m is.jobs first number
-          (same_job (setup_in w) c.setup cj m (sym is.setup) job));
-      next_job = is.next_job ∙ sym stays.next_job;
-      append = fl;
-      barred = is.barred ∙ sym bar;
-    }
+    jobs_stand c w new (set c.jobs place cj) flight c.barred is sound stays
+    (subst (AllZip (IsJobOf c.setup) (set c.jobs place cj)) (sym js)
+    (pair_with c.setup c.jobs w.jobs k place cj m is.jobs first number
+    (same_job (setup_in w) c.setup cj m (sym is.setup) job)))
+    (is.barred ∙ sym bar) fl
 
 -- a job has ended
 pub remove_stands : (c : CoreView) (w new : State) (k place : ℕ) (flight : Option ℕ) (b : Bool) → CoreIs c w →
@@ -155,20 +151,9 @@ pub remove_stands : (c : CoreView) (w new : State) (k place : ℕ) (flight : Opt
     IsCoreFlight (record c { jobs = remove c.jobs place; append = flight; barred = b }) new.append →
     CoreIs (record c { jobs = remove c.jobs place; append = flight; barred = b }) new
 remove_stands c w new k place flight b is sound first stays bar js fl =
-    let setup : setup_in new ≡ setup_in w = setup_same new w (ap setup_of stays.records) in
-    record {
-      sound = sound;
-      is_open = stays.is_open ∙ is.is_open;
-      none_alone = stays.alone ∙ is.none_alone;
-      table = subst (λ (rs : List Record). IsFoldOf rs c.table) (sym stays.journal) is.table;
-      setup = is.setup ∙ sym setup;
-      end = is.end ∙ sym stays.end;
-      jobs = subst (AllZip (IsJobOf c.setup) (remove c.jobs place)) (sym js)
-          (pair_without c.setup c.jobs w.jobs k place 0 w.next_job is.jobs first is.sound.numbered);
-      next_job = is.next_job ∙ sym stays.next_job;
-      append = fl;
-      barred = bar;
-    }
+    jobs_stand c w new (remove c.jobs place) flight b is sound stays
+    (subst (AllZip (IsJobOf c.setup) (remove c.jobs place)) (sym js)
+    (pair_without c.setup c.jobs w.jobs k place 0 w.next_job is.jobs first is.sound.numbered)) bar fl
 
 -- ---- the append in flight
 
@@ -215,15 +200,7 @@ flight-stands c w m a is runs e =
             sym (ap (λ (p : ℕ). slice_get (actions_of (setup_in w) m) p) z
             ∙ ap (λ (ys : List Action). slice_get ys 0) (drop-list (setup_in w) m name k)) ∙ g in
             let q : WriteBody ≡ y = cc in let u = ap moves_before q in omega (arith, n, u))))) ∙ g
-        busy y g n (PutJob name bytes) k = ap (λ (b : Bool). if b then Some End
-            else slice_get (actions_of (setup_in w) m) m.place) (ap (is_idle_drop w m) k) ∙ g
-        busy y g n (GetJob name) k = ap (λ (b : Bool). if b then Some End
-            else slice_get (actions_of (setup_in w) m) m.place) (ap (is_idle_drop w m) k) ∙ g
-        busy y g n AuditJob k = ap (λ (b : Bool). if b then Some End
-            else slice_get (actions_of (setup_in w) m) m.place) (ap (is_idle_drop w m) k) ∙ g
-        busy y g n RepairJob k = ap (λ (b : Bool). if b then Some End
-            else slice_get (actions_of (setup_in w) m) m.place) (ap (is_idle_drop w m) k) ∙ g
-        busy y g n UpgradeJob k = ap (λ (b : Bool). if b then Some End
+        busy y g n kind k = ap (λ (b : Bool). if b then Some End
             else slice_get (actions_of (setup_in w) m) m.place) (ap (is_idle_drop w m) k) ∙ g
 
 -- so it has a move of it next
@@ -284,8 +261,12 @@ core_none c o f e = subst (IsCoreFlight c) e f
 
 -- ---- a job ends, or goes on by an action that is no move of an append
 
-module _ (c : CoreView) (w new : State) (k place : ℕ) (cj : CoreJob) (a : Action) (outcome : Outcome)
-    (o : OnMachine c w new k place cj a outcome) where
+-- an action that goes plainly is not the end
+not_end : (a : Action) → goes_plainly (Some a) ≡ true → a ≡ End → ⊥
+not_end a p e = false≢true (ap (λ (x : Action). goes_plainly (Some x)) (sym e) ∙ p)
+
+module _ (c : CoreView) (k place : ℕ) (cj : CoreJob) (w new : State) (a : Action) (outcome : Outcome)
+    (o : OnMachine c k place cj w new a outcome) where
   still : is_move (Some a) ≡ false → is_move (next_action w o.job) ≡ false
   still h = ap is_move o.next ∙ h
 
@@ -293,14 +274,7 @@ module _ (c : CoreView) (w new : State) (k place : ℕ) (cj : CoreJob) (a : Acti
       CoreIs (ended_at c place) new
   off_arm p h e =
       remove_stands c w new k place (freed c place) c.barred o.stands o.sound o.first
-      (record {
-        is_open = ap (λ (s : State). s.is_open) e;
-        records = ap (λ (s : State). s.records) e;
-        journal = ap (λ (s : State). s.journal) e;
-        end = ap journal_end e;
-        next_job = ap (λ (s : State). s.next_job) e;
-        alone = ap (λ (s : State). s.alone) e;
-      })
+      (stays_as w new _ e refl refl refl refl refl refl)
       (o.stands.barred ∙ sym (ap (λ (s : State). s.is_barred) e))
       (ap (λ (s : State). s.jobs) e ∙ ap (without_job w.jobs) o.number)
       (subst (IsCoreFlight (ended_at c place)) (sym (ap (λ (s : State). s.append) e))
@@ -311,28 +285,36 @@ module _ (c : CoreView) (w new : State) (k place : ℕ) (cj : CoreJob) (a : Acti
       CoreIs (with_at c place x) new
   on_arm p x m n q h e job =
       set_stands c w new k place x m c.append o.stands o.sound o.first
-      (record {
-        is_open = ap (λ (s : State). s.is_open) e;
-        records = ap (λ (s : State). s.records) e;
-        journal = ap (λ (s : State). s.journal) e;
-        end = ap journal_end e;
-        next_job = ap (λ (s : State). s.next_job) e;
-        alone = ap (λ (s : State). s.alone) e;
-      })
+      (stays_as w new _ e refl refl refl refl refl refl)
       (ap (λ (s : State). s.is_barred) e) (ap (λ (s : State). s.jobs) e) q job
       (subst (IsCoreFlight (with_at c place x)) (sym (ap (λ (s : State). s.append) e))
       (flight_on c w k place cj o.job o.stands o.first o.here o.called o.is o.found (still h) x n))
 
+  -- an action that asks nothing is no last ask
+  no_ask : goes_plainly (Some a) ≡ true → asks_next (Some a) ≡ false →
+      is_last_ask (rest_in (setup_in w) cj) ≡ false
+  no_ask plain h =
+      ap (λ (x : Option Action). asks_next x && begins_append (slice_get (rest_in (setup_in w) cj) 1))
+      (head-here w cj o.job a o.is o.next (not_end a plain) o.free)
+      ∙ ap (λ (b : Bool). b && begins_append (slice_get (rest_in (setup_in w) cj) 1)) h
+
   -- the job, after an action that is not the last ask of an audit
-  plain_arm : (p : ℕ → Provider) (given : List Given) → (a ≡ End → ⊥) → is_move (Some a) ≡ false →
-      goes_plainly (Some a) ≡ true → is_last_ask (rest_in (setup_in w) cj) ≡ false →
+  plain_arm : (p : ℕ → Provider) (given : List Given) → goes_plainly (Some a) ≡ true →
+      is_move (Some a) ≡ false → is_last_ask (rest_in (setup_in w) cj) ≡ false →
       (given ≡ o.job.given) ⊎ (o.job.kind ≡ AuditJob → asks_next (Some a) ≡ true) →
       new ≡ record (going_on w (onward o.job o.job.subject given)) { providers = p } →
       CoreIs (with_at c place (stepped_job cj)) new
-  plain_arm p given on h plain last gave e =
+  plain_arm p given plain h last gave e =
       on_arm p (stepped_job cj) (onward o.job o.job.subject given) o.called o.number h e
-      (on-moved w cj o.job a o.is o.next on o.free given
-      (sums-on w cj o.job a o.is o.next on o.free given plain last gave))
+      (on-moved w cj o.job a o.is o.next (not_end a plain) o.free given
+      (sums-on w cj o.job a o.is o.next (not_end a plain) o.free given plain last gave))
+
+  -- no audit makes an action that asks nothing and is no move
+  no_audit : goes_plainly (Some a) ≡ true →
+      ((s : Setup) (m : Job) → m.kind ≡ AuditJob → slice_get (actions_of s m) m.place ≡ Some a → ⊥) →
+      o.job.kind ≡ AuditJob → asks_next (Some a) ≡ true
+  no_audit plain never kind =
+      absurd (never (setup_in w) o.job kind (next_stands w o.job a o.next (not_end a plain)))
 
   -- the append of a job ends by a fault of the disk
   bar_arm : Stays w new → new.is_barred ≡ true → new.jobs ≡ without_job w.jobs o.job.number →
@@ -343,12 +325,14 @@ module _ (c : CoreView) (w new : State) (k place : ℕ) (cj : CoreJob) (a : Acti
       (subst (IsCoreFlight (barred_at c place)) (sym (o.sound.barred barred)) refl)
 
   -- it ends for want of memory
-  free_arm : (c.append ≡ None) ⊎ (c.append ≡ Some k) → Stays w new → new.is_barred ≡ w.is_barred →
-      new.jobs ≡ without_job w.jobs o.job.number → new.append ≡ None → CoreIs (ended_at c place) new
-  free_arm own stays bar js none =
-      remove_stands c w new k place (freed c place) c.barred o.stands o.sound o.first stays
-      (o.stands.barred ∙ sym bar) (js ∙ ap (without_job w.jobs) o.number)
-      (subst (IsCoreFlight (ended_at c place)) (sym none)
+  free_arm : (c.append ≡ None) ⊎ (c.append ≡ Some k) → (flight : Option Append) → flight ≡ None →
+      new ≡ record (ended w o.job) { append = flight } → CoreIs (ended_at c place) new
+  free_arm own flight none e =
+      remove_stands c w new k place (freed c place) c.barred o.stands o.sound o.first
+      (stays_as w new _ e refl refl refl refl refl refl)
+      (o.stands.barred ∙ sym (ap (λ (s : State). s.is_barred) e))
+      (ap (λ (s : State). s.jobs) e ∙ ap (without_job w.jobs) o.number)
+      (subst (IsCoreFlight (ended_at c place)) (sym (ap (λ (s : State). s.append) e ∙ none))
       (none_off c w k place cj o.job o.stands o.first o.here o.called o.is o.found own))
 
 -- ---- the moves of an append
@@ -384,32 +368,17 @@ written_same s t i j a p n k u =
 -- no job writes a setup
 no_setup : (t : Kept) (n p k : ℕ) (sums : Sums) (aim : Aim) (e : Record) (rs : List Record) →
     written_as t n p k sums aim ≡ Some e → setup_of (e ∷ rs) ≡ setup_of rs
-no_setup t n p k sums (ToPut name size) e rs h = by (n == 2) (t.version == 2) h
+no_setup t n p k sums aim e rs h =
+    by_written t n p k sums (λ (a : Aim) (x : Record). setup_of (x ∷ rs) ≡ setup_of rs) (λ name size b. refl)
+    (λ name size b. done size (t.version == 2)) (λ name. refl) (λ b. refl) (λ b. refl) refl refl aim e h
   where
-    by : (b v : Bool) → Some (if b then PutStart (id_after t) name
-        else (if v then PutDoneIn k size p else PutDone k size)) ≡ Some e →
-        setup_of (e ∷ rs) ≡ setup_of rs
-    by true v g = (let i : PutStart (id_after t) name ≡ e = cc in
-        ap (λ (r : Record). setup_of (r ∷ rs)) (sym i))
-    by false true g = (let i : PutDoneIn k size p ≡ e = cc in ap (λ (r : Record). setup_of (r ∷ rs)) (sym i))
-    by false false g = (let i : PutDone k size ≡ e = cc in ap (λ (r : Record). setup_of (r ∷ rs)) (sym i))
-no_setup t n p k sums (ToGet name) e rs h = let g : None ≡ Some e = h in cc
-no_setup t n p k sums (ToDrop name) e rs h = let g : Some (Drop name) ≡ Some e = h in let i : Drop name ≡ e =
-    cc in ap (λ (r : Record). setup_of (r ∷ rs)) (sym i)
-no_setup t n p k sums ToAudit e rs h = by (n == 2) h
-  where
-    by : (b : Bool) → Some (if b then AuditStart t.next_audit else AuditDone k sums.undecided sums.counts)
-        ≡ Some e → setup_of (e ∷ rs) ≡ setup_of rs
-    by true g = (let i : AuditStart t.next_audit ≡ e = cc in ap (λ (r : Record). setup_of (r ∷ rs)) (sym i))
-    by false g = (let i : AuditDone k sums.undecided sums.counts ≡ e = cc in
-        ap (λ (r : Record). setup_of (r ∷ rs)) (sym i))
-no_setup t n p k sums ToRepair e rs h = let g : Some (RepairDone k) ≡ Some e = h in
-    let i : RepairDone k ≡ e = cc in ap (λ (r : Record). setup_of (r ∷ rs)) (sym i)
-no_setup t n p k sums ToUpgrade e rs h = let g : Some Version ≡ Some e = h in
-    let i : Version ≡ e = cc in ap (λ (r : Record). setup_of (r ∷ rs)) (sym i)
+    done : (size : ℕ) (v : Bool) →
+        setup_of ((if v then PutDoneIn k size p else PutDone k size) ∷ rs) ≡ setup_of rs
+    done size true = refl
+    done size false = refl
 
-module _ (c : CoreView) (w new : State) (k place : ℕ) (cj : CoreJob) (a : Action) (outcome : Outcome)
-    (o : OnMachine c w new k place cj a outcome) where
+module _ (c : CoreView) (k place : ℕ) (cj : CoreJob) (w new : State) (a : Action) (outcome : Outcome)
+    (o : OnMachine c k place cj w new a outcome) where
   -- a job that is at a later move of its append, after this step
   flight_moved : (x : CoreJob) (y : Append) (flight : Option ℕ) →
       new.append ≡ Some y → y.job ≡ k → flight ≡ Some y.job → x.number ≡ k →
@@ -444,31 +413,34 @@ module _ (c : CoreView) (w new : State) (k place : ℕ) (cj : CoreJob) (a : Acti
   holds y e = (let f : IsCoreFlight c (Some y) = subst (IsCoreFlight c) e o.stands.append in f.0)
 
   -- a second or third move
-  move_arm : (y z : Append) → (a ≡ End → ⊥) → ends_append a ≡ false →
-      goes_plainly (Some a) ≡ true → is_last_ask (rest_in (setup_in w) cj) ≡ false → w.append ≡ Some y →
-      y.job ≡ o.job.number → z.entry ≡ y.entry → z.job ≡ y.job → new.append ≡ Some z → new.jobs
-      ≡ with_job w.jobs (onward o.job o.job.subject o.job.given) → new.is_barred ≡ w.is_barred → Stays w new →
-      (a ≡ WriteBody → ⊥) → CoreIs (with_at c place (stepped_job cj)) new
-  move_arm y z on g plain last e own entry same f js bar stays later =
+  move_arm : (y : Append) (doubt : Option Doubt) (faults : ℕ) → goes_plainly (Some a) ≡ true →
+      ends_append a ≡ false → asks_next (Some a) ≡ false → w.append ≡ Some y → y.job ≡ o.job.number →
+      new ≡ record (moved (going_on w (onward o.job o.job.subject o.job.given)) y)
+      { doubt = doubt; disk_faults = faults } →
+      CoreIs (with_at c place (stepped_job cj)) new
+  move_arm y doubt faults plain g quiet at own e =
+      let on = not_end a plain in
       let job = on-moved w cj o.job a o.is o.next on o.free o.job.given
-      (sums-on w cj o.job a o.is o.next on o.free o.job.given plain last (inl refl)) in
+      (sums-on w cj o.job a o.is o.next on o.free o.job.given plain
+      (no_ask c k place cj w new a outcome o plain quiet) (inl refl)) in
       let writes : written_by c.setup c.table (stepped_job cj) ≡ written_by c.setup c.table cj =
       ap (λ (n : ℕ). written_as c.table n cj.plan.profile cj.plan.subject cj.sums cj.plan.aim)
       (gateless g on) in
       set_stands c w new k place (stepped_job cj) (onward o.job o.job.subject o.job.given) c.append o.stands
-      o.sound o.first stays bar js o.number job
-      (flight_moved (stepped_job cj) z c.append f (same ∙ (own ∙ o.number))
-      (holds y e ∙ ap (λ (i : ℕ). Some i) (sym same)) o.called
-      (writes ∙ (written_now y e (own ∙ o.number) ∙ ap (λ (r : Record). Some r) (sym entry))))
+      o.sound o.first (stays_as w new _ e refl refl refl refl refl refl)
+      (ap (λ (s : State). s.is_barred) e) (ap (λ (s : State). s.jobs) e) o.number job
+      (flight_moved (stepped_job cj) (record y { moves = y.moves + 1 }) c.append
+      (ap (λ (s : State). s.append) e) (own ∙ o.number) (holds y at) o.called
+      (writes ∙ written_now y at (own ∙ o.number)))
 
 -- the first move
-drawn_arm : (c : CoreView) (w new : State) (k place : ℕ) (cj : CoreJob) (outcome : Outcome)
-    (o : OnMachine c w new k place cj WriteBody outcome) → (entry : Record) →
+drawn_arm : (c : CoreView) (k place : ℕ) (cj : CoreJob) (w new : State) (outcome : Outcome)
+    (o : OnMachine c k place cj w new WriteBody outcome) → (entry : Record) →
     ((y : Append) → new.append ≡ Some y → y.job ≡ k → entry_in c k ≡ Some y.entry) →
     (faults : ℕ) → new ≡ record (begun_append w o.job entry) { disk_faults = faults } →
     CoreIs (record (with_at c place (drawn cj (number_drawn c.setup c.table cj))) { append = Some cj.number })
     new
-drawn_arm c w new k place cj outcome o entry told faults e =
+drawn_arm c k place cj w new outcome o entry told faults e =
     let number = number_drawn c.setup c.table cj in
     let job : IsJobOf (setup_in w) (drawn cj number) (onward o.job (subject_drawn w o.job o.job.kind)
     o.job.given) =
@@ -477,15 +449,6 @@ drawn_arm c w new k place cj outcome o entry told faults e =
     (on-drawn w c.table cj o.job (table-like c w o.stands) o.is o.free o.next) in
     let f : new.append ≡ Some (record { job = o.job.number; entry = entry; moves = 1 }) =
     ap (λ (s : State). s.append) e in
-    let stays : Stays w new =
-    record {
-      is_open = ap (λ (s : State). s.is_open) e;
-      records = ap (λ (s : State). s.records) e;
-      journal = ap (λ (s : State). s.journal) e;
-      end = ap journal_end e;
-      next_job = ap (λ (s : State). s.next_job) e;
-      alone = ap (λ (s : State). s.alone) e;
-    } in
     let g : entry_in c k ≡ Some entry =
     told (record { job = o.job.number; entry = entry; moves = 1 }) f o.number in
     let h : entry_of_job c.setup c.table cj ≡ Some entry =
@@ -507,21 +470,21 @@ drawn_arm c w new k place cj outcome o entry told faults e =
     ∙ (in_append c.setup c.table cj entry h).1 in
     set_stands c w new k place (drawn cj number)
     (onward o.job (subject_drawn w o.job o.job.kind) o.job.given)
-    (Some cj.number) o.stands o.sound o.first stays
+    (Some cj.number) o.stands o.sound o.first (stays_as w new _ e refl refl refl refl refl refl)
     (ap (λ (s : State). s.is_barred) e) (ap (λ (s : State). s.jobs) e) o.number job
-    (flight_moved c w new k place cj WriteBody outcome o (drawn cj number)
+    (flight_moved c k place cj w new WriteBody outcome o (drawn cj number)
     (record { job = o.job.number; entry = entry; moves = 1 }) (Some cj.number) f o.number
     (ap (λ (i : ℕ). Some i) (o.called ∙ sym o.number)) o.called writes)
 
 -- the fourth move
-gated_arm : (c cnew : CoreView) (w new : State) (k place : ℕ) (cj : CoreJob) (outcome : Outcome)
-    (o : OnMachine c w new k place cj SyncGate outcome) → (y : Append) → w.append ≡ Some y →
+gated_arm : (c cnew : CoreView) (k place : ℕ) (cj : CoreJob) (w new : State) (outcome : Outcome)
+    (o : OnMachine c k place cj w new SyncGate outcome) → (y : Append) → w.append ≡ Some y →
     y.job ≡ o.job.number →
     ((entry : Record) (rs : List Record) → written_by c.setup c.table cj ≡ Some entry → IsFoldOf rs c.table →
     refused rs entry ≡ None → HasGated c place cj entry rs cnew) →
     (faults : ℕ) → new ≡ record (done_append w o.job y) { disk_faults = faults } → CoreIs cnew new
-gated_arm c cnew w new k place cj outcome o y at own gates faults e =
-    let writes = written_now c w new k place cj SyncGate outcome o y at (own ∙ o.number) in
+gated_arm c cnew k place cj w new outcome o y at own gates faults e =
+    let writes = written_now c k place cj w new SyncGate outcome o y at (own ∙ o.number) in
     let has = gates y.entry w.journal writes o.stands.table (o.stands.sound.append y at).follows.in_journal in
     let records : new.records ≡ y.entry ∷ w.records = ap (λ (s : State). s.records) e in
     let journal : new.journal ≡ y.entry ∷ w.journal = ap (λ (s : State). s.journal) e in
@@ -591,203 +554,28 @@ goes_well w m WriteGate answer new n e h = moves_well w m WriteGate w.append ans
 goes_well w m SyncGate answer new n e h = moves_well w m SyncGate w.append answer new e h
 goes_well w m a answer new n e h = absurd h
 
--- done: the first move
-pub begins_done : (c : CoreView) (w new : State) (k place : ℕ) (cj : CoreJob) (outcome : Outcome)
-    (o : OnMachine c w new k place cj WriteBody outcome) → Tells k reply.Done outcome new →
-    ((y : Append) → new.append ≡ Some y → y.job ≡ k → entry_in c k ≡ Some y.entry) →
-    CoreIs (record (with_at c place (drawn cj (number_drawn c.setup c.table cj))) { append = Some cj.number })
-    new
-begins_done c w new k place cj More o t told =
-    (let h : Moves w o.job WriteBody w.append More new = o.acts in
-    drawn_arm c w new k place cj More o h.0 told h.2.0 h.2.2)
-begins_done c w new k place cj (Ended answer) o t told =
-    absurd (goes_well w o.job WriteBody answer new (λ e. cc) t o.acts)
-begins_done c w new k place cj outcome o t told = absurd t
-
--- done: the fourth move
-pub gates_done : (c cnew : CoreView) (w new : State) (k place : ℕ) (cj : CoreJob) (outcome : Outcome)
-    (o : OnMachine c w new k place cj SyncGate outcome) → Tells k reply.Done outcome new →
-    ((entry : Record) (rs : List Record) → written_by c.setup c.table cj ≡ Some entry → IsFoldOf rs c.table →
-    refused rs entry ≡ None → HasGated c place cj entry rs cnew) → CoreIs cnew new
-gates_done c cnew w new k place cj More o t gates = by w.append refl o.acts
-  where
-    by : (f : Option Append) → w.append ≡ f → Moves w o.job SyncGate f More new → CoreIs cnew new
-    by None e h = absurd h
-    by (Some y) e h = gated_arm c cnew w new k place cj More o y e h.0.0 gates h.1.0 h.1.2
-gates_done c cnew w new k place cj (Ended answer) o t gates =
-    absurd (goes_well w o.job SyncGate answer new (λ e. cc) t o.acts)
-gates_done c cnew w new k place cj outcome o t gates = absurd t
-
--- done: the end
-pub ends_done : (c : CoreView) (w new : State) (k place : ℕ) (cj : CoreJob) (outcome : Outcome)
-    (o : OnMachine c w new k place cj End outcome) → Tells k reply.Done outcome new →
-    CoreIs (ended_at c place) new
-ends_done c w new k place cj More o t = (let h : Moves w o.job End w.append More new = o.acts in absurd h)
-ends_done c w new k place cj (Ended answer) o t =
-    off_arm c w new k place cj End (Ended answer) o w.providers refl o.acts.1
-ends_done c w new k place cj outcome o t = absurd t
-
--- done: any other
-more_done : (c : CoreView) (w new : State) (k place : ℕ) (cj : CoreJob) (a : Action)
-    (o : OnMachine c w new k place cj a More) → goes_plainly (Some a) ≡ true →
-    HasReply c k (ActsNext a) reply.Done → CoreIs (with_at c place (stepped_job cj)) new
-more_done c w new k place cj WriteBody o p h = absurd (false≢true p)
-more_done c w new k place cj SyncGate o p h = absurd (false≢true p)
-more_done c w new k place cj End o p h = absurd (false≢true p)
-more_done c w new k place cj SyncBody o p h = by w.append refl o.acts
-  where
-    by : (f : Option Append) → w.append ≡ f → Moves w o.job SyncBody f More new →
-        CoreIs (with_at c place (stepped_job cj)) new
-    by None e g = absurd g
-    by (Some y) e g = move_arm c w new k place cj SyncBody More o y (record y { moves = y.moves + 1 })
-        (λ x. cc) refl refl
-        (ap (λ (x : Option Action). asks_next x && begins_append (slice_get (rest_in (setup_in w) cj) 1))
-        (head-here w cj o.job SyncBody o.is o.next (λ x. cc) o.free)) e g.0.0 refl refl
-        (ap (λ (s : State). s.append) g.1.2)
-        (ap (λ (s : State). s.jobs) g.1.2) (ap (λ (s : State). s.is_barred) g.1.2)
-        (record {
-          is_open = ap (λ (s : State). s.is_open) g.1.2;
-          records = ap (λ (s : State). s.records) g.1.2;
-          journal = ap (λ (s : State). s.journal) g.1.2;
-          end = ap journal_end g.1.2;
-          next_job = ap (λ (s : State). s.next_job) g.1.2;
-          alone = ap (λ (s : State). s.alone) g.1.2;
-        }) (λ x. cc)
-more_done c w new k place cj WriteGate o p h = by w.append refl o.acts
-  where
-    by : (f : Option Append) → w.append ≡ f → Moves w o.job WriteGate f More new →
-        CoreIs (with_at c place (stepped_job cj)) new
-    by None e g = absurd g
-    by (Some y) e g = move_arm c w new k place cj WriteGate More o y (record y { moves = y.moves + 1 })
-        (λ x. cc) refl refl
-        (ap (λ (x : Option Action). asks_next x && begins_append (slice_get (rest_in (setup_in w) cj) 1))
-        (head-here w cj o.job WriteGate o.is o.next (λ x. cc) o.free)) e g.0.0 refl refl
-        (ap (λ (s : State). s.append) g.1.2)
-        (ap (λ (s : State). s.jobs) g.1.2) (ap (λ (s : State). s.is_barred) g.1.2)
-        (record {
-          is_open = ap (λ (s : State). s.is_open) g.1.2;
-          records = ap (λ (s : State). s.records) g.1.2;
-          journal = ap (λ (s : State). s.journal) g.1.2;
-          end = ap journal_end g.1.2;
-          next_job = ap (λ (s : State). s.next_job) g.1.2;
-          alone = ap (λ (s : State). s.alone) g.1.2;
-        }) (λ x. cc)
-more_done c w new k place cj (Store j object stripe) o p h =
-    plain_arm c w new k place cj (Store j object stripe) More o
-    (with_provider w.providers j o.acts.0) o.job.given (λ x. cc) refl refl
-    (ap (λ (x : Option Action). asks_next x && begins_append (slice_get (rest_in (setup_in w) cj) 1))
-    (head-here w cj o.job (Store j object stripe) o.is o.next (λ x. cc) o.free)) (inl refl) o.acts.2
-more_done c w new k place cj (Remove j object) o p h =
-    plain_arm c w new k place cj (Remove j object) More o (with_provider w.providers j o.acts.0) o.job.given
-    (λ x. cc) refl refl
-    (ap (λ (x : Option Action). asks_next x && begins_append (slice_get (rest_in (setup_in w) cj) 1))
-    (head-here w cj o.job (Remove j object) o.is o.next (λ x. cc) o.free)) (inl refl) o.acts.2
-more_done c w new k place cj (Fetch j object stripe) o p h =
-    plain_arm c w new k place cj (Fetch j object stripe) More o (with_provider w.providers j o.acts.1.0)
-    (Fetched j object stripe o.acts.0 ∷ o.job.given) (λ x. cc) refl refl
-    (ap (λ (x : Option Action). asks_next x && begins_append (slice_get (rest_in (setup_in w) cj) 1))
-    (head-here w cj o.job (Fetch j object stripe) o.is o.next (λ x. cc) o.free))
-    (inr (λ kind. absurd (audit-action (setup_in w) o.job (Fetch j object stripe) kind
-    (next_stands w o.job (Fetch j object stripe) o.next (λ x. cc))))) o.acts.1.2
-more_done c w new k place cj (Work object stripe) o p h =
-    plain_arm c w new k place cj (Work object stripe) More o w.providers
-    (Worked object stripe o.acts.0 ∷ o.job.given) (λ x. cc) refl refl
-    (ap (λ (x : Option Action). asks_next x && begins_append (slice_get (rest_in (setup_in w) cj) 1))
-    (head-here w cj o.job (Work object stripe) o.is o.next (λ x. cc) o.free))
-    (inr (λ kind. absurd (audit-action (setup_in w) o.job (Work object stripe) kind
-    (next_stands w o.job (Work object stripe) o.next (λ x. cc))))) o.acts.2
-more_done c w new k place cj (Ask j object round) o p h =
-    plain_arm c w new k place cj (Ask j object round) More o (with_provider w.providers j o.acts.1.0)
-    (Answered j object round o.acts.0 ∷ o.job.given) (λ x. cc) refl refl
-    (subst (λ (s : Setup). is_last_ask (rest_in s cj) ≡ false) o.stands.setup
-    (sym (ap (is_last_ask_of c.setup) o.runs) ∙ h)) (inr (λ kind. refl)) o.acts.1.2
-
--- a plain action that is done leaves a core that stands for the machine's state after it
-pub plain_done : (c : CoreView) (w new : State) (k place : ℕ) (cj : CoreJob) (a : Action) (outcome : Outcome)
-    (o : OnMachine c w new k place cj a outcome) → Tells k reply.Done outcome new →
-    goes_plainly (Some a) ≡ true → HasReply c k (ActsNext a) reply.Done →
-    CoreIs (with_at c place (stepped_job cj)) new
-plain_done c w new k place cj a More o t p h = more_done c w new k place cj a o p h
-plain_done c w new k place cj a (Ended answer) o t p h =
-    absurd (goes_well w o.job a answer new
-    (λ e. false≢true (ap (λ (x : Action). goes_plainly (Some x)) (sym e) ∙ p)) t o.acts)
-plain_done c w new k place cj a outcome o t p h = absurd t
+-- what a disk call leaves that failed
+fails_so : (w : State) (m : Job) (new : State) (doubt : Option Doubt) →
+    DiskFails w (record (barred (ended w m)) { doubt = doubt }) new →
+    Stays w new × (new.is_barred ≡ true) × (new.jobs ≡ without_job w.jobs m.number)
+fails_so w m new doubt h = (
+  stays_as w new _ h.3 refl refl refl refl refl refl,
+  ap (λ (s : State). s.is_barred) h.3,
+  ap (λ (s : State). s.jobs) h.3,
+)
 
 abbrev pub is_store : Action → Bool
 is_store (Store j object stripe) = true
 is_store action = false
 
--- failed: a store
-store_fails : (c : CoreView) (w new : State) (k place : ℕ) (cj : CoreJob) (j object stripe : ℕ)
-    (outcome : Outcome) (o : OnMachine c w new k place cj (Store j object stripe) outcome) →
-    Tells k reply.Failed outcome new → CoreIs (ended_at c place) new
-store_fails c w new k place cj j object stripe (Ended (ProviderFault i)) o t =
-    off_arm c w new k place cj (Store j object stripe) (Ended (ProviderFault i)) o
-    (with_provider w.providers j o.acts.1.0) refl o.acts.1.2
-store_fails c w new k place cj j object stripe (Ended DiskFault) o t =
-    (let h : Moves w o.job (Store j object stripe) w.append (Ended DiskFault) new = o.acts in absurd h)
-store_fails c w new k place cj j object stripe outcome o t = absurd t
-
--- a store that failed ends the job in the core as in the machine
-pub stops_failed : (c : CoreView) (w new : State) (k place : ℕ) (cj : CoreJob) (a : Action)
-    (j object stripe : ℕ) (outcome : Outcome) (o : OnMachine c w new k place cj a outcome) →
-    a ≡ Store j object stripe → Tells k reply.Failed outcome new → CoreIs (ended_at c place) new
-stops_failed c w new k place cj a j object stripe outcome o e t =
-    store_fails c w new k place cj j object stripe outcome
-    (subst (λ (x : Action). OnMachine c w new k place cj x outcome) e o) t
-
 -- failed: a move of an append
 moves_fail : (w : State) (m : Job) (a : Action) (flight : Option Append) (new : State) → is_store a ≡ false →
-    Moves w m a flight (Ended DiskFault) new → Stays w new × (new.is_barred ≡ true) ×
-    (new.jobs ≡ without_job w.jobs m.number)
-moves_fail w m WriteBody flight new n h = (
-  record {
-    is_open = ap (λ (s : State). s.is_open) h.3;
-    records = ap (λ (s : State). s.records) h.3;
-    journal = ap (λ (s : State). s.journal) h.3;
-    end = ap journal_end h.3;
-    next_job = ap (λ (s : State). s.next_job) h.3;
-    alone = ap (λ (s : State). s.alone) h.3;
-  },
-  ap (λ (s : State). s.is_barred) h.3,
-  ap (λ (s : State). s.jobs) h.3,
-)
-moves_fail w m SyncBody (Some y) new n h = (
-  record {
-    is_open = ap (λ (s : State). s.is_open) h.1.3;
-    records = ap (λ (s : State). s.records) h.1.3;
-    journal = ap (λ (s : State). s.journal) h.1.3;
-    end = ap journal_end h.1.3;
-    next_job = ap (λ (s : State). s.next_job) h.1.3;
-    alone = ap (λ (s : State). s.alone) h.1.3;
-  },
-  ap (λ (s : State). s.is_barred) h.1.3,
-  ap (λ (s : State). s.jobs) h.1.3,
-)
-moves_fail w m WriteGate (Some y) new n h = (
-  record {
-    is_open = ap (λ (s : State). s.is_open) h.1.3;
-    records = ap (λ (s : State). s.records) h.1.3;
-    journal = ap (λ (s : State). s.journal) h.1.3;
-    end = ap journal_end h.1.3;
-    next_job = ap (λ (s : State). s.next_job) h.1.3;
-    alone = ap (λ (s : State). s.alone) h.1.3;
-  },
-  ap (λ (s : State). s.is_barred) h.1.3,
-  ap (λ (s : State). s.jobs) h.1.3,
-)
-moves_fail w m SyncGate (Some y) new n h = (
-  record {
-    is_open = ap (λ (s : State). s.is_open) h.1.3;
-    records = ap (λ (s : State). s.records) h.1.3;
-    journal = ap (λ (s : State). s.journal) h.1.3;
-    end = ap journal_end h.1.3;
-    next_job = ap (λ (s : State). s.next_job) h.1.3;
-    alone = ap (λ (s : State). s.alone) h.1.3;
-  },
-  ap (λ (s : State). s.is_barred) h.1.3,
-  ap (λ (s : State). s.jobs) h.1.3,
-)
+    Moves w m a flight (Ended DiskFault) new →
+    Stays w new × (new.is_barred ≡ true) × (new.jobs ≡ without_job w.jobs m.number)
+moves_fail w m WriteBody flight new n h = fails_so w m new w.doubt h
+moves_fail w m SyncBody (Some y) new n h = fails_so w m new w.doubt h.1
+moves_fail w m WriteGate (Some y) new n h = fails_so w m new (doubted w y m).doubt h.1
+moves_fail w m SyncGate (Some y) new n h = fails_so w m new w.doubt h.1
 moves_fail w m a flight new n h = absurd h
 
 -- no move of an append ends by a fault of a provider
@@ -809,128 +597,200 @@ acts_moves c k w m SyncGate outcome new n r h = h
 acts_moves c k w m (Store j object stripe) outcome new n r h = absurd (false≢true (sym n))
 acts_moves c k w m a outcome new n r h = absurd r
 
--- a disk call that failed bars the core as it does the machine
-pub bars_failed : (c : CoreView) (w new : State) (k place : ℕ) (cj : CoreJob) (a : Action) (outcome : Outcome)
-    (o : OnMachine c w new k place cj a outcome) → is_store a ≡ false →
-    HasReply c k (ActsNext a) reply.Failed →
-    Tells k reply.Failed outcome new → CoreIs (barred_at c place) new
-bars_failed c w new k place cj a (Ended (ProviderFault i)) o n r t =
-    absurd (no_provider w o.job a w.append i new
-    (acts_moves c k w o.job a (Ended (ProviderFault i)) new n r o.acts))
-bars_failed c w new k place cj a (Ended DiskFault) o n r t =
-    (let p = moves_fail w o.job a w.append new n
-    (acts_moves c k w o.job a (Ended DiskFault) new n r o.acts) in
-    bar_arm c w new k place cj a (Ended DiskFault) o p.0 p.1 p.2)
-bars_failed c w new k place cj a outcome o n r t = absurd t
+module _ (c : CoreView) (k place : ℕ) (cj : CoreJob) (w new : State) where
+  -- done: the first move
+  pub begins_done : (outcome : Outcome) (o : OnMachine c k place cj w new WriteBody outcome) →
+      Tells k reply.Done outcome new →
+      ((y : Append) → new.append ≡ Some y → y.job ≡ k → entry_in c k ≡ Some y.entry) →
+      CoreIs
+      (record (with_at c place (drawn cj (number_drawn c.setup c.table cj))) { append = Some cj.number }) new
+  begins_done More o t told =
+      (let h : Moves w o.job WriteBody w.append More new = o.acts in
+      drawn_arm c k place cj w new More o h.0 told h.2.0 h.2.2)
+  begins_done (Ended answer) o t told = absurd (goes_well w o.job WriteBody answer new (λ e. cc) t o.acts)
+  begins_done outcome o t told = absurd t
 
--- memory: a write, or a store; a sync takes none
-memory_ends : (c : CoreView) (w new : State) (k place : ℕ) (cj : CoreJob) (a : Action)
-    (o : OnMachine c w new k place cj a (Ended Memory)) → HasReply c k (ActsNext a) reply.Memory →
-    CoreIs (ended_at c place) new
-memory_ends c w new k place cj WriteBody o r =
-    (let h : Moves w o.job WriteBody w.append (Ended Memory) new = o.acts in
-    let none = none_flies w.append o.holder in
-    free_arm c w new k place cj WriteBody (Ended Memory) o (inl (core_none c w.append o.stands.append none))
-    (record {
-      is_open = ap (λ (s : State). s.is_open) h.2;
-      records = ap (λ (s : State). s.records) h.2;
-      journal = ap (λ (s : State). s.journal) h.2;
-      end = ap journal_end h.2;
-      next_job = ap (λ (s : State). s.next_job) h.2;
-      alone = ap (λ (s : State). s.alone) h.2;
-    })
-    (ap (λ (s : State). s.is_barred) h.2) (ap (λ (s : State). s.jobs) h.2)
-    (ap (λ (s : State). s.append) h.2 ∙ none))
-memory_ends c w new k place cj WriteGate o r = by w.append refl o.acts
-  where
-    by : (f : Option Append) → w.append ≡ f → Moves w o.job WriteGate f (Ended Memory) new →
-        CoreIs (ended_at c place) new
-    by None e h = absurd h
-    by (Some y) e h = free_arm c w new k place cj WriteGate (Ended Memory) o
-        (inr (holds c w new k place cj WriteGate (Ended Memory) o y e
-        ∙ ap (λ (i : ℕ). Some i) (h.0.0 ∙ o.number)))
-        (record {
-          is_open = ap (λ (s : State). s.is_open) h.1.2;
-          records = ap (λ (s : State). s.records) h.1.2;
-          journal = ap (λ (s : State). s.journal) h.1.2;
-          end = ap journal_end h.1.2;
-          next_job = ap (λ (s : State). s.next_job) h.1.2;
-          alone = ap (λ (s : State). s.alone) h.1.2;
-        })
-        (ap (λ (s : State). s.is_barred) h.1.2) (ap (λ (s : State). s.jobs) h.1.2)
-        (ap (λ (s : State). s.append) h.1.2)
-memory_ends c w new k place cj (Store j object stripe) o r =
-    off_arm c w new k place cj (Store j object stripe) (Ended Memory) o
-    (with_provider w.providers j o.acts.0) refl o.acts.2
-memory_ends c w new k place cj SyncBody o r = by w.append o.acts
-  where
-    by : (f : Option Append) → Moves w o.job SyncBody f (Ended Memory) new → CoreIs (ended_at c place) new
-    by None h = absurd h
-    by (Some y) h = absurd h
-memory_ends c w new k place cj SyncGate o r = by w.append o.acts
-  where
-    by : (f : Option Append) → Moves w o.job SyncGate f (Ended Memory) new → CoreIs (ended_at c place) new
-    by None h = absurd h
-    by (Some y) h = absurd h
-memory_ends c w new k place cj a o r = absurd r
+  -- done: the fourth move
+  pub gates_done : (cnew : CoreView) (outcome : Outcome)
+      (o : OnMachine c k place cj w new SyncGate outcome) → Tells k reply.Done outcome new →
+      ((entry : Record) (rs : List Record) → written_by c.setup c.table cj ≡ Some entry →
+      IsFoldOf rs c.table → refused rs entry ≡ None → HasGated c place cj entry rs cnew) → CoreIs cnew new
+  gates_done cnew More o t gates = by w.append refl o.acts
+    where
+      by : (f : Option Append) → w.append ≡ f → Moves w o.job SyncGate f More new → CoreIs cnew new
+      by None e h = absurd h
+      by (Some y) e h = gated_arm c cnew k place cj w new More o y e h.0.0 gates h.1.0 h.1.2
+  gates_done cnew (Ended answer) o t gates =
+      absurd (goes_well w o.job SyncGate answer new (λ e. cc) t o.acts)
+  gates_done cnew outcome o t gates = absurd t
 
--- memory that ran out ends the job in the core as in the machine
-pub stops_memory : (c : CoreView) (w new : State) (k place : ℕ) (cj : CoreJob) (a : Action)
-    (outcome : Outcome) (o : OnMachine c w new k place cj a outcome) →
-    HasReply c k (ActsNext a) reply.Memory → Tells k reply.Memory outcome new →
-    CoreIs (ended_at c place) new
-stops_memory c w new k place cj a (Ended Memory) o r t = memory_ends c w new k place cj a o r
-stops_memory c w new k place cj a outcome o r t = absurd t
+  -- done: the end
+  pub ends_done : (outcome : Outcome) (o : OnMachine c k place cj w new End outcome) →
+      Tells k reply.Done outcome new → CoreIs (ended_at c place) new
+  ends_done More o t = (let h : Moves w o.job End w.append More new = o.acts in absurd h)
+  ends_done (Ended answer) o t =
+      off_arm c k place cj w new End (Ended answer) o w.providers refl o.acts.1
+  ends_done outcome o t = absurd t
 
--- lost: work on a stripe
-lost_ends : (c : CoreView) (w new : State) (k place : ℕ) (cj : CoreJob) (a : Action) (row : ℕ)
-    (stripe lost : ℕ) (o : OnMachine c w new k place cj a (Ended (Lost stripe lost))) →
-    HasReply c k (ActsNext a) (reply.Lost row) → CoreIs (ended_at c place) new
-lost_ends c w new k place cj (Work object s) row stripe lost o r =
-    off_arm c w new k place cj (Work object s) (Ended (Lost stripe lost)) o w.providers refl o.acts.2
-lost_ends c w new k place cj a row stripe lost o r = absurd r
+  -- done: any other
+  more_done : (a : Action) (o : OnMachine c k place cj w new a More) → goes_plainly (Some a) ≡ true →
+      HasReply c k (ActsNext a) reply.Done → CoreIs (with_at c place (stepped_job cj)) new
+  more_done SyncBody o p h = by w.append refl o.acts
+    where
+      by : (f : Option Append) → w.append ≡ f → Moves w o.job SyncBody f More new →
+          CoreIs (with_at c place (stepped_job cj)) new
+      by None e g = absurd g
+      by (Some y) e g = move_arm c k place cj w new SyncBody More o y w.doubt g.1.0 p refl refl e g.0.0 g.1.2
+  more_done WriteGate o p h = by w.append refl o.acts
+    where
+      by : (f : Option Append) → w.append ≡ f → Moves w o.job WriteGate f More new →
+          CoreIs (with_at c place (stepped_job cj)) new
+      by None e g = absurd g
+      by (Some y) e g = move_arm c k place cj w new WriteGate More o y (doubted w y o.job).doubt g.1.0 p refl
+          refl e g.0.0 g.1.2
+  more_done (Store j object stripe) o p h =
+      plain_arm c k place cj w new (Store j object stripe) More o (with_provider w.providers j o.acts.0)
+      o.job.given p refl (no_ask c k place cj w new (Store j object stripe) More o p refl) (inl refl) o.acts.2
+  more_done (Remove j object) o p h =
+      plain_arm c k place cj w new (Remove j object) More o (with_provider w.providers j o.acts.0)
+      o.job.given p refl (no_ask c k place cj w new (Remove j object) More o p refl) (inl refl) o.acts.2
+  more_done (Fetch j object stripe) o p h =
+      plain_arm c k place cj w new (Fetch j object stripe) More o (with_provider w.providers j o.acts.1.0)
+      (Fetched j object stripe o.acts.0 ∷ o.job.given) p refl
+      (no_ask c k place cj w new (Fetch j object stripe) More o p refl)
+      (inr (no_audit c k place cj w new (Fetch j object stripe) More o p
+      (λ s m. audit-action s m (Fetch j object stripe)))) o.acts.1.2
+  more_done (Work object stripe) o p h =
+      plain_arm c k place cj w new (Work object stripe) More o w.providers
+      (Worked object stripe o.acts.0 ∷ o.job.given) p refl
+      (no_ask c k place cj w new (Work object stripe) More o p refl)
+      (inr (no_audit c k place cj w new (Work object stripe) More o p
+      (λ s m. audit-action s m (Work object stripe)))) o.acts.2
+  more_done (Ask j object round) o p h =
+      plain_arm c k place cj w new (Ask j object round) More o (with_provider w.providers j o.acts.1.0)
+      (Answered j object round o.acts.0 ∷ o.job.given) p refl
+      (subst (λ (s : Setup). is_last_ask (rest_in s cj) ≡ false) o.stands.setup
+      (sym (ap (is_last_ask_of c.setup) o.runs) ∙ h)) (inr (λ kind. refl)) o.acts.1.2
+  more_done action o p h = absurd (false≢true p)
 
--- a stripe that was lost ends the job in the core as in the machine
-pub stops_lost : (c : CoreView) (w new : State) (k place : ℕ) (cj : CoreJob) (a : Action) (row : ℕ)
-    (outcome : Outcome) (o : OnMachine c w new k place cj a outcome) →
-    HasReply c k (ActsNext a) (reply.Lost row) →
-    Tells k (reply.Lost row) outcome new → CoreIs (ended_at c place) new
-stops_lost c w new k place cj a row (Ended (Lost stripe lost)) o r t =
-    lost_ends c w new k place cj a row stripe lost o r
-stops_lost c w new k place cj a row outcome o r t = absurd t
+  -- a plain action that is done leaves a core that stands for the machine's state after it
+  pub plain_done : (a : Action) (outcome : Outcome) (o : OnMachine c k place cj w new a outcome) →
+      Tells k reply.Done outcome new → goes_plainly (Some a) ≡ true → HasReply c k (ActsNext a) reply.Done →
+      CoreIs (with_at c place (stepped_job cj)) new
+  plain_done a More o t p h = more_done a o p h
+  plain_done a (Ended answer) o t p h = absurd (goes_well w o.job a answer new (not_end a p) t o.acts)
+  plain_done a outcome o t p h = absurd t
 
--- a verdict: the last ask
-verdict_more : (c : CoreView) (w new : State) (k place : ℕ) (cj : CoreJob) (a : Action) (u : ℕ)
-    (counts : Counts) (o : OnMachine c w new k place cj a More) →
-    HasReply c k (ActsNext a) (reply.Verdict u counts) →
-    Tells k (reply.Verdict u counts) More new →
-    CoreIs (with_at c place (judged cj (record { counts = counted counts; undecided = u }))) new
-verdict_more c w new k place cj (Ask j object round) u counts o r t =
-    (let e = o.acts.1.2 in
-    let given = Answered j object round o.acts.0 ∷ o.job.given in
-    let m = onward o.job o.job.subject given in
-    let setup : setup_in new ≡ setup_in w = setup_same new w (ap (λ (s : State). setup_of s.records) e) in
-    let before : job_of w.jobs o.job.number ≡ Some o.job =
-    subst (λ (i : ℕ). job_of w.jobs i ≡ Some o.job) (sym o.number) o.found in
-    let found : job_of new.jobs k ≡ Some m = subst (λ (i : ℕ). job_of new.jobs i ≡ Some m) o.number
-    (ap (λ (s : State). job_of s.jobs o.job.number) e ∙ found_itself w.jobs m o.job before) in
-    let sums : HasSums (setup_in w) m (record { counts = counted counts; undecided = u }) =
-    subst (λ (s : Setup). HasSums s m (record { counts = counted counts; undecided = u })) setup
-    (t m found) in
-    on_arm c w new k place cj (Ask j object round) More o (with_provider w.providers j o.acts.1.0)
-    (judged cj (record { counts = counted counts; undecided = u })) m o.called o.number refl e
-    (on-judged w cj o.job (Ask j object round) o.is o.next (λ x. cc) o.free j object round refl given
-    (record { counts = counted counts; undecided = u }) sums))
-verdict_more c w new k place cj a u counts o r t = absurd r
+  -- failed: a store
+  store_fails : (j object stripe : ℕ) (outcome : Outcome)
+      (o : OnMachine c k place cj w new (Store j object stripe) outcome) →
+      Tells k reply.Failed outcome new → CoreIs (ended_at c place) new
+  store_fails j object stripe (Ended (ProviderFault i)) o t =
+      off_arm c k place cj w new (Store j object stripe) (Ended (ProviderFault i)) o
+      (with_provider w.providers j o.acts.1.0) refl o.acts.1.2
+  store_fails j object stripe (Ended DiskFault) o t =
+      (let h : Moves w o.job (Store j object stripe) w.append (Ended DiskFault) new = o.acts in absurd h)
+  store_fails j object stripe outcome o t = absurd t
 
--- a verdict on an audit's last ask leaves a core that stands for the machine's state after it
-pub judges_verdict : (c : CoreView) (w new : State) (k place : ℕ) (cj : CoreJob) (a : Action) (u : ℕ)
-    (counts : Counts) (outcome : Outcome) (o : OnMachine c w new k place cj a outcome) →
-    HasReply c k (ActsNext a) (reply.Verdict u counts) →
-    Tells k (reply.Verdict u counts) outcome new →
-    CoreIs (with_at c place (judged cj (record { counts = counted counts; undecided = u }))) new
-judges_verdict c w new k place cj a u counts More o r t = verdict_more c w new k place cj a u counts o r t
-judges_verdict c w new k place cj a u counts outcome o r t = absurd t
+  -- a store that failed ends the job in the core as in the machine
+  pub stops_failed : (a : Action) (j object stripe : ℕ) (outcome : Outcome)
+      (o : OnMachine c k place cj w new a outcome) → a ≡ Store j object stripe →
+      Tells k reply.Failed outcome new → CoreIs (ended_at c place) new
+  stops_failed a j object stripe outcome o e t = store_fails j object stripe outcome
+      (subst (λ (x : Action). OnMachine c k place cj w new x outcome) e o) t
+
+  -- a disk call that failed bars the core as it does the machine
+  pub bars_failed : (a : Action) (outcome : Outcome) (o : OnMachine c k place cj w new a outcome) →
+      is_store a ≡ false → HasReply c k (ActsNext a) reply.Failed → Tells k reply.Failed outcome new →
+      CoreIs (barred_at c place) new
+  bars_failed a (Ended (ProviderFault i)) o n r t = absurd (no_provider w o.job a w.append i new
+      (acts_moves c k w o.job a (Ended (ProviderFault i)) new n r o.acts))
+  bars_failed a (Ended DiskFault) o n r t =
+      (let p = moves_fail w o.job a w.append new n
+      (acts_moves c k w o.job a (Ended DiskFault) new n r o.acts) in
+      bar_arm c k place cj w new a (Ended DiskFault) o p.0 p.1 p.2)
+  bars_failed a outcome o n r t = absurd t
+
+  -- memory: a write, or a store; a sync takes none
+  memory_ends : (a : Action) (o : OnMachine c k place cj w new a (Ended Memory)) →
+      HasReply c k (ActsNext a) reply.Memory → CoreIs (ended_at c place) new
+  memory_ends WriteBody o r =
+      (let h : Moves w o.job WriteBody w.append (Ended Memory) new = o.acts in
+      let none = none_flies w.append o.holder in
+      free_arm c k place cj w new WriteBody (Ended Memory) o (inl (core_none c w.append o.stands.append none))
+      w.append none h)
+  memory_ends WriteGate o r = by w.append refl o.acts
+    where
+      by : (f : Option Append) → w.append ≡ f → Moves w o.job WriteGate f (Ended Memory) new →
+          CoreIs (ended_at c place) new
+      by None e h = absurd h
+      by (Some y) e h = free_arm c k place cj w new WriteGate (Ended Memory) o
+          (inr (holds c k place cj w new WriteGate (Ended Memory) o y e
+          ∙ ap (λ (i : ℕ). Some i) (h.0.0 ∙ o.number)))
+          None refl h.1
+  memory_ends (Store j object stripe) o r =
+      off_arm c k place cj w new (Store j object stripe) (Ended Memory) o
+      (with_provider w.providers j o.acts.0) refl o.acts.2
+  memory_ends SyncBody o r = by w.append o.acts
+    where
+      by : (f : Option Append) → Moves w o.job SyncBody f (Ended Memory) new → CoreIs (ended_at c place) new
+      by None h = absurd h
+      by (Some y) h = absurd h
+  memory_ends SyncGate o r = by w.append o.acts
+    where
+      by : (f : Option Append) → Moves w o.job SyncGate f (Ended Memory) new → CoreIs (ended_at c place) new
+      by None h = absurd h
+      by (Some y) h = absurd h
+  memory_ends a o r = absurd r
+
+  -- memory that ran out ends the job in the core as in the machine
+  pub stops_memory : (a : Action) (outcome : Outcome) (o : OnMachine c k place cj w new a outcome) →
+      HasReply c k (ActsNext a) reply.Memory → Tells k reply.Memory outcome new → CoreIs (ended_at c place) new
+  stops_memory a (Ended Memory) o r t = memory_ends a o r
+  stops_memory a outcome o r t = absurd t
+
+  -- lost: work on a stripe
+  lost_ends : (a : Action) (row stripe lost : ℕ)
+      (o : OnMachine c k place cj w new a (Ended (Lost stripe lost))) →
+      HasReply c k (ActsNext a) (reply.Lost row) → CoreIs (ended_at c place) new
+  lost_ends (Work object s) row stripe lost o r =
+      off_arm c k place cj w new (Work object s) (Ended (Lost stripe lost)) o w.providers refl o.acts.2
+  lost_ends a row stripe lost o r = absurd r
+
+  -- a stripe that was lost ends the job in the core as in the machine
+  pub stops_lost : (a : Action) (row : ℕ) (outcome : Outcome) (o : OnMachine c k place cj w new a outcome) →
+      HasReply c k (ActsNext a) (reply.Lost row) → Tells k (reply.Lost row) outcome new →
+      CoreIs (ended_at c place) new
+  stops_lost a row (Ended (Lost stripe lost)) o r t = lost_ends a row stripe lost o r
+  stops_lost a row outcome o r t = absurd t
+
+  -- a verdict: the last ask
+  verdict_more : (a : Action) (u : ℕ) (counts : Counts) (o : OnMachine c k place cj w new a More) →
+      HasReply c k (ActsNext a) (reply.Verdict u counts) → Tells k (reply.Verdict u counts) More new →
+      CoreIs (with_at c place (judged cj (record { counts = counted counts; undecided = u }))) new
+  verdict_more (Ask j object round) u counts o r t =
+      (let e = o.acts.1.2 in
+      let sums : Sums = record { counts = counted counts; undecided = u } in
+      let given = Answered j object round o.acts.0 ∷ o.job.given in
+      let m = onward o.job o.job.subject given in
+      let setup : setup_in new ≡ setup_in w = setup_same new w (ap (λ (s : State). setup_of s.records) e) in
+      let before : job_of w.jobs o.job.number ≡ Some o.job =
+      subst (λ (i : ℕ). job_of w.jobs i ≡ Some o.job) (sym o.number) o.found in
+      let found : job_of new.jobs k ≡ Some m = subst (λ (i : ℕ). job_of new.jobs i ≡ Some m) o.number
+      (ap (λ (s : State). job_of s.jobs o.job.number) e ∙ found_itself w.jobs m o.job before) in
+      on_arm c k place cj w new (Ask j object round) More o (with_provider w.providers j o.acts.1.0)
+      (judged cj sums) m o.called o.number refl e
+      (on-judged w cj o.job (Ask j object round) o.is o.next (λ x. cc) o.free j object round refl given sums
+      (subst (λ (s : Setup). HasSums s m sums) setup (t m found))))
+  verdict_more a u counts o r t = absurd r
+
+  -- a verdict on an audit's last ask leaves a core that stands for the machine's state after it
+  pub judges_verdict : (a : Action) (u : ℕ) (counts : Counts) (outcome : Outcome)
+      (o : OnMachine c k place cj w new a outcome) → HasReply c k (ActsNext a) (reply.Verdict u counts) →
+      Tells k (reply.Verdict u counts) outcome new →
+      CoreIs (with_at c place (judged cj (record { counts = counted counts; undecided = u }))) new
+  judges_verdict a u counts More o r t = verdict_more a u counts o r t
+  judges_verdict a u counts outcome o r t = absurd t
 
 -- another action than a store
 pub other_store : (a : ActionValue) →
@@ -938,3 +798,62 @@ pub other_store : (a : ActionValue) →
     is_store (seen_action a) ≡ false
 other_store (act.Store provider object stripe) n = absurd (n provider object stripe refl)
 other_store a n = refl
+
+-- ---- what a reply leaves of a core
+
+-- a reply that fits is one to the next action of the job at a place
+module _ (a : Inside) (c : CoreView) (k place : ℕ) (job : KeptJob) (r : Reply) (action : ActionValue)
+    (v : view_of a ≡ c) (h : IsCore a) (takes : TakesReply c k r)
+    (found : Some place ≡ position (λ (j : CoreJob). j.number == k) c.jobs)
+    (at : job ≡ get_or a.jobs.items place job)
+    (acts : (s : Setup) → IsJobKept s job →
+    action_next s a.table (core_job job) ≡ Some (seen_action action))
+    (free : wants_in c k ≡ None) (fits : k < 2 ^ 32) (q : Reply) (e : r ≡ q) (new : CoreView) where
+  pub here : StepHere c k place r (seen_action action)
+  here = step_here a c k place job r action v h takes found at acts
+
+  -- a core stands for what the machine comes to, by an answer that tells of it
+  abbrev Follows : (CoreJob → CoreView) → Type 0
+  Follows m = (j : CoreJob) (w s : State) (outcome : Outcome) →
+      OnMachine c k place j w s (seen_action action) outcome →
+      HasReply c k (ActsNext (seen_action action)) q → Tells k q outcome s →
+      ((y : Append) → s.append ≡ Some y → y.job ≡ k → entry_in c k ≡ Some y.entry) → CoreIs (m j) s
+
+  -- so a core is fed that becomes this one
+  pub fed : (m : CoreJob → CoreView) →
+      ((j : CoreJob) → slice_get c.jobs place ≡ Some j → new ≡ m j) →
+      ((j : CoreJob) → slice_get c.jobs place ≡ Some j → core_left new j.number < core_left c j.number) →
+      new.setup ≡ c.setup → LeavesTold c new → Follows m → GoesOnBy c k r new
+  fed m is falls setup leaves follows = record {
+    step = λ w s outcome moment stands happens told. subst (λ (x : CoreView). CoreIs x s)
+        (sym (is here.job here.here))
+        (follows here.job w s outcome
+        (on_machine c w s k place r (seen_action action) outcome moment here stands free fits happens)
+        (subst (HasReply c k (ActsNext (seen_action action))) e here.replies)
+        (subst (λ (x : Reply). Tells k x outcome s) e told.tells) told.entry);
+    falls = subst (λ (n : ℕ). core_left new n < core_left c n) here.number (falls here.job here.here);
+    setup = setup;
+    streams = leaves.streams;
+    told = leaves.told;
+  }
+
+  -- where the job ends
+  pub fed_off : (m : CoreView) → new ≡ m → m.jobs ≡ remove c.jobs place → m.setup ≡ c.setup →
+      Follows (λ (j : CoreJob). m) → GoesOnBy c k r new
+  fed_off m is js setup follows =
+      let gone : new.jobs ≡ remove c.jobs place = ap (λ (x : CoreView). x.jobs) is ∙ js in
+      fed (λ (j : CoreJob). m) (λ j l. is) (removed_falls a c new place v h gone)
+      (ap (λ (x : CoreView). x.setup) is ∙ setup)
+      (leaves_removed a c new place here.job v h here.here gone) follows
+
+  -- and where it goes on
+  pub fed_on : (m : CoreJob → CoreView) (x : CoreJob → CoreJob) →
+      ((j : CoreJob) → slice_get c.jobs place ≡ Some j → new ≡ m j) →
+      ((j : CoreJob) → slice_get c.jobs place ≡ Some j → core_left new j.number < core_left c j.number) →
+      (m here.job).jobs ≡ set c.jobs place (x here.job) → (m here.job).setup ≡ c.setup →
+      (x here.job).number ≡ here.job.number → (x here.job).told ≡ here.job.told → Follows m → GoesOnBy c k r new
+  fed_on m x is falls js setup number told follows =
+      let e = is here.job here.here in
+      fed m is falls (ap (λ (y : CoreView). y.setup) e ∙ setup)
+      (leaves_set c new place here.job (x here.job) here.here number told
+      (ap (λ (y : CoreView). y.jobs) e ∙ js)) follows

@@ -1,18 +1,8 @@
 -- Open streams of a core, as its jobs change.
-use Rattle.std.proofs.Common.{◌≡◌, ℕ, zero, suc, ◌+◌, ◌*◌, ◌<◌, ◌≤◌, ◌^◌, Bool, true, List, [], ◌∷◌, ◌++◌, Some, None, set, inl, inr, refl, ap, sym, subst, ◌∙◌, arith}
-use Rattle.std.specs.Prelude.{Option, if◌then◌else◌, ◌==◌, slice_get, remove}
-use Rattle.std.specs.List.{All}
-use Rattle.std.proofs.lemmas.Bool.{cases_Bool, cases_lt, eq-eqb, ne_eqb, eqb-true, false≢true}
-use Rattle.std.proofs.lemmas.List.Elements.{All-head, All-tail, All-set, All-push}
-use Rattle.std.proofs.lemmas.Option.{none-some}
-use Rattle.record_defs.specs.Records.{Setup}
+use Rattle.vault_core.proofs.Words.{◌≡◌, ℕ, zero, suc, ◌+◌, ◌<◌, ◌≤◌, ◌^◌, Bool, true, List, [], ◌∷◌, ◌++◌, Some, None, set, inl, inr, refl, ap, sym, subst, ◌∙◌, arith, if◌then◌else◌, ◌==◌, slice_get, remove, All, cases_Bool, cases_lt, eq-eqb, ne_eqb, eqb-true, false≢true, All-head, All-tail, All-set, All-push, none-some, Setup, Inside, stripe_size, aim_of_wish, CoreJob, CoreView, AreRising, job_in, wanted_at, wanted_by, told_by, told_in, HasNoStream, core_job, setup_kept, view_of, IsCore, IsLongest, IsToldAs, IsTold}
+use Rattle.std.proofs.Common.{◌*◌}
+use Rattle.std.specs.Prelude.{Option}
 use Rattle.vault_core.specs.declared.job.Job.{Job}
-use Rattle.vault_core.specs.declared.own.Core.TheInside.{Inside}
-use Rattle.vault_core.specs.Streams.{stripe_size}
-use Rattle.vault_core.specs.Wished.{aim_of_wish}
-use Rattle.vault_core.specs.View.{CoreJob, CoreView, AreRising, job_in, wanted_at, wanted_by, told_by, told_in, HasNoStream}
-use Rattle.vault_core.specs.Parts.{core_job, setup_kept, view_of, IsCore}
-use Rattle.vault_core.specs.Streams.{IsLongest, IsToldAs, IsTold}
 use Rattle.vault_core.proofs.Kept.{All-remove, gone}
 
 -- ---- an open stream goes on

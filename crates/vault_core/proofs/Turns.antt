@@ -1,18 +1,7 @@
 -- How many actions a job has on its files.
-use Rattle.std.proofs.Common.{◌≡◌, ℕ, suc, ◌+◌, ◌*◌, ◌-◌, Bool, List, [], ◌∷◌, length, inl, inr, refl, ap, ◌∙◌, length-append, arith}
-use Rattle.std.specs.Prelude.{sum_by}
-use Rattle.std.specs.List.{flat_map}
-use Rattle.std.proofs.lemmas.Bool.{cases_Bool}
-use Rattle.std.proofs.lemmas.List.{length-map}
-use Rattle.std.proofs.lemmas.List.Sums.{sum_by-cons}
-use Rattle.std.proofs.lemmas.List.FromFn.{length-range_with_len}
-use Rattle.machine_defs.specs.Actions.{Action}
-use Rattle.vault_core.specs.declared.wish.Wish.{Wish}
+use Rattle.vault_core.proofs.Words.{◌≡◌, ℕ, suc, ◌+◌, ◌-◌, Bool, List, [], ◌∷◌, length, inl, inr, refl, ap, ◌∙◌, arith, sum_by, flat_map, cases_Bool, length-map, sum_by-cons, length-range_with_len, Action, Wish, Task, flag_at, numbers, calls_from, rewrite_of, rewrites_from, work_of, turn_of, turns_from, tasks_of, closing_of, tasks_from, size_of_turn}
+use Rattle.std.proofs.Common.{◌*◌, length-append}
 use Rattle.vault_core.specs.declared.wish.Wish.TheVariants as wish
-use Rattle.vault_core.specs.declared.job.Task.{Task}
-use Rattle.vault_core.specs.View.{flag_at}
-use Rattle.vault_core.specs.Rest.{numbers, calls_from, rewrite_of, rewrites_from, work_of, turn_of, turns_from, tasks_of, closing_of, tasks_from}
-use Rattle.vault_core.specs.Making.{size_of_turn}
 
 length-calls : (n : ℕ) (w : Wish) (o t : ℕ) → length (calls_from 0 n w o t) ≡ n
 length-calls n w o t = let a : length (calls_from 0 n w o t) ≡ length (numbers 0 n) =
@@ -45,14 +34,11 @@ length-turn n w fl o t = let a = length-append (calls_from 0 n w o t) (work_of n
     length-calls n w o t in let c = by w in omega (arith, a, b, c)
   where
     by : (v : Wish) → n + length (work_of n v fl o t) ≡ size_of_turn n v fl
-    by (wish.Put name size own) = omega arith
     by (wish.Get name) = refl
-    by (wish.Drop name) = omega arith
-    by wish.Audit = omega arith
-    by wish.Upgrade = omega arith
     by wish.Repair = let e = length-rewrites n fl o t in
         let k : length (work_of n wish.Repair fl o t) ≡ suc (length (rewrites_from 0 n fl o t)) = refl in
         omega (arith, e, k)
+    by w = omega arith
 
 -- lists of one length in a row
 pub length-each : {X : Type 0} (f : X → List Action) (m : ℕ) (ks : List X) → ((k : X) → length (f k) ≡ m) →

@@ -1,44 +1,25 @@
 -- A stream that waits for a stripe: it is given one, or ended.
-use Rattle.std.proofs.Common.{◌≡◌, ◌≢◌, ℕ, zero, suc, ◌+◌, ◌*◌, ◌-◌, ◌^◌, ◌<◌, ◌≤◌, Bool, true, false, List, [], ◌∷◌, Some, None, length, set, get_or, inl, inr, refl, ap, sym, subst, ◌∙◌, arith}
-use Rattle.std.specs.Prelude.{Option, if◌then◌else◌, ◌==◌, is_some, position, slice_get, remove}
-use Rattle.std.specs.List.{AllZip}
-use Rattle.std.proofs.lemmas.Bool.{cases_Bool, false≢true, eqb-true, eq-eqb, ne_eqb}
-use Rattle.std.proofs.lemmas.Option.{slice_get_within, none-some}
-use Rattle.record_defs.specs.Records.{Setup}
-use Rattle.machine_defs.specs.Jobs.{Kind, PutJob, GetJob, DropJob, AuditJob, RepairJob, UpgradeJob, Aim, ToPut, aim_of, Job, job_of, without_job}
-use Rattle.machine_defs.specs.Actions.{Plan}
-use Rattle.machine_defs.specs.States.{State, Append, setup_in, ended}
-use Rattle.state_laws.specs.Orders.{moves_made}
+use Rattle.vault_core.proofs.Words.{◌≡◌, ◌≢◌, ℕ, zero, suc, ◌+◌, ◌-◌, ◌^◌, ◌<◌, ◌≤◌, Bool, true, false, List, [], ◌∷◌, Some, None, length, set, get_or, inl, inr, refl, ap, sym, subst, ◌∙◌, arith, if◌then◌else◌, ◌==◌, is_some, position, slice_get, remove, AllZip, cases_Bool, false≢true, eqb-true, eq-eqb, ne_eqb, slice_get_within, none-some, Setup, Kind, PutJob, Aim, ToPut, aim_of, job_of, without_job, Plan, State, Append, setup_in, ended, moves_made, other, number_of, Wish, Inside, CoreJob, CoreView, AreRising, job_in, wanted_at, wanted_by, wants_in, told_by, told_in, option_map, plan_in, stripe_size, IsToldAs, IsTold, AreTold, IsNextLength, IsGivenLength, FitsAim, FitsGiven, cut_aim, closed, given_more, IsStreamAt, MayClose, seen_plan, longest, shown, IsPutFrom, IsJobOf, IsCoreFlight, CoreIs, written_of, core_left, most_of, with_at, of_length, cut_tasks, cursor_behind, steps_behind, stripes_in, is_upgrade, rest_of, core_job, plan_kept, setup_kept, view_of, IsJobKept, IsCore, aim_of_wish}
+use Rattle.std.proofs.Common.{◌*◌}
+use Rattle.std.specs.Prelude.{Option}
+use Rattle.machine_defs.specs.Jobs.{Job}
 use Rattle.state_laws.proofs.Ends.{plain-ended}
-use Rattle.state_laws.proofs.JobLists.{other}
-use Rattle.machine_defs.proofs.JobLists.{number_of}
 use Rattle.vault_core.specs.declared.pinned.Pinned.{Pinned}
-use Rattle.vault_core.specs.declared.wish.Wish.{Wish}
 use Rattle.vault_core.specs.declared.wish.Wish.TheVariants as wish
 use Rattle.vault_core.specs.declared.job.Job.{Job as JobKept}
-use Rattle.vault_core.specs.declared.own.Core.TheInside.{Inside}
-use Rattle.vault_core.specs.View.{CoreJob, CoreView, AreRising, job_in, wanted_at, wanted_by, wants_in, told_by, told_in, plan_in}
-use Rattle.vault_core.specs.Streams.{stripe_size, IsToldAs, IsTold, AreTold, IsNextLength, IsGivenLength, FitsAim, FitsGiven, cut_aim, closed, given_more, IsStreamAt, MayClose}
-use Rattle.vault_core.specs.Carried.{seen_plan, longest, shown, IsPutFrom, IsJobOf, IsCoreFlight, CoreIs}
-use Rattle.vault_core.specs.Coming.{written_of, core_left, most_of}
-use Rattle.vault_core.specs.Fed.{with_at}
-use Rattle.vault_core.specs.Cut.{of_length, cut_tasks, cursor_behind, steps_behind}
-use Rattle.vault_core.specs.Targets.{stripes_in}
-use Rattle.machine_defs.specs.Sights.{is_upgrade}
 use Rattle.vault_core.proofs.Gating.{providers}
 use Rattle.vault_core.proofs.Moving.{kept_at, WentOn}
 use Rattle.vault_core.proofs.Cut.{ended-kept, ended-left, ended-room, ended-starts, ended-aim}
-use Rattle.vault_core.specs.Rest.{rest_of}
-use Rattle.vault_core.specs.Parts.{core_job, plan_kept, setup_kept, view_of, IsJobKept, IsCore}
-use Rattle.vault_core.specs.Wished.{aim_of_wish}
 use Rattle.vault_core.proofs.Pairs.{IsFirst, pair_some, in_set_same, in_set_other, in_remove_other}
 use Rattle.vault_core.proofs.Places.{found_at, found_none, first_of_position}
 use Rattle.vault_core.proofs.Kept.{gone, seen_at}
+use Rattle.vault_core.proofs.Gates.{set_with}
 use Rattle.vault_core.proofs.Told.{all_at, told_get}
 use Rattle.vault_core.proofs.Links.{profile-is}
 use Rattle.vault_core.proofs.Fronts.{shared, shared-waits}
 use Rattle.vault_core.proofs.Standing.{same_job}
-use Rattle.vault_core.proofs.Steps.{flight-stands, remove_stands, flight_beside}
+use Rattle.vault_core.specs.Changes.{IsMoreOf}
+use Rattle.vault_core.proofs.Steps.{flight-stands, stays_as, jobs_stand, remove_stands, flight_beside}
 use Rattle.vault_core.proofs.Falls.{in_number, left_job}
 
 -- ---- the stream
@@ -170,18 +151,9 @@ module _ (c : CoreView) (k place stripes : ℕ) (s : IsStreamAt c k place stripe
   pub set-stands : (w : State) → CoreIs c w → (x : CoreJob) → x.number ≡ k →
       ((m : Job) → job_of w.jobs k ≡ Some m → IsJobOf c.setup s.job m → IsJobOf c.setup x m) →
       CoreIs (with_at c place x) w
-  set-stands w is x n to = record {
-    sound = is.sound;
-    is_open = is.is_open;
-    none_alone = is.none_alone;
-    table = is.table;
-    setup = is.setup;
-    end = is.end;
-    jobs = zip c.jobs w.jobs place is.jobs first s.here (λ m r. to m r);
-    next_job = is.next_job;
-    append = flight-set w is x n;
-    barred = is.barred;
-  }
+  set-stands w is x n to = jobs_stand c w w (set c.jobs place x) c.append c.barred is is.sound
+      (stays_as w w w refl refl refl refl refl refl refl)
+      (zip c.jobs w.jobs place is.jobs first s.here (λ m r. to m r)) is.barred (flight-set w is x n)
     where
       zip : (cs : List CoreJob) (js : List Job) (i : ℕ) → AllZip (IsJobOf c.setup) cs js → IsFirst cs k i →
           slice_get cs i ≡ Some s.job →
@@ -234,11 +206,7 @@ module _ (c : CoreView) (k place stripes : ℕ) (s : IsStreamAt c k place stripe
       by : (kind : Kind) → FitsAim false length (aim_of kind) →
           IsPutFrom ((stripes + 1) * stripe_size c.setup m.profile) (aim_of kind)
       by (PutJob name bytes) l = (let z = size in omega (arith, z, l))
-      by (GetJob name) l = absurd l
-      by (DropJob name) l = absurd l
-      by AuditJob l = absurd l
-      by RepairJob l = absurd l
-      by UpgradeJob l = absurd l
+      by kind l = absurd l
 
   -- ---- with its last piece
 
@@ -307,14 +275,7 @@ module _ (c : CoreView) (k place stripes : ℕ) (s : IsStreamAt c k place stripe
       remove_stands c w (ended w m) k place c.append c.barred is
       (plain-ended 8 w is.sound m (subst (λ (i : ℕ). job_of w.jobs i ≡ Some m) (sym n) r)
       (unmoved w is m.number n)) (first c k place stripes s)
-      (record {
-        is_open = refl;
-        records = refl;
-        journal = refl;
-        end = refl;
-        next_job = refl;
-        alone = refl;
-      })
+      (stays_as w (ended w m) (ended w m) refl refl refl refl refl refl refl)
       is.barred (ap (without_job w.jobs) n) (flight w.append refl is.append)
     where
       flight : (o : Option Append) → w.append ≡ o → IsCoreFlight c o →
@@ -376,31 +337,29 @@ more-fits c k place stripes size s h =
     spread n size l = ap (λ (x : ℕ). n * x) (let f : size ≡ 1 + (size - 1) = omega (arith, l) in f)
         ∙ (let g : n * (1 + (size - 1)) ≡ n + n * (size - 1) = omega arith in g)
 
--- a core whose stream was told of its file
-pub record Takes (c new : CoreView) (k length : ℕ) (last : Bool) (told : Option ℕ) : Type 0 where
-  pub stands : (w : State) → CoreIs c w → FitsGiven last length (job_of w.jobs k) → CoreIs new w
-  pub given : told_in new.jobs k ≡ told
-  pub wants : wants_in new k ≡ None
-  pub left : core_left new k ≤ core_left c k
-  pub others : (other : ℕ) → other ≢ k → job_in new.jobs other ≡ job_in c.jobs other
-  pub kept : new ≡ record c { jobs = new.jobs }
-
 takes : (c new : CoreView) (k place stripes length : ℕ) (last : Bool) (s : IsStreamAt c k place stripes)
     (x : CoreJob) → x.number ≡ k → new ≡ with_at c place x → wanted_at c.setup x.place x.told ≡ None →
     most_of c.setup x ≤ most_of c.setup s.job →
     ((m : Job) → FitsAim last length (aim_of m.kind) → IsJobOf c.setup s.job m → IsJobOf c.setup x m) →
-    Takes c new k length last x.told
-takes c new k place stripes length last s x n e free l to = record {
-  stands = λ w is fit. subst (λ (y : CoreView). CoreIs y w) (sym e)
-      (set-stands c k place stripes s w is x n (λ m r. to m (fits-job last length (job_of w.jobs k) m r
-      fit)));
-  given = ap (λ (y : CoreView). told_in y.jobs k) e ∙ set-told c k place stripes s x n;
-  wants = ap (λ (y : CoreView). wants_in y k) e ∙ set-wants c k place stripes s x n free;
-  left = subst (λ (y : CoreView). core_left y k ≤ core_left c k) (sym e) (set-left c k place stripes s x n l);
-  others = λ other o. ap (λ (y : CoreView). job_in y.jobs other) e
-      ∙ set-other c k place stripes s x n other o;
-  kept = e ∙ ap (λ (js : List CoreJob). record c { jobs = js }) (sym (ap (λ (y : CoreView). y.jobs) e));
-}
+    (last ≡ false → x.told ≡ Some (stripes + 1)) → (last ≡ true → x.told ≡ None) →
+    IsMoreOf c k length last new
+takes c new k place stripes length last s x n e free l to more closes =
+    let given : told_in new.jobs k ≡ x.told =
+    ap (λ (y : CoreView). told_in y.jobs k) e ∙ set-told c k place stripes s x n in
+    record {
+      stands = λ w is fit. subst (λ (y : CoreView). CoreIs y w) (sym e)
+          (set-stands c k place stripes s w is x n (λ m r. to m (fits-job last length (job_of w.jobs k) m r
+          fit)));
+      more = λ i waits goes. given ∙ (more goes ∙ ap (λ (o : Option ℕ). option_map (λ (n : ℕ). n + 1) o)
+          (sym (wants-is c k place stripes s) ∙ waits));
+      closed = λ done. given ∙ closes done;
+      wants = ap (λ (y : CoreView). wants_in y k) e ∙ set-wants c k place stripes s x n free;
+      left = subst (λ (y : CoreView). core_left y k ≤ core_left c k) (sym e)
+          (set-left c k place stripes s x n l);
+      others = λ other o. ap (λ (y : CoreView). job_in y.jobs other) e
+          ∙ set-other c k place stripes s x n other o;
+      kept = e ∙ ap (λ (js : List CoreJob). record c { jobs = js }) (sym (ap (λ (y : CoreView). y.jobs) e));
+    }
 
 module _ (c : CoreView) (k place stripes length : ℕ) (last : Bool) (s : IsStreamAt c k place stripes)
     (told : (j : CoreJob) → job_in c.jobs k ≡ Some j →
@@ -431,26 +390,26 @@ module _ (c : CoreView) (k place stripes length : ℕ) (last : Bool) (s : IsStre
   -- it was given one more stripe
   pub takes-more : (new : CoreView) → last ≡ false →
       ((j : CoreJob) → slice_get c.jobs place ≡ Some j →
-      new ≡ with_at c place (given_more (stripes + 1) j)) →
-      Takes c new k length last (Some (stripes + 1))
+      new ≡ with_at c place (given_more (stripes + 1) j)) → IsMoreOf c k length last new
   takes-more new e f =
       let h = next-is false e in
-      subst (λ (b : Bool). Takes c new k length b (Some (stripes + 1))) (sym e)
+      subst (λ (b : Bool). IsMoreOf c k length b new) (sym e)
       (takes c new k place stripes length false s (given_more (stripes + 1) s.job)
       (stream-number c k place stripes s) (f s.job s.here) (more-goes c k place stripes s s.some)
       (omega arith)
-      (more-of c k place stripes s length (sym h.0) (more-within c k place stripes length s h)))
+      (more-of c k place stripes s length (sym h.0) (more-within c k place stripes length s h))
+      (λ goes. refl) (λ done. absurd (false≢true done)))
 
   -- its file is at its end
   pub takes-last : (new : CoreView) → last ≡ true →
       ((j : CoreJob) → slice_get c.jobs place ≡ Some j → new ≡ with_at c place (closed length j)) →
       ((j : CoreJob) → slice_get c.jobs place ≡ Some j →
-      most_of c.setup (closed length j) ≤ most_of c.setup j) →
-      Takes c new k length last None
+      most_of c.setup (closed length j) ≤ most_of c.setup j) → IsMoreOf c k length last new
   takes-last new e f l =
-      subst (λ (b : Bool). Takes c new k length b None) (sym e)
+      subst (λ (b : Bool). IsMoreOf c k length b new) (sym e)
       (takes c new k place stripes length true s (closed length s.job) (stream-number c k place stripes s)
-      (f s.job s.here) refl (l s.job s.here) (closed-of c k place stripes s length))
+      (f s.job s.here) refl (l s.job s.here) (closed-of c k place stripes s length)
+      (λ goes. absurd (false≢true (sym goes))) (λ done. refl))
 
 -- ---- as it is kept
 
@@ -460,16 +419,8 @@ pub retold-kept : (s : Setup) (job : JobKept) (o : Option ℕ) → IsJobKept s j
 unfolding rest_of
 retold-kept s job o kept = record {
   steady = record {
-    stays = record {
-      tasks = kept.steady.stays.tasks;
-      idle = kept.steady.stays.idle;
-      wishable = kept.steady.stays.wishable;
-      known = kept.steady.stays.known;
-      own = kept.steady.stays.own;
-      flags = kept.steady.stays.flags;
-      counts = kept.steady.stays.counts;
-      padded = kept.steady.stays.padded;
-    };
+    stays = set_with s.n job (record job { told = o }) refl refl refl kept.steady.stays.tasks
+        kept.steady.stays.idle kept.steady.stays.counts kept.steady.stays.padded kept.steady.stays;
     comes = kept.steady.comes;
     within = kept.steady.within;
   };
@@ -509,11 +460,7 @@ pub record ClosedHere (s : Setup) (old new : JobKept) (length : ℕ) : Type 0 wh
 
 aim_cut : (size : ℕ) (w : Wish) → aim_of_wish (of_length size w) ≡ cut_aim size (aim_of_wish w)
 aim_cut size (wish.Put name length own) = refl
-aim_cut size (wish.Get name) = refl
-aim_cut size (wish.Drop name) = refl
-aim_cut size wish.Audit = refl
-aim_cut size wish.Repair = refl
-aim_cut size wish.Upgrade = refl
+aim_cut size w = refl
 
 -- it is kept, and needs no more than before
 pub closed_here : (a : Inside) (c : CoreView) (place : ℕ) (old new : JobKept) (given size stripes : ℕ) →

@@ -1,27 +1,11 @@
 -- What a job has before it at its begin are the actions of its plan.
-use Rattle.std.proofs.Common.{◌≡◌, ℕ, ◌+◌, ◌-◌, ◌≤◌, Bool, true, false, List, [], ◌∷◌, ◌++◌, Option, Some, None, length, map, drop, inl, inr, refl, ap, sym, ◌∙◌, append_assoc, arith}
-use Rattle.std.specs.Prelude.{nat_lt, ◌==◌, if◌then◌else◌}
-use Rattle.std.specs.List.{flat_map, range_with_len}
+use Rattle.vault_core.proofs.Words.{◌≡◌, ℕ, ◌+◌, ◌-◌, ◌≤◌, Bool, true, false, List, [], ◌∷◌, ◌++◌, Some, None, length, map, inl, inr, refl, ap, sym, ◌∙◌, append_assoc, arith, nat_lt, ◌==◌, if◌then◌else◌, flat_map, range_with_len, cases_Bool, false≢true, nat_tests, append-nil, length-drop, upto, Setup, profiled, Aim, Action, SyncGate, Store, Ask, Work, Remove, End, append_actions, on_each_provider, on_each_stripe, store_plan, open_actions, rewrite_plan, rounds_of, remove_plan, Plan, plan_actions, Wish, Task, core_pins, plan_in, planned, planned_by, flag_at, numbers, call_of, calls_from, rewrite_of, turn_of, turns_from, tasks_of, tasks_from, tasks_on, targets_of, stripes_in, turns_for, tasks_made, is_taker, listed_older, removals_of, aim_of_wish, is_opener, is_caller, plan_kept}
+use Rattle.std.proofs.Common.{Option, drop}
 use Rattle.std.proofs.Math.Seq.{drop-append-add}
-use Rattle.std.proofs.lemmas.Bool.{cases_Bool, false≢true}
-use Rattle.std.proofs.lemmas.Bool.Decides.{nat_tests}
-use Rattle.std.proofs.lemmas.List.{append-nil, length-append, length-drop}
-use Rattle.code_defs.specs.Points.{upto}
-use Rattle.record_defs.specs.Records.{Setup}
-use Rattle.machine_defs.specs.Setups.{profiled}
-use Rattle.machine_defs.specs.Jobs.{Aim}
-use Rattle.machine_defs.specs.Actions.{Action, SyncGate, Store, Ask, Work, Remove, End, append_actions, on_each_provider, on_each_stripe, store_plan, open_actions, rewrite_plan, rounds_of, remove_plan, Plan, plan_actions}
+use Rattle.std.proofs.lemmas.List.{length-append}
 use Rattle.vault_core.specs.declared.pinned.Pinned.{Pinned}
-use Rattle.vault_core.specs.declared.wish.Wish.{Wish}
 use Rattle.vault_core.specs.declared.wish.Wish.TheVariants as wish
-use Rattle.vault_core.specs.declared.job.Task.{Task}
 use Rattle.vault_core.specs.declared.job.Job.{Job}
-use Rattle.vault_core.specs.View.{core_pins, plan_in, planned, planned_by, flag_at}
-use Rattle.vault_core.specs.Rest.{numbers, call_of, calls_from, rewrite_of, turn_of, turns_from, tasks_of, tasks_from, tasks_on}
-use Rattle.vault_core.specs.Targets.{targets_of, stripes_in, turns_for, tasks_made}
-use Rattle.vault_core.specs.Going.{is_taker, listed_older, removals_of}
-use Rattle.vault_core.specs.Wished.{aim_of_wish, is_opener}
-use Rattle.vault_core.specs.Parts.{is_caller, plan_kept}
 use Rattle.vault_core.proofs.Rests.{turns_none}
 
 -- the moves of a first append

@@ -10,6 +10,7 @@
 --   IsJobOf s c j               == a job of a core stands for a job of the machine; an open stream for each
 --                                  put with at least the stripes given so far
 --   IsShortAim aim              == a put of this aim has at most 2^22 bytes
+--   IsShortKindOf told wish k   == the machine's kind of a wish, or of a stream, with at most 2^22 bytes
 --   IsCoreFlight c append       == the append in flight is that of the same job, and its record is the one
 --                                  that this job writes
 --   CoreIs c w                  == a core stands for a state of the machine: its vault is open, nothing runs
@@ -98,6 +99,10 @@ IsAimOf (Some told) w kind = aim_of_wish w ≡ longest (aim_of kind)
 abbrev pub IsShortAim : Aim → Type 0
 IsShortAim (ToPut name size) = size ≤ 2 ^ 22
 IsShortAim aim = Unit {0}
+
+-- the machine's kind of a wish, or of a stream, with at most 2^22 bytes
+abbrev pub IsShortKindOf : Option ℕ → Wish → Kind → Type 0
+IsShortKindOf told w kind = IsAimOf told w kind × IsShortAim (aim_of kind)
 
 -- a put of this aim has at least so many bytes
 abbrev pub IsPutFrom : ℕ → Aim → Type 0

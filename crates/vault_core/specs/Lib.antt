@@ -13,3 +13,4 @@ pub mod Reserves
 pub mod Fed
 pub mod Refusing
 pub mod Making
+pub mod Changes

@@ -4,19 +4,22 @@
 --   call_of wish object turn j     == what a job calls provider j for at a stripe or a round: a store, a
 --                                     fetch or an ask
 --   calls_from j ..                == the calls from provider j on
+--   rewrite_of .. j                == the store of a repair on provider j, if it is flagged
 --   rewrites_from j ..             == the stores of a repair on the flagged providers from j on
 --   work_of ..                     == the work on a stripe that was fetched, and the stores of a repair
---   turn_of, turns_from, tasks_of  == all actions at one stripe or round, at those of an object from one on,
---                                     at those of all objects
+--   turn_of ..                     == all actions at one stripe or round of an object
+--   turns_from turn ..             == those at the stripes or rounds of an object from this one on
+--   tasks_of ..                    == those at all stripes or rounds of these objects
 --   closing_of wish                == the actions behind those on files: the last append, and the end
 --   moves_from at                  == the moves of an append from this one on
---   actions_after at, move_actions == those behind it; those from one on, if there is one
+--   actions_after at               == the moves of an append behind this one
+--   move_actions at                == those from this one on, or none where there is no such move
 --   tasks_from ..                  == the actions from the first of these tasks on
 --   behind_spot ..                 == the actions behind those at a stripe or round
 --   rest_from ..                   == the actions from a cursor on
---   tasks_on n job tasks           == the first of these of a job
---   beyond n job spot              == the second
---   rest_at n job cursor           == the third
+--   tasks_on n job tasks           == the actions of a job from the first of these tasks on
+--   beyond n job spot              == the actions of a job behind those at a stripe or round
+--   rest_at n job cursor           == the actions of a job from a cursor on
 --   rest_of n job                  == the actions that a job has not yet made
 use Rattle.std.specs.Prelude.{ℕ, ◌+◌, ◌-◌, Bool, List, [], ◌∷◌, ◌++◌, drop, map, Option, None, Some, if◌then◌else◌}
 use Rattle.std.specs.List.{flat_map, range_with_len}
@@ -64,11 +67,11 @@ work_of n w flagged object turn = []
 abbrev pub turn_of : ℕ → Wish → List Bool → ℕ → ℕ → List Action
 turn_of n w flagged object turn = calls_from 0 n w object turn ++ work_of n w flagged object turn
 
--- those from a stripe or round of an object on
+-- all actions at the stripes or rounds of an object from one on
 abbrev pub turns_from : ℕ → ℕ → Wish → List Bool → ℕ → ℕ → List Action
 turns_from turn n w flagged object turns = flat_map (turn_of n w flagged object) (numbers turn turns)
 
--- those at all stripes or rounds of these objects
+-- all actions at all stripes or rounds of these objects
 abbrev pub tasks_of : ℕ → Wish → List Bool → List Task → List Action
 tasks_of n w flagged tasks = flat_map (λ (t : Task). turns_from 0 n w flagged t.object t.turns) tasks
 
@@ -121,7 +124,7 @@ rest_from n w flagged tasks (at.Closing m) = moves_from m ++ End ∷ []
 rest_from n w flagged tasks (at.Removing object j) = map (λ k. Remove k object) (numbers j n) ++ End ∷ []
 rest_from n w flagged tasks at.Ending = End ∷ []
 
--- the same of a job
+-- the actions of a job from the first of these tasks on
 abbrev pub tasks_on : ℕ → Job → List Task → List Action
 tasks_on n job tasks = tasks_from n job.wish job.flagged tasks
 

@@ -1,12 +1,9 @@
-ghost use Rattle.std.specs.Prelude.{◌≡◌, ◌≢◌, ◌<◌, ◌≤◌, ◌+◌, ◌-◌, ◌^◌, ◌∷◌, ◌++◌, [], ℕ, length, sum_by, None, Some, OnOk, OnErr, IfErr, IfOk};
+ghost use Rattle.std.specs.Prelude.{◌≡◌, ◌<◌, ◌≤◌, ◌+◌, ◌-◌, ◌^◌, ◌∷◌, ◌++◌, [], ℕ, length, sum_by, None, Some, OnOk, OnErr, IfErr, IfOk};
 ghost use Rattle.std.specs.Option.{option_map};
-ghost use Rattle.machine_defs.specs.Jobs.{Kind, aim_of};
-ghost use Rattle.machine_defs.specs.Events.{IsSpelledKind};
-ghost use Rattle.machine_defs.specs.States.{State};
-ghost use Rattle.machine_defs.specs.Begins.{refusal_of_begin};
 ghost use Rattle.vault_table.specs.Values.{file_of_entry};
 ghost use Rattle.vault_core.specs.declared.wish.BeginFault.TheVariants as fault;
-ghost use Rattle.vault_core.specs.Carried.{CoreIs, IsKindOf, IsAimOf, IsShortAim, refusal_of, job_begun};
+ghost use Rattle.vault_core.specs.Carried.{IsKindOf, IsShortKindOf};
+ghost use Rattle.vault_core.specs.Changes.{BeginsAs};
 ghost use Rattle.record_defs.specs.Records.{largest_journal};
 ghost use Rattle.vault_core.specs.Parts.{core_job, IsJobKept, MayBegin};
 ghost use Rattle.vault_core.specs.Streams.{IsTold};
@@ -29,17 +26,7 @@ impl Core {
         requires number { self.old.next_job < 2 ^ 32 - 1 }
         requires size { IsShort wish }
         requires file { option_map file_of_entry file ≡ file_named self.old.table wish }
-        ensures begun { (w : State) (kind : Kind) (moment : ℕ) → CoreIs self.old w → IsKindOf wish kind
-            → IsSpelledKind kind →
-            OnOk result (CoreIs self.new (job_begun w moment kind (profile_named wish))) }
-        ensures accepted { (w : State) (kind : Kind) → CoreIs self.old w → IsKindOf wish kind
-            → OnOk result (refusal_of_begin 8 w kind (profile_named wish) ≡ None) }
-        ensures number { IfOk result (λ job. job ≡ self.old.next_job) }
-        ensures refused { (w : State) (kind : Kind) → CoreIs self.old w → IsKindOf wish kind →
-            IfErr result (λ why. why ≢ fault.Memory
-            → refusal_of_begin 8 w kind (profile_named wish) ≡ Some (refusal_of why)) }
-        ensures unchanged { OnErr result (self.new ≡ self.old) }
-        ensures setup { self.new.setup ≡ self.old.setup }
+        ensures begins { BeginsAs self.old (IsKindOf wish) (profile_named wish) result self.new }
         ensures streams { HasNoStream self.old → HasNoStream self.new }
         ensures told { (number : ℕ) → told_in self.new.jobs number ≡ told_in self.old.jobs number }
     {
@@ -57,19 +44,8 @@ impl Core {
         requires size { IsShort wish }
         requires file { option_map file_of_entry file ≡ file_named self.old.table wish }
         requires told { MayBegin told wish }
-        ensures begun { (w : State) (kind : Kind) (moment : ℕ) → CoreIs self.old w → IsAimOf told wish kind
-            → IsShortAim (aim_of kind) → IsSpelledKind kind →
-            OnOk result (CoreIs self.new (job_begun w moment kind (profile_named wish))) }
-        ensures accepted { (w : State) (kind : Kind) → CoreIs self.old w → IsAimOf told wish kind
-            → IsShortAim (aim_of kind) →
-            OnOk result (refusal_of_begin 8 w kind (profile_named wish) ≡ None) }
-        ensures number { IfOk result (λ job. job ≡ self.old.next_job) }
-        ensures refused { (w : State) (kind : Kind) → CoreIs self.old w → IsAimOf told wish kind
-            → IsShortAim (aim_of kind) → IfErr result (λ why. why ≢ fault.Memory
-            → refusal_of_begin 8 w kind (profile_named wish) ≡ Some (refusal_of why)) }
+        ensures begins { BeginsAs self.old (IsShortKindOf told wish) (profile_named wish) result self.new }
         ensures jobs { OnOk result (AreMore told self.old self.new) }
-        ensures unchanged { OnErr result (self.new ≡ self.old) }
-        ensures setup { self.new.setup ≡ self.old.setup }
     {
         if let Some(fault) = self.refusal(&wish, &file) {
             return Err(fault);

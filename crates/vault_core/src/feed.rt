@@ -6,9 +6,6 @@ ghost use Rattle.vault_core.specs.declared.job.Job.{Job as JobValue};
 ghost use Rattle.record_defs.specs.Records.{Record as EntryData};
 ghost use Rattle.record_defs.specs.Acceptance.{refused};
 ghost use Rattle.machine_defs.specs.Actions.{WriteBody, SyncGate};
-ghost use Rattle.machine_defs.specs.Events.{Outcome, Step};
-ghost use Rattle.machine_defs.specs.States.{State};
-ghost use Rattle.machine_defs.specs.Machine.{Happens};
 ghost use Rattle.record_codec.specs.Entries.{counted, IsPadded};
 ghost use Rattle.vault_table.specs.Values.{file_of_entry, IsFoldOf};
 ghost use Rattle.vault_core.specs.View.{CoreJob, job_in, told_in, wanted_by, wants_in, HasNoStream};
@@ -16,8 +13,7 @@ ghost use Rattle.vault_core.specs.Coming.{TakesReply, core_left, written_by};
 ghost use Rattle.vault_core.specs.Wished.{aim_of_wish};
 ghost use Rattle.vault_core.specs.Going.{listed_older};
 ghost use Rattle.vault_core.specs.Fed.{first_at, goes_plainly, ended_at, barred_at, stepped_job, with_at, judged, number_as, number_drawn, drawn, is_pinned_in, removable_in, taken_as, HasGated};
-ghost use Rattle.vault_core.specs.Carried.{CoreIs};
-ghost use Rattle.vault_core.specs.Replies.{IsReplyTo};
+ghost use Rattle.vault_core.specs.Changes.{GoesOnBy};
 
 use crate::action::Action;
 use crate::job::Job;
@@ -48,14 +44,7 @@ impl Core {
     pub fn feed(&mut self, job: u32, reply: Reply)
         requires reply { TakesReply self.old job reply }
         requires given { wants_in self.old job ≡ None }
-        ensures step { (w new : State) (outcome : Outcome) (moment : ℕ) → CoreIs self.old w
-            → Happens 8 moment w (Step job) outcome new →
-            IsReplyTo self.old job reply outcome new → CoreIs self.new new }
-        ensures falls { core_left self.new job < core_left self.old job }
-        ensures setup { self.new.setup ≡ self.old.setup }
-        ensures streams { HasNoStream self.old → HasNoStream self.new }
-        ensures told { (number : ℕ) (j : CoreJob) → job_in self.new.jobs number ≡ Some j
-            → j.told ≡ told_in self.old.jobs number }
+        ensures { GoesOnBy self.old job reply self.new }
     {
         let Some(place) = self.place_of(job) else {
             return;

@@ -24,6 +24,7 @@ use crate::job::{Job, Task};
 use crate::own::Core;
 use crate::pinned::Pinned;
 use crate::wish::Wish;
+use code_defs::PROFILES;
 use code_points::{Profile, find_profile};
 use record_codec::{Counts, Setup};
 use std::alloc::Global;
@@ -34,7 +35,7 @@ use vault_table::{Entry, Table};
 fn profile_at(number: u8) -> Profile
     ensures { result.keep ≡ (profile_of number).keep }
 {
-    match find_profile(number.min(4)) {
+    match find_profile(number.min(PROFILES - 1)) {
         Some(profile) => profile,
         None => unreachable!(),
     }

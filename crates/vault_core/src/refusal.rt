@@ -18,17 +18,10 @@ use crate::look::MOST_JOBS;
 use crate::own::Core;
 use crate::room::{reserved, sizes};
 use crate::wish::{BeginFault, Wish};
+use code_defs::PROFILES;
 use record_codec::Name;
+use record_defs::{LARGEST_JOURNAL, MOST_FILES};
 use vault_table::{Entry, Table};
-
-/// How many files can be in effect.
-pub const MOST_FILES: usize = 1024;
-
-/// How many profiles there are.
-pub const PROFILES: u8 = 5;
-
-/// The largest length of a journal, in bytes.
-pub const LARGEST_JOURNAL: u64 = 1 << 24;
 
 /// The largest number that a put or an audit draws.
 pub const LARGEST_NUMBER: u64 = u64::MAX - 31;

@@ -1,14 +1,12 @@
 //! Streams: puts that are given their files stripe by stripe.
-ghost use Rattle.std.specs.Prelude.{◌≡◌, ◌≢◌, ◌<◌, ◌≤◌, ◌+◌, ◌-◌, ◌^◌, ℕ, List, None, Some, true, false, length, map, is_some, slice_get, OnOk, OnErr, IfOk, IfErr};
-ghost use Rattle.record_defs.specs.Records.{largest_file, Setup as SetupData};
-ghost use Rattle.machine_defs.specs.Jobs.{PutJob, Job as MachineJob, job_of};
-ghost use Rattle.machine_defs.specs.Events.{IsSpelledKind};
+ghost use Rattle.std.specs.Prelude.{◌≡◌, ◌≢◌, ◌<◌, ◌≤◌, ◌-◌, ◌^◌, ℕ, None, Some, true, length, map, is_some, slice_get, IfOk};
+ghost use Rattle.record_defs.specs.Records.{Setup as SetupData};
+ghost use Rattle.machine_defs.specs.Jobs.{Job as MachineJob, job_of};
 ghost use Rattle.machine_defs.specs.States.{State, ended};
-ghost use Rattle.machine_defs.specs.Begins.{refusal_of_begin};
-ghost use Rattle.vault_core.specs.declared.wish.BeginFault.TheVariants as fault;
-ghost use Rattle.vault_core.specs.Carried.{CoreIs, refusal_of, job_begun};
-ghost use Rattle.vault_core.specs.Coming.{core_left, most_of};
-ghost use Rattle.vault_core.specs.Streams.{stripe_size, IsToldAs, IsGivenLength, FitsGiven, closed, given_more, IsStreamAt, MayClose};
+ghost use Rattle.vault_core.specs.Carried.{CoreIs};
+ghost use Rattle.vault_core.specs.Changes.{BeginsAs, IsPutUnder, IsMoreOf};
+ghost use Rattle.vault_core.specs.Coming.{most_of};
+ghost use Rattle.vault_core.specs.Streams.{stripe_size, IsToldAs, IsGivenLength, closed, given_more, IsStreamAt, MayClose};
 ghost use Rattle.vault_core.specs.Cut.{of_length, of_turns, cut_tasks, cursor_behind, steps_behind};
 ghost use Rattle.vault_core.specs.Fed.{with_at};
 ghost use Rattle.vault_core.specs.View.{CoreJob, job_in, told_in, wanted_at, wants_in};
@@ -20,9 +18,7 @@ use crate::own::Core;
 use crate::pinned::Pinned;
 use crate::wish::{BeginFault, Wish};
 use record_codec::{Name, Setup};
-
-/// The largest length of a file.
-const LARGEST_FILE: u32 = 4_194_304;
+use record_defs::LARGEST_FILE;
 
 /// The wish of a put whose file has so many bytes.
 fn of_length(wish: Wish, length: u32) -> Wish
@@ -125,20 +121,10 @@ impl Core {
     /// the job.
     pub fn begin_stream(&mut self, name: Name, profile: Option<u8>) -> Result<u32, BeginFault>
         requires { self.old.next_job < 2 ^ 32 - 1 }
-        ensures begun { (w : State) (bytes : List ℕ) (moment : ℕ) → CoreIs self.old w
-            → IsSpelledKind (PutJob name bytes) → length bytes ≤ largest_file
-            → OnOk result (CoreIs self.new (job_begun w moment (PutJob name bytes) profile)) }
-        ensures accepted { (w : State) (bytes : List ℕ) → CoreIs self.old w → length bytes ≤ largest_file
-            → OnOk result (refusal_of_begin 8 w (PutJob name bytes) profile ≡ None) }
-        ensures number { IfOk result (λ job. job ≡ self.old.next_job) }
-        ensures refused { (w : State) (bytes : List ℕ) → CoreIs self.old w → length bytes ≤ largest_file
-            → IfErr result (λ why. why ≢ fault.Memory
-            → refusal_of_begin 8 w (PutJob name bytes) profile ≡ Some (refusal_of why)) }
+        ensures begins { BeginsAs self.old (IsPutUnder name) profile result self.new }
         ensures open { IfOk result (λ job. told_in self.new.jobs job ≡ Some 0) }
         ensures others { (other : ℕ) → other ≢ self.old.next_job
             → told_in self.new.jobs other ≡ told_in self.old.jobs other }
-        ensures unchanged { OnErr result (self.new ≡ self.old) }
-        ensures setup { self.new.setup ≡ self.old.setup }
     {
         self.start_job(
             Wish::Put {
@@ -169,15 +155,7 @@ impl Core {
         requires length { (j : CoreJob) → job_in self.old.jobs job ≡ Some j
             → IsGivenLength (stripe_size self.old.setup j.plan.profile) (wants_in self.old job) length last }
         requires wants { is_some (wants_in self.old job) ≡ true }
-        ensures stands { (w : State) → CoreIs self.old w → FitsGiven last length (job_of w.jobs job)
-            → CoreIs self.new w }
-        ensures more { (stripes : ℕ) → wants_in self.old job ≡ Some stripes → last ≡ false
-            → told_in self.new.jobs job ≡ Some (stripes + 1) }
-        ensures closed { last ≡ true → told_in self.new.jobs job ≡ None }
-        ensures wants { wants_in self.new job ≡ None }
-        ensures left { core_left self.new job ≤ core_left self.old job }
-        ensures others { (other : ℕ) → other ≢ job → job_in self.new.jobs other ≡ job_in self.old.jobs other }
-        ensures kept { self.new ≡ record self.old { jobs = self.new.jobs } }
+        ensures { IsMoreOf self.old job length last self.new }
     {
         let (place, stripes) = self.waiting(job);
         if last {

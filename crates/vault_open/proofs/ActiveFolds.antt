@@ -1,17 +1,9 @@
 -- One record taken out of the text of the active area.
-use Rattle.std.proofs.Common.{◌≡◌, ◌≢◌, inl, inr, ℕ, ◌+◌, ◌<◌, ◌≤◌, ◌^◌, List, ◌∷◌, length, sym, ap, ◌∙◌, arith, None}
-use Rattle.record_defs.specs.Records.{Record}
-use Rattle.record_defs.specs.Areas.{Area, base_of, end_in, HoldsIn}
-use Rattle.record_defs.specs.Acceptance.{refused}
+use Rattle.vault_open.proofs.Words.{◌≡◌, ◌≢◌, inl, inr, ℕ, ◌+◌, ◌<◌, ◌≤◌, ◌^◌, List, ◌∷◌, length, sym, ap, ◌∙◌, arith, None, Record, Area, base_of, end_in, HoldsIn, refused, IsReadIn, StopsIn, Kept, IsFoldOf, IsBadStart, StopsBehind, refusal_answer, IsReadInto, IsFolded, IsFoldFault}
 use Rattle.record_defs.proofs.Sizes.{length-entries}
-use Rattle.journal_core.specs.Gates.{IsReadIn, StopsIn}
-use Rattle.vault_table.specs.Values.{Kept, IsFoldOf}
 use Rattle.vault_table.specs.Causes.{IsCause}
 use Rattle.vault_table.specs.declared.entry.Refused.{Refused}
 use Rattle.vault_table.specs.declared.entry.Refused.TheVariants as fault
-use Rattle.opening_defs.specs.Journals.{IsBadStart, StopsBehind}
-use Rattle.vault_open.specs.Faults.{refusal_answer}
-use Rattle.vault_open.specs.Folding.{IsReadInto, IsFolded, IsFoldFault}
 
 module _ (bytes : List ℕ) (area : Area) (rs : List Record) (t : Kept) (gate : ℕ)
     (is : IsReadInto bytes area rs t gate) where

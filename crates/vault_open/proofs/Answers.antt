@@ -1,12 +1,9 @@
 -- What holds of an answer by its cause.
-use Rattle.std.proofs.Common.{◌≡◌, ℕ, List, Ok, Err, sym, subst, ◌∙◌}
-use Rattle.std.specs.Prelude.{Result, IfErr, IsErrAnd}
-use Rattle.stream_model.specs.declared.fault.WriteFault.{WriteFault}
+use Rattle.vault_open.proofs.Words.{◌≡◌, ℕ, List, sym, subst, ◌∙◌, IfErr, IsErrAnd, WriteFault, InitFault, init_answer, IsTextFault}
+use Rattle.std.proofs.Common.{Ok, Err}
+use Rattle.std.specs.Prelude.{Result}
 use Rattle.stream_model.specs.declared.fault.WriteFault.TheVariants as write_fault
-use Rattle.vault_open.specs.declared.fault.InitFault.{InitFault}
 use Rattle.vault_open.specs.declared.fault.InitFault.TheVariants as init_fault
-use Rattle.vault_open.specs.Faults.{init_answer}
-use Rattle.vault_open.specs.Preparing.{IsTextFault}
 
 -- what follows from the error of an answer is a statement about that error
 pub err-from : {T E : Type 0} (r : Result T E) (P Q : E → Type 0) → ((e : E) → P e → Q e) → IsErrAnd r P →

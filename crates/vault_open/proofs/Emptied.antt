@@ -1,18 +1,8 @@
 -- A disk that counts as empty, and what is written to its front.
-use Rattle.std.proofs.Common.{◌≡◌, ℕ, suc, ◌+◌, ◌≤◌, min, true, List, [], ◌∷◌, ◌++◌, length, take, drop, Option, Some, None, refl, sym, ap, ◌∙◌, subst, arith, length-append, length-take, length-drop}
-use Rattle.std.specs.Prelude.{IfSome}
-use Rattle.std.proofs.lemmas.List.{length-map, drop_all}
-use Rattle.stream_model.specs.declared.fault.WriteFault.{WriteFault}
+use Rattle.vault_open.proofs.Words.{◌≡◌, ℕ, suc, ◌+◌, ◌≤◌, min, true, List, [], ◌∷◌, ◌++◌, length, take, drop, Option, Some, None, refl, sym, ap, ◌∙◌, subst, arith, length-append, length-take, length-drop, IfSome, length-map, drop_all, WriteFault, Cells, reads, firm, loose, written, synced, Torn, IsImage, EachImage, Goes, text, A, IsBlank, AreShort, emptied}
 use Rattle.stream_model.specs.declared.fault.WriteFault.TheVariants as write_fault
-use Rattle.device_defs.specs.Cells.{Cells, reads, firm, loose}
-use Rattle.device_defs.specs.Disks.{written, synced, Torn}
-use Rattle.device_defs.specs.Images.{IsImage, EachImage}
-use Rattle.device_defs.specs.Told.{Goes}
-use Rattle.record_defs.specs.Journal.{text}
-use Rattle.record_defs.specs.Areas.{A}
 use Rattle.record_defs.proofs.AreaLaws.{text-active}
 use Rattle.journal_core.proofs.CellLemmas.{written-behind, settled-loose}
-use Rattle.vault_open.specs.Preparing.{IsBlank, AreShort, emptied}
 
 -- ---- images
 

@@ -1,31 +1,14 @@
 -- The setup as the first record of a disk.
-use Rattle.std.proofs.Common.{◌≡◌, inl, inr, ℕ, ◌+◌, ◌≤◌, ◌^◌, List, [], ◌∷◌, ◌++◌, length, take, drop, Option, Some, None, refl, sym, ap, ◌∙◌, subst, arith, length-append, length-take}
-use Rattle.std.specs.Prelude.{IfSome, IsTrue, OnOk, IfErr, Result, Ok, Err}
-use Rattle.std.specs.Option.{option_map}
-use Rattle.std.proofs.lemmas.List.{take-take, take-append-le, drop_at}
-use Rattle.device_defs.specs.Cells.{Cells, reads, firm}
-use Rattle.device_defs.specs.Disks.{written, synced}
-use Rattle.device_defs.specs.Told.{Goes}
-use Rattle.device_defs.proofs.Lasting.{reads-firm}
-use Rattle.record_defs.specs.Records.{Setup, Record, SetUp, PutStart, PutDone, Drop, AuditStart, AuditDone, RepairDone, is_in_grammar, PutDoneIn, Version, Resume}
+use Rattle.vault_open.proofs.Words.{◌≡◌, inl, inr, ℕ, Bool, WriteFault, MayStandWith, ◌+◌, ◌<◌, ◌≤◌, ◌^◌, List, [], ◌∷◌, ◌++◌, length, take, drop, Option, Some, None, refl, sym, ap, ◌∙◌, subst, arith, length-append, length-take, IfSome, IsTrue, OnOk, IfErr, option_map, take-take, take-append-le, drop_at, Cells, reads, firm, written, synced, Goes, reads-firm, Setup, Record, SetUp, PutStart, PutDone, Drop, AuditStart, AuditDone, RepairDone, is_in_grammar, PutDoneIn, Version, Resume, Area, A, B, base_of, IsSwitched, StandsActive, active-long, entry_of, StopsIn, StandsFirm, IsAfterMovesIn, read-firm, IfSome-same, IsSetUpOn, reads-within, InitFault, IsBlank, IsReadied, with_first_record, first_answer, IsFirstFault, IsFirstAnswer, IsTextFault}
+use Rattle.std.specs.Prelude.{Result, Ok, Err}
 use Rattle.record_defs.specs.Spellings.{spelling}
-use Rattle.record_defs.specs.Areas.{Area, A, B, base_of, IsSwitched, StandsActive}
-use Rattle.record_defs.proofs.Standing.{active-long}
 use Rattle.record_codec.specs.declared.records.Record.{Record as RecordValue}
 use Rattle.record_codec.specs.declared.records.Record.TheVariants as kind
-use Rattle.record_codec.specs.Entries.{entry_of}
 use Rattle.journal_core.specs.declared.append.Append.{Append}
-use Rattle.journal_core.specs.Appends.{Appends, gate_of, body_of, moves_of}
-use Rattle.journal_core.specs.Gates.{StopsIn}
-use Rattle.journal_core.specs.Texts.{StandsFirm, IsAfterMovesIn}
-use Rattle.journal_core.proofs.AreaStands.{read-firm}
+use Rattle.journal_core.specs.Appends.{Appends, gate_of, body_of, moves_of, TurnsAppend, AppendsDisk, KeepsRecords}
 use Rattle.journal_core.proofs.AreaMoves.{begins-in}
-use Rattle.journal_core.proofs.MoveLemmas.{IfSome-same}
-use Rattle.opening_defs.specs.Journals.{IsSetUpOn}
-use Rattle.opening_defs.proofs.SetUps.{reads-within}
-use Rattle.vault_open.specs.declared.fault.InitFault.{InitFault}
+use Rattle.journal_core.proofs.Turning.{both_ok, keeps-records}
 use Rattle.vault_open.specs.declared.fault.InitFault.TheVariants as init_fault
-use Rattle.vault_open.specs.Preparing.{IsBlank, IsReadied, with_first_record, first_answer, IsFirstFault, IsFirstAnswer, IsTextFault}
 use Rattle.vault_open.proofs.Readings.{reads-synced}
 
 -- ---- the first record of a journal
@@ -135,19 +118,48 @@ module _ (base : ℕ) (body : List ℕ) (blank : Cells) (within : base + 1 ≤ l
 blank-firm : (area : Area) (cells : Cells) → IsBlank area cells → StandsFirm area [] cells
 blank-firm area cells is = subst (StandsFirm area []) (sym is.firm_is) (read-firm is.bytes area [] is.stands)
 
+-- an append behind no records, so many moves of which are made
+pub record IsOnWay (area : Area) (r : Record) (n : ℕ) (a : Append) (told : Option Cells) : Type 0 where
+  pub appends : Appends area [] r a told
+  pub moves : moves_of a ≡ n
+
 -- an append of the setup to a blank disk is at its start, behind no records
 pub begun : (s : Setup) (area : Area) (base : ℕ) (a : Append) (told : Option Cells) (r : Record) →
     base ≡ base_of area → r ≡ SetUp s → IsTrue (is_in_grammar r) → gate_of a ≡ base → moves_of a ≡ 0 →
-    body_of a ≡ spelling r ++ 0 ∷ [] → IfSome told (IsBlank area) → Appends area [] (SetUp s) a told
+    body_of a ≡ spelling r ++ 0 ∷ [] → IfSome told (IsBlank area) → IsOnWay area (SetUp s) 0 a told
 begun s area base a told r base_is r_is valid gate_is moves_is body_is blank = record {
-  records = refl;
-  entry = subst (λ (r : Record). IsTrue (is_in_grammar r)) r_is valid;
-  gate = omega (arith, gate_is, base_is);
-  body = body_is ∙ ap (λ (r : Record). spelling r ++ 0 ∷ []) r_is;
-  disk = subst (λ (m : ℕ). IfSome told (IsAfterMovesIn m area [] (body_of a))) (sym moves_is)
-      (IfSome-same (IsBlank area) (IsAfterMovesIn 0 area [] (body_of a))
-      (λ cells is. begins-in area [] (body_of a) cells (blank-firm area cells is)) told told refl blank);
+  moves = moves_is;
+  appends = record {
+    records = refl;
+    entry = subst (λ (r : Record). IsTrue (is_in_grammar r)) r_is valid;
+    gate = omega (arith, gate_is, base_is);
+    body = body_is ∙ ap (λ (r : Record). spelling r ++ 0 ∷ []) r_is;
+    disk = subst (λ (m : ℕ). IfSome told (IsAfterMovesIn m area [] (body_of a))) (sym moves_is)
+        (IfSome-same (IsBlank area) (IsAfterMovesIn 0 area [] (body_of a))
+        (λ cells is. begins-in area [] (body_of a) cells (blank-firm area cells is)) told told refl blank);
+  };
 }
+
+module _ (area : Area) (r : Record) (n : ℕ) (a b : Append) (result : Result Bool WriteFault)
+    (old new : Option Cells) (few : n < 4) (is : IsOnWay area r n a old) (t : TurnsAppend a result b)
+    (d : AppendsDisk a result old new) where
+  keeps : KeepsRecords area [] r a result b new
+  keeps = keeps-records area [] r a b result old new is.appends
+      (let moves = is.moves in omega (arith, few, moves)) t d
+
+  -- an append of a first record goes on by a move
+  pub goes-on : OnOk result (IsOnWay area r (n + 1) b new)
+  goes-on = both_ok result
+      (λ next on. record { appends = on; moves = next ∙ ap (λ (k : ℕ). k + 1) is.moves }) t.count.next keeps.moved
+
+  -- however it is left, the disk stands for no record or for that one
+  pub stands-with : MayStandWith area [] r new
+  stands-with = keeps.between
+
+  -- once it is done, the disk stands for it
+  pub stands-ready : OnOk result (n + 1 ≡ 4 → IfSome new (StandsFirm area (r ∷ [])))
+  stands-ready = both_ok result
+      (λ next ready four. ready (next ∙ ap (λ (k : ℕ). k + 1) is.moves ∙ four)) t.count.next keeps.ready
 
 -- ---- a store is set up on a disk that was made ready
 

@@ -2,25 +2,8 @@
 --
 --   Shows w image     == an image stands for what may be in effect
 --   MayRead w area rs == a disk that stands for a state may read these records in this area
-use Rattle.std.proofs.Common.{◌≡◌, ◌⊎◌, inl, inr, ℕ, ◌<◌, ◌≤◌, true, List, [], ◌∷◌, length, Option, Some, None, refl, sym, ◌∙◌, subst, arith}
-use Rattle.std.specs.Prelude.{IfSome}
-use Rattle.device_defs.specs.Cells.{Cells, firm}
-use Rattle.device_defs.proofs.Lasting.{image-firm, each_image-mono}
-use Rattle.record_defs.specs.Records.{Record, largest_journal}
-use Rattle.record_defs.specs.Table.{setup_of, version_of}
-use Rattle.record_defs.specs.Acceptance.{AreAccepted}
-use Rattle.record_defs.specs.Areas.{Area, other_area, end_in, StandsActive}
-use Rattle.record_defs.specs.Packed.{packed}
+use Rattle.vault_open.proofs.Words.{◌≡◌, ◌⊎◌, inl, inr, ℕ, ◌<◌, ◌≤◌, true, List, [], ◌∷◌, length, Option, Some, None, refl, sym, ◌∙◌, subst, arith, IfSome, Cells, firm, image-firm, each_image-mono, Record, largest_journal, setup_of, version_of, AreAccepted, Area, other_area, end_in, StandsActive, packed, State, Doubt, MayHold, StandsPlain, StandsWithDoubt, StandsSwitched, StandsForState, StandsFirm, AllStandIn, MayStandWith, MayStandIn, one_meaning, firm-image, IsSoundJournal, IsSound, is_some-at, second-set_up, AreAppended, packed-not-appended, switched-room}
 use Rattle.record_defs.proofs.PackLaws.{packed_are}
-use Rattle.machine_defs.specs.States.{State, Doubt}
-use Rattle.machine_defs.specs.Openings.{MayHold}
-use Rattle.machine_defs.specs.Stands.{StandsPlain, StandsWithDoubt, StandsSwitched, StandsForState}
-use Rattle.journal_core.specs.Texts.{StandsFirm, AllStandIn, MayStandWith, MayStandIn}
-use Rattle.journal_core.proofs.Meanings.{one_meaning}
-use Rattle.journal_core.proofs.AreaStands.{firm-image}
-use Rattle.state_laws.specs.Sound.{IsSoundJournal, IsSound}
-use Rattle.state_laws.proofs.Records.{is_some-at, second-set_up, AreAppended}
-use Rattle.state_laws.proofs.Packs.{packed-not-appended, switched-room}
 use Rattle.vault_open.proofs.Texts.{short-none, short-first}
 
 -- an image stands for what may be in effect in a state

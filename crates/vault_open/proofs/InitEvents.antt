@@ -1,47 +1,17 @@
 -- An init as an event of the machine.
-use Rattle.std.proofs.Common.{◌≡◌, inl, inr, ℕ, ◌<◌, ◌≤◌, Bool, true, false, List, [], ◌∷◌, length, Option, Some, None, Result, Ok, Err, refl, sym, ap, ◌∙◌, subst, arith, length-take}
-use Rattle.std.specs.Prelude.{IfSome, IsTrue, is_some, IsErrAnd}
+use Rattle.vault_open.proofs.Words.{◌≡◌, inl, inr, ℕ, ◌<◌, ◌≤◌, Bool, true, false, List, [], ◌∷◌, length, Option, Some, None, refl, sym, ap, ◌∙◌, subst, arith, length-take, IfSome, IsTrue, is_some, IsErrAnd, option_map, false≢true, cases_lt, WriteFault, Cells, reads, synced, IsImage, EachImage, Goes, each_image-mono, Setup, Record, SetUp, PutStart, PutDone, Drop, AuditStart, AuditDone, RepairDone, PutDoneIn, Version, Resume, InEffect, RepairDue, is_setup, is_appended, largest_journal, Area, other_area, StandsActive, packed, setup_of, NoSetup, AreAccepted, active-front, active-take, State, Doubt, brought, StandsForState, LeavesDoubt, Inits, InitsBy, InitsClosed, StandsFirm, MayStandWith, one_meaning, bad_is_none, IsSoundJournal, IsSound, second-set_up, journal-brought, InitFault, Devices, devices, AreDevices, journal_read, IsFree, IsBlankIn, BeginsWithSetup, BeginsOtherwise, IsBadInit, blank-free, IsInitFault, IsNoWrite, MayInit, MakesInit, init_answer, IsBlank, IsReadied, IsHalfReady}
+use Rattle.std.proofs.Common.{Result, Ok, Err}
 use Rattle.std.specs.List.{list_all}
-use Rattle.std.specs.Option.{option_map}
-use Rattle.std.proofs.lemmas.Bool.{false≢true, cases_lt}
 use Rattle.std.proofs.lemmas.Option.{none-some}
-use Rattle.stream_model.specs.declared.fault.WriteFault.{WriteFault}
 use Rattle.stream_model.specs.declared.fault.WriteFault.TheVariants as write_fault
-use Rattle.device_defs.specs.Cells.{Cells, reads}
-use Rattle.device_defs.specs.Disks.{synced}
 use Rattle.device_defs.specs.Faults.{Rose, HasCause, last_count}
-use Rattle.device_defs.specs.Images.{IsImage, EachImage}
-use Rattle.device_defs.specs.Told.{Goes}
 use Rattle.device_defs.specs.Providers.{Provider}
 use Rattle.device_defs.proofs.PickLaws.{IsImage-reads}
-use Rattle.device_defs.proofs.Lasting.{each_image-mono}
-use Rattle.record_defs.specs.Records.{Setup, Record, SetUp, PutStart, PutDone, Drop, AuditStart, AuditDone, RepairDone, PutDoneIn, Version, Resume, InEffect, RepairDue, is_setup, is_appended, largest_journal}
-use Rattle.record_defs.specs.Areas.{Area, other_area, StandsActive}
-use Rattle.record_defs.specs.Packed.{packed}
-use Rattle.record_defs.specs.Table.{setup_of}
-use Rattle.record_defs.specs.Acceptance.{NoSetup, AreAccepted}
-use Rattle.record_defs.proofs.Standing.{active-front, active-take}
 use Rattle.machine_defs.specs.Events as events
 use Rattle.machine_defs.specs.Events.{Outcome, Init}
 use Rattle.machine_defs.specs.Refusals as refusal
-use Rattle.machine_defs.specs.States.{State, Doubt, brought}
-use Rattle.machine_defs.specs.Stands.{StandsForState}
-use Rattle.machine_defs.specs.Openings.{LeavesDoubt, Inits, InitsBy, InitsClosed}
 use Rattle.machine_defs.specs.Machine.{Happens}
-use Rattle.journal_core.specs.Texts.{StandsFirm, MayStandWith}
-use Rattle.journal_core.proofs.Meanings.{one_meaning, bad_is_none}
-use Rattle.state_laws.specs.Sound.{IsSoundJournal, IsSound}
-use Rattle.state_laws.proofs.Records.{second-set_up}
-use Rattle.state_laws.proofs.Packs.{journal-brought}
-use Rattle.vault_open.specs.declared.fault.InitFault.{InitFault}
 use Rattle.vault_open.specs.declared.fault.InitFault.TheVariants as init_fault
-use Rattle.vault_open.specs.Devices.{Devices, devices, AreDevices}
-use Rattle.opening_defs.specs.Journals.{journal_read, IsFree, IsBlankIn, BeginsWithSetup, BeginsOtherwise, IsBadInit}
-use Rattle.opening_defs.proofs.SetUps.{blank-free}
-use Rattle.vault_open.specs.Causes.{IsInitFault, IsNoWrite}
-use Rattle.vault_open.specs.Inits.{MayInit, MakesInit}
-use Rattle.vault_open.specs.Faults.{init_answer}
-use Rattle.vault_open.specs.Preparing.{IsBlank, IsReadied, IsHalfReady}
 use Rattle.vault_open.proofs.Images.{Shows, MayRead, packed-some, more-some, shown-read, shown-short, shown-long, read-accepted, read-fits, doubt-shown, firm-shown, bytes-shown, shown-again}
 
 -- ---- what bytes stand for

@@ -1,8 +1,6 @@
 -- What a master key is.
-use Rattle.std.proofs.Common.{◌≡◌, ℕ, List, length, arith}
-use Rattle.std.specs.Prelude.{IsTrue}
+use Rattle.vault_open.proofs.Words.{◌≡◌, ℕ, List, length, arith, IsTrue, is_master}
 use Rattle.std.proofs.lemmas.Bool.Decides.{nat_tests}
-use Rattle.record_defs.specs.Records.{is_master}
 use Rattle.record_codec.proofs.Fields.{IsBytes}
 use Rattle.record_codec.proofs.Takes.{IsBytes-all}
 

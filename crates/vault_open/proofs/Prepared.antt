@@ -1,23 +1,7 @@
 -- A disk that is made ready for its first record, and what a failed init leaves of it.
-use Rattle.std.proofs.Common.{◌≡◌, ◌⊎◌, inl, inr, ℕ, ◌<◌, ◌≤◌, List, [], ◌∷◌, length, Option, Some, None, refl, sym, ap, ◌∙◌, subst, arith, length-take}
-use Rattle.std.specs.Prelude.{IfSome}
-use Rattle.std.specs.Option.{option_map}
-use Rattle.device_defs.specs.Cells.{Cells, reads}
-use Rattle.device_defs.specs.Disks.{written, synced}
-use Rattle.device_defs.specs.Images.{IsImage, EachImage}
-use Rattle.device_defs.specs.Told.{Goes}
-use Rattle.record_defs.specs.Records.{Setup, SetUp, largest_journal}
-use Rattle.record_defs.specs.Journal.{text, StandsFor}
-use Rattle.record_defs.specs.Areas.{Area, A, StandsActive}
-use Rattle.record_defs.proofs.Standing.{active-front}
-use Rattle.journal_core.specs.Texts.{MayStandWith}
-use Rattle.vault_open.specs.declared.fault.InitFault.{InitFault}
+use Rattle.vault_open.proofs.Words.{◌≡◌, ◌⊎◌, inl, inr, ℕ, ◌<◌, ◌≤◌, List, [], ◌∷◌, length, Option, Some, None, refl, sym, ap, ◌∙◌, subst, arith, length-take, IfSome, option_map, Cells, reads, written, synced, IsImage, EachImage, Goes, Setup, SetUp, largest_journal, text, StandsFor, Area, A, StandsActive, active-front, MayStandWith, InitFault, journal_read, IsBlankIn, IsResynced, MayBeLeft, blank-free, IsInitFault, IsBlank, IsReadied, IsHalfReady, emptied, IsTextFault}
 use Rattle.vault_open.specs.declared.fault.InitFault.TheVariants as init_fault
-use Rattle.opening_defs.specs.Journals.{journal_read, IsBlankIn, IsResynced, MayBeLeft}
 use Rattle.opening_defs.proofs.Resyncs.{image-resynced}
-use Rattle.opening_defs.proofs.SetUps.{blank-free}
-use Rattle.vault_open.specs.Causes.{IsInitFault}
-use Rattle.vault_open.specs.Preparing.{IsBlank, IsReadied, IsHalfReady, emptied, IsTextFault}
 use Rattle.vault_open.proofs.Readings.{reads-synced}
 use Rattle.vault_open.proofs.Stores.{IsLookedAt}
 use Rattle.vault_open.proofs.Emptied.{emptied-is, text-blank}

@@ -1,13 +1,5 @@
 -- What is read of a disk that may tell what it holds.
-use Rattle.std.proofs.Common.{◌≡◌, ℕ, ◌<◌, false, min, List, length, take, drop, Option, Some, None, ap, ◌∙◌, subst, arith}
-use Rattle.std.specs.Prelude.{IfSome}
-use Rattle.std.specs.Option.{option_map}
-use Rattle.std.proofs.lemmas.List.{take_min, length-map}
-use Rattle.device_defs.specs.Cells.{Cells, reads}
-use Rattle.device_defs.specs.Disks.{synced}
-use Rattle.device_defs.proofs.Lasting.{reads-firm}
-use Rattle.record_defs.specs.Records.{largest_journal}
-use Rattle.opening_defs.specs.Journals.{journal_read}
+use Rattle.vault_open.proofs.Words.{◌≡◌, ℕ, ◌<◌, false, min, List, length, take, drop, Option, Some, None, ap, ◌∙◌, subst, arith, IfSome, option_map, take_min, length-map, Cells, reads, synced, reads-firm, largest_journal, journal_read}
 
 -- a sync leaves what is read
 pub reads-synced : (cells : Cells) → reads (synced cells) ≡ reads cells

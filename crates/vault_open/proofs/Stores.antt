@@ -1,26 +1,8 @@
 -- A store as a start reads it, and why none was read.
-use Rattle.std.proofs.Common.{◌≡◌, ◌≢◌, inl, inr, ℕ, ◌<◌, ◌≤◌, ◌&&◌, List, [], length, Option, Some, None, refl, sym, ap, ◌∙◌, subst, arith, length-take}
-use Rattle.std.specs.Prelude.{IfSome, IsTrue}
-use Rattle.std.specs.Option.{option_map}
+use Rattle.vault_open.proofs.Words.{◌≡◌, ◌≢◌, inl, inr, ℕ, ◌<◌, ◌≤◌, ◌&&◌, List, [], length, Option, Some, None, refl, sym, ap, ◌∙◌, subst, arith, length-take, IfSome, IsTrue, option_map, Cells, reads, synced, Record, Setup, is_setup, is_master, largest_journal, StandsFor, Area, StandsActive, setup_of, active-front, with_master, StandsFirm, read-firm, none-set_up, setup-spelled, Kept, StartFault, journal_read, IsRead, IsStartFault, IsFolded, IsFoldFault}
 use Rattle.algebra_laws.proofs.Options.{some-not-none}
-use Rattle.device_defs.specs.Cells.{Cells, reads}
-use Rattle.device_defs.specs.Disks.{synced}
-use Rattle.record_defs.specs.Records.{Record, Setup, is_setup, is_master, largest_journal}
-use Rattle.record_defs.specs.Journal.{StandsFor}
-use Rattle.record_defs.specs.Areas.{Area, StandsActive}
-use Rattle.record_defs.specs.Table.{setup_of}
-use Rattle.record_defs.proofs.Standing.{active-front}
-use Rattle.record_codec.specs.Entries.{with_master}
-use Rattle.journal_core.specs.Texts.{StandsFirm}
-use Rattle.journal_core.proofs.AreaStands.{read-firm}
-use Rattle.state_laws.proofs.Records.{none-set_up, setup-spelled}
-use Rattle.vault_table.specs.Values.{Kept}
-use Rattle.vault_open.specs.declared.fault.StartFault.{StartFault}
 use Rattle.vault_open.specs.declared.fault.StartFault.TheVariants as start_fault
 use Rattle.vault_open.specs.declared.store.Store.{Store}
-use Rattle.opening_defs.specs.Journals.{journal_read, IsRead}
-use Rattle.vault_open.specs.Causes.{IsStartFault}
-use Rattle.vault_open.specs.Folding.{IsFolded, IsFoldFault}
 use Rattle.vault_open.specs.Stores.{IsStoreOf}
 
 -- these bytes were looked at, of a disk that tells what it holds

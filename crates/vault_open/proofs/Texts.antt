@@ -1,8 +1,5 @@
 -- What at most nine bytes stand for.
-use Rattle.std.proofs.Common.{◌≡◌, ◌≢◌, ℕ, ◌≤◌, List, [], ◌∷◌, length, refl, arith}
-use Rattle.record_defs.specs.Records.{Record}
-use Rattle.record_defs.specs.Areas.{Area, A, B, StandsActive}
-use Rattle.record_defs.proofs.Standing.{active-long, stands-long}
+use Rattle.vault_open.proofs.Words.{◌≡◌, ◌≢◌, ℕ, ◌≤◌, List, [], ◌∷◌, length, refl, arith, Record, Area, A, B, StandsActive, active-long, stands-long}
 
 some : (r : Record) (rs : List Record) → r ∷ rs ≢ []
 some r rs e = cc

@@ -8,11 +8,9 @@ ghost use Rattle.device_defs.specs.Told.{Goes};
 ghost use Rattle.opening_defs.specs.Journals.{journal_read, IsResynced};
 
 use disk_model::Disk;
+use record_defs::LARGEST_JOURNAL;
 use std::alloc::Global;
 use stream_model::WriteFault;
-
-/// How many bytes of a disk are looked at.
-const LIMIT: u64 = 1 << 24;
 
 /// The largest length of a disk that counts as empty, in bytes.
 const EMPTY: u64 = 9;
@@ -35,7 +33,7 @@ pub(crate) fn read_disk<D: Disk>(alloc: Global, disk: &mut D) -> Result<Option<V
     if len <= EMPTY {
         return Ok(None);
     }
-    let mut bytes = vec![in alloc; 0u8; len.min(LIMIT) as usize]?;
+    let mut bytes = vec![in alloc; 0u8; len.min(LARGEST_JOURNAL) as usize]?;
     let count = disk.read_at(0, &mut bytes)?;
     bytes.truncate(count);
     Ok(Some(bytes))

@@ -1,17 +1,9 @@
 -- The table goes on as the fold does.
-use Rattle.std.specs.Prelude.{◌≡◌, ◌≢◌, ℕ, zero, suc, ◌+◌, ◌-◌, ◌==◌, ◌<◌, ◌≤◌, List, [], ◌∷◌, ◌++◌, length, Option, None, Some, nat_le, if◌then◌else◌}
-use Rattle.std.proofs.Common.{refl, sym, ap, ◌∙◌, arith, set, inl, inr}
-use Rattle.std.proofs.lemmas.Bool.{cases_lt}
-use Rattle.std.proofs.lemmas.Bool.Decides.{nat_tests}
+use Rattle.vault_table.proofs.Words.{◌≢◌, ◌==◌, nat_le, if◌then◌else◌, refl, sym, ap, ◌∙◌, arith, set, inl, inr, cases_lt, nat_tests, Setup, Record, SetUp, PutStart, PutDone, Drop, AuditStart, AuditDone, RepairDone, PutDoneIn, Version, Resume, InEffect, RepairDue, started_as, files_of, setup_of, version_of, next_id, next_audit, running_audit, due_of, AreAccepted, put_done_refused, refused, refused_after, refused_first, find-files_of, packed_are, packed_is_idle, Kept, started_from, started_at, id_after, forgotten, IsFoldOf, put_done_refusal, refusal_after, refusal_before, refusal, with_record}
+use Rattle.std.specs.Prelude.{◌≡◌, ℕ, zero, suc, ◌+◌, ◌-◌, ◌<◌, ◌≤◌, List, [], ◌∷◌, ◌++◌, length, Option, None, Some}
 use Rattle.std.proofs.lemmas.List.{length-append, length-set}
-use Rattle.record_defs.specs.Records.{Setup, Record, SetUp, PutStart, PutDone, Drop, AuditStart, AuditDone, RepairDone, PutDoneIn, Version, Resume, InEffect, RepairDue}
-use Rattle.record_defs.specs.Table.{started_as, files_of, setup_of, version_of, next_id, next_audit, running_audit, due_of}
-use Rattle.record_defs.specs.Acceptance.{AreAccepted, put_done_refused, refused, refused_after, refused_first}
-use Rattle.record_defs.proofs.FilesLaws.{find-files_of}
 use Rattle.record_defs.specs.Packed.{packed}
-use Rattle.record_defs.proofs.PackLaws.{packed_are, packed_is_idle}
 use Rattle.vault_table.proofs.KeptNames.{name-past}
-use Rattle.vault_table.specs.Values.{Kept, started_from, started_at, id_after, forgotten, IsFoldOf, put_done_refusal, refusal_after, refusal_before, refusal, with_record}
 
 -- ---- refusals
 

@@ -1,16 +1,8 @@
 -- Started puts, as they are kept.
-use Rattle.std.specs.Prelude.{◌≡◌, ℕ, zero, suc, ◌+◌, ◌%◌, ◌<◌, ◌≤◌, true, false, List, [], ◌∷◌, ◌++◌, length, take, drop, Option, None, Some, nat_le, if◌then◌else◌}
-use Rattle.std.specs.List.{list_all}
-use Rattle.std.proofs.Common.{refl, sym, ap, ◌∙◌, arith, set, get_or}
-use Rattle.std.proofs.lemmas.Bool.Decides.{nat_tests}
-use Rattle.std.proofs.lemmas.List.{take_all, take-append-le, drop-append-le, length-drop, drop-drop}
-use Rattle.vault_table.specs.Values.{started_from}
-use Rattle.std.specs.Prelude.{◌*◌, ◌/◌, ◌==◌, slice_index_or}
-use Rattle.std.proofs.Common.{length-append, length-set, inl, inr}
-use Rattle.std.proofs.lemmas.Bool.{cases_Bool, cases_lt, eqb-true, leb-true, le-leb, lt-leb}
-use Rattle.record_defs.specs.Records.{is_name}
-use Rattle.std.proofs.lemmas.List.{get_or_append_left, get_or_at}
-use Rattle.vault_table.specs.Starts.{begins_at, name_of, kept_names, is_kept_name, with_mark, marks_for, AreNameMarks}
+use Rattle.vault_table.proofs.Words.{false, nat_le, if◌then◌else◌, list_all, refl, sym, ap, ◌∙◌, arith, set, get_or, nat_tests, take_all, take-append-le, drop-append-le, length-drop, drop-drop, started_from, ◌*◌, ◌/◌, ◌==◌, inl, inr, cases_Bool, cases_lt, eqb-true, leb-true, le-leb, lt-leb, is_name, get_or_append_left, get_or_at, begins_at, name_of, kept_names, is_kept_name, with_mark, marks_for, AreNameMarks}
+use Rattle.std.specs.Prelude.{◌≡◌, ℕ, zero, suc, ◌+◌, ◌%◌, ◌<◌, ◌≤◌, true, List, [], ◌∷◌, ◌++◌, length, take, drop, Option, None, Some}
+use Rattle.std.specs.Prelude.{slice_index_or}
+use Rattle.std.proofs.Common.{length-append, length-set}
 
 -- there are as many names as sizes
 pub length-names : (sizes letters : List ℕ) → length (kept_names sizes letters) ≡ length sizes

@@ -1,3 +1,4 @@
+mod Words
 pub mod Fold
 pub mod Orders
 pub mod Places

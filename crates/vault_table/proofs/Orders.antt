@@ -1,15 +1,8 @@
 -- Places of names.
-use Rattle.std.specs.Prelude.{◌≡◌, ℕ, zero, suc, ◌+◌, ◌<◌, true, false, List, [], ◌∷◌, ◌++◌, length, take, drop, None, Some}
-use Rattle.std.proofs.Common.{refl, sym, ap, subst, ◌∙◌, arith, get_or, set, append_assoc, length-append, length-take}
-use Rattle.std.specs.List.{insert, remove}
-use Rattle.std.proofs.lemmas.Bool.Decides.{nat_tests}
-use Rattle.std.proofs.lemmas.List.{take-append-drop, get_or_at, drop_at, set_at, length-take-le}
+use Rattle.vault_table.proofs.Words.{false, refl, sym, ap, subst, ◌∙◌, arith, get_or, set, append_assoc, length-take, insert, remove, nat_tests, take-append-drop, get_or_at, drop_at, set_at, length-take-le, File, is_name_before, are_ordered, find_file, with_file, without_file, same-refl, same-sym, before-trans, below-trans, before-not_same, order_of, comes_after, comes_before, IsHere, IsBetween}
+use Rattle.std.specs.Prelude.{◌≡◌, ℕ, zero, suc, ◌+◌, ◌<◌, true, List, [], ◌∷◌, ◌++◌, length, take, drop, None, Some}
+use Rattle.std.proofs.Common.{length-append}
 use Rattle.std.specs.declared.cmp.Ordering.TheVariants.{Less, Equal, Greater}
-use Rattle.record_defs.specs.Table.{File, is_name_before, are_ordered, find_file, with_file, without_file}
-use Rattle.record_defs.proofs.FilesLaws.{same-refl, same-sym}
-use Rattle.record_defs.proofs.OrderLaws.{before-trans, below-trans}
-use Rattle.record_defs.proofs.PackLaws.{before-not_same}
-use Rattle.vault_table.specs.Orders.{order_of, comes_after, comes_before, IsHere, IsBetween}
 
 -- a name that compares as less comes before the other
 pub order-less : (a b : List ℕ) → order_of a b ≡ Less → is_name_before a b ≡ true

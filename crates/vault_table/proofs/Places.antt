@@ -1,13 +1,6 @@
 -- Places of names among the entries of a table.
-use Rattle.std.specs.Prelude.{◌≡◌, ℕ, suc, ◌+◌, ◌<◌, ◌≤◌, true, false, not, nat_le, List, ◌∷◌, ◌++◌, length, take, drop, map}
-use Rattle.std.proofs.Common.{refl, sym, ap, subst, ◌∙◌, arith, get_or}
-use Rattle.std.specs.List.{insert, remove}
-use Rattle.std.proofs.lemmas.List.{get_or-map, length-map, map-append, take-map, drop-map}
-use Rattle.std.proofs.lemmas.Bool.{le-leb}
-use Rattle.record_defs.specs.Table.{File, is_name_before, are_ordered}
-use Rattle.vault_table.specs.declared.entry.Entry.{Entry}
-use Rattle.vault_table.specs.Orders.{comes_after, comes_before, IsHere, IsBetween}
-use Rattle.vault_table.specs.Values.{file_of_entry, is_full_without}
+use Rattle.vault_table.proofs.Words.{false, not, nat_le, refl, sym, ap, subst, ◌∙◌, arith, get_or, insert, remove, get_or-map, length-map, map-append, take-map, drop-map, le-leb, File, is_name_before, are_ordered, Entry, comes_after, comes_before, IsHere, IsBetween, file_of_entry, is_full_without}
+use Rattle.std.specs.Prelude.{◌≡◌, ℕ, suc, ◌+◌, ◌<◌, ◌≤◌, true, List, ◌∷◌, ◌++◌, length, take, drop, map}
 use Rattle.vault_table.proofs.Orders.{front-after, back-before, is_here, find-here, find-between}
 
 module _ (es : List Entry) (i : ℕ) (e : Entry) (lt : i < length es) (read : e ≡ get_or es i e) where

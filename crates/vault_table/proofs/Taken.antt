@@ -1,18 +1,8 @@
 -- What a table that takes a record promises of the fold.
-use Rattle.std.specs.Prelude.{◌≡◌, ℕ, ◌∷◌, List, Option, None, Result, Ok, Err, OnOk, IfErr, IsTrue, true, if◌then◌else◌, Bool, false}
-use Rattle.std.specs.Prelude.{[], map, ◌||◌, ◌==◌}
-use Rattle.std.specs.List.{list_any}
-use Rattle.vault_table.specs.declared.entry.Entry.{Entry}
-use Rattle.vault_table.specs.Values.{file_of_entry}
-use Rattle.record_defs.specs.Acceptance.{is_file_id}
-use Rattle.std.proofs.Common.{refl, sym, ap, subst, ◌∙◌, arith}
-use Rattle.record_defs.specs.Records.{Record}
-use Rattle.record_defs.specs.Acceptance.{refused, Refused as Reason}
-use Rattle.record_defs.specs.Table.{File, find_file, are_ordered, with_file, without_file}
-use Rattle.record_defs.proofs.OrderLaws.{ordered-without, ordered-with}
-use Rattle.record_defs.proofs.FilesLaws.{find-without, same-refl}
+use Rattle.vault_table.proofs.Words.{Result, Ok, Err, OnOk, IfErr, IsTrue, if◌then◌else◌, Bool, false, ◌||◌, ◌==◌, list_any, Entry, file_of_entry, is_file_id, refl, sym, ap, subst, ◌∙◌, arith, Record, refused, Reason, File, find_file, are_ordered, with_file, without_file, ordered-without, ordered-with, find-without, same-refl, Kept, IsFoldOf}
+use Rattle.std.specs.Prelude.{◌≡◌, ℕ, ◌∷◌, List, Option, None, true}
+use Rattle.std.specs.Prelude.{[], map}
 use Rattle.vault_table.specs.declared.entry.Refused.{Refused}
-use Rattle.vault_table.specs.Values.{Kept, IsFoldOf}
 use Rattle.vault_table.specs.Causes.{Applies, IsCause}
 use Rattle.vault_table.proofs.Fold.{same-refusal, goes-on}
 

@@ -1,6 +1,7 @@
 -- How a table is kept.
 use Rattle.std.specs.Prelude.{suc, ◌+◌, ◌^◌, ◌<◌, ◌≤◌, IsTrue, IfSome, length, map, vec_capacity}
 use Rattle.std.specs.Option.{option_map}
+use Rattle.record_defs.specs.Records.{most_files}
 use Rattle.record_defs.specs.Table.{are_ordered}
 use Rattle.record_codec.specs.Entries.{IsPadded}
 use Rattle.vault_table.specs.declared.table.Table.TheInside.{Inside}
@@ -24,6 +25,6 @@ kept_of a = record {
 -- bytes.
 pub record IsTable (a : Inside) : Type 0 where
   pub ordered : IsTrue (are_ordered (map file_of_entry a.files.items))
-  pub room : 1024 ≤ vec_capacity a.files
+  pub room : most_files ≤ vec_capacity a.files
   pub below : suc (a.passed + length a.started.names) < 2 ^ 64
   pub padded : IfSome a.due (λ x. IsPadded x.1)

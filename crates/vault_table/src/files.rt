@@ -2,6 +2,7 @@ ghost use Rattle.std.specs.Option.{option_map};
 ghost use Rattle.std.specs.Prelude.{◌≡◌, ◌==◌, ◌≤◌, map, not, is_some, IsTrue, MatchResult, vec_capacity, if◌then◌else◌};
 ghost use Rattle.record_defs.specs.Table.{are_ordered, find_file, with_file, without_file};
 ghost use Rattle.record_defs.specs.Acceptance.{is_file_id};
+ghost use Rattle.record_defs.specs.Records.{most_files};
 ghost use Rattle.std.specs.List.{list_any};
 ghost use Rattle.vault_table.specs.declared.entry.Entry.{Entry as EntryValue};
 ghost use Rattle.vault_table.specs.Orders.{order_of, IsHere, IsBetween};
@@ -10,10 +11,8 @@ ghost use Rattle.vault_table.specs.Values.{file_of_entry, is_full_without};
 use crate::entry::Entry;
 use crate::names::compare;
 use record_codec::Name;
+use record_defs::MOST_FILES;
 use std::cmp::Ordering;
-
-/// How many files can be in effect.
-pub const MOST_FILES: usize = 1024;
 
 /// How a file's name stands to a name in byte order.
 fn order(file: &Entry, name: &Name) -> Ordering
@@ -56,12 +55,12 @@ pub fn find(files: &[Entry], name: &Name) -> Option<Entry>
 /// for it.
 pub fn put_file(files: &mut Vec<Entry>, file: Entry) -> bool
     requires ordered { IsTrue (are_ordered (map file_of_entry files.old.items)) }
-    requires room { 1024 ≤ vec_capacity files.old }
+    requires room { most_files ≤ vec_capacity files.old }
     ensures fits { result ≡ not (is_full_without (map file_of_entry files.old.items) file.name) }
     ensures files { map file_of_entry files.new.items
         ≡ (if result then with_file (without_file (map file_of_entry files.old.items) file.name)
         (file_of_entry file) else map file_of_entry files.old.items) }
-    ensures room { 1024 ≤ vec_capacity files.new }
+    ensures room { most_files ≤ vec_capacity files.new }
 {
     match place_of(files, &file.name) {
         Ok(place) => {
@@ -89,12 +88,12 @@ pub fn has_id(files: &[Entry], id: u64) -> bool
 /// Takes the file of a name out; false where there is none.
 pub fn drop_file(files: &mut Vec<Entry>, name: &Name) -> bool
     requires ordered { IsTrue (are_ordered (map file_of_entry files.old.items)) }
-    requires room { 1024 ≤ vec_capacity files.old }
+    requires room { most_files ≤ vec_capacity files.old }
     ensures found { result ≡ is_some (find_file (map file_of_entry files.old.items) name.now) }
     ensures files { map file_of_entry files.new.items
         ≡ (if result then without_file (map file_of_entry files.old.items) name.now
         else map file_of_entry files.old.items) }
-    ensures room { 1024 ≤ vec_capacity files.new }
+    ensures room { most_files ≤ vec_capacity files.new }
 {
     match place_of(files, name) {
         Ok(place) => {

@@ -5,10 +5,11 @@ ghost use Rattle.record_codec.specs.Entries.{IsPadded};
 ghost use Rattle.vault_table.specs.Values.{file_of_entry, due_of_pair, setup_of_pair, id_after, forgotten, IsFoldOf};
 
 use crate::entry::Entry;
-use crate::files::{MOST_FILES, find};
+use crate::files::find;
 use crate::starts::Starts;
 use key_schedule::Master;
 use record_codec::{Counts, Name, Setup};
+use record_defs::MOST_FILES;
 use std::alloc::Global;
 use std::marker::Model;
 use stream_model::Memory;

@@ -8,7 +8,7 @@ ghost use Rattle.command_defs.specs.Seen.{Seen};
 ghost use Rattle.command_defs.specs.Opens as opens;
 ghost use Rattle.provider_model.specs.Seen.{provider_seen};
 ghost use Rattle.vault_open.specs.Devices.{devices};
-ghost use Rattle.vault.specs.Benches.{names_unknown};
+ghost use Rattle.code_defs.specs.Profiles.{is_unknown};
 ghost use Rattle.vault.specs.Devices.{devices_seen};
 ghost use Rattle.command_jobs.specs.declared.open.Unopened.TheVariants as unopened;
 ghost use Rattle.command_jobs.specs.Opened.{IsFreshOver, IsFreshFor};
@@ -98,7 +98,7 @@ pub fn run_stream<D: Disk, P: Provider, S: Source>(
     source: &mut S,
 ) -> Result<Streamed, Unbegun>
     requires ready { IsFreshFor vault (D.holds disk.old) (D.faults disk.old) (length providers.old) }
-    requires known { names_unknown profile ≡ false }
+    requires known { is_unknown profile ≡ false }
     ensures ended { IfOk result (λ streamed. (records : List Record) (old new : Seen)
         → (opened : opens.IsOpened old records)
         → IsFreshOver vault opened.area records (D.holds disk.old) (D.faults disk.old)

@@ -1,19 +1,13 @@
 //! Bodies of vault_core's public functions, for its must-fail edits to spoil.
-ghost use Rattle.std.specs.Prelude.{◌≡◌, ◌≢◌, ◌<◌, ◌≤◌, ◌+◌, ◌-◌, ◌^◌, ℕ, [], None, Some, true, false, is_some, OnOk, IfErr};
+ghost use Rattle.std.specs.Prelude.{◌≡◌, ◌<◌, ◌≤◌, ◌+◌, ◌-◌, ◌^◌, [], None, Some, true, is_some};
 ghost use Rattle.std.specs.Option.{option_map};
-ghost use Rattle.machine_defs.specs.Jobs.{Kind};
-ghost use Rattle.machine_defs.specs.Begins.{refusal_of_begin};
-ghost use Rattle.machine_defs.specs.Events.{Outcome, Step};
-ghost use Rattle.machine_defs.specs.Machine.{Happens};
-ghost use Rattle.machine_defs.specs.States.{State};
 ghost use Rattle.record_codec.specs.Entries.{entry_of};
 ghost use Rattle.vault_table.specs.Values.{file_of_entry, forgotten};
-ghost use Rattle.vault_core.specs.declared.wish.BeginFault.TheVariants as fault;
-ghost use Rattle.vault_core.specs.Carried.{CoreIs, IsKindOf, refusal_of};
-ghost use Rattle.vault_core.specs.Coming.{TakesReply, core_left, seen_next, next_in, entry_in};
-ghost use Rattle.vault_core.specs.Replies.{IsReplyTo};
+ghost use Rattle.vault_core.specs.Carried.{IsKindOf};
+ghost use Rattle.vault_core.specs.Changes.{BeginsAs, GoesOnBy, IsMoreOf};
+ghost use Rattle.vault_core.specs.Coming.{TakesReply, seen_next, next_in, entry_in};
 ghost use Rattle.vault_core.specs.Streams.{stripe_size, IsGivenLength};
-ghost use Rattle.vault_core.specs.View.{CoreJob, job_in, told_in, wants_in};
+ghost use Rattle.vault_core.specs.View.{CoreJob, job_in, wants_in};
 ghost use Rattle.vault_core.specs.Wished.{file_named, profile_named, IsShort};
 
 use record_codec::Record;
@@ -25,11 +19,7 @@ pub fn begin(core: &mut Core, wish: Wish, file: Option<Entry>) -> Result<u32, Be
     requires number { core.old.next_job < 2 ^ 32 - 1 }
     requires size { IsShort wish }
     requires file { option_map file_of_entry file ≡ file_named core.old.table wish }
-    ensures accepted { (w : State) (kind : Kind) → CoreIs core.old w → IsKindOf wish kind
-        → OnOk result (refusal_of_begin 8 w kind (profile_named wish) ≡ None) }
-    ensures refused { (w : State) (kind : Kind) → CoreIs core.old w → IsKindOf wish kind →
-        IfErr result (λ why. why ≢ fault.Memory
-        → refusal_of_begin 8 w kind (profile_named wish) ≡ Some (refusal_of why)) }
+    ensures begins { BeginsAs core.old (IsKindOf wish) (profile_named wish) result core.new }
 {
     core.begin(wish, file)
 }
@@ -53,9 +43,7 @@ pub fn entry(core: &Core, job: u32) -> Option<Record>
 pub fn feed(core: &mut Core, job: u32, reply: Reply)
     requires reply { TakesReply core.old job reply }
     requires given { wants_in core.old job ≡ None }
-    ensures step { (w new : State) (outcome : Outcome) (moment : ℕ) → CoreIs core.old w
-        → Happens 8 moment w (Step job) outcome new →
-        IsReplyTo core.old job reply outcome new → CoreIs core.new new }
+    ensures { GoesOnBy core.old job reply core.new }
 {
     core.feed(job, reply);
 }
@@ -72,9 +60,7 @@ pub fn given(core: &mut Core, job: u32, length: u32, last: bool)
     requires length { (j : CoreJob) → job_in core.old.jobs job ≡ Some j
         → IsGivenLength (stripe_size core.old.setup j.plan.profile) (wants_in core.old job) length last }
     requires wants { is_some (wants_in core.old job) ≡ true }
-    ensures more { (stripes : ℕ) → wants_in core.old job ≡ Some stripes → last ≡ false
-        → told_in core.new.jobs job ≡ Some (stripes + 1) }
-    ensures closed { last ≡ true → told_in core.new.jobs job ≡ None }
+    ensures { IsMoreOf core.old job length last core.new }
 {
     core.given(job, length, last);
 }

@@ -1,13 +1,13 @@
 //! Bodies of journal_core's public functions, for its must-fail edits to spoil.
-ghost use Rattle.std.specs.Prelude.{◌≡◌, ◌↔◌, ◌+◌, ◌^◌, ◌<◌, ◌≤◌, List, [], length, OnOk, OnErr, IfOk, IfErr, IsErrOf, IsTrue};
-ghost use Rattle.std.specs.Option.{option_map};
+ghost use Rattle.std.specs.Prelude.{◌≡◌, ◌+◌, ◌^◌, ◌<◌, ◌≤◌, List, [], length, IfOk, IfErr, IsErrOf};
 ghost use Rattle.stream_model.specs.declared.fault.WriteFault.TheVariants as write_fault;
 ghost use Rattle.device_defs.specs.Faults.{HasCause};
 ghost use Rattle.record_defs.specs.Records.{Record as Entry};
 ghost use Rattle.record_defs.specs.Areas.{Area, IsSwitched, HasNoFront};
 ghost use Rattle.journal_core.specs.Appends.{moves_of};
-ghost use Rattle.journal_core.specs.FourMoves.{moved_on};
+ghost use Rattle.journal_core.specs.FourMoves.{moved_on, MayBeTorn};
 ghost use Rattle.journal_core.specs.Gates.{IsReadIn, TakesIn};
+ghost use Rattle.journal_core.specs.Turns.{CountsMove, LeavesDisk};
 
 use disk_model::Disk;
 use journal_core::{Append, BadJournal};
@@ -43,10 +43,9 @@ pub fn make_move<D: Disk>(
     requires few { moves.old < 4 }
     requires room { at + length bytes.now ≤ 2 ^ 24 }
     requires mark_room { mark_at + 1 ≤ 2 ^ 24 }
-    ensures last { IfOk result (λ ended. IsTrue ended ↔ (moves.new ≡ 4)) }
-    ensures failed { OnErr result (moves.new ≡ 5) }
-    ensures does { OnOk result (D.holds disk.new
-        ≡ option_map (moved_on moves.old at bytes.now mark_at mark) (D.holds disk.old)) }
+    ensures count { CountsMove moves.old result moves.new }
+    ensures disk { LeavesDisk moves.old (moved_on moves.old at bytes.now mark_at mark)
+        (MayBeTorn moves.old at (length bytes.now) mark_at) result (D.holds disk.old) (D.holds disk.new) }
 {
     journal_core::make_move(disk, moves, at, bytes, mark_at, mark)
 }

@@ -1,17 +1,14 @@
 //! Bodies of journal_pack's public functions, for its must-fail edits to spoil.
-ghost use Rattle.std.specs.Prelude.{◌≡◌, ◌⊎◌, ◌+◌, ◌^◌, ◌<◌, ◌≤◌, All, List, OnOk, IfOk, IfErr, IsErrOf, IsSome, IsTrue};
+ghost use Rattle.std.specs.Prelude.{◌≡◌, ◌⊎◌, ◌+◌, ◌^◌, ◌<◌, ◌≤◌, All, List, IfOk, IfErr, IsErrOf, IsSome, IsTrue};
 ghost use Rattle.std.specs.List.{list_all};
-ghost use Rattle.std.specs.Option.{option_map};
 ghost use Rattle.stream_model.specs.declared.fault.WriteFault.TheVariants as write_fault;
 ghost use Rattle.device_defs.specs.Faults.{HasCause};
 ghost use Rattle.record_defs.specs.Records.{Record as Entry, is_in_grammar};
 ghost use Rattle.record_defs.specs.Areas.{Area, other_area, base_of, entries_size, text_length};
 ghost use Rattle.record_codec.specs.Entries.{IsInGrammar};
 ghost use Rattle.journal_core.specs.Lists.{newest_first};
-ghost use Rattle.journal_core.specs.FourMoves.{moved_on};
 ghost use Rattle.journal_pack.specs.Actives.{IsReadActive, IsActiveFault};
-ghost use Rattle.journal_pack.specs.Moves.{switch_to};
-ghost use Rattle.journal_pack.specs.Packs.{to_of, text_of, moves_of, WritesText};
+ghost use Rattle.journal_pack.specs.Packs.{moves_of, WritesText, PacksDisk};
 ghost use Rattle.journal_pack.specs.Tables.{packed_table};
 
 use disk_model::Disk;
@@ -61,8 +58,7 @@ pub fn size(pack: &Pack) -> u64
 /// `Pack::turn`.
 pub fn turn<D: Disk>(pack: &mut Pack, disk: &mut D) -> Result<bool, WriteFault>
     requires { moves_of pack.old < 4 }
-    ensures does { OnOk result (D.holds disk.new ≡ option_map (moved_on (moves_of pack.old)
-        (to_of pack.old) (text_of pack.old) 7 (switch_to (to_of pack.old))) (D.holds disk.old)) }
+    ensures disk { PacksDisk pack.old result (D.holds disk.old) (D.holds disk.new) }
     ensures cause { HasCause (D.faults disk.old) (D.faults disk.new) (IsErrOf result write_fault.Failed) }
 {
     pack.turn(disk)

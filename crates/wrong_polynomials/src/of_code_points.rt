@@ -2,6 +2,7 @@
 ghost use Rattle.std.specs.Prelude.{◌≡◌, ◌<◌, ◌≤◌, ◌↔◌, length, IsSome};
 ghost use Rattle.code_defs.specs.Points.{upto, multiplier as multiplier_of};
 ghost use Rattle.code_defs.specs.ServerCode.{IsGeneratorRow};
+ghost use Rattle.code_defs.specs.Profiles.{all_profiles};
 ghost use Rattle.code_points.specs.Profile.{plain_profile};
 
 use code_points::Profile;
@@ -9,7 +10,7 @@ use hail_field::Symbol;
 
 /// `find_profile`.
 pub fn find_profile(number: u8) -> Option<Profile>
-    ensures known { IsSome result ↔ (number ≤ 4) }
+    ensures known { IsSome result ↔ (number < all_profiles) }
 {
     code_points::find_profile(number)
 }

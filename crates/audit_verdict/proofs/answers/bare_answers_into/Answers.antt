@@ -1,8 +1,5 @@
-use Rattle.std.proofs.Common.{◌∙◌, ap, arith, ℕ, None, get_or}
-use Rattle.std.proofs.lemmas.List.{get_or_default}
-use Rattle.column_defs.specs.Challenges.{bare_answer}
-use Rattle.file_layout.specs.Files.{shaped_object}
-use Rattle.challenge.specs.Asked.{asked}
+use Rattle.audit_verdict.proofs.Words.{◌∙◌, ap, arith, get_or, get_or_default, bare_answer, shaped_object, asked}
+use Rattle.std.proofs.Common.{ℕ, None}
 use Rattle.audit_verdict.proofs.Places.{put_more, bare_answers-each}
 use Rattle.audit_verdict.proofs.answers.bare_answers_into.Goals as goal
 

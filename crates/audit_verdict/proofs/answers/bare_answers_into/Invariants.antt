@@ -1,7 +1,5 @@
-use Rattle.std.proofs.Common.{◌≡◌, ◌<◌, ℕ, None, get_or}
-use Rattle.column_defs.specs.Challenges.{bare_answer}
-use Rattle.file_layout.specs.Files.{shaped_object}
-use Rattle.challenge.specs.Asked.{asked}
+use Rattle.audit_verdict.proofs.Words.{get_or, bare_answer, shaped_object, asked}
+use Rattle.std.proofs.Common.{◌≡◌, ◌<◌, ℕ, None}
 use Rattle.audit_verdict.proofs.answers.bare_answers_into.Given as goal
 
 -- the answers before this one are filled in

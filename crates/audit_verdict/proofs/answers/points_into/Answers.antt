@@ -1,8 +1,4 @@
-use Rattle.std.proofs.Common.{◌∙◌, arith}
-use Rattle.std.proofs.lemmas.List.FromFn.{fill_by_all}
-use Rattle.column_defs.specs.Keys.{point_of}
-use Rattle.column_defs.specs.Objects.{point}
-use Rattle.file_layout.specs.Files.{shaped_object}
+use Rattle.audit_verdict.proofs.Words.{◌∙◌, arith, fill_by_all, point_of, point, shaped_object}
 use Rattle.audit_verdict.proofs.Places.{put_more}
 use Rattle.audit_verdict.proofs.answers.points_into.Goals as goal
 

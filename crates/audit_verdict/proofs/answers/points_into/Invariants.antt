@@ -1,6 +1,5 @@
-use Rattle.std.proofs.Common.{◌≡◌, ◌<◌, ℕ, get_or}
-use Rattle.column_defs.specs.Objects.{point}
-use Rattle.file_layout.specs.Files.{shaped_object}
+use Rattle.audit_verdict.proofs.Words.{get_or, point, shaped_object}
+use Rattle.std.proofs.Common.{◌≡◌, ◌<◌, ℕ}
 use Rattle.audit_verdict.proofs.answers.points_into.Given as goal
 
 -- the points before this one are filled in

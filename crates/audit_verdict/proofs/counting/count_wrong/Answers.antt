@@ -1,6 +1,5 @@
-use Rattle.std.proofs.Common.{◌∙◌, ap, arith, ℕ, None, get_or, length, if◌then◌else◌, ◌+◌}
-use Rattle.std.proofs.lemmas.List.{get_or-set_other, get_or_default}
-use Rattle.code_defs.specs.Polynomials.{is_seen}
+use Rattle.audit_verdict.proofs.Words.{◌∙◌, ap, arith, get_or, get_or-set_other, get_or_default, is_seen}
+use Rattle.std.proofs.Common.{ℕ, None, length, if◌then◌else◌, ◌+◌}
 use Rattle.audit_verdict.proofs.Places.{next_count, put_more, counted-each}
 use Rattle.audit_verdict.proofs.counting.count_wrong.Goals as goal
 

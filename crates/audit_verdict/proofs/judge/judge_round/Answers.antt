@@ -1,7 +1,6 @@
-use Rattle.std.proofs.Common.{List, ℕ, length, subst, sym, arith}
+use Rattle.audit_verdict.proofs.Words.{subst, sym, arith, Apart-points, shaped_object}
+use Rattle.std.proofs.Common.{List, ℕ, length}
 use Rattle.algebra_laws.specs.Field.{Apart}
-use Rattle.column_defs.proofs.PointLaws.{Apart-points}
-use Rattle.file_layout.specs.Files.{shaped_object}
 use Rattle.audit_verdict.proofs.Places.{counts-grow}
 use Rattle.audit_verdict.proofs.judge.judge_round.Goals as goal
 

@@ -1,5 +1,4 @@
-use Rattle.std.proofs.Common.{arith}
-use Rattle.hail_field.proofs.AllNumbers.{nim_laws, nim_endless}
+use Rattle.code_defs.proofs.Words.{arith, nim_laws, nim_endless}
 use Rattle.code_defs.proofs.Worked.{line_takes, line_interpolates, line_everywhere, line_trimmed, line_divided}
 use Rattle.code_defs.proofs.laws.a_line_is_determined.Goals as goal
 

@@ -1,6 +1,5 @@
-use Rattle.std.proofs.Common.{arith, refl, ◌∷◌, []}
-use Rattle.hail_field.specs.Nim.{nim}
-use Rattle.hail_field.proofs.AllNumbers.{nim_laws, nim_endless}
+use Rattle.code_defs.proofs.Words.{arith, refl, nim, nim_laws, nim_endless}
+use Rattle.std.proofs.Common.{◌∷◌, []}
 use Rattle.algebra_laws.proofs.Headlines.{key_equation}
 use Rattle.algebra_laws.proofs.Decode.{decode_exact}
 use Rattle.code_defs.proofs.Worked.{four, word, four_apart, worked_decodes, worked_agree, worked_row}

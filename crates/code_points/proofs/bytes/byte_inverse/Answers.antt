@@ -1,7 +1,5 @@
-use Rattle.std.proofs.Common.{◌<◌, ◌-◌, ◌∙◌, ℕ, get_or, arith}
+use Rattle.code_points.proofs.Words.{◌<◌, ◌-◌, ◌∙◌, ℕ, get_or, arith, nim_mul_at, nim_inv_is, exp_at, power-lt, inverse_by_log}
 use Rattle.hail_field.specs.declared.tables.TheConstants.{EXP, LOG}
-use Rattle.hail_field.proofs.AllNumbers.{nim_mul_at, nim_inv_is}
-use Rattle.hail_field.proofs.Table.{exp_at, power-lt, inverse_by_log}
 use Rattle.code_points.proofs.bytes.byte_inverse.Goals as goal
 
 pub returns : goal.returns

@@ -1,7 +1,5 @@
-use Rattle.std.proofs.Common.{◌∙◌, sym, arith, inl, inr}
+use Rattle.code_points.proofs.Words.{◌∙◌, sym, arith, inl, inr, nim_ring, nim_mul_at, product_by_logs}
 use Rattle.algebra_laws.proofs.Ring.{zero_mul}
-use Rattle.hail_field.proofs.AllNumbers.{nim_ring, nim_mul_at}
-use Rattle.hail_field.proofs.Table.{product_by_logs}
 use Rattle.code_points.proofs.bytes.byte_product.Goals as goal
 
 pub returns-then-a-eq0 : goal.returns-then-a-eq0

@@ -1,7 +1,4 @@
-use Rattle.std.proofs.Common.{ℕ, List, sym, subst, length}
-use Rattle.code_defs.specs.ServerCode.{IsGeneratorRow}
-use Rattle.code_defs.proofs.Generators.{kept_row}
-use Rattle.code_points.specs.Profile.{plain_profile}
+use Rattle.code_points.proofs.Words.{ℕ, List, sym, subst, length, IsGeneratorRow, kept_row, plain_profile}
 use Rattle.code_points.proofs.Coefficients.{kept-lt}
 use Rattle.code_points.proofs.generator.generator_row.Goals as goal
 

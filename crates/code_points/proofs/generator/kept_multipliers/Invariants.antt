@@ -1,5 +1,4 @@
-use Rattle.std.proofs.Common.{◌≡◌, ◌<◌, ℕ, length, get_or}
-use Rattle.code_defs.specs.Points.{upto, multiplier}
+use Rattle.code_points.proofs.Words.{◌≡◌, ◌<◌, ℕ, length, get_or, upto, multiplier}
 use Rattle.code_points.proofs.generator.kept_multipliers.Given as goal
 
 abbrev pub invariant-loop-k : goal.invariant-loop-k

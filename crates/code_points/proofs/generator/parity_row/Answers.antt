@@ -1,10 +1,5 @@
-use Rattle.std.proofs.Common.{◌≡◌, ℕ, sym, subst, map, List, arith}
-use Rattle.std.proofs.lemmas.List.FromFn.{fill_by_all}
-use Rattle.code_defs.specs.Points.{upto}
-use Rattle.code_defs.specs.ServerCode.{IsGeneratorRow}
-use Rattle.code_defs.proofs.Generators.{coefficient, parity_row}
+use Rattle.code_points.proofs.Words.{◌≡◌, ℕ, sym, subst, map, List, arith, fill_by_all, upto, IsGeneratorRow, coefficient, parity_row, plain_profile}
 use Rattle.code_defs.proofs.Lagrange.{gap_not_zero}
-use Rattle.code_points.specs.Profile.{plain_profile}
 use Rattle.code_points.proofs.Coefficients.{parity-lt}
 use Rattle.code_points.proofs.generator.parity_row.Goals as goal
 

@@ -1,5 +1,4 @@
-use Rattle.std.proofs.Common.{◌≡◌, ◌<◌, ℕ, get_or}
-use Rattle.code_defs.proofs.Generators.{coefficient}
+use Rattle.code_points.proofs.Words.{◌≡◌, ◌<◌, ℕ, get_or, coefficient}
 use Rattle.code_points.proofs.generator.parity_row.Given as goal
 
 abbrev pub invariant-loop-k : goal.invariant-loop-k

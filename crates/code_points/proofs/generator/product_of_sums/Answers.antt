@@ -1,6 +1,4 @@
-use Rattle.std.proofs.Common.{◌≡◌, ◌-◌, ◌∙◌, ap, arith}
-use Rattle.std.specs.List.{range_with_len}
-use Rattle.code_defs.specs.Polynomials.{value, vanish}
+use Rattle.code_points.proofs.Words.{◌≡◌, ◌-◌, ◌∙◌, ap, arith, range_with_len, value, vanish}
 use Rattle.code_points.proofs.generator.product_of_sums.Goals as goal
 
 pub returns : goal.returns

@@ -1,5 +1,4 @@
-use Rattle.std.proofs.Common.{◌≡◌, ◌∙◌, sym, ap, arith}
-use Rattle.code_defs.specs.Points.{upto, multiplier as multiplier_of}
+use Rattle.code_points.proofs.Words.{◌≡◌, ◌∙◌, sym, ap, arith, upto, multiplier_of}
 use Rattle.code_points.proofs.Multipliers.{first_is, other_is}
 use Rattle.code_points.proofs.table.byte_multiplier.Goals as goal
 

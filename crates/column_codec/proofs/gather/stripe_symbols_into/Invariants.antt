@@ -1,6 +1,5 @@
 use Rattle.std.proofs.Common.{◌≡◌, ◌+◌, take, map}
-use Rattle.code_defs.specs.Points.{upto}
-use Rattle.column_defs.specs.Objects.{symbol_of}
+use Rattle.column_codec.proofs.Words.{upto, symbol_of}
 use Rattle.column_codec.proofs.gather.stripe_symbols_into.Given as goal
 
 -- the places before this one are filled

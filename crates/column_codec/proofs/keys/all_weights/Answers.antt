@@ -1,6 +1,5 @@
-use Rattle.std.proofs.Common.{◌≤◌, ◌∙◌, ℕ, [], List, ap, sym, arith, subst, get_or}
-use Rattle.std.proofs.lemmas.List.{length-set, get_or_default}
-use Rattle.column_codec.specs.ObjectKeys.{AreWeights}
+use Rattle.column_codec.proofs.Words.{◌∙◌, ap, sym, arith, subst, get_or, length-set, get_or_default, AreWeights}
+use Rattle.std.proofs.Common.{◌≤◌, ℕ, [], List}
 use Rattle.column_codec.proofs.Places.{held_more}
 use Rattle.column_codec.proofs.keys.all_weights.Goals as goal
 

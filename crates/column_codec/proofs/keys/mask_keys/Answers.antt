@@ -1,6 +1,5 @@
-use Rattle.std.proofs.Common.{ℕ, [], ap, ◌∙◌, arith}
-use Rattle.std.proofs.lemmas.List.{length-set}
-use Rattle.column_defs.specs.Keys.{file_key}
+use Rattle.column_codec.proofs.Words.{ap, ◌∙◌, arith, length-set, file_key}
+use Rattle.std.proofs.Common.{ℕ, []}
 use Rattle.column_codec.proofs.Places.{each_more}
 use Rattle.column_codec.proofs.keys.mask_keys.Goals as goal
 

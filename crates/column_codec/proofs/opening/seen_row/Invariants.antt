@@ -1,7 +1,5 @@
 use Rattle.std.proofs.Common.{◌≡◌, ℕ, take, map}
-use Rattle.code_defs.specs.Points.{upto}
-use Rattle.column_defs.specs.Opened.{symbol_in}
-use Rattle.column_codec.specs.OpenedBlocks.{opened_at}
+use Rattle.column_codec.proofs.Words.{upto, symbol_in, opened_at}
 use Rattle.column_codec.proofs.opening.seen_row.Given as goal
 
 -- the providers before this one are filled in

@@ -1,6 +1,4 @@
-use Rattle.std.proofs.Common.{◌∙◌, arith}
-use Rattle.std.proofs.lemmas.List.{length-set}
-use Rattle.column_codec.specs.Tables.{product_at}
+use Rattle.column_codec.proofs.Words.{◌∙◌, arith, length-set, product_at}
 use Rattle.column_codec.proofs.Places.{each_more}
 use Rattle.column_codec.proofs.table.entries.Goals as goal
 

@@ -1,6 +1,5 @@
-use Rattle.std.proofs.Common.{◌≡◌, ◌≢◌, ◌≤◌, ◌<◌, ℕ, ◌^◌, ◌*◌, ◌+◌, ◌-◌, ◌%◌, ◌∙◌, ap, sym, arith, mod-eq_of_lt, pow_pos}
-use Rattle.std.proofs.lemmas.List.{get_or_default}
-use Rattle.hail_field.specs.Nim.{nim_add}
+use Rattle.column_codec.proofs.Words.{◌∙◌, ap, sym, arith, mod-eq_of_lt, pow_pos, get_or_default, nim_add}
+use Rattle.std.proofs.Common.{◌≡◌, ◌≢◌, ◌≤◌, ◌<◌, ℕ, ◌^◌, ◌*◌, ◌+◌, ◌-◌, ◌%◌}
 use Rattle.column_codec.proofs.TableLemmas.{product_at-zero, product_at-sum}
 use Rattle.column_codec.proofs.table.entry.Goals as goal
 

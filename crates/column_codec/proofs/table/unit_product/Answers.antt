@@ -1,6 +1,5 @@
-use Rattle.std.proofs.Common.{◌*◌, ◌∙◌, ap, sym, arith}
-use Rattle.std.proofs.lemmas.Nat.{shl_whole}
-use Rattle.hail_field.specs.Nim.{nim_mul}
+use Rattle.column_codec.proofs.Words.{◌∙◌, ap, sym, arith, shl_whole, nim_mul}
+use Rattle.std.proofs.Common.{◌*◌}
 use Rattle.column_codec.proofs.TableLemmas.{product_at-place}
 use Rattle.column_codec.proofs.table.unit_product.Goals as goal
 

@@ -1,5 +1,4 @@
-use Rattle.std.proofs.Common.{◌∙◌}
-use Rattle.column_codec.specs.ObjectKeys.{weight_at}
+use Rattle.column_codec.proofs.Words.{◌∙◌, weight_at}
 use Rattle.column_codec.proofs.Places.{appended_more}
 use Rattle.column_codec.proofs.tables.tables.Goals as goal
 

@@ -1,6 +1,5 @@
 use Rattle.std.proofs.Common.{◌≡◌, map}
-use Rattle.code_defs.specs.Points.{upto}
-use Rattle.column_codec.specs.ObjectKeys.{weight_at}
+use Rattle.column_codec.proofs.Words.{upto, weight_at}
 use Rattle.column_codec.proofs.tables.tables.Given as goal
 
 -- the tables before this one are made

@@ -1,6 +1,5 @@
 use Rattle.std.proofs.Common.{◌≡◌, ◌-◌}
-use Rattle.std.specs.List.{range_with_len}
-use Rattle.code_defs.specs.Points.{others_product}
+use Rattle.column_codec.proofs.Words.{range_with_len, others_product}
 use Rattle.column_codec.proofs.weights.product_of_gaps.Given as goal
 
 -- the points from this one on are factors

@@ -1,6 +1,5 @@
-use Rattle.std.proofs.Common.{◌≢◌, ◌∙◌, arith, ap}
-use Rattle.std.proofs.lemmas.Grind.{common_steps}
-use Rattle.hail_field.specs.Nim.{nim_mul, nim_inv}
+use Rattle.column_codec.proofs.Words.{◌∙◌, arith, ap, common_steps, nim_mul, nim_inv}
+use Rattle.std.proofs.Common.{◌≢◌}
 use Rattle.column_codec.proofs.WeightLemmas.{gaps_not_zero, inverse_gaps}
 use Rattle.column_codec.proofs.weights.weight.Goals as goal
 

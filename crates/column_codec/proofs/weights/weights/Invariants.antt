@@ -1,7 +1,5 @@
-use Rattle.std.proofs.Common.{◌≡◌, ◌<◌, ℕ, get_or, length}
-use Rattle.hail_field.specs.Nim.{nim_mul}
-use Rattle.code_defs.specs.Points.{upto, others_product}
-use Rattle.code_defs.proofs.Lagrange.{part}
+use Rattle.column_codec.proofs.Words.{get_or, nim_mul, upto, others_product, part}
+use Rattle.std.proofs.Common.{◌≡◌, ◌<◌, ℕ, length}
 use Rattle.column_codec.proofs.weights.weights.Given as goal
 
 -- the weights before this one are filled in, and there is room for all

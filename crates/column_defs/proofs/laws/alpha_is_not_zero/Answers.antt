@@ -1,7 +1,5 @@
-use Rattle.std.specs.Prelude.{◌≡◌, ◌≢◌, ℕ, ◌==◌, if◌then◌else◌}
-use Rattle.std.proofs.Common.{arith}
-use Rattle.column_defs.specs.Keys.{stream_symbol}
-use Rattle.column_defs.specs.Challenges.{alpha}
+use Rattle.column_defs.proofs.Words.{◌≢◌, ◌==◌, if◌then◌else◌, arith, stream_symbol, alpha}
+use Rattle.std.specs.Prelude.{◌≡◌, ℕ}
 use Rattle.column_defs.proofs.laws.alpha_is_not_zero.Goals as goal
 
 -- one in place of zero

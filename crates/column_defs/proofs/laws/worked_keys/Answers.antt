@@ -1,9 +1,7 @@
-use Rattle.std.proofs.Common.{refl}
+use Rattle.column_defs.proofs.Words.{refl, file_key, seed, stream_symbol, secret_point, alpha, picked_row}
 use Rattle.sha2.specs.Sha256.{first_words, schedule, rounds, compress, hash_after, digest_bytes, sha256}
 use Rattle.rand_core.specs.Steps.{u32_at}
 use Rattle.rand_chacha.specs.Block.{quarter_round, column_round, diagonal_round, double_rounds, block_word}
-use Rattle.column_defs.specs.Keys.{file_key, seed, stream_symbol, secret_point}
-use Rattle.column_defs.specs.Challenges.{alpha, picked_row}
 use Rattle.column_defs.proofs.laws.worked_keys.Goals as goal
 
 pub returns-clause-mask_key : goal.returns-clause-mask_key

@@ -1,5 +1,4 @@
-use Rattle.std.proofs.Common.{refl}
-use Rattle.column_defs.specs.Objects.{symbol_of}
+use Rattle.column_defs.proofs.Words.{refl, symbol_of}
 use Rattle.column_defs.proofs.laws.worked_layout.Goals as goal
 
 pub returns-clause-first : goal.returns-clause-first

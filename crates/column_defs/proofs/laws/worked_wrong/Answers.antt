@@ -1,5 +1,4 @@
-use Rattle.std.proofs.Common.{refl}
-use Rattle.column_defs.specs.Columns.{is_wrong}
+use Rattle.column_defs.proofs.Words.{refl, is_wrong}
 use Rattle.column_defs.proofs.laws.worked_wrong.Goals as goal
 
 pub returns-clause-absent : goal.returns-clause-absent

@@ -1,8 +1,4 @@
-use Rattle.std.specs.Prelude.{[], ◌∷◌}
-use Rattle.std.proofs.Common.{refl}
-use Rattle.column_defs.specs.Objects.{symbols_in}
-use Rattle.column_defs.specs.Columns.{row_polynomial}
-use Rattle.column_laws.specs.Example.{example, three_seen, three_opened}
+use Rattle.column_laws.proofs.Words.{[], ◌∷◌, refl, symbols_in, row_polynomial, example, three_seen, three_opened}
 use Rattle.column_laws.proofs.OtherRows.{forgery-of_other}
 use Rattle.column_laws.proofs.Worked.{three-open, example-shape, three-accepted, rows-differ, row-in}
 use Rattle.column_laws.proofs.laws.another_file_is_a_forgery.Goals as goal

@@ -1,6 +1,4 @@
-use Rattle.code_defs.specs.Profiles.{profile_of}
-use Rattle.code_defs.proofs.Points.{Apart-range}
-use Rattle.code_defs.proofs.Profiles.{size_is}
+use Rattle.column_laws.proofs.Words.{profile_of, Apart-range, size_is}
 use Rattle.column_laws.proofs.laws.profiles_are_sound.Goals as goal
 
 pub returns-clause-size : goal.returns-clause-size

@@ -1,9 +1,5 @@
-use Rattle.std.proofs.Common.{◌≡◌, ◌<◌, ◌≤◌, ap, arith}
-use Rattle.std.specs.Option.{option_map}
-use Rattle.device_defs.specs.Disks.{synced}
-use Rattle.command_defs.specs.Opens.{setup_in_effect}
+use Rattle.command_jobs.proofs.Words.{◌≡◌, ◌<◌, ◌≤◌, ap, arith, option_map, synced, setup_in_effect, IsUnopened, LiesInStore, unopened_of}
 use Rattle.record_codec.specs.declared.setup.Setup.{Setup}
-use Rattle.command_jobs.specs.Opened.{IsUnopened, LiesInStore, unopened_of}
 use Rattle.command_jobs.specs.declared.open.Unopened.{Unopened}
 use Rattle.command_jobs.proofs.Readings.{fault-seen, lies-read, reads-resynced, told-by}
 use Rattle.command_jobs.proofs.Fresh.{fresh-vault}

@@ -1,12 +1,4 @@
-use Rattle.std.proofs.Common.{List, true, refl, ◌∙◌, arith}
-use Rattle.machine_defs.specs.Runs.{now}
-use Rattle.journal_pack.specs.Packs.{to_of, text_of, moves_of}
-use Rattle.record_defs.specs.Areas.{Area, other_area}
-use Rattle.record_defs.specs.Packed.{packed}
-use Rattle.record_defs.specs.Records.{Record}
-use Rattle.vault_core.specs.declared.wish.BeginFault.{BeginFault}
-use Rattle.command_jobs.specs.Opened.{IsFreshOver}
-use Rattle.command_jobs.specs.Packs.{IsPackRefused}
+use Rattle.command_jobs.proofs.Words.{List, true, refl, ◌∙◌, arith, now, to_of, text_of, moves_of, Area, other_area, packed, Record, BeginFault, IsFreshOver, IsPackRefused}
 use Rattle.command_jobs.proofs.PackCells.{starts-cells, pack-cells, starts-low, pack-starts, ends-cells}
 use Rattle.command_jobs.proofs.Packing.{no-pack, pack-more, pack-end, pack-refused, pack-ends}
 use Rattle.command_jobs.proofs.Readings.{told-by}

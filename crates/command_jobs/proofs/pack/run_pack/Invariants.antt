@@ -1,14 +1,4 @@
-use Rattle.std.proofs.Common.{◌≡◌, ◌+◌, ◌-◌, ◌≤◌, ℕ, List, length, Option}
-use Rattle.std.specs.Prelude.{is_some, IfSome}
-use Rattle.std.specs.Option.{option_map}
-use Rattle.device_defs.specs.Cells.{Cells}
-use Rattle.device_defs.specs.Disks.{synced}
-use Rattle.device_defs.specs.Providers.{Provider}
-use Rattle.device_defs.specs.Told.{Goes}
-use Rattle.journal_pack.specs.Packs.{to_of, text_of, moves_of}
-use Rattle.machine_defs.specs.States.{State}
-use Rattle.vault.specs.Packing.{IsPackOf, StandsPacking}
-use Rattle.vault_open.specs.Devices.{devices}
+use Rattle.command_jobs.proofs.Words.{◌≡◌, ◌+◌, ◌-◌, ◌≤◌, ℕ, List, length, Option, is_some, IfSome, option_map, Cells, synced, Provider, Goes, to_of, text_of, moves_of, State, IsPackOf, StandsPacking, devices}
 use Rattle.command_jobs.proofs.PackCells.{OnDisk}
 use Rattle.command_jobs.proofs.Packing.{OnPack}
 use Rattle.command_jobs.proofs.pack.run_pack.Given as goal

@@ -1,7 +1,5 @@
-use Rattle.std.proofs.Common.{◌≡◌, ◌-◌, ◌≤◌, min, length, take, ap, sym, ◌∙◌, arith, rules}
-use Rattle.std.proofs.lemmas.List.{length-take-le}
+use Rattle.command_jobs.proofs.Words.{◌≡◌, ◌-◌, ◌≤◌, min, length, take, ap, sym, ◌∙◌, arith, rules, length-take-le, then_told}
 use borrow.Rule.Slice.PartMut.{put_mid}
-use Rattle.device_defs.specs.Told.{then_told}
 use Rattle.journal_core.proofs.MoveLemmas.{on_err}
 use Rattle.command_jobs.proofs.ReadBytes.{bytes-front, told-on, put-more}
 use Rattle.command_jobs.proofs.piece.read_piece.Goals as goal

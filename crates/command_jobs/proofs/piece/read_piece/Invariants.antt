@@ -1,5 +1,4 @@
-use Rattle.std.proofs.Common.{◌≡◌, ◌-◌, ◌≤◌, length, min, take}
-use Rattle.device_defs.specs.Told.{then_told}
+use Rattle.command_jobs.proofs.Words.{◌≡◌, ◌-◌, ◌≤◌, length, min, take, then_told}
 use Rattle.command_jobs.proofs.piece.read_piece.Given as goal
 
 abbrev pub invariant-loop-count : goal.invariant-loop-count

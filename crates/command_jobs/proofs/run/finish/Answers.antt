@@ -1,7 +1,4 @@
-use Rattle.std.proofs.Common.{◌+◌, length, refl, ap, ◌∙◌, arith}
-use Rattle.std.proofs.lemmas.List.{length-map}
-use Rattle.machine_defs.specs.Runs.{now}
-use Rattle.provider_model.specs.Seen.{provider_seen}
+use Rattle.command_jobs.proofs.Words.{◌+◌, length, refl, ap, ◌∙◌, arith, length-map, now, provider_seen}
 use Rattle.vault.specs.declared.turn.Turn.TheVariants as turn
 use Rattle.command_jobs.proofs.Fronts.{step-front}
 use Rattle.command_jobs.proofs.Fresh.{stands-enough}

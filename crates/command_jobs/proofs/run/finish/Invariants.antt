@@ -1,12 +1,4 @@
-use Rattle.std.proofs.Common.{◌≡◌, ℕ, Option}
-use Rattle.std.specs.Prelude.{is_some}
-use Rattle.machine_defs.specs.Jobs.{Kind}
-use Rattle.machine_defs.specs.States.{State}
-use Rattle.vault.specs.Devices.{devices_seen}
-use Rattle.vault.specs.Seen.{left_of}
-use Rattle.vault.specs.Stands.{Stands}
-use Rattle.vault.specs.Streams.{IsStreamless}
-use Rattle.command_jobs.specs.Going.{IsOnly, OnWay}
+use Rattle.command_jobs.proofs.Words.{◌≡◌, ℕ, Option, is_some, Kind, State, devices_seen, left_of, Stands, IsStreamless, IsOnly, OnWay}
 use Rattle.command_jobs.proofs.run.finish.Given as goal
 
 abbrev pub invariant-loop-ended : goal.invariant-loop-ended

@@ -1,8 +1,4 @@
-use Rattle.std.proofs.Common.{◌≡◌, ◌≤◌, None, length, map, sym, ◌∙◌, arith}
-use Rattle.std.proofs.lemmas.List.{length-map}
-use Rattle.command_defs.specs.Opens.{setup_in_effect}
-use Rattle.provider_model.specs.Seen.{provider_seen}
-use Rattle.command_jobs.specs.Kinds.{kind_of}
+use Rattle.command_jobs.proofs.Words.{◌≡◌, ◌≤◌, None, length, map, sym, ◌∙◌, arith, length-map, setup_in_effect, provider_seen, kind_of}
 use Rattle.command_jobs.proofs.Begins.{may-name}
 use Rattle.command_jobs.proofs.Alone.{under-way, refused-over, ends-over}
 use Rattle.command_jobs.proofs.run.run_job.Goals as goal

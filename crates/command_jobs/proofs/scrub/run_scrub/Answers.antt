@@ -1,7 +1,4 @@
-use Rattle.std.proofs.Common.{◌≡◌, ◌≤◌, length, map, sym, ◌∙◌, arith}
-use Rattle.std.proofs.lemmas.List.{length-map}
-use Rattle.command_defs.specs.Opens.{setup_in_effect}
-use Rattle.provider_model.specs.Seen.{provider_seen}
+use Rattle.command_jobs.proofs.Words.{◌≡◌, ◌≤◌, length, map, sym, ◌∙◌, arith, length-map, setup_in_effect, provider_seen}
 use Rattle.command_jobs.proofs.Scrubbing.{never-refused, scrub-ends}
 use Rattle.command_jobs.proofs.scrub.run_scrub.Goals as goal
 

@@ -1,6 +1,4 @@
-use Rattle.std.proofs.Common.{true, map, arith}
-use Rattle.machine_defs.specs.Runs.{now}
-use Rattle.provider_model.specs.Seen.{provider_seen}
+use Rattle.command_jobs.proofs.Words.{true, map, arith, now, provider_seen}
 use Rattle.command_jobs.proofs.Sweeps.{no-sweep, sweep-more, sweep-end}
 use Rattle.command_jobs.proofs.scrub.sweep.Goals as goal
 

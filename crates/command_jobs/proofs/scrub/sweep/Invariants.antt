@@ -1,8 +1,4 @@
-use Rattle.std.proofs.Common.{◌≡◌, ◌<◌, ◌≤◌, ℕ, [], true, false, length, map}
-use Rattle.machine_defs.specs.States.{State, Scrub as MachineScrub}
-use Rattle.hail_scrub.specs.Stands.{ScrubStands}
-use Rattle.hail_scrub.specs.Views.{scrub_left}
-use Rattle.provider_model.specs.Seen.{provider_seen}
+use Rattle.command_jobs.proofs.Words.{◌≡◌, ◌<◌, ◌≤◌, ℕ, [], true, false, length, map, State, MachineScrub, ScrubStands, scrub_left, provider_seen}
 use Rattle.command_jobs.proofs.Sweeps.{OnSweep}
 use Rattle.command_jobs.proofs.scrub.sweep.Given as goal
 

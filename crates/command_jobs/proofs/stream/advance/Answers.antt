@@ -1,8 +1,4 @@
-use Rattle.std.proofs.Common.{◌≡◌, ℕ, ◌+◌, false, length, Option, None, Some, refl, ap, sym, ◌∙◌, arith}
-use Rattle.std.specs.Prelude.{is_some}
-use Rattle.std.proofs.lemmas.List.{length-map}
-use Rattle.machine_defs.specs.Runs.{now}
-use Rattle.provider_model.specs.Seen.{provider_seen}
+use Rattle.command_jobs.proofs.Words.{◌≡◌, ℕ, ◌+◌, false, length, Option, None, Some, refl, ap, sym, ◌∙◌, arith, is_some, length-map, now, provider_seen}
 use Rattle.vault.specs.declared.turn.Turn.TheVariants as turn
 use Rattle.command_jobs.proofs.Advancing.{still-behind, still-told, ends-early}
 use Rattle.command_jobs.proofs.Fresh.{stands-enough}

@@ -1,12 +1,4 @@
-use Rattle.std.proofs.Common.{◌≡◌, ◌≤◌, ℕ, length, Option, None}
-use Rattle.std.specs.Prelude.{is_some}
-use Rattle.machine_defs.specs.Jobs.{Kind}
-use Rattle.machine_defs.specs.States.{State}
-use Rattle.vault.specs.Devices.{devices_seen}
-use Rattle.vault.specs.Seen.{left_of}
-use Rattle.vault.specs.Streams.{wants_of, told_of}
-use Rattle.vault_open.specs.Devices.{Devices}
-use Rattle.command_jobs.specs.Going.{OnWay}
+use Rattle.command_jobs.proofs.Words.{◌≡◌, ◌≤◌, ℕ, length, Option, None, is_some, Kind, State, devices_seen, left_of, wants_of, told_of, Devices, OnWay}
 use Rattle.command_jobs.proofs.Advancing.{StillBehind}
 use Rattle.command_jobs.proofs.stream.advance.Given as goal
 

@@ -1,7 +1,4 @@
-use Rattle.std.proofs.Common.{◌≡◌, ◌≤◌, length, take}
-use Rattle.std.specs.Prelude.{is_some}
-use Rattle.vault.specs.Devices.{devices_seen}
-use Rattle.vault.specs.Seen.{left_of}
+use Rattle.command_jobs.proofs.Words.{◌≡◌, ◌≤◌, length, take, is_some, devices_seen, left_of}
 use Rattle.command_jobs.proofs.Feeding.{Waits}
 use Rattle.command_jobs.proofs.stream.give_all.Given as goal
 

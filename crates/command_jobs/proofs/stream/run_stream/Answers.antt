@@ -1,18 +1,4 @@
-use Rattle.std.proofs.Common.{◌+◌, ◌≡◌, ℕ, ◌≤◌, ◌++◌, List, Option, length, map, take, drop, ap, sym, subst, ◌∙◌, arith, rules}
-use Rattle.std.proofs.lemmas.List.{length-map, length-take-le}
-use Rattle.std.proofs.Math.Seq.{take-append_seam}
-use Rattle.record_defs.specs.Records.{Record, largest_file}
-use Rattle.record_defs.specs.Areas.{Area}
-use Rattle.machine_defs.specs.Jobs.{PutJob}
-use Rattle.command_defs.specs.Opens.{setup_in_effect}
-use Rattle.command_defs.specs.GivenUp.{put_stripe}
-use Rattle.command_defs.specs.Seen.{ReadsFront}
-use Rattle.device_defs.specs.Faults.{Rose}
-use Rattle.device_defs.proofs.Lasting.{rose-before}
-use Rattle.vault.specs.Devices.{devices_seen}
-use Rattle.provider_model.specs.Seen.{provider_seen}
-use Rattle.command_jobs.specs.Opened.{IsFreshOver}
-use Rattle.command_jobs.specs.Streams.{StreamsTo, IsUnbegunOver}
+use Rattle.command_jobs.proofs.Words.{◌+◌, ◌≡◌, ℕ, ◌≤◌, ◌++◌, List, Option, length, map, take, drop, ap, sym, subst, ◌∙◌, arith, rules, length-map, length-take-le, take-append_seam, Record, largest_file, Area, PutJob, setup_in_effect, put_stripe, ReadsFront, Rose, rose-before, devices_seen, provider_seen, IsFreshOver, StreamsTo, IsUnbegunOver}
 use Rattle.command_jobs.specs.declared.stream.Unbegun.{Unbegun}
 use Rattle.command_jobs.specs.declared.stream.Unbegun.TheVariants as unbegun
 use Rattle.command_jobs.proofs.Alone.{refused-over}

@@ -1,6 +1,5 @@
-use Rattle.std.proofs.Common.{refl}
+use Rattle.command_laws.proofs.Words.{refl, set_up_records, held_records, upgraded_records}
 use Rattle.machine_defs.specs.Refusals as refusal
-use Rattle.command_laws.specs.Words.{set_up_records, held_records, upgraded_records}
 use Rattle.command_laws.proofs.Samples.{set_up-sure, held-sure, upgraded-sure, same-disk, refused, pack-refused, old-refused, unknown-refused, listed}
 use Rattle.command_laws.proofs.JobSamples as jobs
 use Rattle.command_laws.proofs.LongSample.{long-put}

@@ -1,6 +1,4 @@
-use Rattle.std.proofs.Common.{ℕ, ◌-◌, ◌^◌, refl, inl, arith}
-use Rattle.std.proofs.lemmas.List.{length-replicate}
-use Rattle.command_laws.specs.Words.{store, held_records}
+use Rattle.command_laws.proofs.Words.{ℕ, ◌-◌, ◌^◌, refl, inl, arith, length-replicate, store, held_records}
 use Rattle.command_laws.proofs.Between.{sure-store}
 use Rattle.command_laws.proofs.Samples.{never-rises, never-seen, set_up-sure, held-sure, due-sure, upgraded-sure, own-sure, held-file, none-bad, all-safe}
 use Rattle.command_laws.proofs.LongSample.{reading-sure}

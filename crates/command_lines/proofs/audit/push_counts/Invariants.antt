@@ -1,5 +1,4 @@
-use Rattle.std.proofs.Common.{◌≡◌, ◌++◌, take}
-use Rattle.command_defs.specs.Lines.{count_lines}
+use Rattle.command_lines.proofs.Words.{◌≡◌, ◌++◌, take, count_lines}
 use Rattle.command_lines.proofs.audit.push_counts.Given as goal
 
 abbrev pub invariant-loop-place : goal.invariant-loop-place

@@ -1,5 +1,4 @@
-use Rattle.std.proofs.Common.{codes, ◌∷◌, [], ◌++◌, ℕ, ap, ◌∙◌}
-use Rattle.machine_defs.specs.Lines.{line, then_number}
+use Rattle.command_lines.proofs.Words.{codes, ◌∷◌, [], ◌++◌, ℕ, ap, ◌∙◌, line, then_number}
 use Rattle.command_lines.proofs.Pushed.{then_last, told_as, behind_two}
 use Rattle.command_lines.proofs.audit.push_first.Goals as goal
 

@@ -1,7 +1,5 @@
-use Rattle.std.proofs.Common.{◌++◌, List, ℕ, sym, ap, ◌∙◌, arith}
-use Rattle.std.proofs.lemmas.List.{append-nil}
+use Rattle.command_lines.proofs.Words.{◌++◌, List, ℕ, sym, ap, ◌∙◌, arith, append-nil, line, then_number}
 use Rattle.algebra_laws.proofs.Lists.{get_within}
-use Rattle.machine_defs.specs.Lines.{line, then_number}
 use Rattle.vault_table.specs.Values.{file_of_entry}
 use Rattle.command_lines.proofs.ListSteps.{listed_more}
 use Rattle.command_lines.proofs.list.push_files.Goals as goal

@@ -1,5 +1,4 @@
-use Rattle.std.proofs.Common.{◌≡◌, ◌++◌, take}
-use Rattle.command_defs.specs.Lines.{list_lines}
+use Rattle.command_lines.proofs.Words.{◌≡◌, ◌++◌, take, list_lines}
 use Rattle.command_lines.proofs.list.push_files.Given as goal
 
 abbrev pub invariant-loop-place : goal.invariant-loop-place

@@ -1,5 +1,4 @@
-use Rattle.std.proofs.Common.{◌≡◌, ◌++◌, take}
-use Rattle.command_defs.specs.Lines.{off_lines}
+use Rattle.command_lines.proofs.Words.{◌≡◌, ◌++◌, take, off_lines}
 use Rattle.command_lines.proofs.scrub.push_all_off.Given as goal
 
 abbrev pub invariant-loop-place : goal.invariant-loop-place

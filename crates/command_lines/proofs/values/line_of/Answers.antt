@@ -1,6 +1,4 @@
-use Rattle.std.proofs.Common.{◌≡◌, ◌++◌, ◌∷◌, [], List, ℕ, ap, ◌∙◌, arith}
-use Rattle.std.specs.Fmt.{decimal}
-use Rattle.std.specs.String.{string_bytes}
+use Rattle.command_lines.proofs.Words.{◌≡◌, ◌++◌, ◌∷◌, [], List, ℕ, ap, ◌∙◌, arith, decimal, string_bytes}
 use Rattle.command_lines.proofs.ValueSteps.{line_first, line_more}
 use Rattle.command_lines.proofs.values.line_of.Goals as goal
 use Rattle.command_lines.proofs.values.line_of.Goals.{then-k-gt0+in_ok-push, else-k-gt0}

@@ -1,7 +1,4 @@
-use Rattle.std.proofs.Common.{◌≡◌, map, take}
-use Rattle.std.specs.Fmt.{decimal}
-use Rattle.std.specs.List.{join_with_byte}
-use Rattle.std.specs.String.{string_bytes}
+use Rattle.command_lines.proofs.Words.{◌≡◌, map, take, decimal, join_with_byte, string_bytes}
 use Rattle.command_lines.proofs.values.line_of.Given as goal
 
 abbrev pub invariant-loop-k : goal.invariant-loop-k

@@ -1,5 +1,4 @@
-use Rattle.std.proofs.Common.{◌≡◌, ◌≢◌, ℕ, List, [], ◌∷◌, length, false, Err, inl, inr, refl, ap}
-use Rattle.std.specs.Prelude.{◌==◌}
+use Rattle.command_lines.proofs.Words.{◌≡◌, ◌≢◌, ℕ, List, [], ◌∷◌, length, false, Err, inl, inr, refl, ap, ◌==◌}
 use Rattle.stream_model.specs.declared.fault.WriteFault.{WriteFault}
 use Rattle.command_lines.proofs.write.write_text.Goals as goal
 

@@ -1,7 +1,4 @@
-use Rattle.std.proofs.Common.{None, refl, ap, false, inl, inr, is_some, unwrap_or, option_map, true≢false}
-use Rattle.command_runs.specs.Words.{PutUnder, IsRefused, provider_at, GivesUpPut, ends}
-use Rattle.command_runs.specs.Devices.{named, four_records}
-use Rattle.command_runs.specs.GivenUp.{long, to_put_source, put_given_up}
+use Rattle.command_runs.proofs.Words.{None, refl, ap, false, inl, inr, is_some, unwrap_or, option_map, true≢false, PutUnder, IsRefused, provider_at, GivesUpPut, ends, named, four_records, long, to_put_source, put_given_up}
 use Rattle.command_runs.proofs.GivenUpPut.{by-words, old-sure}
 use Rattle.command_runs.proofs.given_up.a_given_up_put_leaves_a_known_store.Goals as goal
 

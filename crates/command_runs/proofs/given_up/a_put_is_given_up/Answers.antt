@@ -1,6 +1,5 @@
-use Rattle.std.proofs.Common.{refl}
+use Rattle.command_runs.proofs.Words.{refl, long}
 use Rattle.lone_laws.specs.Walked.{MayName}
-use Rattle.command_runs.specs.GivenUp.{long}
 use Rattle.command_runs.proofs.GivenUpPut.{given_up, given_up-runs, old-sure}
 use Rattle.command_runs.proofs.given_up.a_put_is_given_up.Goals as goal
 

@@ -1,8 +1,5 @@
-use Rattle.std.proofs.Common.{◌+◌, None, refl}
-use Rattle.command_runs.specs.Words.{largest_file, PutUnder, GivesUpPut, ends}
+use Rattle.command_runs.proofs.Words.{◌+◌, None, refl, largest_file, PutUnder, GivesUpPut, ends, named, four_records, to_put_source, put_too_long}
 use Rattle.command_runs.proofs.Meets.{never}
-use Rattle.command_runs.specs.Devices.{named, four_records}
-use Rattle.command_runs.specs.GivenUp.{to_put_source, put_too_long}
 use Rattle.command_runs.proofs.GivenUpPut.{too_long, by-words, old-sure, calm, sevens-bytes, sevens-long}
 use Rattle.command_runs.proofs.given_up.long_puts_are_given_up.Goals as goal
 

@@ -1,6 +1,4 @@
-use Rattle.std.proofs.Common.{None, refl, inr, false, arith}
-use Rattle.command_runs.specs.Words.{counts, byte, PutUnder, DropOf, UpgradeJournal}
-use Rattle.command_runs.specs.Devices.{named, byte_records, byte_audited_records, byte_repaired_records, put_gone, put_cut, drop_cut, audit_cut, repair_cut, upgrade_cut}
+use Rattle.command_runs.proofs.Words.{None, refl, inr, false, arith, counts, byte, PutUnder, DropOf, UpgradeJournal, named, byte_records, byte_audited_records, byte_repaired_records, put_gone, put_cut, drop_cut, audit_cut, repair_cut, upgrade_cut}
 use Rattle.command_runs.proofs.Meets.{stays, calm, second, due-file, yes, put-old, stored-sure, damaged-sure, due-sure, two_damaged-sure, audited-fit, byte-fit, repaired-fit, four, sure}
 use Rattle.command_runs.proofs.Puts.{stopped-closed, stopped-open}
 use Rattle.command_runs.proofs.laws.cut_commands_leave_known_stores.Goals as goal

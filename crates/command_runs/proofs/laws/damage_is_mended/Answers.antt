@@ -1,6 +1,4 @@
-use Rattle.std.proofs.Common.{None, refl, inl, arith, not}
-use Rattle.command_runs.specs.Words.{is_flagged, counts, byte}
-use Rattle.command_runs.specs.Devices.{named}
+use Rattle.command_runs.proofs.Words.{None, refl, inl, arith, not, is_flagged, counts, byte, named}
 use Rattle.command_runs.proofs.Meets.{stays, calm, clash, first, second, due-file, robbed-untouched, repair-steady, get-steady, flagged-second, spared, two-file, later-steady, swept-steady, swept-untouched, never, yes, put-old, stored-sure, due-sure, two_damaged-sure, four}
 use Rattle.command_runs.proofs.laws.damage_is_mended.Goals as goal
 

@@ -1,7 +1,5 @@
-use Rattle.std.proofs.Common.{refl, inl, false, arith}
+use Rattle.command_runs.proofs.Words.{refl, inl, false, arith, byte, named, byte_records, due, repaired, two_damaged, scrubbed}
 use Rattle.command_laws.proofs.FilesStay.{bad-few}
-use Rattle.command_runs.specs.Words.{byte}
-use Rattle.command_runs.specs.Devices.{named, byte_records, due, repaired, two_damaged, scrubbed}
 use Rattle.command_runs.proofs.Meets.{calm, due-file, get-steady, never, repair-steady, right, right-file, second, two-file, due-sure, mended-sure, two_damaged-sure, four}
 use Rattle.command_runs.proofs.laws.few_bad_providers_do_no_harm.Goals as goal
 

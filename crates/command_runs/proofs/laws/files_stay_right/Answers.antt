@@ -1,6 +1,4 @@
-use Rattle.std.proofs.Common.{[], None, refl, inl, inr, false, arith}
-use Rattle.command_runs.specs.Words.{counts, byte, PutJob, AuditJob, audit_records, PutUnder, AuditAll, put_records, other_name}
-use Rattle.command_runs.specs.Devices.{named, byte_records, both_records, byte_audited_records, byte_audited}
+use Rattle.command_runs.proofs.Words.{[], None, refl, inl, inr, false, arith, counts, byte, PutJob, AuditJob, audit_records, PutUnder, AuditAll, put_records, other_name, named, byte_records, both_records, byte_audited_records, byte_audited}
 use Rattle.command_runs.proofs.Meets.{grown, stays, calm, second, due-file, damaged-file, repair-steady, right-file, other-name, two-file, whole, yes, put-old, damaged-sure, due-sure, to_put_other-sure, two_damaged-sure, audited-fit, four, sure}
 use Rattle.command_runs.proofs.laws.files_stay_right.Goals as goal
 

@@ -1,7 +1,5 @@
-use Rattle.std.proofs.Common.{None, Some, refl, arith}
+use Rattle.command_runs.proofs.Words.{None, Some, refl, arith, AuditJob, RepairJob, UpgradeJob, PutUnder, ListAll, named}
 use Rattle.machine_defs.specs.Refusals as refusal
-use Rattle.command_runs.specs.Words.{AuditJob, RepairJob, UpgradeJob, PutUnder, ListAll}
-use Rattle.command_runs.specs.Devices.{named}
 use Rattle.command_runs.proofs.Meets.{never, put-old, stored-sure, due-sure, upgraded_kept-sure, always}
 use Rattle.command_runs.proofs.laws.statuses_have_their_causes.Goals as goal
 

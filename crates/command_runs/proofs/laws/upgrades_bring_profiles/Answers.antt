@@ -1,6 +1,5 @@
-use Rattle.std.proofs.Common.{[], ◌∷◌, Some, refl, inl, inr, false, arith}
-use Rattle.command_runs.specs.Words.{A, Version, PutJob, UpgradeJob, PutAt, UpgradeJournal, put_records, byte, other_name}
-use Rattle.command_runs.specs.Devices.{named, byte_records, byte_upgraded_records, byte_own_records}
+use Rattle.command_runs.proofs.Words.{[], ◌∷◌, Some, refl, inl, inr, false, arith, Version, PutJob, UpgradeJob, PutAt, UpgradeJournal, put_records, byte, other_name, named, byte_records, byte_upgraded_records, byte_own_records}
+use Rattle.command_runs.specs.Words.{A}
 use Rattle.command_runs.proofs.Meets.{grown, other-name, never, right-file, whole, yes, stored-sure, to_put_own-sure, four}
 use Rattle.command_runs.proofs.laws.upgrades_bring_profiles.Goals as goal
 

@@ -1,7 +1,4 @@
-use Rattle.std.proofs.Common.{[], ◌∷◌, subst, append-nil}
-use Rattle.command_runs.specs.Words.{IsRun, now, IsStore}
-use Rattle.command_runs.specs.Devices.{byte_upgraded_records, upgraded_kept}
-use Rattle.command_runs.specs.Packed.{got_packed, pack_call, get_packed}
+use Rattle.command_runs.proofs.Words.{[], ◌∷◌, subst, append-nil, IsRun, now, IsStore, byte_upgraded_records, upgraded_kept, got_packed, pack_call, get_packed}
 use Rattle.command_runs.proofs.Alone.{chained}
 use Rattle.command_runs.proofs.Stores.{upgraded_kept-sure}
 use Rattle.command_runs.proofs.packs.commands_go_on_after_a_pack.Goals as goal

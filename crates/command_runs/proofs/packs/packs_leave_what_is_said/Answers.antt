@@ -1,8 +1,6 @@
-use Rattle.std.proofs.Common.{refl, inl, inr, arith}
+use Rattle.command_runs.proofs.Words.{refl, inl, inr, arith, byte_upgraded_records, packed_records}
 use Rattle.record_defs.specs.Areas.{A}
 use Rattle.machine_defs.specs.Refusals as refusal
-use Rattle.command_runs.specs.Devices.{byte_upgraded_records}
-use Rattle.command_runs.specs.Packed.{packed_records}
 use Rattle.command_runs.proofs.Meets.{upgraded-file, never, stored-sure, upgraded_kept-sure}
 use Rattle.command_runs.proofs.packs.packs_leave_what_is_said.Goals as goal
 

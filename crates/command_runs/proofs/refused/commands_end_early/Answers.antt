@@ -1,9 +1,6 @@
-use Rattle.std.proofs.Common.{[], ◌∷◌, Some, refl, ap, inl, arith}
-use Rattle.column_laws.proofs.Worked.{example-shape}
+use Rattle.command_runs.proofs.Words.{[], ◌∷◌, Some, refl, ap, inl, arith, example-shape, same-disk, quiet, refused, values_line, Unstarted, AnswersPut, AnswersList, four_records, byte_records, byte_audited_records, byte_upgraded_records, dropped_records, seen_after_drop}
 use Rattle.machine_defs.specs.Refusals as refusal
-use Rattle.command_laws.proofs.Samples.{same-disk, quiet, refused}
-use Rattle.command_runs.specs.Words.{A, values_line, Unstarted, AnswersPut, AnswersList}
-use Rattle.command_runs.specs.Devices.{four_records, byte_records, byte_audited_records, byte_upgraded_records, dropped_records, seen_after_drop}
+use Rattle.command_runs.specs.Words.{A}
 use Rattle.command_runs.proofs.Refusals.{put-refused, sink-fault, long, no_magic, none_accepted, sevens, only-sevens, touches, unlisted}
 use Rattle.command_runs.proofs.Stores.{put-old, stored-sure, due-sure, upgraded_kept-sure, byte-fit, dropped-fit, hidden, sure}
 use Rattle.command_runs.proofs.refused.commands_end_early.Goals as goal

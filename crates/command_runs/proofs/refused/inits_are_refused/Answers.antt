@@ -1,8 +1,6 @@
-use Rattle.std.proofs.Common.{[], refl, inl, arith}
-use Rattle.command_runs.specs.Words.{A, four, AnswersInit, InitsDisk, key_text}
-use Rattle.command_runs.specs.Devices.{byte_records}
+use Rattle.command_runs.proofs.Words.{[], refl, inl, arith, four, AnswersInit, InitsDisk, key_text, byte_records, quiet}
+use Rattle.command_runs.specs.Words.{A}
 use Rattle.command_laws.proofs.InitSample.{key-form, reads-key}
-use Rattle.command_laws.proofs.Samples.{quiet}
 use Rattle.command_runs.proofs.Refusals.{long, no_magic, long_journal, no_key}
 use Rattle.command_runs.proofs.Stores.{stored-sure}
 use Rattle.command_runs.proofs.refused.inits_are_refused.Goals as goal

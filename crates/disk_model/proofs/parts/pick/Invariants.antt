@@ -1,6 +1,5 @@
-use Rattle.std.proofs.Common.{◌≡◌, ◌≤◌, ◌++◌, length, take, drop}
-use Rattle.std.specs.List.{zip}
-use Rattle.device_defs.specs.Picks.{picked}
+use Rattle.disk_model.proofs.Words.{◌≡◌, ◌≤◌, ◌++◌, take, drop, zip, picked}
+use Rattle.std.proofs.Common.{length}
 use Rattle.disk_model.proofs.parts.pick.Given as goal
 
 abbrev pub invariant-loop-i : goal.invariant-loop-i

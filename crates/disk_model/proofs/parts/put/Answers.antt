@@ -1,6 +1,5 @@
-use Rattle.std.proofs.Common.{◌≡◌, ℕ, ◌+◌, ◌-◌, ◌++◌, length, replicate, true, ap, sym, ◌∙◌, arith, length-append}
-use Rattle.std.proofs.lemmas.List.{take_at, length-replicate}
-use Rattle.device_defs.proofs.Splices.{spliced_grown}
+use Rattle.disk_model.proofs.Words.{◌≡◌, ℕ, ◌+◌, ◌-◌, ◌++◌, replicate, true, ap, sym, ◌∙◌, arith, length-append, take_at, length-replicate, spliced_grown}
+use Rattle.std.proofs.Common.{length}
 use Rattle.disk_model.proofs.Zips.{zip_written}
 use Rattle.disk_model.proofs.parts.put.Goals as goal
 

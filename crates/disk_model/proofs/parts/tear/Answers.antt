@@ -1,6 +1,5 @@
-use Rattle.std.proofs.Common.{◌≡◌, ◌+◌, ◌-◌, ◌∙◌, Bool, true, List, min, length, replicate, ap, arith}
-use Rattle.std.proofs.lemmas.List.{take_at}
-use Rattle.device_defs.specs.Disks.{spliced}
+use Rattle.disk_model.proofs.Words.{◌≡◌, ◌+◌, ◌-◌, ◌∙◌, Bool, true, List, min, replicate, ap, arith, take_at, spliced}
+use Rattle.std.proofs.Common.{length}
 use Rattle.disk_model.proofs.Tears.{tear_is}
 use Rattle.disk_model.proofs.parts.tear.Goals as goal
 

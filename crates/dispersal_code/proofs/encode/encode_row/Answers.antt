@@ -1,6 +1,4 @@
-use Rattle.std.proofs.Common.{length, arith, ap}
-use Rattle.algebra_laws.proofs.Apart.{Apart-take}
-use Rattle.hail_poly.specs.Registers.{Registers}
+use Rattle.dispersal_code.proofs.Words.{length, arith, ap, Apart-take, Registers}
 use Rattle.dispersal_code.proofs.RowSteps.{row_is}
 use Rattle.dispersal_code.proofs.encode.encode_row.Goals as goal
 

@@ -1,5 +1,4 @@
-use Rattle.std.proofs.Common.{◌≡◌, take}
-use Rattle.code_defs.specs.Points.{values_at}
+use Rattle.dispersal_code.proofs.Words.{◌≡◌, take, values_at}
 use Rattle.dispersal_code.proofs.encode.encode_row.Given as goal
 
 abbrev pub invariant-loop-k : goal.invariant-loop-k

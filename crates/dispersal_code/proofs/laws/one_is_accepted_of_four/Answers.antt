@@ -1,6 +1,5 @@
-use Rattle.std.proofs.Common.{◌≡◌, ◌+◌, arith, refl, ◌∷◌, [], Some, None, length}
+use Rattle.dispersal_code.proofs.Words.{◌≡◌, ◌+◌, arith, refl, ◌∷◌, [], Some, None, length, present_symbols}
 use Rattle.code_defs.proofs.Worked.{ones_accepted, worked_decodes}
-use Rattle.dispersal_code.specs.Present.{present_symbols}
 use Rattle.dispersal_code.proofs.Erasures.{few_present}
 use Rattle.dispersal_code.proofs.laws.one_is_accepted_of_four.Goals as goal
 

@@ -1,9 +1,4 @@
-use Rattle.std.proofs.Common.{◌≡◌, ◌-◌, ◌∙◌, ap, sym, List, ℕ, length, take, arith}
-use Rattle.std.proofs.lemmas.List.{length-take}
-use Rattle.algebra_laws.proofs.Apart.{Apart-take}
-use Rattle.code_defs.specs.DispersalCode.{Accepts, IsOnlyAccepted}
-use Rattle.hail_poly.specs.Registers.{Registers}
-use Rattle.dispersal_code.specs.Present.{Chosen, present_points, present_symbols}
+use Rattle.dispersal_code.proofs.Words.{◌≡◌, ◌-◌, ◌∙◌, ap, sym, List, ℕ, length, take, arith, length-take, Apart-take, Accepts, IsOnlyAccepted, Registers, Chosen, present_points, present_symbols}
 use Rattle.dispersal_code.proofs.Erasures.{length-present, present-le, Apart-present, few_present, first_accepts, none_opens, some_opens}
 use Rattle.dispersal_code.proofs.Unique.{same_trim}
 use Rattle.dispersal_code.proofs.open.open_row.Goals as goal

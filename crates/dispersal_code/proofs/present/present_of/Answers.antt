@@ -1,6 +1,4 @@
-use Rattle.std.proofs.Common.{◌∷◌, [], arith}
-use Rattle.std.proofs.lemmas.List.{get_or_read, length-append}
-use Rattle.dispersal_code.specs.Present.{present_points, present_symbols}
+use Rattle.dispersal_code.proofs.Words.{◌∷◌, [], arith, get_or_read, length-append, present_points, present_symbols}
 use Rattle.dispersal_code.proofs.PresentSteps.{points_passed, symbols_passed, points_taken, symbols_taken, points_end, symbols_end, chosen_is}
 use Rattle.dispersal_code.proofs.present.present_of.Goals as goal
 use Rattle.dispersal_code.proofs.present.present_of.Goals.{in-Some, in_default}

@@ -1,5 +1,4 @@
-use Rattle.std.proofs.Common.{◌≡◌, ◌≤◌, ◌++◌, length, drop}
-use Rattle.dispersal_code.specs.Present.{present_points, present_symbols}
+use Rattle.dispersal_code.proofs.Words.{◌≡◌, ◌≤◌, ◌++◌, length, drop, present_points, present_symbols}
 use Rattle.dispersal_code.proofs.present.present_of.Given as goal
 
 abbrev pub invariant-loop-k : goal.invariant-loop-k

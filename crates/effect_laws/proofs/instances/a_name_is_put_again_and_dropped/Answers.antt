@@ -1,6 +1,4 @@
-use Rattle.std.proofs.Common.{refl, inl, inr, arith}
-use Rattle.machine_defs.specs.Examples.{set_up}
-use Rattle.effect_laws.specs.Instances.{name, byte}
+use Rattle.effect_laws.proofs.Words.{refl, inl, inr, arith, set_up, name, byte}
 use Rattle.effect_laws.proofs.PutAgain.{starts, run, lines, none-calls, all-told, reads, is-again, is-dropped, none-other}
 use Rattle.effect_laws.proofs.instances.a_name_is_put_again_and_dropped.Goals as goal
 

@@ -1,5 +1,4 @@
-use Rattle.std.proofs.Common.{[]}
-use Rattle.machine_defs.specs.Untouched.{Touches}
+use Rattle.effect_laws.proofs.Words.{[], Touches}
 use Rattle.effect_laws.proofs.Asked.{free_more, free_behind, none_leaves}
 use Rattle.effect_laws.proofs.Over.{over, leaves_over}
 use Rattle.effect_laws.proofs.transcripts.free_names_stay_free.Goals as goal

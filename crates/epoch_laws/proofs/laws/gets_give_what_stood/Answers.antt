@@ -1,11 +1,5 @@
-use Rattle.std.proofs.Common.{◌≡◌, ◌∷◌, ◌++◌, Some, ap, sym, subst, ◌∙◌, inl}
-use Rattle.machine_defs.specs.Jobs.{GetJob, job_of}
-use Rattle.machine_defs.specs.Events.{Step}
-use Rattle.machine_defs.specs.Runs.{now, first_moments}
-use Rattle.machine_defs.proofs.Damaged.{first_behind}
-use Rattle.machine_defs.proofs.Lone.{ended_of_kind}
+use Rattle.epoch_laws.proofs.Words.{◌≡◌, ◌∷◌, ◌++◌, Some, ap, sym, subst, ◌∙◌, inl, GetJob, job_of, Step, now, first_moments, first_behind, ended_of_kind, marked_facts, get_sharply}
 use Rattle.second_half_laws.specs.Sharp.{GivesOrIsLost}
-use Rattle.second_half_laws.proofs.SecondHalf.{marked_facts, get_sharply}
 use Rattle.epoch_laws.proofs.laws.gets_give_what_stood.Goals as goal
 
 pub returns : goal.returns

@@ -1,9 +1,4 @@
-use Rattle.std.proofs.Common.{◌∷◌, ◌++◌}
-use Rattle.machine_defs.specs.Answers.{Put}
-use Rattle.machine_defs.specs.Events.{Begin, Begun, Ended, put_event}
-use Rattle.machine_defs.specs.Jobs.{GetJob}
-use Rattle.machine_defs.specs.Scrubs.{scrubbed}
-use Rattle.epoch_laws.specs.Told.{done_by}
+use Rattle.epoch_laws.proofs.Words.{◌∷◌, ◌++◌, Put, Begin, Begun, Ended, put_event, GetJob, scrubbed, done_by}
 use Rattle.epoch_laws.proofs.Chains.{chain-marked}
 use Rattle.epoch_laws.proofs.Stories.{back}
 use Rattle.epoch_laws.proofs.Told.{gives}

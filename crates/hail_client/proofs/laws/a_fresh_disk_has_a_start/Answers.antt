@@ -1,7 +1,6 @@
-use Rattle.hail_client.specs.Examples.{fresh}
+use Rattle.hail_client.proofs.Words.{fresh, refl}
 use Rattle.hail_client.proofs.Examples.{fresh-is, fresh-start, fresh-devices, fresh-tell, fresh-stands, fresh-run, hidden-start, hidden-stands}
 use Rattle.hail_client.proofs.Fresh.{start-tells}
-use Rattle.std.proofs.Common.{refl}
 use Rattle.hail_client.proofs.laws.a_fresh_disk_has_a_start.Goals as goal
 
 pub returns : goal.returns

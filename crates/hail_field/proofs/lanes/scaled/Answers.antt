@@ -1,6 +1,4 @@
-use Rattle.std.proofs.Common.{rules, ◌∙◌, ap, sym, map}
-use Rattle.std.specs.Int.{w128, from_le_bytes}
-use Rattle.hail_field.specs.Nim.{nim_mul}
+use Rattle.hail_field.proofs.Words.{rules, ◌∙◌, ap, sym, map, w128, from_le_bytes, nim_mul}
 use Rattle.hail_field.proofs.Subfield.{product_by_bytes}
 use Rattle.hail_field.proofs.Multiples.{AreLanes, low_ok, high_ok, products_of_lanes}
 use Rattle.hail_field.proofs.lanes.scaled.Goals as goal

@@ -1,5 +1,4 @@
-use Rattle.std.proofs.Common.{ap₂}
-use Rattle.hail_field.specs.Nim.{nim_add}
+use Rattle.hail_field.proofs.Words.{ap₂, nim_add}
 use Rattle.hail_field.proofs.lanes.sum_16.Goals as goal
 
 pub returns : goal.returns

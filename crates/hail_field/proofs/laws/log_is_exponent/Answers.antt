@@ -1,5 +1,4 @@
-use Rattle.std.proofs.Common.{◌∙◌, get_or}
-use Rattle.hail_field.specs.declared.tables.TheConstants.{LOG}
+use Rattle.hail_field.proofs.Words.{◌∙◌, get_or, LOG}
 use Rattle.hail_field.proofs.AllNumbers.{nim_pow_at}
 use Rattle.hail_field.proofs.Table.{log_at, generator-lt}
 use Rattle.hail_field.proofs.laws.log_is_exponent.Goals as goal

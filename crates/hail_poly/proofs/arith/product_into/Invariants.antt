@@ -1,6 +1,4 @@
-use Rattle.std.proofs.Common.{◌≡◌, ℕ, take}
-use Rattle.hail_field.specs.Nim.{nim_mul}
-use Rattle.code_defs.specs.Polynomials.{value}
+use Rattle.hail_poly.proofs.Words.{◌≡◌, ℕ, take, nim_mul, value}
 use Rattle.hail_poly.proofs.arith.product_into.Given as goal
 
 abbrev pub invariant-loop-k : goal.invariant-loop-k

@@ -1,6 +1,4 @@
-use Rattle.std.proofs.Common.{◌≡◌, ◌≤◌, ◌+◌, drop, map, Some}
-use Rattle.code_defs.specs.Polynomials.{agree}
-use Rattle.hail_poly.specs.Decoding.{matches}
+use Rattle.hail_poly.proofs.Words.{◌≡◌, ◌≤◌, ◌+◌, drop, map, Some, agree, matches}
 use Rattle.hail_poly.proofs.count.agreements.Given as goal
 
 abbrev pub invariant-loop-k : goal.invariant-loop-k

@@ -1,6 +1,4 @@
-use Rattle.std.proofs.Common.{◌≡◌, ◌≤◌, take}
-use Rattle.code_defs.specs.Polynomials.{trim}
-use Rattle.hail_poly.specs.Rows.{Reduces}
+use Rattle.hail_poly.proofs.Words.{◌≡◌, ◌≤◌, take, trim, Reduces}
 use Rattle.hail_poly.proofs.euclid.reduce.Given as goal
 
 abbrev pub invariant-loop-n : goal.invariant-loop-n

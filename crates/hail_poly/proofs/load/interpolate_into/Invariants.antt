@@ -1,5 +1,4 @@
-use Rattle.std.proofs.Common.{◌≡◌, ◌+◌, ◌-◌, drop, take}
-use Rattle.code_defs.specs.Polynomials.{vanish, interpolate}
+use Rattle.hail_poly.proofs.Words.{◌≡◌, ◌+◌, ◌-◌, drop, take, vanish, interpolate}
 use Rattle.hail_poly.proofs.load.interpolate_into.Given as goal
 
 abbrev pub invariant-loop-done : goal.invariant-loop-done

@@ -1,5 +1,4 @@
-use Rattle.std.proofs.Common.{◌≡◌, drop}
-use Rattle.code_defs.specs.Polynomials.{value}
+use Rattle.hail_poly.proofs.Words.{◌≡◌, drop, value}
 use Rattle.hail_poly.proofs.read.eval.Given as goal
 
 abbrev pub invariant-loop-k : goal.invariant-loop-k

@@ -1,5 +1,4 @@
-use Rattle.std.proofs.Common.{◌≡◌, ◌≤◌, take, length}
-use Rattle.code_defs.specs.Polynomials.{trim}
+use Rattle.hail_poly.proofs.Words.{◌≡◌, ◌≤◌, take, length, trim}
 use Rattle.hail_poly.proofs.read.used.Given as goal
 
 abbrev pub invariant-loop-count : goal.invariant-loop-count

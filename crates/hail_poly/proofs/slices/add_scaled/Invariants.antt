@@ -1,5 +1,4 @@
-use Rattle.std.proofs.Common.{◌≡◌, drop, take, ◌++◌}
-use Rattle.code_defs.specs.Polynomials.{plus, scale}
+use Rattle.hail_poly.proofs.Words.{◌≡◌, drop, take, ◌++◌, plus, scale}
 use Rattle.hail_poly.proofs.slices.add_scaled.Given as goal
 
 abbrev pub invariant-loop-k : goal.invariant-loop-k

@@ -1,5 +1,4 @@
-use Rattle.std.proofs.Common.{inl, refl}
-use Rattle.hail_replay.specs.Counts.{trial_lines}
+use Rattle.hail_replay.proofs.Words.{inl, refl, trial_lines}
 use Rattle.hail_replay.proofs.Loops.{trial-told}
 use Rattle.hail_replay.proofs.Wrote.{ends-of}
 use Rattle.hail_replay.proofs.counted.tell_trial.Goals as goal

@@ -1,8 +1,4 @@
-use Rattle.std.proofs.Common.{List, inr, refl, sym, subst}
-use Rattle.machine_defs.specs.Heard.{Entry}
-use Rattle.trial_maker.specs.Trials.{trial_commands}
-use Rattle.hail_replay.specs.Starts.{devices_of}
-use Rattle.hail_replay.specs.Trials.{RunsTo}
+use Rattle.hail_replay.proofs.Words.{List, inr, refl, sym, subst, Entry, trial_commands, devices_of, RunsTo}
 use Rattle.hail_replay.proofs.Loops.{none-run}
 use Rattle.hail_replay.proofs.counted.trial.Goals as goal
 

@@ -1,9 +1,4 @@
-use Rattle.std.proofs.Common.{List, ◌++◌, ap, subst, ◌∙◌}
-use Rattle.machine_defs.specs.Events.{Outcome}
-use Rattle.machine_defs.specs.Heard.{Entry}
-use Rattle.schedule_text.specs.Events.{event_command}
-use Rattle.hail_replay.specs.Seen.{SeesOne}
-use Rattle.hail_replay.specs.Heard.{entries_heard}
+use Rattle.hail_replay.proofs.Words.{List, ◌++◌, ap, subst, ◌∙◌, Outcome, Entry, event_command, SeesOne, entries_heard}
 use Rattle.hail_replay.proofs.Course.{counted-on, run-on, on-ok, on-err}
 use Rattle.hail_replay.proofs.counted.trial_event.Goals as goal
 

@@ -1,9 +1,4 @@
-use Rattle.std.proofs.Common.{ap, length, arith}
-use Rattle.std.specs.Vec.Iter.{into_iter_items}
-use Rattle.std.proofs.lemmas.List.{nil_from_length}
-use Rattle.schedule_text.specs.Events.{event_command, commands_of}
-use Rattle.hail_replay.specs.Counts.{TrialCounts}
-use Rattle.hail_replay.specs.Heard.{entries_heard}
+use Rattle.hail_replay.proofs.Words.{ap, length, arith, into_iter_items, nil_from_length, event_command, commands_of, TrialCounts, entries_heard}
 use Rattle.hail_replay.proofs.Course.{on-err}
 use Rattle.hail_replay.proofs.Loops.{begin-count, count-course, count-on, count-wrong, count-short, count-home}
 use Rattle.hail_replay.proofs.counted.trial_events.Goals as goal

@@ -1,14 +1,6 @@
-use Rattle.std.proofs.Common.{Some, map, refl, ap₂, arith}
-use Rattle.std.specs.Prelude.{IsSome}
-use Rattle.std.proofs.lemmas.List.{length-map}
-use Rattle.device_defs.specs.Providers.{HasPlace, with_symbol, without_block}
-use Rattle.device_defs.proofs.Lasting.{is_some-goes}
-use Rattle.machine_defs.specs.Events.{Init, Alter, Lose, Stop, Reopen}
-use Rattle.machine_defs.specs.Jobs.{GetJob, DropJob, AuditJob, RepairJob, UpgradeJob}
+use Rattle.hail_replay.proofs.Words.{Some, map, refl, ap₂, arith, IsSome, length-map, HasPlace, with_symbol, without_block, is_some-goes, Init, Alter, Lose, Stop, Reopen, GetJob, DropJob, AuditJob, RepairJob, UpgradeJob, devices, replace_outcome}
 use Rattle.record_codec.specs.Entries.{with_master}
-use Rattle.vault_open.specs.Devices.{devices}
 use Rattle.provider_model.specs.Seen.{provider_seen}
-use Rattle.hail_client.specs.Outcomes.{replace_outcome}
 use Rattle.hail_replay.specs.declared.came.Came.TheVariants as came
 use Rattle.hail_replay.proofs.Same.{replaces_if}
 use Rattle.hail_replay.proofs.Arms.{enough, init-kept, reopen-kept, stop-kept}

@@ -1,7 +1,4 @@
-use Rattle.std.proofs.Common.{◌≡◌, ℕ, [], length, refl, ap, ◌∙◌}
-use Rattle.std.proofs.lemmas.List.{length-reverse}
-use Rattle.trial_maker.specs.Trials.{losses, cut, opening, epoch, last_epoch, trial_commands, trial_bytes}
-use Rattle.hail_replay.specs.Counts.{counts_of, trial_lines}
+use Rattle.hail_replay.proofs.Words.{◌≡◌, ℕ, [], length, refl, ap, ◌∙◌, length-reverse, losses, cut, opening, epoch, last_epoch, trial_commands, trial_bytes, counts_of, trial_lines}
 use Rattle.hail_replay.proofs.laws.trial_tells_its_events.Goals as goal
 
 -- the events of a trial

@@ -1,8 +1,4 @@
-use Rattle.std.proofs.Common.{ap, ◌++◌, List, ◌∙◌}
-use Rattle.machine_defs.specs.Heard.{Entry}
-use Rattle.machine_defs.specs.Lines.{lines_of}
-use Rattle.schedule_text.specs.Events.{event_command}
-use Rattle.hail_replay.specs.Heard.{entries_heard}
+use Rattle.hail_replay.proofs.Words.{ap, ◌++◌, List, ◌∙◌, Entry, lines_of, event_command, entries_heard}
 use Rattle.hail_replay.proofs.Course.{done-on}
 use Rattle.hail_replay.proofs.Wrote.{ends-of}
 use Rattle.hail_replay.proofs.schedule.replay_event.Goals as goal

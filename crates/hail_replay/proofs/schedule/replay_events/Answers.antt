@@ -1,7 +1,4 @@
-use Rattle.std.proofs.Common.{inl, inr, refl, ap, ◌∙◌, arith}
-use Rattle.std.specs.Vec.Iter.{into_iter_items}
-use Rattle.std.proofs.lemmas.List.{nil_from_length}
-use Rattle.schedule_text.specs.Events.{event_command, commands_of}
+use Rattle.hail_replay.proofs.Words.{inl, inr, refl, ap, ◌∙◌, arith, into_iter_items, nil_from_length, event_command, commands_of}
 use Rattle.hail_replay.proofs.Counts.{then-fell}
 use Rattle.hail_replay.proofs.Loops.{begin-course, go-on, go-wrong, go-short, go-home}
 use Rattle.hail_replay.proofs.schedule.replay_events.Goals as goal

@@ -1,8 +1,4 @@
-use Rattle.std.proofs.Common.{◌≤◌, length}
-use Rattle.std.specs.Vec.Iter.{into_iter_items}
-use Rattle.schedule_text.specs.Events.{commands_of}
-use Rattle.hail_replay.specs.Heard.{entries_heard}
-use Rattle.hail_replay.specs.Starts.{devices_of}
+use Rattle.hail_replay.proofs.Words.{◌≤◌, length, into_iter_items, commands_of, entries_heard, devices_of}
 use Rattle.hail_replay.proofs.Loops.{IsOnCourse, AreDone}
 use Rattle.hail_replay.proofs.schedule.replay_events.Given as goal
 

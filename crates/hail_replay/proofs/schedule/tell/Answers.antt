@@ -1,6 +1,4 @@
-use Rattle.std.proofs.Common.{inr, refl, subst, ◌∙◌, List, ℕ}
-use Rattle.command_defs.specs.Sinking.{WritesLine}
-use Rattle.hail_replay.specs.Starts.{sinking_of}
+use Rattle.hail_replay.proofs.Words.{inr, refl, subst, ◌∙◌, List, ℕ, WritesLine, sinking_of}
 use Rattle.hail_replay.proofs.Wrote.{nothing-taken, ok-is}
 use Rattle.hail_replay.proofs.schedule.tell.Goals as goal
 

@@ -1,6 +1,4 @@
-use Rattle.std.proofs.Common.{◌<◌, ◌≤◌, ◌++◌, ◌∷◌, [], List, ℕ, get_or, take, sym, ap, ◌∙◌, arith}
-use Rattle.std.proofs.lemmas.List.{append-nil}
-use Rattle.hail_replay.specs.Counts.{flagged_from}
+use Rattle.hail_replay.proofs.Words.{◌<◌, ◌≤◌, ◌++◌, ◌∷◌, [], List, ℕ, get_or, take, sym, ap, ◌∙◌, arith, append-nil, flagged_from}
 use Rattle.hail_replay.proofs.Flags.{flagged_more, flagged_one, flagged_none}
 use Rattle.hail_replay.proofs.seen.flagged_of.Goals as goal
 use Rattle.hail_replay.proofs.seen.flagged_of.Goals.{then-counts-place+in_ok-push, else-counts-place}

@@ -1,5 +1,4 @@
-use Rattle.std.proofs.Common.{◌≡◌, take}
-use Rattle.hail_replay.specs.Counts.{flagged_from}
+use Rattle.hail_replay.proofs.Words.{◌≡◌, take, flagged_from}
 use Rattle.hail_replay.proofs.seen.flagged_of.Given as goal
 
 abbrev pub invariant-loop-place : goal.invariant-loop-place

@@ -1,5 +1,4 @@
-use Rattle.std.proofs.Common.{◌++◌, ℕ, ap, ◌∙◌}
-use Rattle.machine_defs.specs.Lines.{then_number}
+use Rattle.hail_replay.proofs.Words.{◌++◌, ℕ, ap, ◌∙◌, then_number}
 use Rattle.hail_replay.proofs.Numbers.{numbered_more}
 use Rattle.hail_replay.proofs.text.push_numbers.Goals as goal
 

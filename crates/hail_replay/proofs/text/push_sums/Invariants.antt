@@ -1,6 +1,4 @@
-use Rattle.std.proofs.Common.{◌≡◌, ◌++◌, take}
-use Rattle.std.specs.List.{flat_map}
-use Rattle.machine_defs.specs.Lines.{then_number}
+use Rattle.hail_replay.proofs.Words.{◌≡◌, ◌++◌, take, flat_map, then_number}
 use Rattle.hail_replay.proofs.text.push_sums.Given as goal
 
 abbrev pub invariant-loop-place : goal.invariant-loop-place

@@ -1,6 +1,4 @@
-use Rattle.std.proofs.Common.{◌≡◌, ◌+◌, ◌*◌, ◌≤◌, ◌^◌, take}
-use Rattle.std.specs.Prelude.{sum_by}
-use Rattle.hail_scrub.specs.declared.cursor.Item.{Item}
+use Rattle.hail_scrub.proofs.Words.{◌≡◌, ◌+◌, ◌*◌, ◌≤◌, ◌^◌, take, sum_by, Item}
 use Rattle.hail_scrub.proofs.begin.count_left.Given as goal
 
 abbrev pub invariant-loop-item : goal.invariant-loop-item

@@ -1,9 +1,4 @@
-use Rattle.std.proofs.Common.{◌<◌, ◌++◌, ◌∷◌, ◌∙◌, ℕ, [], List, length, take, map, ap, sym, subst, refl, arith}
-use Rattle.std.proofs.lemmas.List.{take_more}
-use Rattle.std.proofs.lemmas.Option.{slice_get_read}
-use Rattle.file_layout.specs.declared.file.FileShape.{FileShape}
-use Rattle.stripe_bench.specs.Bench.{bench_kind}
-use Rattle.hail_scrub.specs.Begun.{file_providers, AreItems}
+use Rattle.hail_scrub.proofs.Words.{◌<◌, ◌++◌, ◌∷◌, ◌∙◌, ℕ, [], List, length, take, map, ap, sym, subst, refl, arith, take_more, slice_get_read, FileShape, bench_kind, file_providers, AreItems}
 use Rattle.hail_scrub.proofs.begin.take_all.Goals as goal
 
 pub loop-file-preserved : goal.loop-file-preserved

@@ -1,6 +1,4 @@
-use Rattle.std.proofs.Common.{◌≤◌, length, take, map}
-use Rattle.stripe_bench.specs.Bench.{bench_kind}
-use Rattle.hail_scrub.specs.Begun.{file_providers, AreItems}
+use Rattle.hail_scrub.proofs.Words.{◌≤◌, length, take, map, bench_kind, file_providers, AreItems}
 use Rattle.hail_scrub.proofs.begin.take_all.Given as goal
 
 abbrev pub invariant-loop-file : goal.invariant-loop-file

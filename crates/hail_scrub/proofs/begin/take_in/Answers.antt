@@ -1,7 +1,4 @@
-use Rattle.std.proofs.Common.{◌∷◌, ◌++◌, List, [], map, ◌∙◌, sym, refl, subst, arith}
-use Rattle.stripe_bench.specs.Bench.{bench_kind}
-use Rattle.hail_scrub.specs.declared.cursor.Item.{Item}
-use Rattle.hail_scrub.specs.Begun.{AreItems}
+use Rattle.hail_scrub.proofs.Words.{◌∷◌, ◌++◌, List, [], map, ◌∙◌, sym, refl, subst, arith, bench_kind, Item, AreItems}
 use Rattle.hail_scrub.proofs.Begins.{taken_none, taken_one}
 use Rattle.hail_scrub.proofs.begin.take_in.Goals as goal
 

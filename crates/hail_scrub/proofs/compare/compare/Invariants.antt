@@ -1,7 +1,4 @@
-use Rattle.std.proofs.Common.{◌≡◌, ℕ, ◌<◌, ◌≤◌, length, get_or}
-use Rattle.column_codec.specs.Bench.{bench_object}
-use Rattle.stripe_bench.specs.Blocks.{blocks_in}
-use Rattle.hail_scrub.specs.Steps.{off_in}
+use Rattle.hail_scrub.proofs.Words.{◌≡◌, ℕ, ◌<◌, ◌≤◌, length, get_or, bench_object, blocks_in, off_in}
 use Rattle.hail_scrub.proofs.compare.compare.Given as goal
 
 abbrev pub invariant-loop-j : goal.invariant-loop-j

@@ -1,5 +1,4 @@
-use Rattle.std.proofs.Common.{length, ap, arith}
-use Rattle.std.proofs.lemmas.Bool.{eq-eqb, ne_eqb}
+use Rattle.hail_scrub.proofs.Words.{length, ap, arith, eq-eqb, ne_eqb}
 use Rattle.hail_scrub.proofs.Rests.{stores_take, stores_skip}
 use Rattle.hail_scrub.proofs.compare.count_off.Goals as goal
 use Rattle.hail_scrub.proofs.compare.count_off.Goals.{then-off-j-ne0, else-off-j-ne0}

@@ -1,5 +1,4 @@
-use Rattle.std.proofs.Common.{◌≡◌, ℕ, ◌+◌, ◌≤◌, length}
-use Rattle.hail_scrub.specs.Todo.{stores_from}
+use Rattle.hail_scrub.proofs.Words.{◌≡◌, ℕ, ◌+◌, ◌≤◌, length, stores_from}
 use Rattle.hail_scrub.proofs.compare.count_off.Given as goal
 
 abbrev pub invariant-loop-j : goal.invariant-loop-j

@@ -1,6 +1,5 @@
-use Rattle.std.proofs.Common.{refl}
+use Rattle.hail_scrub.proofs.Words.{refl, slice_get_read}
 use Rattle.hail_scrub.proofs.Rests.{file_found, files_end}
-use Rattle.std.proofs.lemmas.Option.{slice_get_read}
 use Rattle.hail_scrub.proofs.moves.file_at.Goals as goal
 
 pub returns-in-Some-clause-at : goal.returns-in-Some-clause-at

@@ -1,5 +1,4 @@
-use Rattle.std.proofs.Common.{◌∙◌, refl, arith}
-use Rattle.std.proofs.lemmas.Bool.{eq-eqb}
+use Rattle.hail_scrub.proofs.Words.{◌∙◌, refl, arith, eq-eqb}
 use Rattle.hail_scrub.proofs.Rests.{stores_skip}
 use Rattle.hail_scrub.proofs.moves.off_from.Goals as goal
 

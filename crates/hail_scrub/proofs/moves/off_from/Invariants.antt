@@ -1,5 +1,4 @@
-use Rattle.std.proofs.Common.{◌≡◌, ℕ}
-use Rattle.hail_scrub.specs.Todo.{stores_from}
+use Rattle.hail_scrub.proofs.Words.{◌≡◌, ℕ, stores_from}
 use Rattle.hail_scrub.proofs.moves.off_from.Given as goal
 
 abbrev pub invariant-loop-j : goal.invariant-loop-j

@@ -1,5 +1,4 @@
-use Rattle.std.proofs.Common.{arith}
-use Rattle.std.proofs.lemmas.Option.{slice_get_within}
+use Rattle.hail_scrub.proofs.Words.{arith, slice_get_within}
 use Rattle.hail_scrub.proofs.Rests.{stripe_found, stripes_end}
 use Rattle.hail_scrub.proofs.moves.stripe_after.Goals as goal
 

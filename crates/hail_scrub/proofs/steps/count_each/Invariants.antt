@@ -1,5 +1,4 @@
-use Rattle.std.proofs.Common.{◌≡◌, ℕ, ◌+◌, ◌<◌, ◌≤◌, ◌==◌, length, get_or}
-use Rattle.std.specs.Prelude.{if◌then◌else◌}
+use Rattle.hail_scrub.proofs.Words.{◌≡◌, ℕ, ◌+◌, ◌<◌, ◌≤◌, ◌==◌, length, get_or, if◌then◌else◌}
 use Rattle.hail_scrub.proofs.steps.count_each.Given as goal
 
 abbrev pub invariant-loop-j : goal.invariant-loop-j

@@ -1,12 +1,6 @@
-use Rattle.std.proofs.Common.{◌-◌, ap, sym, subst, List, ℕ, length, arith}
-use Rattle.std.proofs.lemmas.List.FromFn.{length-map-range_with_len}
-use Rattle.algebra_laws.specs.Field.{Apart}
-use Rattle.hail_field.specs.Nim.{nim}
-use Rattle.hail_field.proofs.AllNumbers.{nim_laws}
+use Rattle.hail_syndrome.proofs.Words.{◌-◌, ap, sym, subst, List, ℕ, length, arith, length-map-range_with_len, Apart, nim, nim_laws, sound_points, sound_values, syndrome, syndromes_of}
 use Rattle.hail_poly.specs.Registers.{Registers}
 use Rattle.hail_poly.proofs.KeySteps.{key_loaded}
-use Rattle.hail_syndrome.specs.Sound.{sound_points, sound_values}
-use Rattle.hail_syndrome.specs.Syndromes.{syndrome, syndromes_of}
 use Rattle.hail_syndrome.proofs.Decide.{many, apart_chosen, too_few, is_enough, front_is, made_of}
 use Rattle.hail_syndrome.proofs.SoundPlaces.{length-sound_values}
 use Rattle.hail_syndrome.proofs.decode.decode_syndromes.Goals as goal

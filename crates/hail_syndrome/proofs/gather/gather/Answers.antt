@@ -1,8 +1,5 @@
-use Rattle.std.proofs.Common.{◌≡◌, ◌≢◌, take, arith, ◌∙◌, sym, refl}
-use Rattle.std.proofs.lemmas.List.{get_or_read}
-use Rattle.hail_field.specs.Nim.{nim}
+use Rattle.hail_syndrome.proofs.Words.{◌≡◌, ◌≢◌, take, arith, ◌∙◌, sym, refl, get_or_read, nim, sound_points, sound_values}
 use Rattle.code_defs.specs.Polynomials.{value}
-use Rattle.hail_syndrome.specs.Sound.{sound_points, sound_values}
 use Rattle.hail_syndrome.proofs.GatherSteps.{point_kept, value_kept, point_passed, value_passed, points_end, values_end}
 use Rattle.hail_syndrome.proofs.gather.gather.Goals as goal
 use Rattle.hail_syndrome.proofs.gather.gather.Goals.{then-not-is_zero, else-not-is_zero}

@@ -1,6 +1,4 @@
-use Rattle.std.proofs.Common.{◌≡◌, ◌≤◌, ◌++◌, take, drop}
-use Rattle.hail_field.specs.Nim.{nim}
-use Rattle.hail_syndrome.specs.Sound.{sound_points, sound_values}
+use Rattle.hail_syndrome.proofs.Words.{◌≡◌, ◌≤◌, ◌++◌, take, drop, nim, sound_points, sound_values}
 use Rattle.hail_syndrome.proofs.gather.gather.Given as goal
 
 abbrev pub invariant-loop-k : goal.invariant-loop-k

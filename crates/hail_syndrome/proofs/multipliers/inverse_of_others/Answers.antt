@@ -1,6 +1,4 @@
-use Rattle.std.proofs.Common.{◌≡◌, sym, ◌∙◌, arith}
-use Rattle.std.proofs.lemmas.Grind.{common_steps}
-use Rattle.code_defs.proofs.Lagrange.{others_product-not_zero}
+use Rattle.hail_syndrome.proofs.Words.{◌≡◌, sym, ◌∙◌, arith, common_steps, others_product-not_zero}
 use Rattle.hail_syndrome.proofs.multipliers.inverse_of_others.Goals as goal
 
 pub unwrap-requires : goal.unwrap-requires

@@ -1,6 +1,4 @@
-use Rattle.std.proofs.Common.{◌≡◌, ◌∙◌, arith}
-use Rattle.std.proofs.lemmas.Grind.{common_steps}
-use Rattle.code_defs.specs.Points.{upto}
+use Rattle.hail_syndrome.proofs.Words.{◌≡◌, ◌∙◌, arith, common_steps, upto}
 use Rattle.hail_syndrome.proofs.MultiplierSteps.{known_multiplier}
 use Rattle.hail_syndrome.proofs.multipliers.multiplier_at.Goals as goal
 

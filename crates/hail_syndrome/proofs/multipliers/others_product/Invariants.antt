@@ -1,5 +1,4 @@
-use Rattle.std.proofs.Common.{◌≡◌, drop}
-use Rattle.code_defs.specs.Points.{others_product as others_product_of}
+use Rattle.hail_syndrome.proofs.Words.{◌≡◌, drop, others_product_of}
 use Rattle.hail_syndrome.proofs.multipliers.others_product.Given as goal
 
 abbrev pub invariant-loop-k : goal.invariant-loop-k

@@ -1,6 +1,4 @@
-use Rattle.std.proofs.Common.{arith, refl, ◌∙◌, ap}
-use Rattle.std.proofs.lemmas.List.{get_or_read}
-use Rattle.hail_field.specs.Nim.{nim_mul}
+use Rattle.hail_syndrome.proofs.Words.{arith, refl, ◌∙◌, ap, get_or_read, nim_mul}
 use Rattle.hail_syndrome.proofs.SyndromeSteps.{power_start, power_more, place_more, place_left}
 use Rattle.hail_syndrome.proofs.syndrome.add_powers.Goals as goal
 

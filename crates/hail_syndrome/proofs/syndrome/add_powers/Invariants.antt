@@ -1,5 +1,4 @@
-use Rattle.std.proofs.Common.{◌≡◌, ◌≤◌, ◌<◌, ℕ, get_or}
-use Rattle.hail_field.specs.Nim.{nim_add, nim_mul, nim_pow}
+use Rattle.hail_syndrome.proofs.Words.{◌≡◌, ◌≤◌, ◌<◌, ℕ, get_or, nim_add, nim_mul, nim_pow}
 use Rattle.hail_syndrome.proofs.syndrome.add_powers.Given as goal
 
 abbrev pub invariant-loop-k : goal.invariant-loop-k

@@ -1,8 +1,4 @@
-use Rattle.std.proofs.Common.{◌≡◌, ◌-◌, ℕ, arith, length, get_or, drop, map, ap, sym, ◌∙◌}
-use Rattle.std.proofs.lemmas.List.{get_or-replicate, get_or_read}
-use Rattle.code_defs.specs.Sums.{dot}
-use Rattle.hail_field.specs.Nim.{nim_mul, nim_pow}
-use Rattle.code_defs.specs.Points.{multiplier}
+use Rattle.hail_syndrome.proofs.Words.{◌≡◌, ◌-◌, ℕ, arith, length, get_or, drop, map, ap, sym, ◌∙◌, get_or-replicate, get_or_read, dot, nim_mul, nim_pow, multiplier}
 use Rattle.hail_syndrome.proofs.SyndromeSteps.{sum_past, sum_more, syndromes_by_all, zero_law}
 use Rattle.hail_syndrome.proofs.syndrome.syndromes.Goals as goal
 

@@ -1,7 +1,4 @@
-use Rattle.std.proofs.Common.{◌≡◌, ◌<◌, ℕ, get_or, drop, map, length}
-use Rattle.hail_field.specs.Nim.{nim_mul, nim_pow}
-use Rattle.code_defs.specs.Points.{multiplier}
-use Rattle.code_defs.specs.Sums.{dot}
+use Rattle.hail_syndrome.proofs.Words.{◌≡◌, ◌<◌, ℕ, get_or, drop, map, length, nim_mul, nim_pow, multiplier, dot}
 use Rattle.hail_syndrome.proofs.syndrome.syndromes.Given as goal
 
 abbrev pub invariant-loop-place : goal.invariant-loop-place

@@ -1,9 +1,4 @@
-use Rattle.std.proofs.Common.{List, ℕ, ap, sym, ◌∙◌}
-use Rattle.std.proofs.lemmas.List.FromFn.{length-range_with_len}
-use Rattle.code_defs.specs.Points.{upto}
-use Rattle.code_defs.proofs.Values.{values_at-same}
-use Rattle.command_defs.specs.Line.{values_line}
-use Rattle.code_defs.proofs.Points.{Apart-range}
+use Rattle.hail_top.proofs.Words.{List, ℕ, ap, sym, ◌∙◌, length-range_with_len, upto, values_at-same, values_line, Apart-range}
 use Rattle.hail_top.proofs.laws.row_has_one_line.Goals as goal
 
 pub returns : goal.returns

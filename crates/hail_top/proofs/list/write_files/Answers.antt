@@ -1,6 +1,4 @@
-use Rattle.std.proofs.Common.{inr, refl}
-use Rattle.record_defs.specs.Table.{files_of}
-use Rattle.command_defs.specs.Lines.{list_lines}
+use Rattle.hail_top.proofs.Words.{inr, refl, files_of, list_lines}
 use Rattle.hail_top.proofs.AnswerTexts.{front-none}
 use Rattle.hail_top.proofs.list.write_files.Goals as goal
 

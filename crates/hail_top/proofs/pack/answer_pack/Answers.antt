@@ -1,9 +1,5 @@
-use Rattle.std.proofs.Common.{◌∙◌, refl, ap, sym}
-use Rattle.record_defs.specs.Areas.{other_area}
+use Rattle.hail_top.proofs.Words.{◌∙◌, refl, ap, sym, other_area, FillsGap, resynced, ZerosUnlessFault, kept, written}
 use Rattle.record_defs.specs.Packed.{packed}
-use Rattle.command_jobs.specs.Packs.{FillsGap}
-use Rattle.opening_defs.proofs.Resyncs.{resynced}
-use Rattle.hail_top.specs.PackRuns.{ZerosUnlessFault, kept, written}
 use Rattle.hail_top.proofs.PackEnds.{pack-told, refused-pack}
 use Rattle.hail_top.proofs.PackRuns.{told-zeros, told-around}
 use Rattle.hail_top.proofs.pack.answer_pack.Goals as goal

@@ -1,7 +1,5 @@
-use Rattle.std.proofs.Common.{Err, refl, ap, sym}
-use Rattle.command_defs.specs.Seen.{Seen, seen}
+use Rattle.hail_top.proofs.Words.{Err, refl, ap, sym, Seen, seen, Unopened}
 use Rattle.command_defs.specs.Packs.{unstarted}
-use Rattle.command_jobs.specs.declared.open.Unopened.{Unopened}
 use Rattle.hail_top.specs.PackRuns as around
 use Rattle.hail_top.proofs.Unopened.{unopened-told}
 use Rattle.hail_top.proofs.Opened.{opened-read}

@@ -1,5 +1,4 @@
-use Rattle.std.proofs.Common.{inr, refl}
-use Rattle.command_defs.specs.Lines.{packed_line}
+use Rattle.hail_top.proofs.Words.{inr, refl, packed_line}
 use Rattle.hail_top.proofs.AnswerTexts.{front-none}
 use Rattle.hail_top.proofs.pack.write_lengths.Goals as goal
 

@@ -1,6 +1,4 @@
-use Rattle.std.proofs.Common.{Err, map, refl, ap, sym, ◌∙◌}
-use Rattle.command_jobs.specs.declared.stream.Unbegun.{Unbegun}
-use Rattle.provider_model.specs.Seen.{provider_seen}
+use Rattle.hail_top.proofs.Words.{Err, map, refl, ap, sym, ◌∙◌, Unbegun, provider_seen}
 use Rattle.hail_top.proofs.PutEnds.{streamed-put, unknown-put, unbegun-put}
 use Rattle.hail_top.proofs.put.put_stream.Goals as goal
 

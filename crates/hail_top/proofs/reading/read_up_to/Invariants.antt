@@ -1,5 +1,4 @@
-use Rattle.std.proofs.Common.{◌≡◌, ◌-◌, ◌≤◌, min, vec_len}
-use Rattle.device_defs.specs.Told.{then_told}
+use Rattle.hail_top.proofs.Words.{◌≡◌, ◌-◌, ◌≤◌, min, vec_len, then_told}
 use Rattle.hail_top.proofs.reading.read_up_to.Given as goal
 
 abbrev pub invariant-loop-piece : goal.invariant-loop-piece

@@ -1,8 +1,5 @@
-use Rattle.std.proofs.Common.{List, ℕ, Option, subst, sym, ◌∙◌}
-use Rattle.std.proofs.lemmas.List.FromFn.{length-range_with_len}
-use Rattle.code_defs.specs.Points.{upto}
-use Rattle.command_defs.specs.Row.{OpensRow}
-use Rattle.code_defs.proofs.Points.{Apart-range}
+use Rattle.hail_top.proofs.Words.{List, ℕ, subst, sym, ◌∙◌, length-range_with_len, upto, OpensRow, Apart-range}
+use Rattle.std.proofs.Common.{Option}
 use Rattle.hail_top.proofs.RowAnswers.{answers_held, AnswersRow-same}
 use Rattle.hail_top.proofs.row.answer_row.Goals as goal
 

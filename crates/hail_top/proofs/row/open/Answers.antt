@@ -1,7 +1,5 @@
-use Rattle.std.proofs.Common.{List, ℕ, length, ap, ◌∙◌, sym, subst}
-use Rattle.std.proofs.lemmas.List.FromFn.{length-range_with_len}
+use Rattle.hail_top.proofs.Words.{List, ℕ, length, ap, ◌∙◌, sym, subst, length-range_with_len, Apart-range}
 use Rattle.algebra_laws.specs.Field.{Apart}
-use Rattle.code_defs.proofs.Points.{Apart-range}
 use Rattle.hail_top.proofs.row.open.Goals as goal
 
 pub open_row-requires-clause-apart : goal.open_row-requires-clause-apart

@@ -1,6 +1,4 @@
-use Rattle.std.proofs.Common.{◌≡◌, List, ◌++◌, ◌∷◌, ℕ, [], ap, ◌∙◌, sym, arith}
-use Rattle.code_defs.specs.Points.{upto}
-use Rattle.code_defs.proofs.Points.{upto_more}
+use Rattle.hail_top.proofs.Words.{◌≡◌, List, ◌++◌, ◌∷◌, ℕ, [], ap, ◌∙◌, sym, arith, upto, upto_more}
 use Rattle.hail_top.proofs.row.points.Goals as goal
 
 pub loop-place-preserved : goal.loop-place-preserved

@@ -1,5 +1,4 @@
-use Rattle.std.proofs.Common.{◌≡◌}
-use Rattle.code_defs.specs.Points.{upto}
+use Rattle.hail_top.proofs.Words.{◌≡◌, upto}
 use Rattle.hail_top.proofs.row.points.Given as goal
 
 abbrev pub invariant-loop-place : goal.invariant-loop-place

@@ -1,5 +1,4 @@
-use Rattle.std.proofs.Common.{◌≡◌, take}
-use Rattle.code_defs.specs.Points.{values_at}
+use Rattle.hail_top.proofs.Words.{◌≡◌, take, values_at}
 use Rattle.hail_top.proofs.row.values.Given as goal
 
 abbrev pub invariant-loop-point : goal.invariant-loop-point

@@ -1,5 +1,4 @@
-use Rattle.std.proofs.Common.{inr, refl}
-use Rattle.command_defs.specs.Line.{values_line}
+use Rattle.hail_top.proofs.Words.{inr, refl, values_line}
 use Rattle.hail_top.proofs.AnswerTexts.{front-none}
 use Rattle.hail_top.proofs.row.write_values.Goals as goal
 

@@ -1,6 +1,5 @@
-use Rattle.std.proofs.Common.{refl, ap, sym, ◌∙◌, map}
+use Rattle.hail_top.proofs.Words.{refl, ap, sym, ◌∙◌, map, provider_seen}
 use Rattle.record_codec.specs.declared.setup.Setup.{Setup}
-use Rattle.provider_model.specs.Seen.{provider_seen}
 use Rattle.hail_top.proofs.ScrubEnds.{scrub-told, no-scrub}
 use Rattle.hail_top.proofs.scrub.answer_scrub.Goals as goal
 

@@ -1,9 +1,5 @@
-use Rattle.std.proofs.Common.{Err, length, map, refl, ap, sym}
-use Rattle.std.proofs.lemmas.List.{length-map}
-use Rattle.command_defs.specs.Seen.{Seen, seen}
+use Rattle.hail_top.proofs.Words.{Err, length, map, refl, ap, sym, length-map, Seen, seen, provider_seen, Unopened}
 use Rattle.command_defs.specs.Scrubs.{unstarted}
-use Rattle.provider_model.specs.Seen.{provider_seen}
-use Rattle.command_jobs.specs.declared.open.Unopened.{Unopened}
 use Rattle.hail_top.proofs.Unopened.{unopened-told}
 use Rattle.hail_top.proofs.Opened.{opened-read, no_count_falls, still}
 use Rattle.hail_top.proofs.scrub.scrub.Goals as goal

@@ -1,5 +1,4 @@
-use Rattle.std.proofs.Common.{inr, refl, take}
-use Rattle.command_defs.specs.Lines.{scrub_lines}
+use Rattle.hail_top.proofs.Words.{inr, refl, take, scrub_lines}
 use Rattle.hail_top.proofs.AnswerTexts.{front-none}
 use Rattle.hail_top.proofs.scrub.write_sums.Goals as goal
 

@@ -1,6 +1,4 @@
-use Rattle.std.proofs.Common.{Err, refl, ap}
-use Rattle.record_codec.specs.Entries.{with_master}
-use Rattle.vault_open.specs.declared.fault.InitFault.{InitFault}
+use Rattle.hail_top.proofs.Words.{Err, refl, ap, with_master, InitFault}
 use Rattle.hail_top.proofs.InitRuns.{init-on, ready-tells, refused-tells}
 use Rattle.hail_top.proofs.SetUpEnds.{ready-told, not_set_up-told}
 use Rattle.hail_top.proofs.set_up.set_up_disk.Goals as goal

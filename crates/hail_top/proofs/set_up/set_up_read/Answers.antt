@@ -1,7 +1,4 @@
-use Rattle.std.proofs.Common.{Err, List, ℕ, refl, ap, sym, subst}
-use Rattle.command_defs.specs.Keys.{longest_key}
-use Rattle.command_defs.specs.Seen.{ReadsUpTo}
-use Rattle.hail_top.specs.declared.reading.ReadFault.{ReadFault}
+use Rattle.hail_top.proofs.Words.{Err, List, ℕ, refl, ap, sym, subst, longest_key, ReadsUpTo, ReadFault}
 use Rattle.hail_top.specs.InitRuns as runs
 use Rattle.hail_top.proofs.SetUpReads.{unread-told}
 use Rattle.hail_top.proofs.set_up.set_up_read.Goals as goal

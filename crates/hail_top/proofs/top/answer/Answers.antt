@@ -1,8 +1,5 @@
-use Rattle.std.proofs.Common.{map, refl}
-use Rattle.std.proofs.lemmas.List.{length-map}
+use Rattle.hail_top.proofs.Words.{map, refl, length-map, command_of, provider_seen}
 use Rattle.command_words.specs.declared.command.Command.TheVariants as kind
-use Rattle.command_words.specs.Commands.{command_of}
-use Rattle.provider_model.specs.Seen.{provider_seen}
 use Rattle.hail_top.proofs.Answered.{answered, put-answered, put-inits}
 use Rattle.hail_top.proofs.InitRuns.{inits-as}
 use Rattle.hail_top.proofs.PackRuns.{packs-as, put-packs}

@@ -1,7 +1,7 @@
 use Rattle.command_words.specs.Commands.{command_of}
 use Rattle.hail_top.proofs.PackRuns.{packs-same, packs-words}
 use Rattle.hail_top.proofs.RowWords.{HasItsSymbols-IsForm}
-use Rattle.hail_top.proofs.Words.{command-words, unread-words}
+use Rattle.hail_top.proofs.Spelled.{command-words, unread-words}
 use Rattle.hail_top.proofs.top.answer_words.Goals as goal
 
 pub answer-requires : goal.answer-requires

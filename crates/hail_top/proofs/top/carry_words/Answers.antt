@@ -1,4 +1,4 @@
-use Rattle.hail_top.proofs.Words.{form-words, other-words}
+use Rattle.hail_top.proofs.Spelled.{form-words, other-words}
 use Rattle.hail_top.proofs.top.carry_words.Goals as goal
 
 pub returns-in-Some-clause-answered : goal.returns-in-Some-clause-answered

@@ -1,9 +1,5 @@
-use Rattle.std.proofs.Common.{arith}
-use Rattle.command_defs.specs.Forms.{Command, IsForm}
-use Rattle.std.proofs.lemmas.List.{take_at}
-use Rattle.hail_top.specs.Answered.{AnswersWords}
-use Rattle.hail_top.specs.Endings.{seen_of, ending_of}
-use Rattle.hail_top.specs.PackRuns.{PacksOn}
+use Rattle.hail_top.proofs.Words.{arith, IsForm, take_at, AnswersWords, seen_of, ending_of, PacksOn}
+use Rattle.command_defs.specs.Forms.{Command}
 use Rattle.hail_top.proofs.Carried.{over-lists}
 use Rattle.hail_top.proofs.top.hail.Goals as goal
 

@@ -1,9 +1,4 @@
-use Rattle.std.proofs.Common.{None, refl}
-use Rattle.machine_defs.specs.Jobs.{GetJob}
-use Rattle.machine_defs.specs.Answers.{Got}
-use Rattle.machine_defs.specs.States.{setup_in}
-use Rattle.command_defs.specs.Ran.{ran_from}
-use Rattle.lone_laws.specs.Walked.{MayName}
+use Rattle.job_laws.proofs.Words.{None, refl, GetJob, Got, setup_in, ran_from, MayName}
 use Rattle.job_laws.proofs.Runs.{job-ends}
 use Rattle.job_laws.proofs.Gets.{all-leaves}
 use Rattle.job_laws.proofs.Complete.{shape-of, get-complete, get-right, get-forged}

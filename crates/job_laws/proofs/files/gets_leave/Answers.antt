@@ -1,6 +1,4 @@
-use Rattle.std.proofs.Common.{None, refl}
-use Rattle.machine_defs.specs.Jobs.{GetJob}
-use Rattle.lone_laws.specs.Walked.{MayName}
+use Rattle.job_laws.proofs.Words.{None, refl, GetJob, MayName}
 use Rattle.job_laws.proofs.Runs.{job-ends}
 use Rattle.job_laws.proofs.Gets.{all-leaves}
 use Rattle.job_laws.proofs.files.gets_leave.Goals as goal

@@ -1,8 +1,4 @@
-use Rattle.std.proofs.Common.{refl}
-use Rattle.machine_defs.specs.Jobs.{PutJob}
-use Rattle.machine_defs.specs.States.{setup_in}
-use Rattle.command_defs.specs.Ran.{ran_from}
-use Rattle.lone_laws.specs.Walked.{MayName}
+use Rattle.job_laws.proofs.Words.{refl, PutJob, setup_in, ran_from, MayName}
 use Rattle.job_laws.proofs.Runs.{job-ends}
 use Rattle.job_laws.proofs.Puts.{put-leaves}
 use Rattle.job_laws.proofs.Complete.{put-end}

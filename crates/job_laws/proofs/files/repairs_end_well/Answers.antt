@@ -1,5 +1,4 @@
-use Rattle.machine_defs.specs.States.{setup_in}
-use Rattle.command_defs.specs.Ran.{ran_from}
+use Rattle.job_laws.proofs.Words.{setup_in, ran_from}
 use Rattle.job_laws.proofs.Repairs.{repairs-leave}
 use Rattle.job_laws.proofs.Complete.{shape-of}
 use Rattle.job_laws.proofs.Mended.{repair-end}

@@ -1,7 +1,4 @@
-use Rattle.std.proofs.Common.{None, refl}
-use Rattle.machine_defs.specs.Jobs.{UpgradeJob}
-use Rattle.command_defs.specs.Ran.{ran_from}
-use Rattle.lone_laws.specs.Walked.{MayName}
+use Rattle.job_laws.proofs.Words.{None, refl, UpgradeJob, ran_from, MayName}
 use Rattle.job_laws.proofs.Runs.{job-ends}
 use Rattle.job_laws.proofs.Upgrades.{upgrade-leaves}
 use Rattle.job_laws.proofs.Complete.{upgrade-end}

@@ -1,6 +1,4 @@
-use Rattle.std.proofs.Common.{None, refl}
-use Rattle.machine_defs.specs.Jobs.{UpgradeJob}
-use Rattle.lone_laws.specs.Walked.{MayName}
+use Rattle.job_laws.proofs.Words.{None, refl, UpgradeJob, MayName}
 use Rattle.job_laws.proofs.Runs.{job-ends}
 use Rattle.job_laws.proofs.Upgrades.{upgrade-leaves}
 use Rattle.job_laws.proofs.files.upgrades_leave.Goals as goal

@@ -1,6 +1,4 @@
-use Rattle.std.proofs.Common.{◌+◌, arith, length-drop}
-use Rattle.std.proofs.lemmas.List.{take_rest}
-use Rattle.record_codec.specs.Entries.{entry_of}
+use Rattle.journal_core.proofs.Words.{◌+◌, arith, length-drop, take_rest, entry_of}
 use Rattle.journal_core.proofs.AreaGates.{ends-in, holds-in, breaks-in, more-in}
 use Rattle.journal_core.proofs.gates.next_record.Goals as goal
 

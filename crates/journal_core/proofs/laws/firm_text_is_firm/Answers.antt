@@ -1,9 +1,6 @@
-use Rattle.std.proofs.Common.{suc, refl, sym, subst, arith}
-use Rattle.record_defs.specs.Journal.{text}
-use Rattle.record_defs.specs.Areas.{A, StandsActive}
+use Rattle.journal_core.proofs.Words.{refl, sym, subst, arith, text, A, StandsActive, text-active, reads-firm}
+use Rattle.std.proofs.Common.{suc}
 use Rattle.record_defs.specs.Examples.{four_set_up}
-use Rattle.record_defs.proofs.AreaLaws.{text-active}
-use Rattle.device_defs.proofs.Lasting.{reads-firm}
 use Rattle.journal_core.proofs.AreaStands.{read-firm}
 use Rattle.journal_core.proofs.FirmCells.{all-firm}
 use Rattle.journal_core.proofs.laws.firm_text_is_firm.Goals as goal

@@ -1,8 +1,4 @@
-use Rattle.std.proofs.Common.{arith}
-use Rattle.record_codec.specs.Entries.{IsInGrammar}
-use Rattle.journal_core.specs.Lists.{newest_first}
-use Rattle.std.proofs.lemmas.List.Elements.{All-push}
-use Rattle.std.proofs.lemmas.Result.{err_from_is_err_and}
+use Rattle.journal_pack.proofs.Words.{arith, IsInGrammar, newest_first, All-push, err_from_is_err_and}
 use Rattle.journal_core.proofs.JournalLemmas.{newest_push}
 use Rattle.journal_pack.proofs.Reading.{stops-bad, end-is}
 use Rattle.journal_pack.proofs.active.read_active.Goals as goal

@@ -1,8 +1,5 @@
-use Rattle.std.proofs.Common.{◌≡◌, ◌-◌, length, All}
-use Rattle.record_defs.specs.Areas.{Area, base_of, IsSwitched}
-use Rattle.record_codec.specs.Entries.{IsInGrammar}
-use Rattle.journal_core.specs.Lists.{newest_first}
-use Rattle.journal_core.specs.Gates.{IsReadIn}
+use Rattle.journal_pack.proofs.Words.{◌≡◌, ◌-◌, length, Area, base_of, IsSwitched, IsInGrammar, newest_first, IsReadIn}
+use Rattle.std.proofs.Common.{All}
 use Rattle.journal_pack.proofs.active.read_active.Given as goal
 
 abbrev pub invariant-loop-records : goal.invariant-loop-records

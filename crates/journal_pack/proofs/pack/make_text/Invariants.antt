@@ -1,6 +1,4 @@
-use Rattle.std.proofs.Common.{◌≡◌, take}
-use Rattle.record_defs.specs.Areas.{entries}
-use Rattle.journal_core.specs.Lists.{newest_first}
+use Rattle.journal_pack.proofs.Words.{◌≡◌, take, entries, newest_first}
 use Rattle.journal_pack.proofs.pack.make_text.Given as goal
 
 abbrev pub invariant-loop-entry : goal.invariant-loop-entry

@@ -1,7 +1,4 @@
-use Rattle.std.proofs.Common.{◌∷◌, sym, ap, ◌∙◌, arith}
-use Rattle.record_defs.specs.Records.{Record as Entry}
-use Rattle.journal_core.specs.Lists.{newest_first}
-use Rattle.vault_table.specs.Values.{file_of_entry}
+use Rattle.journal_pack.proofs.Words.{◌∷◌, sym, ap, ◌∙◌, arith, Entry, newest_first, file_of_entry}
 use Rattle.journal_pack.proofs.Tabled.{files-next, get-none}
 use Rattle.journal_pack.proofs.packing.add_files.Goals as goal
 use Rattle.journal_pack.proofs.packing.add_files.Goals.{in-Some+in_ok-add, in_default}

@@ -1,7 +1,5 @@
-use Rattle.std.proofs.Common.{◌≡◌, take, All}
-use Rattle.record_defs.specs.Packed.{with_files}
-use Rattle.record_codec.specs.Entries.{HasPadding}
-use Rattle.journal_core.specs.Lists.{newest_first}
+use Rattle.journal_pack.proofs.Words.{◌≡◌, take, with_files, HasPadding, newest_first}
+use Rattle.std.proofs.Common.{All}
 use Rattle.journal_pack.proofs.packing.add_files.Given as goal
 
 abbrev pub invariant-loop-place : goal.invariant-loop-place

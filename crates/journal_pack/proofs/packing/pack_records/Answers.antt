@@ -1,9 +1,4 @@
-use Rattle.std.proofs.Common.{◌≤◌, ◌^◌, List, subst, sym, ap, ◌∙◌}
-use Rattle.std.specs.Prelude.{IsTrue}
-use Rattle.std.specs.List.{list_all}
-use Rattle.record_defs.specs.Records.{Record as Entry, is_in_grammar}
-use Rattle.record_defs.specs.Packed.{with_files, with_due}
-use Rattle.record_defs.specs.Areas.{entries_size}
+use Rattle.journal_pack.proofs.Words.{◌≤◌, ◌^◌, List, subst, sym, ap, ◌∙◌, IsTrue, list_all, Entry, is_in_grammar, with_files, with_due, entries_size}
 use Rattle.journal_pack.proofs.Tabled.{packed-folds, have-spellings}
 use Rattle.packed_laws.proofs.Spelled.{packed-spelled, packed-size}
 use Rattle.journal_pack.proofs.packing.pack_records.Goals as goal

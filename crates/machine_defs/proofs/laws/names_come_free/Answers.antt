@@ -8,8 +8,7 @@ returns-clause-ended c limit start between older m b number answer name clean ru
     ended
 
 pub returns-clause-given_up : goal.returns-clause-given_up
-returns-clause-given_up c limit start m ms name run up =
-    none_given_up (Touches name) limit start m ms run up
+returns-clause-given_up c limit start m ms name run up = none_given_up (Touches name) limit start m ms run up
 
 pub returns-clause-told : goal.returns-clause-told
 returns-clause-told c limit start ms name clean run free =

@@ -1,9 +1,7 @@
-use Rattle.std.proofs.Common.{List, ◌≡◌, ℕ, sym, subst}
+use Rattle.machine_defs.proofs.Words.{◌≡◌, sym, subst, Given, blocks_given, Entry, given_to, HoldsForgery}
+use Rattle.std.proofs.Common.{List, ℕ}
 use Rattle.column_defs.specs.Objects.{Object}
 use Rattle.column_defs.specs.Forgeries.{IsForgery}
-use Rattle.machine_defs.specs.Jobs.{Given}
-use Rattle.machine_defs.specs.Given.{blocks_given}
-use Rattle.machine_defs.specs.Heard.{Entry, given_to, HoldsForgery}
 use Rattle.machine_defs.proofs.Reports.{stays}
 use Rattle.machine_defs.proofs.laws.reports_have_what_jobs_heard.Goals as goal
 

@@ -1,5 +1,4 @@
-use Rattle.std.proofs.Common.{refl}
-use Rattle.std.specs.Fmt.{digits}
+use Rattle.machine_defs.proofs.Words.{refl, digits}
 use Rattle.machine_defs.proofs.rows.lines.Goals as goal
 
 pub returns-clause-audited : goal.returns-clause-audited

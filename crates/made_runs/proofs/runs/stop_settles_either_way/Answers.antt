@@ -1,6 +1,4 @@
-use Rattle.std.proofs.Common.{refl}
-use Rattle.made_runs.specs.Words.{actions_of, setup_in, now, set_up}
-use Rattle.made_runs.specs.Instructions.{stopped}
+use Rattle.made_runs.proofs.Words.{refl, actions_of, setup_in, now, set_up, stopped}
 use Rattle.made_runs.proofs.GetRun.{doubted_moments, doubted_run, stopped_without, stops_with, stops_without}
 use Rattle.made_runs.proofs.runs.stop_settles_either_way.Goals as goal
 

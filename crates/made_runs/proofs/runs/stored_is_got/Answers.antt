@@ -1,7 +1,5 @@
 use Rattle.std.specs.Fmt.{digits}
-use Rattle.std.proofs.Common.{refl}
-use Rattle.made_runs.specs.Words.{actions_of, setup_in, set_up}
-use Rattle.made_runs.specs.Instructions.{run_of}
+use Rattle.made_runs.proofs.Words.{refl, actions_of, setup_in, set_up, run_of}
 use Rattle.made_runs.proofs.Written.{carries}
 use Rattle.made_runs.proofs.GetRun.{instructions, is_run}
 use Rattle.made_runs.proofs.runs.stored_is_got.Goals as goal

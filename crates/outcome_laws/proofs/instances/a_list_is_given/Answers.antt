@@ -1,8 +1,5 @@
-use Rattle.std.proofs.Common.{[], refl}
-use Rattle.damage_run.specs.Words.{actions_of, setup_in, Moment, now, set_up}
-use Rattle.machine_defs.specs.Events.{Names, Listed, Closed}
-use Rattle.record_defs.specs.Table.{files_of}
-use Rattle.damage_run.proofs.Run.{moments, is_run}
+use Rattle.outcome_laws.proofs.Words.{[], refl, actions_of, set_up, Names, Listed, Closed, files_of, moments, is_run}
+use Rattle.damage_run.specs.Words.{setup_in, Moment, now}
 use Rattle.damage_run.proofs.CalmRun.{outright}
 use Rattle.outcome_laws.proofs.instances.a_list_is_given.Goals as goal
 

@@ -1,7 +1,6 @@
-use Rattle.std.proofs.Common.{◌≡◌, List, Option, Some, None, refl, arith}
+use Rattle.outcome_laws.proofs.Words.{◌≡◌, List, Option, Some, None, refl, arith, Record, PutDone, set_up, first_run, is_run, moments, starts}
 use Rattle.std.specs.Option.{option_map}
-use Rattle.damage_run.specs.Words.{Record, PutDone, Doubt, Moment, IsRun, now, first_moments, set_up}
-use Rattle.damage_run.proofs.Run.{first_run, is_run, moments, starts}
+use Rattle.damage_run.specs.Words.{Doubt, Moment, IsRun, now, first_moments}
 use Rattle.damage_run.proofs.Points.{points}
 use Rattle.outcome_laws.proofs.instances.a_put_in_doubt_is_alike.Goals as goal
 

@@ -1,7 +1,5 @@
-use Rattle.std.proofs.Common.{List, ◌∷◌, ◌++◌, refl, subst}
-use Rattle.damage_run.specs.Words.{Audited, Repaired, setup_in, Moment, IsRun, now, set_up, IsCalmRun, IsMended}
-use Rattle.machine_defs.proofs.Untouched.{run_back}
-use Rattle.run_laws.proofs.FirstHalf.{runs_shape}
+use Rattle.outcome_laws.proofs.Words.{List, ◌∷◌, ◌++◌, refl, subst, Audited, Repaired, set_up, IsCalmRun, IsMended, run_back, runs_shape}
+use Rattle.damage_run.specs.Words.{setup_in, Moment, IsRun, now}
 use Rattle.outcome_laws.proofs.instances.an_audit_and_its_repair_end.Goals as goal
 
 -- up to the audit's end

@@ -1,7 +1,4 @@
-use Rattle.std.proofs.Common.{◌∷◌, []}
-use Rattle.column_defs.specs.Challenges.{honest_answer}
-use Rattle.challenge.specs.Asked.{asked}
-use Rattle.wire_defs.specs.Replies.{Found}
+use Rattle.provider_wire.proofs.Words.{◌∷◌, [], honest_answer, asked, Found}
 use Rattle.provider_wire.proofs.Given.{answered}
 use Rattle.provider_wire.proofs.answer.answer_ask.Goals as goal
 

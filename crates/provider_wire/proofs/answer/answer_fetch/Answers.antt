@@ -1,6 +1,4 @@
-use Rattle.std.proofs.Common.{length, take, replicate, arith, ◌≡◌, ℕ, length-take}
-use Rattle.std.proofs.lemmas.List.{length-replicate}
-use Rattle.wire_defs.specs.Replies.{Found}
+use Rattle.provider_wire.proofs.Words.{length, take, replicate, arith, ◌≡◌, ℕ, length-take, length-replicate, Found}
 use Rattle.provider_wire.proofs.Given.{fetched_block}
 use Rattle.provider_wire.proofs.answer.answer_fetch.Goals as goal
 

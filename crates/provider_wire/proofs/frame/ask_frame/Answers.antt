@@ -1,5 +1,4 @@
-use Rattle.std.proofs.Common.{arith, rules}
-use Rattle.challenge.specs.Asked.{asked}
+use Rattle.provider_wire.proofs.Words.{arith, rules, asked}
 use Rattle.provider_wire.proofs.Framed.{ask_spelled}
 use Rattle.provider_wire.proofs.frame.ask_frame.Goals as goal
 

@@ -1,5 +1,4 @@
-use Rattle.std.proofs.Common.{◌++◌, ◌∙◌, ℕ, List, ap, sym}
-use Rattle.wire_defs.specs.Requests.{request_bytes}
+use Rattle.provider_wire.proofs.Words.{◌++◌, ◌∙◌, ℕ, List, ap, sym, request_bytes}
 use Rattle.provider_wire.proofs.Takes.{one_front}
 use Rattle.provider_wire.proofs.laws.one_spelling.Goals as goal
 

@@ -1,8 +1,5 @@
-use Rattle.std.proofs.Common.{◌≡◌, ◌++◌, ℕ, List, [], length, drop, sym, ap, ◌∙◌, arith, take-append-drop, length-drop}
-use Rattle.std.specs.Prelude.{IfNone, Option, Some, None}
-use Rattle.std.proofs.lemmas.List.{append-nil}
-use Rattle.wire_defs.specs.Requests.{request_bytes}
-use Rattle.provider_wire.specs.Asking.{request_of}
+use Rattle.provider_wire.proofs.Words.{◌≡◌, ◌++◌, ℕ, List, [], length, drop, sym, ap, ◌∙◌, arith, take-append-drop, length-drop, IfNone, append-nil, request_bytes, request_of}
+use Rattle.std.specs.Prelude.{Option, Some, None}
 use Rattle.provider_wire.proofs.Takes.{one_front}
 use Rattle.provider_wire.proofs.loop_link.whole.Goals as goal
 

@@ -1,5 +1,4 @@
-use Rattle.std.proofs.Common.{◌≡◌, ◌∙◌, ◌-◌, ◌≤◌, length, arith, length-drop}
-use Rattle.algebra_laws.proofs.Lists.{take-put_mid_behind}
+use Rattle.provider_wire.proofs.Words.{◌≡◌, ◌∙◌, ◌-◌, ◌≤◌, length, arith, length-drop, take-put_mid_behind}
 use Rattle.provider_wire.proofs.Windows.{part_length}
 use Rattle.provider_wire.proofs.Received.{advance}
 use Rattle.provider_wire.proofs.receive.receive_all.Goals as goal

@@ -1,6 +1,4 @@
-use Rattle.std.proofs.Common.{◌≡◌, ◌+◌, ◌-◌, [], take, drop, false, refl, sym, ap, ◌∙◌, subst, le_trans, arith}
-use Rattle.std.proofs.lemmas.List.{take_rest}
-use Rattle.wire_defs.specs.Requests.{SpellsNoRequest, is_bad_request}
+use Rattle.provider_wire.proofs.Words.{◌≡◌, ◌+◌, ◌-◌, [], take, drop, false, refl, sym, ap, ◌∙◌, subst, le_trans, arith, take_rest, SpellsNoRequest, is_bad_request}
 use Rattle.provider_wire.proofs.Progress.{starts, nothing_spells, source_failed, most_and_one_fits, no_more_than_most, less_to_read, read_more, few_read, read_fits, waited_before, beyond_waits, bytes_size, front_waits, front_is_there, rest_was_read, finished_at, stopped_at, write_failed, went_on, bad_at, too_long, rest_waits, rest_is_short}
 use Rattle.provider_wire.specs.declared.end.ServeEnd.TheVariants as serve_end
 use Rattle.provider_wire.proofs.Causes.{no_fault, last_part, no_source_fault, no_sink_fault, after_is_no_source_fault, sink_failed}
@@ -77,7 +75,7 @@ loop-count-smaller g c = less_to_read c.loop-count.invariant.within c.if-count-e
 pub returns-in-Err-clause-served : goal.returns-in-Err-clause-served
 returns-in-Err-clause-served g c =
     let inv = c.loop-count.invariant in
-    source_failed _ _ _ _ _ _ _ _ inv.so_far _ c.in-Err.ensures.err inv.within inv.none inv.fine
+    source_failed inv.so_far _ c.in-Err.ensures.err inv.within inv.none inv.fine
 
 pub returns-then-waiting-eq0-clause-served : goal.returns-then-waiting-eq0-clause-served
 returns-then-waiting-eq0-clause-served g c =

@@ -1,6 +1,4 @@
-use Rattle.std.proofs.Common.{◌≡◌, ◌≤◌, ◌<◌, ◌-◌, false, length}
-use Rattle.wire_defs.specs.Requests.{SpellsNoRequest, is_bad_request}
-use Rattle.provider_model.specs.Seen.{provider_seen}
+use Rattle.provider_wire.proofs.Words.{◌≡◌, ◌≤◌, ◌<◌, ◌-◌, false, length, SpellsNoRequest, is_bad_request, provider_seen}
 use Rattle.provider_wire.proofs.Progress.{Progress}
 use Rattle.provider_wire.proofs.server.serve_all.Given as goal
 

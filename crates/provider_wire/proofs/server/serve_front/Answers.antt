@@ -1,8 +1,4 @@
-use Rattle.std.proofs.Common.{◌+◌, List, ℕ, ap, ◌∙◌, subst, le_trans, arith}
-use Rattle.std.proofs.lemmas.List.{take_rest}
-use Rattle.device_defs.specs.Told.{told_then, TakesFront}
-use Rattle.wire_defs.specs.Requests.{SpellsNoRequest}
-use Rattle.provider_wire.specs.Asking.{request_of}
+use Rattle.provider_wire.proofs.Words.{◌+◌, List, ℕ, ap, ◌∙◌, subst, le_trans, arith, take_rest, told_then, TakesFront, SpellsNoRequest, request_of}
 use Rattle.provider_wire.proofs.Served.{serves_none, serves_more, serves_part, if_err, no_value, within_rest, nearer, short_rest}
 use Rattle.provider_wire.proofs.Causes.{no_fault, not_failed}
 use Rattle.provider_wire.proofs.server.serve_front.Goals as goal

@@ -1,6 +1,4 @@
-use Rattle.std.proofs.Common.{◌≤◌, ◌-◌, length, take}
-use Rattle.wire_defs.specs.Serving.{ServesAll}
-use Rattle.provider_model.specs.Seen.{provider_seen}
+use Rattle.provider_wire.proofs.Words.{◌≤◌, ◌-◌, length, take, ServesAll, provider_seen}
 use Rattle.provider_wire.proofs.server.serve_front.Given as goal
 
 abbrev pub invariant-loop-request : goal.invariant-loop-request

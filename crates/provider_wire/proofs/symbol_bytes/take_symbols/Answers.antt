@@ -1,5 +1,4 @@
-use Rattle.std.proofs.Common.{arith, refl}
-use Rattle.provider_wire.specs.Reading.{symbols_read}
+use Rattle.provider_wire.proofs.Words.{arith, refl, symbols_read}
 use Rattle.provider_wire.proofs.Symbols.{took_more}
 use Rattle.provider_wire.proofs.symbol_bytes.take_symbols.Goals as goal
 

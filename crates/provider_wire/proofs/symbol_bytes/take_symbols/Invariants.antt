@@ -1,5 +1,4 @@
-use Rattle.std.proofs.Common.{◌≡◌, take}
-use Rattle.provider_wire.specs.Reading.{symbols_read}
+use Rattle.provider_wire.proofs.Words.{◌≡◌, take, symbols_read}
 use Rattle.provider_wire.proofs.symbol_bytes.take_symbols.Given as goal
 
 abbrev pub invariant-loop-k : goal.invariant-loop-k

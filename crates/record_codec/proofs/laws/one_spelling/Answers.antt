@@ -1,5 +1,4 @@
-use Rattle.std.proofs.Common.{◌++◌, ◌∙◌, ℕ, List, ap, sym}
-use Rattle.record_defs.specs.Spellings.{spelling}
+use Rattle.record_codec.proofs.Words.{◌++◌, ◌∙◌, ℕ, List, ap, sym, spelling}
 use Rattle.record_codec.proofs.Takes.{one_front}
 use Rattle.record_codec.proofs.laws.one_spelling.Goals as goal
 

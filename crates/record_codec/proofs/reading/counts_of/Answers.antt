@@ -1,6 +1,4 @@
-use Rattle.std.proofs.Common.{◌≡◌, ℕ, ◌∙◌, length, take, replicate, ap, arith, rules}
-use Rattle.std.proofs.lemmas.List.{length-take-le}
-use Rattle.record_codec.specs.Reading.{numbers_at}
+use Rattle.record_codec.proofs.Words.{◌≡◌, ℕ, ◌∙◌, length, take, replicate, ap, arith, rules, length-take-le, numbers_at}
 use Rattle.record_codec.proofs.CountsLemmas.{counts_found, padding, padded_room}
 use Rattle.record_codec.proofs.reading.counts_of.Goals as goal
 

@@ -1,6 +1,4 @@
-use Rattle.std.proofs.Common.{[], Some, sym, ◌∙◌}
-use Rattle.record_defs.specs.Records.{SetUp}
-use Rattle.record_codec.specs.Entries.{with_master}
+use Rattle.record_codec.proofs.Words.{[], Some, sym, ◌∙◌, SetUp, with_master}
 use Rattle.record_codec.proofs.Keyed.{keyed_no_setup, keyed_found}
 use Rattle.record_codec.proofs.reading.keyed_of.Goals as goal
 

@@ -1,6 +1,4 @@
-use Rattle.std.proofs.Common.{arith, length, take}
-use Rattle.std.proofs.lemmas.List.{take_more_set, take_all}
-use Rattle.record_codec.specs.Reading.{numbers_at}
+use Rattle.record_codec.proofs.Words.{arith, length, take, take_more_set, take_all, numbers_at}
 use Rattle.record_codec.proofs.CountsLemmas.{goes_on, ends, is_done}
 use Rattle.record_codec.proofs.reading.numbers_of.Goals as goal
 

@@ -1,6 +1,4 @@
-use Rattle.std.proofs.Common.{◌≡◌, ◌+◌, ◌*◌, ◌++◌, take}
-use Rattle.std.specs.Int.{w32, to_le_bytes}
-use Rattle.std.specs.List.{flat_map}
+use Rattle.record_codec.proofs.Words.{◌≡◌, ◌+◌, ◌*◌, ◌++◌, take, w32, to_le_bytes, flat_map}
 use Rattle.record_codec.proofs.writing.put_numbers.Given as goal
 
 abbrev pub invariant-loop-k : goal.invariant-loop-k

@@ -1,5 +1,4 @@
-use Rattle.std.proofs.Common.{refl}
-use Rattle.record_defs.specs.Examples.{four, raised}
+use Rattle.record_defs.proofs.Words.{refl, four, raised}
 use Rattle.record_defs.proofs.PackLaws.{packed_are}
 use Rattle.record_defs.proofs.laws.raised_records_are_packed.Goals as goal
 

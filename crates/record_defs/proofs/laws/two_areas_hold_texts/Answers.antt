@@ -1,6 +1,5 @@
-use Rattle.std.proofs.Common.{ℕ, ◌-◌, ◌^◌, refl}
-use Rattle.std.proofs.lemmas.List.{length-replicate}
-use Rattle.record_defs.specs.Examples.{four_set_up}
+use Rattle.record_defs.proofs.Words.{refl, length-replicate, four_set_up}
+use Rattle.std.proofs.Common.{ℕ, ◌-◌, ◌^◌}
 use Rattle.record_defs.proofs.AreaLaws.{text-active}
 use Rattle.record_defs.proofs.TwoAreas.{filled-first, filled-other}
 use Rattle.record_defs.proofs.laws.two_areas_hold_texts.Goals as goal

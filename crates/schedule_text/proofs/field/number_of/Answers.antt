@@ -1,5 +1,4 @@
-use Rattle.std.proofs.Common.{◌∙◌, ℕ, List, ap, sym}
-use Rattle.schedule_text.specs.Reading.{number_in}
+use Rattle.schedule_text.proofs.Words.{◌∙◌, ℕ, List, ap, sym, number_in}
 use Rattle.schedule_text.proofs.Numbers.{number_in-match, number_in-none, number_word-IsUtf8}
 use Rattle.schedule_text.proofs.field.number_of.Goals as goal
 

@@ -1,6 +1,4 @@
-use Rattle.std.proofs.Common.{◌<◌, length, arith}
-use Rattle.std.proofs.lemmas.Bool.Decides.{nat_tests}
-use Rattle.schedule_text.specs.Grammar.{words}
+use Rattle.schedule_text.proofs.Words.{◌<◌, length, arith, nat_tests, words}
 use Rattle.schedule_text.proofs.Pieces.{words-left}
 use Rattle.schedule_text.proofs.Fields.{profile-reads, profile-fails}
 use Rattle.schedule_text.proofs.field.take_profile.Goals as goal

@@ -1,5 +1,4 @@
-use Rattle.std.proofs.Common.{ℕ, List, ◌∷◌, ◌+◌, ◌-◌, length, take, drop, sym, ◌∙◌, ap, arith, length-drop, length-take}
-use Rattle.schedule_text.specs.Schedules.{lines}
+use Rattle.schedule_text.proofs.Words.{ℕ, List, ◌∷◌, ◌+◌, ◌-◌, length, take, drop, sym, ◌∙◌, ap, arith, length-drop, length-take, lines}
 use Rattle.schedule_text.proofs.Lines.{lines-first, lines-none}
 use Rattle.schedule_text.proofs.read.first_line.Goals as goal
 

@@ -1,7 +1,4 @@
-use Rattle.std.proofs.Common.{◌+◌, subst}
-use Rattle.std.specs.Option.{option_map}
-use Rattle.schedule_text.specs.Grammar.{words}
-use Rattle.schedule_text.specs.Events.{event_command, commands_of}
+use Rattle.schedule_text.proofs.Words.{◌+◌, subst, option_map, words, event_command, commands_of}
 use Rattle.schedule_text.proofs.Again.{line-none, skipped-line, spelled-line}
 use Rattle.schedule_text.proofs.Texts.{HasRead, commands_of-push, is_bad, has_skipped, has_pushed}
 use Rattle.schedule_text.proofs.read.read_lines.Goals as goal

@@ -1,5 +1,4 @@
-use Rattle.std.specs.Option.{option_map}
-use Rattle.schedule_text.specs.Events.{commands_of}
+use Rattle.schedule_text.proofs.Words.{option_map, commands_of}
 use Rattle.schedule_text.proofs.Texts.{HasRead, size_left}
 use Rattle.schedule_text.proofs.read.read_lines.Given as goal
 

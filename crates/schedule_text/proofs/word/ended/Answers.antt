@@ -1,7 +1,4 @@
-use Rattle.std.proofs.Common.{◌<◌, ℕ, List, length, ap, arith}
-use Rattle.std.proofs.lemmas.Bool.Decides.{nat_tests}
-use Rattle.schedule_text.specs.Events.{event_command}
-use Rattle.schedule_text.specs.Reading.{only_command}
+use Rattle.schedule_text.proofs.Words.{◌<◌, ℕ, List, length, ap, arith, nat_tests, event_command, only_command}
 use Rattle.schedule_text.proofs.Pieces.{words-left}
 use Rattle.schedule_text.proofs.word.ended.Goals as goal
 

@@ -1,7 +1,4 @@
-use Rattle.std.proofs.Common.{ℕ, List, length, drop, sym, ◌∙◌, ap, ◌<◌, ◌-◌, arith, length-drop}
-use Rattle.std.proofs.lemmas.List.{take_all}
-use Rattle.std.proofs.lemmas.Bool.Decides.{nat_tests}
-use Rattle.schedule_text.specs.Reading.{word_at}
+use Rattle.schedule_text.proofs.Words.{ℕ, List, length, drop, sym, ◌∙◌, ap, ◌<◌, ◌-◌, arith, length-drop, take_all, nat_tests, word_at}
 use Rattle.schedule_text.proofs.Pieces.{front_is, words-first, words-free, free_from}
 use Rattle.schedule_text.proofs.word.take_word.Goals as goal
 

@@ -1,5 +1,4 @@
-use Rattle.std.proofs.Common.{◌≡◌, length}
-use Rattle.schedule_text.specs.Grammar.{words}
+use Rattle.schedule_text.proofs.Words.{◌≡◌, length, words}
 use Rattle.schedule_text.proofs.word.without_spaces.Given as goal
 
 abbrev pub invariant-loop-left : goal.invariant-loop-left

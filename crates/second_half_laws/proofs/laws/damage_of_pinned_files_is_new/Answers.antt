@@ -1,5 +1,4 @@
-use Rattle.machine_defs.specs.Jobs.{Fetched}
-use Rattle.machine_defs.proofs.Held.{contains_in}
+use Rattle.second_half_laws.proofs.Words.{Fetched, contains_in}
 use Rattle.second_half_laws.proofs.InRuns.{in_run}
 use Rattle.second_half_laws.proofs.laws.damage_of_pinned_files_is_new.Goals as goal
 

@@ -1,8 +1,5 @@
-use Rattle.std.proofs.Common.{◌≡◌, true}
-use Rattle.column_defs.specs.Verdicts.{is_flagged}
-use Rattle.machine_defs.specs.Runs.{now}
-use Rattle.machine_defs.specs.States.{setup_in}
-use Rattle.second_half_laws.specs.Marks.{IsFlaggedBy}
+use Rattle.second_half_laws.proofs.Words.{true, is_flagged, now, setup_in, IsFlaggedBy}
+use Rattle.std.proofs.Common.{◌≡◌}
 use Rattle.second_half_laws.proofs.InRuns.{in_calm, clears}
 use Rattle.second_half_laws.proofs.laws.damage_while_a_repair_is_due.Goals as goal
 

@@ -1,5 +1,4 @@
-use Rattle.machine_defs.specs.Runs.{now, first_moments}
-use Rattle.second_half_laws.specs.Marks.{WasWrong, WrongAt}
+use Rattle.second_half_laws.proofs.Words.{now, first_moments, WasWrong, WrongAt}
 use Rattle.second_half_laws.proofs.InRuns.{in_calm, clears}
 use Rattle.second_half_laws.proofs.laws.damage_while_an_audit_runs.Goals as goal
 

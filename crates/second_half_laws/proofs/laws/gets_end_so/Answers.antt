@@ -1,10 +1,5 @@
-use Rattle.std.proofs.Common.{◌≡◌, ◌⊎◌, ℕ, List, inl, inr}
-use Rattle.machine_defs.specs.Answers.{Answer, Got, Lost}
-use Rattle.machine_defs.specs.Begins.{pinned_file}
-use Rattle.machine_defs.specs.Jobs.{Pinned, Job}
-use Rattle.machine_defs.specs.Runs.{now}
-use Rattle.machine_defs.specs.States.{State}
-use Rattle.machine_defs.proofs.Held.{all}
+use Rattle.second_half_laws.proofs.Words.{◌⊎◌, inl, inr, Answer, Got, Lost, pinned_file, Pinned, Job, now, State, all}
+use Rattle.std.proofs.Common.{◌≡◌, ℕ, List}
 use Rattle.second_half_laws.proofs.GetEnds.{begin_of, have_files, Get_ends, get_ends}
 use Rattle.second_half_laws.proofs.laws.gets_end_so.Goals as goal
 

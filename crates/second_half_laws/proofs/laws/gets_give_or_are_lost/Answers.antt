@@ -1,7 +1,4 @@
-use Rattle.std.proofs.Common.{ap}
-use Rattle.machine_defs.specs.Jobs.{Worked}
-use Rattle.machine_defs.specs.Calm.{relies}
-use Rattle.machine_defs.proofs.Held.{contains_in}
+use Rattle.second_half_laws.proofs.Words.{ap, Worked, relies, contains_in}
 use Rattle.second_half_laws.proofs.NoForgery.{no_forgery}
 use Rattle.second_half_laws.proofs.SecondHalf.{calm_now, marked_facts, get_sharply}
 use Rattle.second_half_laws.proofs.InRuns.{in_run}

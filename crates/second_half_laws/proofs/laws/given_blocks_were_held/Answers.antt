@@ -1,5 +1,4 @@
-use Rattle.machine_defs.specs.Jobs.{Fetched}
-use Rattle.machine_defs.proofs.Held.{contains_in}
+use Rattle.second_half_laws.proofs.Words.{Fetched, contains_in}
 use Rattle.second_half_laws.proofs.Origin.{came_of}
 use Rattle.second_half_laws.proofs.laws.given_blocks_were_held.Goals as goal
 

@@ -1,5 +1,4 @@
-use Rattle.machine_defs.specs.Jobs.{Fetched, Answered}
-use Rattle.machine_defs.proofs.Held.{contains_in}
+use Rattle.second_half_laws.proofs.Words.{Fetched, Answered, contains_in}
 use Rattle.second_half_laws.proofs.MadeFacts.{facts}
 use Rattle.second_half_laws.proofs.laws.given_things_were_made.Goals as goal
 

@@ -1,6 +1,5 @@
-use Rattle.std.proofs.Common.{◌++◌, inr}
-use Rattle.machine_defs.specs.Untouched.{Relies}
-use Rattle.machine_defs.proofs.Untouched.{none_under_way}
+use Rattle.second_half_laws.proofs.Words.{inr, Relies, none_under_way}
+use Rattle.std.proofs.Common.{◌++◌}
 use Rattle.second_half_laws.proofs.Epochs.{goes_on}
 use Rattle.second_half_laws.proofs.laws.marks_may_move.Goals as goal
 

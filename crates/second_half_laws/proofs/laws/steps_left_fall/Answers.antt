@@ -1,7 +1,5 @@
 use Rattle.std.proofs.Common.{length}
-use Rattle.machine_defs.specs.Runs.{now}
-use Rattle.machine_defs.proofs.Events.{changes}
-use Rattle.machine_defs.proofs.Held.{all}
+use Rattle.second_half_laws.proofs.Words.{now, changes, all}
 use Rattle.second_half_laws.proofs.Walk.{walked}
 use Rattle.second_half_laws.proofs.Fall.{facts, fell, stayed, one_left}
 use Rattle.second_half_laws.proofs.laws.steps_left_fall.Goals as goal

@@ -1,6 +1,4 @@
-use Rattle.algebra_laws.proofs.Each.{in_contains}
-use Rattle.machine_defs.specs.Jobs.{Fetched}
-use Rattle.machine_defs.specs.Given.{block_given}
+use Rattle.second_half_laws.proofs.Words.{in_contains, Fetched, block_given}
 use Rattle.second_half_laws.proofs.MadeFacts.{facts, given_at, fetched_at}
 use Rattle.second_half_laws.proofs.laws.work_has_its_fetches.Goals as goal
 

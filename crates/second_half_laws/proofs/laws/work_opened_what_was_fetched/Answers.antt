@@ -1,7 +1,4 @@
-use Rattle.machine_defs.specs.Jobs.{Worked}
-use Rattle.machine_defs.specs.Actions.{Work}
-use Rattle.machine_defs.specs.Given.{symbols_given}
-use Rattle.machine_defs.specs.Runs.{now}
+use Rattle.second_half_laws.proofs.Words.{Worked, Work, symbols_given, now}
 use Rattle.second_half_laws.proofs.MadeFacts.{facts, given_symbols}
 use Rattle.second_half_laws.proofs.Places.{worked_before_store}
 use Rattle.second_half_laws.proofs.laws.work_opened_what_was_fetched.Goals as goal

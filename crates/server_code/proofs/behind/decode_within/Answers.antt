@@ -1,6 +1,4 @@
-use Rattle.std.proofs.Common.{◌≡◌, ◌∙◌, sym, ap, take, length, arith}
-use Rattle.code_points.specs.Profile.{plain_profile}
-use Rattle.code_points.proofs.Steps.{keep_below}
+use Rattle.server_code.proofs.Words.{◌≡◌, ◌∙◌, sym, ap, take, length, arith, plain_profile, keep_below}
 use Rattle.server_code.proofs.Nearness.{front-codeword, none_near, far_none, if_none}
 use Rattle.server_code.proofs.behind.decode_within.Goals as goal
 

@@ -1,7 +1,4 @@
-use Rattle.std.proofs.Common.{◌≡◌, ◌<◌, ◌+◌, ℕ, length, get_or}
-use Rattle.hail_field.specs.Nim.{nim_add, nim_mul}
-use Rattle.code_defs.specs.Polynomials.{value, vanish}
-use Rattle.code_defs.specs.Points.{upto}
+use Rattle.server_code.proofs.Words.{◌≡◌, ◌<◌, ◌+◌, ℕ, length, get_or, nim_add, nim_mul, value, vanish, upto}
 use Rattle.server_code.proofs.behind.fill_shares.Given as goal
 
 abbrev pub invariant-loop-k : goal.invariant-loop-k

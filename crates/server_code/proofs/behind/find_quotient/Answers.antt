@@ -1,12 +1,6 @@
-use Rattle.std.proofs.Common.{◌≡◌, ◌∙◌, ◌*◌, ◌+◌, sym, length, arith}
-use Rattle.std.specs.List.{range_with_len}
-use Rattle.std.proofs.lemmas.Bool.{OnTrue_at, OnTrue_from, OnFalse_at, OnFalse_from}
-use Rattle.std.proofs.lemmas.List.FromFn.{length-range_with_len}
-use Rattle.code_defs.proofs.Points.{Apart-range}
+use Rattle.server_code.proofs.Words.{◌≡◌, ◌∙◌, ◌*◌, ◌+◌, sym, length, arith, range_with_len, OnTrue_at, OnTrue_from, OnFalse_at, OnFalse_from, length-range_with_len, Apart-range, IsQuotient, HasNoQuotient, plain_profile}
 use Rattle.code_defs.proofs.Profiles.{size_is, some_kept}
-use Rattle.hail_poly.specs.Quotient.{IsQuotient, HasNoQuotient}
 use Rattle.hail_poly.proofs.Decoding.{loaded, factor_some}
-use Rattle.code_points.specs.Profile.{plain_profile}
 use Rattle.server_code.proofs.KeyRows.{near_is_quotient, no_quotient_none}
 use Rattle.server_code.proofs.behind.find_quotient.Goals as goal
 

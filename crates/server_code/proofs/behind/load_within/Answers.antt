@@ -1,7 +1,4 @@
-use Rattle.std.proofs.Common.{◌≡◌, ◌∷◌, [], ◌-◌, ◌∙◌, List, ℕ, ap, subst, length, arith}
-use Rattle.std.specs.List.{range_with_len}
-use Rattle.std.proofs.lemmas.List.FromFn.{length-range_with_len}
-use Rattle.code_defs.specs.Polynomials.{vanish, interpolate, trim}
+use Rattle.server_code.proofs.Words.{◌≡◌, ◌∷◌, [], ◌-◌, ◌∙◌, List, ℕ, ap, subst, length, arith, range_with_len, length-range_with_len, vanish, interpolate, trim}
 use Rattle.server_code.proofs.BehindSteps.{behind_apart}
 use Rattle.server_code.proofs.behind.load_within.Goals as goal
 

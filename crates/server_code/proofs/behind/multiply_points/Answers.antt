@@ -1,7 +1,4 @@
-use Rattle.std.proofs.Common.{◌≡◌, ◌∙◌, ◌+◌, ◌-◌, ap, ap₂, sym, refl, take, arith}
-use Rattle.std.specs.List.{range_with_len}
-use Rattle.hail_field.specs.Nim.{nim_mul}
-use Rattle.code_defs.specs.Polynomials.{value, vanish}
+use Rattle.server_code.proofs.Words.{◌≡◌, ◌∙◌, ◌+◌, ◌-◌, ap, ap₂, sym, refl, take, arith, range_with_len, nim_mul, value, vanish}
 use Rattle.server_code.proofs.BehindSteps.{points_start, points_more}
 use Rattle.server_code.proofs.behind.multiply_points.Goals as goal
 

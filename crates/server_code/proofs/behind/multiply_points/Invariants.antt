@@ -1,7 +1,4 @@
-use Rattle.std.proofs.Common.{◌≡◌, ◌-◌, ◌+◌, ℕ, length, take}
-use Rattle.std.specs.List.{range_with_len}
-use Rattle.hail_field.specs.Nim.{nim_mul}
-use Rattle.code_defs.specs.Polynomials.{value, vanish}
+use Rattle.server_code.proofs.Words.{◌≡◌, ◌-◌, ◌+◌, ℕ, length, take, range_with_len, nim_mul, value, vanish}
 use Rattle.server_code.proofs.behind.multiply_points.Given as goal
 
 abbrev pub invariant-loop-place : goal.invariant-loop-place

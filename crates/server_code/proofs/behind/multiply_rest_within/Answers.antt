@@ -1,10 +1,4 @@
-use Rattle.std.proofs.Common.{◌∙◌, ◌+◌, ap, length, take, arith}
-use Rattle.std.proofs.lemmas.List.{length-take}
-use Rattle.hail_field.specs.Nim.{nim}
-use Rattle.hail_field.proofs.AllNumbers.{nim_laws}
-use Rattle.algebra_laws.proofs.Trim.{length-trim}
-use Rattle.code_defs.specs.Polynomials.{value, vanish}
-use Rattle.code_defs.specs.Points.{upto}
+use Rattle.server_code.proofs.Words.{◌∙◌, ◌+◌, ap, length, take, arith, length-take, nim, nim_laws, length-trim, value, vanish, upto}
 use Rattle.hail_poly.specs.Registers.{Registers}
 use Rattle.server_code.proofs.BehindSteps.{rest_product}
 use Rattle.server_code.proofs.behind.multiply_rest_within.Goals as goal

@@ -1,5 +1,4 @@
-use Rattle.std.proofs.Common.{◌≡◌, drop, take, ◌++◌}
-use Rattle.code_defs.specs.Polynomials.{root_times}
+use Rattle.server_code.proofs.Words.{◌≡◌, drop, take, ◌++◌, root_times}
 use Rattle.server_code.proofs.behind.multiply_root.Given as goal
 
 abbrev pub invariant-loop-k : goal.invariant-loop-k

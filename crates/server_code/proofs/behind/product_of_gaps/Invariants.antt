@@ -1,6 +1,4 @@
-use Rattle.std.proofs.Common.{◌≡◌, ◌-◌}
-use Rattle.std.specs.List.{range_with_len}
-use Rattle.code_defs.specs.Polynomials.{value, vanish}
+use Rattle.server_code.proofs.Words.{◌≡◌, ◌-◌, range_with_len, value, vanish}
 use Rattle.server_code.proofs.behind.product_of_gaps.Given as goal
 
 abbrev pub invariant-loop-place : goal.invariant-loop-place

@@ -1,8 +1,5 @@
-use Rattle.std.proofs.Common.{◌≡◌, ◌∙◌, ap, sym, arith}
+use Rattle.server_code.proofs.Words.{◌≡◌, ◌∙◌, ap, sym, arith, nim_mul, value, vanish, upto}
 use Rattle.std.proofs.lemmas.Grind.{common_steps}
-use Rattle.hail_field.specs.Nim.{nim_mul}
-use Rattle.code_defs.specs.Polynomials.{value, vanish}
-use Rattle.code_defs.specs.Points.{upto}
 use Rattle.server_code.proofs.BehindSteps.{gaps_some, share_is}
 use Rattle.server_code.proofs.behind.share.Goals as goal
 

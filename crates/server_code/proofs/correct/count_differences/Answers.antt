@@ -1,5 +1,4 @@
-use Rattle.std.proofs.Common.{arith}
-use Rattle.std.proofs.lemmas.List.{get_or_read}
+use Rattle.server_code.proofs.Words.{arith, get_or_read}
 use Rattle.server_code.proofs.CountSteps.{differences_step, difference_bound, all_counted}
 use Rattle.server_code.proofs.correct.count_differences.Goals as goal
 
@@ -23,6 +22,6 @@ loop-k-preserved c =
       );
     }
 
-pub returns : goal.returns
-returns c = all_counted c.args.a.now c.args.b.now c.loop-k.k c.loop-k.count _ (omega arith)
+pub returns-clause-value : goal.returns-clause-value
+returns-clause-value c = all_counted c.args.a.now c.args.b.now c.loop-k.k c.loop-k.count _ (omega arith)
     (omega arith) c.loop-k.invariant.count

@@ -1,5 +1,4 @@
-use Rattle.std.proofs.Common.{◌≡◌, ◌≤◌, ◌+◌, drop}
-use Rattle.code_defs.specs.ServerCode.{differences}
+use Rattle.server_code.proofs.Words.{◌≡◌, ◌≤◌, ◌+◌, drop, differences}
 use Rattle.server_code.proofs.correct.count_differences.Given as goal
 
 abbrev pub invariant-loop-k : goal.invariant-loop-k

@@ -1,6 +1,4 @@
-use Rattle.std.proofs.Common.{◌≡◌, ◌≤◌, ◌∙◌, arith}
-use Rattle.code_defs.specs.ServerCode.{differences}
-use Rattle.code_points.specs.Profile.{plain_profile}
+use Rattle.server_code.proofs.Words.{◌≡◌, ◌≤◌, ◌∙◌, arith, differences, plain_profile}
 use Rattle.server_code.proofs.Nearness.{codeword_opens, on_some}
 use Rattle.server_code.proofs.correct.try_kept.Goals as goal
 

@@ -1,9 +1,4 @@
-use Rattle.std.proofs.Common.{◌≡◌, refl, arith, ◌∷◌, []}
-use Rattle.algebra_laws.specs.Poly.{value as value_over}
-use Rattle.hail_field.specs.Nim.{product, nim_mul, nim_add}
-use Rattle.code_defs.specs.Points.{upto, values_at}
-use Rattle.code_defs.specs.Profiles.{profile_of}
-use Rattle.code_defs.specs.ServerCode.{IsCodeword}
+use Rattle.server_code.proofs.Words.{◌≡◌, refl, arith, ◌∷◌, [], value_over, product, nim_mul, nim_add, upto, values_at, profile_of, IsCodeword}
 use Rattle.server_code.proofs.Clean.{codeword_zero}
 use Rattle.server_code.proofs.laws.ones_are_a_codeword.Goals as goal
 

@@ -1,5 +1,4 @@
-use Rattle.std.proofs.Common.{◌∷◌, ◌++◌, ◌∙◌, [], List, ℕ, ap, sym, take, append_assoc}
-use Rattle.std.proofs.lemmas.List.{take_more}
+use Rattle.server_code.proofs.Words.{◌∷◌, ◌++◌, ◌∙◌, [], List, ℕ, ap, sym, take, append_assoc, take_more}
 use Rattle.server_code.proofs.make.push_bytes.Goals as goal
 
 -- one coefficient more is added

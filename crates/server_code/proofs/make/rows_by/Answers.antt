@@ -1,6 +1,4 @@
-use Rattle.std.proofs.Common.{◌≡◌, ℕ, List, ◌+◌, sym, subst, refl, arith}
-use Rattle.code_points.specs.Profile.{plain_profile}
-use Rattle.code_points.proofs.Steps.{keep_below}
+use Rattle.server_code.proofs.Words.{◌≡◌, ℕ, List, ◌+◌, sym, subst, refl, arith, plain_profile, keep_below}
 use Rattle.server_code.proofs.MakeSteps.{HasRows, no_rows, row_more, all_rows}
 use Rattle.server_code.proofs.make.rows_by.Goals as goal
 

@@ -1,5 +1,4 @@
-use Rattle.std.proofs.Common.{sym}
-use Rattle.code_defs.proofs.Codewords.{differences-same}
+use Rattle.server_code.proofs.Words.{sym, differences-same}
 use Rattle.server_code.proofs.open.open_block.Goals as goal
 
 pub returns-then-is_clean-clause-changed : goal.returns-then-is_clean-clause-changed

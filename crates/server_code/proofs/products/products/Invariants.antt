@@ -1,6 +1,4 @@
-use Rattle.std.proofs.Common.{◌≡◌, ◌<◌, ℕ, length, get_or}
-use Rattle.server_code.specs.Products.{AreMultiples}
-use Rattle.server_code.specs.declared.products.Multiples.{Multiples}
+use Rattle.server_code.proofs.Words.{◌≡◌, ◌<◌, ℕ, length, get_or, AreMultiples, Multiples}
 use Rattle.server_code.proofs.products.products.Given as goal
 
 abbrev pub invariant-loop-c : goal.invariant-loop-c

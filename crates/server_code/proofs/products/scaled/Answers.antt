@@ -1,8 +1,5 @@
-use Rattle.std.proofs.Common.{rules, ◌∙◌, ap, sym, map}
+use Rattle.server_code.proofs.Words.{rules, ◌∙◌, ap, sym, map, nim_mul, nim_ring, AreLanes, low_ok, high_ok}
 use Rattle.std.specs.Int.{w128, from_le_bytes}
-use Rattle.hail_field.specs.Nim.{nim_mul}
-use Rattle.hail_field.proofs.AllNumbers.{nim_ring}
-use Rattle.hail_field.proofs.Multiples.{AreLanes, low_ok, high_ok}
 use Rattle.server_code.proofs.ProductSteps.{products_of_lanes}
 use Rattle.server_code.proofs.products.scaled.Goals as goal
 

@@ -1,5 +1,4 @@
-use Rattle.std.proofs.Common.{◌∙◌, arith}
-use Rattle.std.proofs.lemmas.List.{length-set}
+use Rattle.server_code.proofs.Words.{◌∙◌, arith, length-set}
 use Rattle.server_code.proofs.ProductSteps.{steps_more}
 use Rattle.server_code.proofs.products.steps.Goals as goal
 

@@ -1,5 +1,4 @@
-use Rattle.std.proofs.Common.{◌≡◌, ◌<◌, ◌*◌, ℕ, get_or, length}
-use Rattle.hail_field.specs.Nim.{nim_mul}
+use Rattle.server_code.proofs.Words.{◌≡◌, ◌<◌, ◌*◌, ℕ, get_or, length, nim_mul}
 use Rattle.server_code.proofs.products.steps.Given as goal
 
 abbrev pub invariant-loop-b : goal.invariant-loop-b

@@ -1,5 +1,4 @@
-use Rattle.std.proofs.Common.{◌≡◌, ◌<◌, ◌≤◌, ℕ, length, get_or}
-use Rattle.hail_field.specs.Nim.{nim_add}
+use Rattle.server_code.proofs.Words.{◌≡◌, ◌<◌, ◌≤◌, ℕ, length, get_or, nim_add}
 use Rattle.server_code.proofs.quarters.add_all.Given as goal
 
 abbrev pub invariant-loop-k : goal.invariant-loop-k

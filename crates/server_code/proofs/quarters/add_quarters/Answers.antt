@@ -1,7 +1,5 @@
-use Rattle.std.proofs.Common.{rules, ◌≡◌, ◌∙◌, ◌+◌, ◌*◌, ◌-◌, ap, ap₂, length, replicate, take, drop, arith, refl, length-append}
-use Rattle.std.proofs.lemmas.List.{length-take-le, length-drop}
-use Rattle.code_defs.specs.Polynomials.{plus}
-use Rattle.server_code.specs.Transform.{places, inverse}
+use Rattle.server_code.proofs.Words.{rules, ◌≡◌, ◌∙◌, ◌+◌, ◌*◌, ◌-◌, ap, ap₂, length, replicate, take, drop, arith, refl, length-append, length-take-le, plus, places, inverse}
+use Rattle.std.proofs.lemmas.List.{length-drop}
 use Rattle.server_code.proofs.TransformSteps.{no_quarter, one_quarter_more}
 use Rattle.server_code.proofs.quarters.add_quarters.Goals as goal
 

@@ -1,5 +1,4 @@
-use Rattle.std.proofs.Common.{◌≡◌, length}
-use Rattle.server_code.specs.Transform.{coefficient_sum}
+use Rattle.server_code.proofs.Words.{◌≡◌, length, coefficient_sum}
 use Rattle.server_code.proofs.quarters.add_quarters.Given as goal
 
 abbrev pub invariant-loop-q : goal.invariant-loop-q

@@ -1,5 +1,4 @@
-use Rattle.std.proofs.Common.{◌≡◌, ◌∙◌, sym, ap, refl, arith, length, get_or}
-use Rattle.std.proofs.lemmas.List.{get_or_read}
+use Rattle.server_code.proofs.Words.{◌≡◌, ◌∙◌, sym, ap, refl, arith, length, get_or, get_or_read}
 use Rattle.server_code.proofs.RowSteps.{sums_by_all, get_or-sums}
 use Rattle.server_code.proofs.rows.are_sums.Goals as goal
 

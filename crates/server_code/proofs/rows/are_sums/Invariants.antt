@@ -1,6 +1,4 @@
-use Rattle.std.proofs.Common.{◌≡◌, ◌<◌, ℕ, get_or, length}
-use Rattle.code_defs.specs.Sums.{dot as dot_of}
-use Rattle.server_code.specs.Generator.{row_at}
+use Rattle.server_code.proofs.Words.{◌≡◌, ◌<◌, ℕ, get_or, length, dot_of, row_at}
 use Rattle.server_code.proofs.rows.are_sums.Given as goal
 
 abbrev pub invariant-loop-row : goal.invariant-loop-row

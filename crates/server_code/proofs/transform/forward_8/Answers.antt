@@ -1,5 +1,4 @@
-use Rattle.std.proofs.Common.{◌*◌, ◌+◌, ◌∙◌, ap}
-use Rattle.server_code.specs.Transform.{forward}
+use Rattle.server_code.proofs.Words.{◌*◌, ◌+◌, ◌∙◌, ap, forward}
 use Rattle.server_code.proofs.TransformSteps.{forward_made}
 use Rattle.server_code.proofs.transform.forward_8.Goals as goal
 

@@ -1,5 +1,4 @@
-use Rattle.std.proofs.Common.{◌*◌, ◌+◌, ◌∙◌, ap}
-use Rattle.server_code.specs.Transform.{inverse}
+use Rattle.server_code.proofs.Words.{◌*◌, ◌+◌, ◌∙◌, ap, inverse}
 use Rattle.server_code.proofs.TransformSteps.{inverse_made}
 use Rattle.server_code.proofs.transform.inverse_32.Goals as goal
 

@@ -1,7 +1,4 @@
-use Rattle.std.proofs.Common.{◌∙◌, arith, ◌≡◌, ◌≢◌, ◌⊎◌, ℕ, true, List, ◌++◌, Option, None, Some, sym, inl, inr, is_some}
-use Rattle.std.proofs.lemmas.Bool.{false≢true}
-use Rattle.std.proofs.lemmas.List.{append_cancel_left}
-use Rattle.stories.specs.Words.{told_then, GetOf}
+use Rattle.stories.proofs.Words.{◌∙◌, arith, ◌≡◌, ◌≢◌, ◌⊎◌, ℕ, true, List, ◌++◌, Option, None, Some, sym, inl, inr, is_some, false≢true, append_cancel_left, told_then, GetOf}
 use Rattle.stories.proofs.commands.colluders_are_the_forgery.Goals as goal
 
 -- of what was written and something else the latter, where other bytes were written

@@ -1,7 +1,5 @@
-use Rattle.std.proofs.Common.{◌≤◌, List, length, refl, sym, subst}
-use Rattle.record_defs.specs.Packed.{packed}
-use Rattle.command_laws.proofs.JobEnds.{put-setup}
-use Rattle.stories.specs.Words.{Record, Setup, GetOf, UpgradeJournal, PackJournal, IsUntouched, IsSteady, spoilt_below, put_of, after_put, after_upgrade}
+use Rattle.stories.proofs.Words.{◌≤◌, List, length, refl, sym, subst, packed, put-setup, GetOf, UpgradeJournal, PackJournal, IsUntouched, IsSteady, spoilt_below, after_put, after_upgrade}
+use Rattle.stories.specs.Words.{Record, Setup, put_of}
 use Rattle.stories.proofs.Packs.{upgraded-then, packed-then, setup-stays}
 use Rattle.stories.proofs.commands.packed_files_are_got.Goals as goal
 

@@ -1,7 +1,5 @@
-use Rattle.std.proofs.Common.{◌≡◌, [], None, refl, inl}
-use Rattle.hail_client.proofs.Fresh.{start-tells}
-use Rattle.stories.specs.Words.{Begin, GetJob, Got, Continue, named, none_hold, byte}
-use Rattle.stories.specs.Instances.{opening, byte_text, byte_lines, before_byte, behind_byte, byte_heard, byte_end, first_state}
+use Rattle.stories.proofs.Words.{◌≡◌, [], None, refl, inl, start-tells, named, none_hold, byte, opening, byte_text, byte_lines, before_byte, behind_byte, byte_heard, byte_end, first_state}
+use Rattle.stories.specs.Words.{Begin, GetJob, Got, Continue}
 use Rattle.stories.proofs.Asked.{none-tell}
 use Rattle.stories.proofs.ByteReplay.{spelled, byte-run, byte-replayed}
 use Rattle.stories.proofs.ToldBy.{answered, left}

@@ -1,12 +1,6 @@
-use Rattle.std.proofs.Common.{◌≡◌, ℕ, List, [], ◌∷◌, String, None, Global, refl, inl, arith}
-use Rattle.std.specs.Fmt.{digits}
-use Rattle.machine_defs.specs.Events.{More, Stopped}
+use Rattle.stories.proofs.Words.{◌≡◌, ℕ, List, [], ◌∷◌, String, None, Global, refl, inl, arith, digits, More, Stopped, start-tells, AllTell, none_hold, named, byte, IsReplayForm, opening, before_text, first_state, IsToldReplay, cut_text, cut_steps, cut_commands, cut_outcomes, behind_cut, cut_end, four_given}
 use Rattle.machine_defs.specs.Jobs.{AuditJob}
-use Rattle.hail_client.proofs.Fresh.{start-tells}
-use Rattle.stories.specs.Words.{Begin, Begun, Got, Opened, AllTell, none_hold, named, byte, IsReplayForm}
-use Rattle.stories.specs.Instances.{opening, before_text, first_state}
-use Rattle.stories.specs.Told.{IsToldReplay}
-use Rattle.stories.specs.Replays.{cut_text, cut_steps, cut_commands, cut_outcomes, behind_cut, cut_end, four_given}
+use Rattle.stories.specs.Words.{Begin, Begun, Got, Opened}
 use Rattle.stories.proofs.Asked.{none-tell}
 use Rattle.stories.proofs.CutReplay.{spelled, cut-replayed}
 use Rattle.stories.proofs.ToldBy.{told-by}

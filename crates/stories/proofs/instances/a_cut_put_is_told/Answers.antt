@@ -1,15 +1,7 @@
-use Rattle.std.proofs.Common.{ℕ, List, [], ◌∷◌, ◌++◌, None, refl, inl, inr}
-use Rattle.machine_defs.specs.Answers.{Dropped}
-use Rattle.machine_defs.specs.Events.{Listed, Names}
-use Rattle.machine_defs.specs.Jobs.{DropJob}
-use Rattle.machine_defs.specs.Untouched.{Touches}
-use Rattle.effect_laws.specs.Transcripts.{AreOverFor}
-use Rattle.epoch_laws.specs.Told.{done_by, ByScrubs}
-use Rattle.hail_client.proofs.Fresh.{start-tells}
-use Rattle.stories.specs.Words.{Got, Opened, Put, Begin, Begun, Ended, Once, AllTell, none_hold, named, byte}
-use Rattle.stories.specs.Instances.{opening, before_text, first_state, other_byte}
+use Rattle.stories.proofs.Words.{ℕ, List, [], ◌∷◌, ◌++◌, None, refl, inl, inr, Dropped, Listed, Names, DropJob, Touches, AreOverFor, done_by, ByScrubs, start-tells, Ended, Once, AllTell, none_hold, named, byte, opening, before_text, first_state, other_byte, third, second_file, put_cut, put_cut_outcomes, got_cut, got_cut_outcomes, dropped_behind, dropped_outcomes, listed_text, listed_commands, listed_outcomes, behind_listed, listed_end}
+use Rattle.stories.specs.Words.{Got, Opened, Put, Begin, Begun}
 use Rattle.stories.specs.Files.{put_of}
-use Rattle.stories.specs.Replays.{second, third, second_file, put_cut, put_cut_outcomes, got_cut, got_cut_outcomes, dropped_behind, dropped_outcomes, listed_text, listed_commands, listed_outcomes, behind_listed, listed_end}
+use Rattle.stories.specs.Replays.{second}
 use Rattle.stories.proofs.Asked.{none-tell}
 use Rattle.stories.proofs.ListedReplay.{told, only-other, not-second, not-named, no-third}
 use Rattle.stories.proofs.instances.a_cut_put_is_told.Goals as goal

@@ -1,13 +1,7 @@
-use Rattle.std.proofs.Common.{◌≡◌, true, List, [], ◌∷◌, None, refl, sym, subst, inl, inr}
-use Rattle.std.proofs.lemmas.Bool.{false≢true}
-use Rattle.column_defs.specs.Verdicts.{is_flagged}
+use Rattle.stories.proofs.Words.{◌≡◌, true, List, [], ◌∷◌, None, refl, sym, subst, inl, inr, false≢true, is_flagged, counts, start-tells, AllTell, none_hold, named, byte, opening, before_text, first_state, damaged2, damaged0, lost2, lost0, mended_text, behind_mended, mended_end}
 use Rattle.record_defs.specs.Records.{Setup}
 use Rattle.machine_defs.specs.Events.{Replaced}
-use Rattle.damage_run.specs.Points.{counts}
-use Rattle.hail_client.proofs.Fresh.{start-tells}
-use Rattle.stories.specs.Words.{Got, Opened, AllTell, none_hold, named, byte}
-use Rattle.stories.specs.Instances.{opening, before_text, first_state}
-use Rattle.stories.specs.Replays.{damaged2, damaged0, lost2, lost0, mended_text, behind_mended, mended_end}
+use Rattle.stories.specs.Words.{Got, Opened}
 use Rattle.stories.proofs.Asked.{none-tell}
 use Rattle.stories.proofs.MendedReplay.{told, flags}
 use Rattle.stories.proofs.ToldBy.{same-setup, ones-few}

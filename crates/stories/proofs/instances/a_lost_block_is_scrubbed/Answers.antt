@@ -1,13 +1,6 @@
-use Rattle.std.proofs.Common.{◌≡◌, List, [], ◌∷◌, ◌++◌, String, None, Global, refl, inl, arith}
-use Rattle.std.specs.Fmt.{digits}
-use Rattle.machine_defs.specs.Answers.{Scrubbed}
+use Rattle.stories.proofs.Words.{◌≡◌, List, [], ◌∷◌, ◌++◌, String, None, Global, refl, inl, arith, digits, Scrubbed, done_by, ByScrubs, start-tells, Ended, Once, RunJob, AllTell, none_hold, named, byte, called_behind, IsReplayForm, opening, before_text, first_state, IsToldReplay, damaged2, damaged0, lost2, lost0, put_lost, put_lost_outcomes, symbols_off, blocks_off, swept_text, swept_commands, swept_outcomes, behind_swept, swept_end, three_given}
 use Rattle.machine_defs.specs.Events.{BeginScrub, Replaced}
-use Rattle.epoch_laws.specs.Told.{done_by, ByScrubs}
-use Rattle.hail_client.proofs.Fresh.{start-tells}
-use Rattle.stories.specs.Words.{Got, Opened, Begin, Begun, Ended, GetJob, Once, RunJob, AllTell, none_hold, named, byte, called_behind, IsReplayForm}
-use Rattle.stories.specs.Instances.{opening, before_text, first_state}
-use Rattle.stories.specs.Told.{IsToldReplay}
-use Rattle.stories.specs.Replays.{damaged2, damaged0, lost2, lost0, put_lost, put_lost_outcomes, symbols_off, blocks_off, swept_text, swept_commands, swept_outcomes, behind_swept, swept_end, three_given}
+use Rattle.stories.specs.Words.{Got, Opened, Begin, Begun, GetJob}
 use Rattle.stories.proofs.Asked.{none-tell}
 use Rattle.stories.proofs.SweptReplay.{spelled, swept-replayed}
 use Rattle.stories.proofs.ToldBy.{told-by, ones-few}

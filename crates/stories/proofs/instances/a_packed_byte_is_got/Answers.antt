@@ -1,6 +1,4 @@
-use Rattle.std.proofs.Common.{false, refl, arith}
-use Rattle.command_runs.proofs.Meets.{stays}
-use Rattle.stories.specs.Words.{GetOf, UpgradeJournal, PackJournal, named}
+use Rattle.stories.proofs.Words.{false, refl, arith, stays, GetOf, UpgradeJournal, PackJournal, named}
 use Rattle.stories.proofs.Asked.{answered, packed-steady}
 use Rattle.stories.proofs.instances.a_packed_byte_is_got.Goals as goal
 

@@ -1,11 +1,5 @@
-use Rattle.std.proofs.Common.{◌≡◌, ℕ, List, [], ◌∷◌, String, None, Global, refl, inl, arith}
-use Rattle.std.specs.Fmt.{digits}
-use Rattle.hail_client.proofs.Fresh.{start-tells}
-use Rattle.command_runs.proofs.Alone.{filling-of}
-use Rattle.stories.specs.Words.{Got, Opened, AllTell, none_hold, named, byte, IsFilling, IsReplayForm}
-use Rattle.stories.specs.Instances.{opening, before_text, first_state}
-use Rattle.stories.specs.Told.{IsToldReplay}
-use Rattle.stories.specs.Replays.{packed_text, packed_commands, packed_outcomes, behind_packed, packed_end, four_given}
+use Rattle.stories.proofs.Words.{◌≡◌, ℕ, List, [], ◌∷◌, String, None, Global, refl, inl, arith, digits, start-tells, filling-of, AllTell, none_hold, named, byte, IsFilling, IsReplayForm, opening, before_text, first_state, IsToldReplay, packed_text, packed_commands, packed_outcomes, behind_packed, packed_end, four_given}
+use Rattle.stories.specs.Words.{Got, Opened}
 use Rattle.stories.proofs.Asked.{none-tell}
 use Rattle.stories.proofs.PackedReplay.{spelled, packed-replayed}
 use Rattle.stories.proofs.ToldBy.{told-by}

@@ -1,9 +1,5 @@
-use Rattle.std.proofs.Common.{◌≡◌, List, [], ◌∷◌, String, None, Global, refl, inl, inr, arith, reverse}
-use Rattle.std.proofs.lemmas.Bool.{false≢true}
-use Rattle.std.specs.Fmt.{digits}
-use Rattle.stories.specs.Words.{Begin, GetJob, Got, Continue, Opened, Reopen, named, byte, put_event, IsSchedule, devices_of_seen, IsReplayForm, AreLeft, AnswersWords}
-use Rattle.stories.specs.Instances.{opening, byte_text, byte_commands, byte_outcomes, before_byte, behind_byte, byte_end, first_state}
-use Rattle.stories.specs.Told.{IsToldReplay}
+use Rattle.stories.proofs.Words.{◌≡◌, List, [], ◌∷◌, String, None, Global, refl, inl, inr, arith, reverse, false≢true, digits, named, byte, IsSchedule, devices_of_seen, IsReplayForm, AreLeft, AnswersWords, opening, byte_text, byte_commands, byte_outcomes, before_byte, behind_byte, byte_end, first_state, IsToldReplay}
+use Rattle.stories.specs.Words.{Begin, GetJob, Got, Continue, Opened, Reopen, put_event}
 use Rattle.stories.proofs.instances.a_told_byte_is_got_whole.Goals as goal
 
 -- the text in the source and the lines behind it tell the replay

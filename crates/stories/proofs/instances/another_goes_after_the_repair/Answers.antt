@@ -1,6 +1,5 @@
-use Rattle.std.proofs.Common.{refl, inl, arith}
-use Rattle.command_runs.proofs.Meets.{first, second, stays, three-tell, robbed-untouched, repair-steady, get-steady, flagged-second}
-use Rattle.stories.specs.Words.{GetOf, AuditAll, RepairAll, named}
+use Rattle.stories.proofs.Words.{refl, inl, arith, first, stays, three-tell, robbed-untouched, repair-steady, get-steady, flagged-second, GetOf, AuditAll, RepairAll, named}
+use Rattle.command_runs.proofs.Meets.{second}
 use Rattle.stories.proofs.Asked.{answered}
 use Rattle.stories.proofs.instances.another_goes_after_the_repair.Goals as goal
 

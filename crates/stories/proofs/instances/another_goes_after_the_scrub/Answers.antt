@@ -1,6 +1,4 @@
-use Rattle.std.proofs.Common.{refl, arith}
-use Rattle.command_runs.proofs.Meets.{stays, three-tell, robbed-untouched, swept-steady, swept-untouched, later-steady}
-use Rattle.stories.specs.Words.{GetOf, ScrubAll, named}
+use Rattle.stories.proofs.Words.{refl, arith, stays, three-tell, robbed-untouched, swept-steady, swept-untouched, later-steady, GetOf, ScrubAll, named}
 use Rattle.stories.proofs.Asked.{answered}
 use Rattle.stories.proofs.instances.another_goes_after_the_scrub.Goals as goal
 

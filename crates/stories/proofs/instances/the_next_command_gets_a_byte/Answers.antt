@@ -1,6 +1,5 @@
-use Rattle.std.proofs.Common.{refl, arith}
-use Rattle.command_runs.proofs.Meets.{second, stays, none-tell, robbed-untouched, put-old}
-use Rattle.stories.specs.Words.{PutUnder, GetOf, named}
+use Rattle.stories.proofs.Words.{refl, arith, stays, none-tell, robbed-untouched, PutUnder, GetOf, named}
+use Rattle.command_runs.proofs.Meets.{second, put-old}
 use Rattle.stories.proofs.DamagedGet.{got}
 use Rattle.stories.proofs.Asked.{answered, damaged-steady}
 use Rattle.stories.proofs.instances.the_next_command_gets_a_byte.Goals as goal

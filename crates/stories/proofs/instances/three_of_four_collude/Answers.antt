@@ -1,6 +1,5 @@
-use Rattle.std.proofs.Common.{◌≡◌, refl, ap, arith}
-use Rattle.command_runs.proofs.Meets.{second, damaged-file, damaged-sure, first_of}
-use Rattle.stories.specs.Words.{GetOf, named}
+use Rattle.stories.proofs.Words.{◌≡◌, refl, ap, arith, damaged-file, first_of, GetOf, named}
+use Rattle.command_runs.proofs.Meets.{second, damaged-sure}
 use Rattle.stories.proofs.DamagedGet.{got}
 use Rattle.stories.proofs.Asked.{answered, damaged-steady}
 use Rattle.stories.proofs.instances.three_of_four_collude.Goals as goal

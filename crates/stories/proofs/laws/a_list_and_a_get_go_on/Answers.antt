@@ -1,8 +1,5 @@
-use Rattle.std.proofs.Common.{[], refl, inl}
+use Rattle.stories.proofs.Words.{[], refl, inl, no-form, form-words, GetOf, IsFresh, held_name, empty_devices, list_before}
 use Rattle.hail_replay.specs.declared.forms.Form.TheVariants as forms
-use Rattle.hail_top.proofs.FormWords.{no-form}
-use Rattle.hail_top.proofs.Words.{form-words}
-use Rattle.stories.specs.Words.{GetOf, IsFresh, held_name, empty_devices, list_before}
 use Rattle.stories.proofs.Asked.{falls, answered, first-left}
 use Rattle.stories.proofs.laws.a_list_and_a_get_go_on.Goals as goal
 

@@ -1,7 +1,5 @@
-use Rattle.std.proofs.Common.{◌++◌, subst, reverse}
-use Rattle.std.proofs.lemmas.List.{reverse-reverse}
-use Rattle.stories.specs.Words.{DamagesOnly, CarriesOut, called_behind}
-use Rattle.stories.specs.Files.{put_of, got_behind}
+use Rattle.stories.proofs.Words.{◌++◌, subst, reverse, reverse-reverse, DamagesOnly, CarriesOut, called_behind, got_behind}
+use Rattle.stories.specs.Files.{put_of}
 use Rattle.stories.proofs.Gets.{is-got}
 use Rattle.stories.proofs.schedules.few_damaged_providers_do_no_harm.Goals as goal
 

@@ -1,8 +1,5 @@
-use Rattle.std.proofs.Common.{◌++◌, sym, subst, arith, reverse}
-use Rattle.std.proofs.lemmas.List.{reverse-reverse}
-use Rattle.stories.specs.Words.{CarriesOut, devices_of_seen, called_behind}
-use Rattle.stories.specs.Files.{put_of, PutsFile}
-use Rattle.stories.specs.Said.{SaysPut}
+use Rattle.stories.proofs.Words.{◌++◌, sym, subst, arith, reverse, reverse-reverse, CarriesOut, devices_of_seen, called_behind, PutsFile, SaysPut}
+use Rattle.stories.specs.Files.{put_of}
 use Rattle.stories.proofs.Puts.{puts-file, called-free}
 use Rattle.stories.proofs.Said.{written-as}
 use Rattle.stories.proofs.schedules.what_is_put_survives.Goals as goal

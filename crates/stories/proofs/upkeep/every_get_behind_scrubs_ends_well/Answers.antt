@@ -1,7 +1,5 @@
-use Rattle.std.proofs.Common.{◌∷◌, ◌++◌}
-use Rattle.machine_defs.specs.Scrubs.{scrubbed}
-use Rattle.effect_laws.specs.Transcripts.{job_behind}
-use Rattle.stories.specs.Words.{Begin, Begun, Ended, GetJob, called_behind}
+use Rattle.stories.proofs.Words.{◌∷◌, ◌++◌, scrubbed, job_behind, Ended, called_behind}
+use Rattle.stories.specs.Words.{Begin, Begun, GetJob}
 use Rattle.stories.proofs.Told.{scrubs-but}
 use Rattle.stories.proofs.Among.{among, gives-among, loses-among}
 use Rattle.stories.proofs.upkeep.every_get_behind_scrubs_ends_well.Goals as goal

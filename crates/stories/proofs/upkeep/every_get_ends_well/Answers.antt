@@ -1,5 +1,4 @@
-use Rattle.std.proofs.Common.{[], ◌∷◌}
-use Rattle.epoch_laws.specs.Told.{ByScrubs}
+use Rattle.stories.proofs.Words.{[], ◌∷◌, ByScrubs}
 use Rattle.stories.proofs.upkeep.every_get_ends_well.Goals as goal
 
 pub returns : goal.returns

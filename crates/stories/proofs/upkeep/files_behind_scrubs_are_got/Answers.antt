@@ -1,9 +1,6 @@
-use Rattle.std.proofs.Common.{[], ◌∷◌, ◌++◌, ap, subst, ◌∙◌}
-use Rattle.machine_defs.specs.Untouched.{Touches}
-use Rattle.epoch_laws.specs.Told.{ByScrubs}
-use Rattle.stories.specs.Words.{Put, Begun, Ended, called_behind}
-use Rattle.stories.specs.Files.{put_of, got_behind}
-use Rattle.stories.specs.Told.{WasTold}
+use Rattle.stories.proofs.Words.{[], ◌∷◌, ◌++◌, ap, subst, ◌∙◌, Touches, ByScrubs, Ended, called_behind, got_behind, WasTold}
+use Rattle.stories.specs.Words.{Put, Begun}
+use Rattle.stories.specs.Files.{put_of}
 use Rattle.stories.proofs.Puts.{called-free}
 use Rattle.stories.proofs.Told.{job-told, last-told, over-but, scrubs-but, got-right}
 use Rattle.stories.proofs.upkeep.files_behind_scrubs_are_got.Goals as goal

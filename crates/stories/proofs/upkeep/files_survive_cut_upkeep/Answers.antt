@@ -1,7 +1,6 @@
-use Rattle.std.proofs.Common.{◌∷◌, ◌++◌, subst, sym, ◌∙◌, append_assoc, arith}
-use Rattle.stories.specs.Words.{AsksDamageOf, Put, Begun, Ended, devices_of_seen, called_behind}
-use Rattle.stories.specs.Files.{put_of, got_behind}
-use Rattle.stories.specs.Told.{IsToldReplay}
+use Rattle.stories.proofs.Words.{◌∷◌, ◌++◌, subst, sym, ◌∙◌, append_assoc, arith, AsksDamageOf, Ended, devices_of_seen, called_behind, got_behind, IsToldReplay}
+use Rattle.stories.specs.Words.{Put, Begun}
+use Rattle.stories.specs.Files.{put_of}
 use Rattle.stories.proofs.Keeping.{both-asks, both-names, cut_by, cut-asks, cut-names, cut-apart, cut-length, both-many}
 use Rattle.stories.proofs.upkeep.files_survive_cut_upkeep.Goals as goal
 

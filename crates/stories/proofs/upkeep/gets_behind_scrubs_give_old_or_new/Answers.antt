@@ -1,7 +1,5 @@
-use Rattle.std.proofs.Common.{[], ◌∷◌, ◌++◌}
-use Rattle.machine_defs.specs.Scrubs.{scrubbed}
-use Rattle.effect_laws.specs.Transcripts.{job_behind}
-use Rattle.stories.specs.Words.{Begin, Begun, Ended, Put, GetJob, called_behind}
+use Rattle.stories.proofs.Words.{[], ◌∷◌, ◌++◌, scrubbed, job_behind, Ended, called_behind}
+use Rattle.stories.specs.Words.{Begin, Begun, Put, GetJob}
 use Rattle.machine_defs.specs.Events.{put_event}
 use Rattle.stories.proofs.Told.{scrubs-but}
 use Rattle.stories.proofs.Among.{among, run-before, gives-among}

@@ -1,8 +1,6 @@
-use Rattle.std.proofs.Common.{[], ◌∷◌, ◌++◌}
+use Rattle.stories.proofs.Words.{[], ◌∷◌, ◌++◌, job_behind, ByScrubs, Ended}
 use Rattle.machine_defs.specs.Events.{put_event}
-use Rattle.effect_laws.specs.Transcripts.{job_behind}
-use Rattle.epoch_laws.specs.Told.{ByScrubs}
-use Rattle.stories.specs.Words.{Begin, Begun, Ended, Put, GetJob}
+use Rattle.stories.specs.Words.{Begin, Begun, Put, GetJob}
 use Rattle.stories.proofs.upkeep.gets_give_old_or_new.Goals as goal
 
 pub returns : goal.returns

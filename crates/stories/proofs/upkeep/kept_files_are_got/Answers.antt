@@ -1,5 +1,4 @@
-use Rattle.std.proofs.Common.{[], ◌∷◌}
-use Rattle.epoch_laws.specs.Told.{ByScrubs}
+use Rattle.stories.proofs.Words.{[], ◌∷◌, ByScrubs}
 use Rattle.stories.proofs.upkeep.kept_files_are_got.Goals as goal
 
 pub returns : goal.returns

@@ -1,9 +1,5 @@
-use Rattle.std.proofs.Common.{◌∷◌, ◌++◌, subst}
-use Rattle.machine_defs.specs.Answers.{Dropped}
-use Rattle.machine_defs.specs.Events.{Names, Listed}
-use Rattle.machine_defs.specs.Jobs.{DropJob}
-use Rattle.epoch_laws.specs.Told.{done_by}
-use Rattle.stories.specs.Words.{Put, Begin, Begun, Ended, Once, devices_of_seen, AreLeft, called_behind}
+use Rattle.stories.proofs.Words.{◌∷◌, ◌++◌, subst, Dropped, Names, Listed, DropJob, done_by, Ended, Once, devices_of_seen, AreLeft, called_behind}
+use Rattle.stories.specs.Words.{Put, Begin, Begun}
 use Rattle.stories.specs.Files.{put_of}
 use Rattle.stories.proofs.Listed.{apart, each, put-listed, drop-listed, unput-listed}
 use Rattle.stories.proofs.upkeep.lists_tell_what_stands.Goals as goal

@@ -1,10 +1,8 @@
-use Rattle.std.proofs.Common.{◌∷◌, ◌++◌, subst}
-use Rattle.machine_defs.specs.Answers.{Packed, Upgraded}
+use Rattle.stories.proofs.Words.{◌∷◌, ◌++◌, subst, Packed, done_by, AsksDamageOf, Ended, Once, RunJob, got_behind, IsToldReplay}
+use Rattle.machine_defs.specs.Answers.{Upgraded}
 use Rattle.machine_defs.specs.Events.{BeginPack}
-use Rattle.epoch_laws.specs.Told.{done_by}
-use Rattle.stories.specs.Words.{AsksDamageOf, Begin, Put, Begun, Ended, UpgradeJob, Once, RunJob}
-use Rattle.stories.specs.Files.{put_of, got_behind}
-use Rattle.stories.specs.Told.{IsToldReplay}
+use Rattle.stories.specs.Words.{Begin, Put, Begun, UpgradeJob}
+use Rattle.stories.specs.Files.{put_of}
 use Rattle.stories.proofs.Keeping.{both-asks, both-names, three-apart, as-many}
 use Rattle.stories.proofs.upkeep.packed_files_are_got.Goals as goal
 

@@ -1,12 +1,8 @@
-use Rattle.std.proofs.Common.{[], ◌∷◌, ◌++◌, ap, subst, ◌∙◌, arith}
+use Rattle.stories.proofs.Words.{[], ◌∷◌, ◌++◌, ap, subst, ◌∙◌, arith, AreOver, Touches, Relies, done_by, Ended, NoneUnderWay, call_from, called_behind, got_behind, WasTold}
 use Rattle.machine_defs.specs.Answers.{Audited, Repaired}
 use Rattle.machine_defs.specs.Jobs.{AuditJob, RepairJob}
-use Rattle.effect_laws.specs.Transcripts.{AreOver}
-use Rattle.machine_defs.specs.Untouched.{Touches, Relies}
-use Rattle.epoch_laws.specs.Told.{done_by}
-use Rattle.stories.specs.Words.{Begin, Put, Begun, Ended, NoneUnderWay, call_from, called_behind, now}
-use Rattle.stories.specs.Files.{put_of, got_behind}
-use Rattle.stories.specs.Told.{WasTold}
+use Rattle.stories.specs.Words.{Begin, Put, Begun, now}
+use Rattle.stories.specs.Files.{put_of}
 use Rattle.stories.proofs.Puts.{called-free}
 use Rattle.stories.proofs.Told.{told-among, job-told, last-told, over-but, got-right}
 use Rattle.stories.proofs.upkeep.repaired_files_are_got.Goals as goal

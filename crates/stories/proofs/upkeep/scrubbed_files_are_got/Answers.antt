@@ -1,11 +1,7 @@
-use Rattle.std.proofs.Common.{[], ◌∷◌, ◌++◌, ap, subst, ◌∙◌}
-use Rattle.machine_defs.specs.Answers.{Scrubbed}
+use Rattle.stories.proofs.Words.{[], ◌∷◌, ◌++◌, ap, subst, ◌∙◌, Scrubbed, Touches, done_by, Ended, called_behind, got_behind, WasTold}
 use Rattle.machine_defs.specs.Events.{BeginScrub}
-use Rattle.machine_defs.specs.Untouched.{Touches}
-use Rattle.epoch_laws.specs.Told.{done_by}
-use Rattle.stories.specs.Words.{Put, Begun, Ended, called_behind}
-use Rattle.stories.specs.Files.{put_of, got_behind}
-use Rattle.stories.specs.Told.{WasTold}
+use Rattle.stories.specs.Words.{Put, Begun}
+use Rattle.stories.specs.Files.{put_of}
 use Rattle.stories.proofs.Puts.{called-free}
 use Rattle.stories.proofs.Told.{job-told, scrub-told, last-told, over-but, got-right}
 use Rattle.stories.proofs.upkeep.scrubbed_files_are_got.Goals as goal

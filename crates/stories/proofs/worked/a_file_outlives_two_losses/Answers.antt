@@ -1,8 +1,6 @@
-use Rattle.std.proofs.Common.{List, [], ◌∷◌, None, refl, inl}
+use Rattle.stories.proofs.Words.{List, [], ◌∷◌, None, refl, inl, named, byte, opening, damaged2, damaged0, lost2, lost0, symbols_off, blocks_off, swept_text}
 use Rattle.machine_defs.specs.Events.{Replaced}
-use Rattle.stories.specs.Words.{Got, Opened, Outcome, named, byte}
-use Rattle.stories.specs.Instances.{opening}
-use Rattle.stories.specs.Replays.{damaged2, damaged0, lost2, lost0, symbols_off, blocks_off, swept_text}
+use Rattle.stories.specs.Words.{Got, Opened, Outcome}
 use Rattle.stories.proofs.worked.a_file_outlives_two_losses.Goals as goal
 
 -- the commands: `opening` before the put, `lost2` between it and the scrub, `lost0` between that and the get; and how

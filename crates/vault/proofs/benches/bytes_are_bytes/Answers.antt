@@ -1,5 +1,4 @@
-use Rattle.std.proofs.Common.{arith}
-use Rattle.record_codec.proofs.Takes.{IsBytes-all}
+use Rattle.vault.proofs.Words.{arith, IsBytes-all}
 use Rattle.vault.proofs.benches.bytes_are_bytes.Goals as goal
 
 pub returns : goal.returns

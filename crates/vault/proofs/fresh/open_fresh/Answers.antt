@@ -1,5 +1,4 @@
-use Rattle.std.proofs.lemmas.Bool.{false≢true}
-use Rattle.record_codec.specs.Entries.{with_master}
+use Rattle.vault.proofs.Words.{false≢true, with_master}
 use Rattle.vault.proofs.Limits.{setup-shape}
 use Rattle.vault.proofs.fresh.open_fresh.Goals as goal
 

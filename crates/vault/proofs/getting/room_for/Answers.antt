@@ -1,6 +1,4 @@
-use Rattle.std.proofs.Common.{◌≡◌, ℕ, ◌+◌, ◌*◌, ◌^◌, ◌≤◌, refl, sym, arith}
-use Rattle.std.proofs.Math.Nat.{mul-le-mul}
-use Rattle.vault.specs.Benches.{stripes_on}
+use Rattle.vault.proofs.Words.{◌≡◌, ℕ, ◌+◌, ◌*◌, ◌^◌, ◌≤◌, refl, sym, arith, mul-le-mul, stripes_on}
 use Rattle.vault.proofs.getting.room_for.Goals as goal
 
 room : (len cap count made : ℕ) → len ≡ 0 → count ≡ made → made ≤ cap → len + count ≤ cap

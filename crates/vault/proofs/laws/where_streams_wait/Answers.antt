@@ -1,10 +1,5 @@
-use Rattle.std.proofs.Common.{◌≡◌, ◌*◌, ◌≤◌, length, Some, sym, ap, subst, ◌∙◌}
-use Rattle.machine_defs.specs.Jobs.{Kind, aim_of}
-use Rattle.record_defs.specs.Records.{Setup}
-use Rattle.vault_core.specs.Carried.{HasTold, IsPutFrom}
-use Rattle.vault_core.specs.Streams.{stripe_size}
-use Rattle.vault_core.specs.View.{told_by}
-use Rattle.vault.specs.Streams.{stripe_by}
+use Rattle.vault.proofs.Words.{◌≡◌, ◌*◌, ◌≤◌, Some, sym, ap, subst, ◌∙◌, Kind, aim_of, Setup, HasTold, IsPutFrom, stripe_size, told_by, stripe_by}
+use Rattle.std.proofs.Common.{length}
 use Rattle.vault.proofs.CoreJobs.{core_of, profile_same}
 use Rattle.vault.proofs.GivenStripes.{waiting}
 use Rattle.vault.proofs.laws.where_streams_wait.Goals as goal

@@ -1,10 +1,4 @@
-use Rattle.std.proofs.Common.{◌≡◌, ℕ, Result, Ok, Err, refl, inl, inr}
-use Rattle.std.specs.Prelude.{IsErr, OnOk, OnErr}
-use Rattle.std.specs.Option.{option_map}
-use Rattle.device_defs.specs.Faults.{HasCause}
-use Rattle.device_defs.specs.ProviderCalls.{Removes}
-use Rattle.device_defs.specs.Providers.{Provider, LosesPart, without_object}
-use Rattle.device_defs.specs.Told.{Goes}
+use Rattle.vault.proofs.Words.{◌≡◌, ℕ, Result, Ok, Err, refl, inl, inr, IsErr, OnOk, OnErr, option_map, HasCause, Removes, Provider, LosesPart, without_object, Goes}
 use Rattle.vault.proofs.remove.remove_from.Goals as goal
 
 -- a removal was done, or it failed

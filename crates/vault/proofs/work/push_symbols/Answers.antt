@@ -1,7 +1,5 @@
-use Rattle.std.proofs.Common.{◌≡◌, ℕ, ◌+◌, List, ◌++◌, length, take, ap, sym, ◌∙◌, append_assoc, arith, length-append}
-use Rattle.std.specs.Int.{w128, to_le_bytes}
-use Rattle.column_defs.specs.Objects.{bytes_of_symbols}
-use Rattle.column_defs.proofs.SymbolBytes.{length-symbol, bytes_of_symbols-more}
+use Rattle.vault.proofs.Words.{◌≡◌, ℕ, ◌+◌, List, ◌++◌, take, ap, sym, ◌∙◌, append_assoc, arith, length-append, w128, to_le_bytes, bytes_of_symbols, length-symbol, bytes_of_symbols-more}
+use Rattle.std.proofs.Common.{length}
 use Rattle.vault.proofs.work.push_symbols.Goals as goal
 
 pub loop-symbol-preserved : goal.loop-symbol-preserved

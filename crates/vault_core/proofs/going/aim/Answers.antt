@@ -1,5 +1,4 @@
-use Rattle.std.proofs.Common.{arith}
-use Rattle.vault_core.specs.Going.{aimed}
+use Rattle.vault_core.proofs.Words.{arith, aimed}
 use Rattle.vault_core.proofs.Rests.{each_more}
 use Rattle.vault_core.proofs.going.aim.Goals as goal
 

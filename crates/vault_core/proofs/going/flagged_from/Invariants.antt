@@ -1,5 +1,4 @@
-use Rattle.std.proofs.Common.{◌≡◌, ℕ}
-use Rattle.vault_core.specs.Rest.{rewrites_from}
+use Rattle.vault_core.proofs.Words.{◌≡◌, ℕ, rewrites_from}
 use Rattle.vault_core.proofs.going.flagged_from.Given as goal
 
 abbrev pub invariant-loop-j : goal.invariant-loop-j

@@ -1,6 +1,4 @@
-use Rattle.std.proofs.Common.{ap, sym}
-use Rattle.vault_core.specs.declared.wish.Wish.{Wish}
-use Rattle.vault_core.specs.Rest.{call_of}
+use Rattle.vault_core.proofs.Words.{ap, sym, Wish, call_of}
 use Rattle.vault_core.proofs.job.call.Goals as goal
 
 pub returns-in-Audit : goal.returns-in-Audit

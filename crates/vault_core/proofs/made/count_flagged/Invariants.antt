@@ -1,5 +1,4 @@
-use Rattle.std.proofs.Common.{◌≡◌, ◌+◌, ◌≤◌, length}
-use Rattle.vault_core.specs.Rest.{rewrites_from}
+use Rattle.vault_core.proofs.Words.{◌≡◌, ◌+◌, ◌≤◌, length, rewrites_from}
 use Rattle.vault_core.proofs.made.count_flagged.Given as goal
 
 abbrev pub invariant-loop-j : goal.invariant-loop-j

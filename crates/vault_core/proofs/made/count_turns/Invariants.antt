@@ -1,6 +1,5 @@
-use Rattle.std.proofs.Common.{◌≡◌, ◌*◌, take}
-use Rattle.std.specs.Prelude.{sum_by}
-use Rattle.vault_core.specs.declared.job.Task.{Task}
+use Rattle.vault_core.proofs.Words.{◌≡◌, take, sum_by, Task}
+use Rattle.std.proofs.Common.{◌*◌}
 use Rattle.vault_core.proofs.made.count_turns.Given as goal
 
 abbrev pub invariant-loop-task : goal.invariant-loop-task

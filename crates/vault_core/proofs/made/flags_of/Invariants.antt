@@ -1,6 +1,4 @@
-use Rattle.std.proofs.Common.{◌≡◌, ◌<◌, ℕ, length, get_or}
-use Rattle.std.specs.Prelude.{nat_lt}
-use Rattle.vault_core.specs.View.{flag_at}
+use Rattle.vault_core.proofs.Words.{◌≡◌, ◌<◌, ℕ, length, get_or, nat_lt, flag_at}
 use Rattle.vault_core.proofs.made.flags_of.Given as goal
 
 abbrev pub invariant-loop-j : goal.invariant-loop-j

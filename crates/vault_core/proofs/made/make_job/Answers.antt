@@ -1,11 +1,6 @@
-use Rattle.std.proofs.Common.{◌∙◌, List, ap, refl, arith}
+use Rattle.vault_core.proofs.Words.{◌∙◌, List, ap, refl, arith, Due, due_number, due_flags, with_master, cursor_first, most_at, turns_for, tasks_made, targets_of}
 use Rattle.std.specs.Prelude.{Option}
-use Rattle.record_defs.specs.Table.{Due}
-use Rattle.machine_defs.specs.Begins.{due_number, due_flags}
-use Rattle.record_codec.specs.Entries.{with_master}
 use Rattle.vault_core.specs.declared.pinned.Pinned.{Pinned}
-use Rattle.vault_core.specs.Making.{cursor_first, most_at}
-use Rattle.vault_core.specs.Targets.{turns_for, tasks_made, targets_of}
 use Rattle.vault_core.proofs.Pins.{subject_is}
 use Rattle.vault_core.proofs.Begun.{made-kept}
 use Rattle.vault_core.proofs.made.make_job.Goals as goal

@@ -1,7 +1,5 @@
-use Rattle.std.proofs.Common.{◌≡◌, ◌∙◌, ℕ, ◌+◌, ◌*◌, ◌^◌, ◌≤◌, ap, subst}
-use Rattle.std.specs.Prelude.{IfSome, IfNone, sum_by}
-use Rattle.vault_core.specs.declared.job.Task.{Task}
-use Rattle.vault_core.specs.Making.{size_of_turn, most_at}
+use Rattle.vault_core.proofs.Words.{◌≡◌, ◌∙◌, ℕ, ◌+◌, ◌^◌, ◌≤◌, ap, subst, IfSome, IfNone, sum_by, Task, size_of_turn, most_at}
+use Rattle.std.proofs.Common.{◌*◌}
 use Rattle.vault_core.proofs.made.most_actions.Goals as goal
 use Rattle.vault_core.proofs.made.most_actions.Goals.{After-add_other}
 

@@ -1,11 +1,7 @@
-use Rattle.std.proofs.Common.{◌-◌, ◌∙◌, ap, arith}
-use Rattle.algebra_laws.proofs.Lists.{get_within}
-use Rattle.vault_table.specs.Values.{file_of_entry}
+use Rattle.vault_core.proofs.Words.{◌-◌, ◌∙◌, ap, arith, get_within, file_of_entry, core_pins, pin_by}
 use Rattle.vault_core.specs.declared.pinned.Pinned.{Pinned}
-use Rattle.vault_core.specs.View.{core_pins}
 use Rattle.vault_core.proofs.Pins.{pins_step}
 use Rattle.vault_core.proofs.made.pin_all.Goals as goal
-use Rattle.machine_defs.specs.Begins.{pin_by}
 
 pub loop-place-preserved : goal.loop-place-preserved
 loop-place-preserved c = record {

@@ -1,8 +1,6 @@
-use Rattle.std.proofs.Common.{◌≡◌, ◌≤◌, drop, length}
-use Rattle.vault_core.specs.Making.{pin_of_file}
-use Rattle.vault_core.specs.View.{core_pins}
+use Rattle.vault_core.proofs.Words.{◌≡◌, ◌≤◌, length, pin_of_file, core_pins, pin_each}
+use Rattle.std.proofs.Common.{drop}
 use Rattle.vault_core.proofs.made.pin_all.Given as goal
-use Rattle.machine_defs.specs.Begins.{pin_each}
 
 abbrev pub invariant-loop-place : goal.invariant-loop-place
 invariant-loop-place l = record {

@@ -1,6 +1,5 @@
-use Rattle.std.proofs.Common.{ℕ, ◌∙◌, ap}
-use Rattle.code_defs.specs.Profiles.{profile_of, Profile}
-use Rattle.vault_core.proofs.Pins.{profile_capped}
+use Rattle.vault_core.proofs.Words.{ℕ, ◌∙◌, ap, profile_of, Profile}
+use Rattle.code_points.proofs.Rows.{profile_capped}
 use Rattle.vault_core.proofs.made.profile_at.Goals as goal
 
 pub returns : goal.returns

@@ -1,7 +1,4 @@
-use Rattle.std.proofs.Common.{◌∙◌, ap, arith}
-use Rattle.std.proofs.lemmas.List.{take_all}
-use Rattle.record_codec.specs.Entries.{with_master}
-use Rattle.vault_core.specs.Targets.{turns_for, tasks_made}
+use Rattle.vault_core.proofs.Words.{◌∙◌, ap, arith, take_all, with_master, turns_for, tasks_made}
 use Rattle.vault_core.proofs.Pins.{tasks_more}
 use Rattle.vault_core.proofs.made.tasks_for.Goals as goal
 

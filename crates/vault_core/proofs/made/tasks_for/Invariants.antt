@@ -1,6 +1,4 @@
-use Rattle.std.proofs.Common.{◌≡◌, take, ℕ, List}
-use Rattle.record_codec.specs.Entries.{with_master}
-use Rattle.vault_core.specs.Targets.{turns_for, tasks_made}
+use Rattle.vault_core.proofs.Words.{◌≡◌, take, ℕ, List, with_master, turns_for, tasks_made}
 use Rattle.vault_core.proofs.made.tasks_for.Given as goal
 
 abbrev pub invariant-loop-file : goal.invariant-loop-file

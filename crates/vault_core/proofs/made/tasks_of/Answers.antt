@@ -1,8 +1,5 @@
-use Rattle.std.proofs.Common.{◌≡◌, subst, List}
-use Rattle.std.specs.Prelude.{IfOk}
-use Rattle.record_codec.specs.Entries.{with_master}
+use Rattle.vault_core.proofs.Words.{◌≡◌, subst, List, IfOk, with_master, turns_for, tasks_made}
 use Rattle.vault_core.specs.declared.pinned.Pinned.{Pinned}
-use Rattle.vault_core.specs.Targets.{turns_for, tasks_made}
 use Rattle.vault_core.proofs.Pins.{targets_other}
 use Rattle.vault_core.proofs.made.tasks_of.Goals as goal
 

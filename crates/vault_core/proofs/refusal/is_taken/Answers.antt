@@ -1,10 +1,6 @@
-use Rattle.std.proofs.Common.{◌∙◌, ap, sym, Bool, ◌||◌}
-use Rattle.std.specs.Prelude.{is_some}
-use Rattle.record_defs.specs.Table.{find_file}
+use Rattle.vault_core.proofs.Words.{◌∙◌, ap, sym, Bool, is_some, find_file, aim_of_wish, aims_kept, puts_name}
+use Rattle.std.proofs.Common.{◌||◌}
 use Rattle.vault_core.specs.declared.job.Job.{Job}
-use Rattle.vault_core.specs.Wished.{aim_of_wish}
-use Rattle.vault_core.specs.Refusing.{aims_kept}
-use Rattle.machine_defs.specs.Sights.{puts_name}
 use Rattle.vault_core.proofs.Places.{any-map}
 use Rattle.vault_core.proofs.Refusals.{taken-by, found-some}
 use Rattle.vault_core.proofs.refusal.is_taken.Goals as goal

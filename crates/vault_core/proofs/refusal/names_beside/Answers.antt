@@ -1,7 +1,6 @@
-use Rattle.std.proofs.Common.{◌∙◌, ◌+◌, ap, List, length}
+use Rattle.vault_core.proofs.Words.{◌∙◌, ◌+◌, ap, List, length, aims_kept, taken_names}
 use Rattle.std.proofs.Math.ListN.{drop_of_length-le}
 use Rattle.vault_core.specs.declared.job.Job.{Job}
-use Rattle.vault_core.specs.Refusing.{aims_kept, taken_names}
 use Rattle.vault_core.proofs.Refusals.{none-more}
 use Rattle.vault_core.proofs.refusal.names_beside.Goals as goal
 

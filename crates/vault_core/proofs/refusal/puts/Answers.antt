@@ -1,10 +1,5 @@
-use Rattle.std.proofs.Common.{◌∙◌, ap, sym, ℕ, List}
-use Rattle.std.specs.Prelude.{nat_eq}
-use Rattle.std.specs.Cmp.Lexicographic.{pointwise}
-use Rattle.machine_defs.specs.Sights.{puts_name}
+use Rattle.vault_core.proofs.Words.{◌∙◌, ap, sym, ℕ, List, nat_eq, pointwise, puts_name, aim_of_wish, Wish}
 use Rattle.vault_core.proofs.Refusals.{same-pointwise}
-use Rattle.vault_core.specs.Wished.{aim_of_wish}
-use Rattle.vault_core.specs.declared.wish.Wish.{Wish}
 use Rattle.vault_core.proofs.refusal.puts.Goals as goal
 
 pub returns-in-Put : goal.returns-in-Put

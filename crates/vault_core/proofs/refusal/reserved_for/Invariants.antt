@@ -1,7 +1,6 @@
-use Rattle.std.proofs.Common.{◌≡◌, ◌*◌, ◌≤◌, take}
-use Rattle.std.specs.Prelude.{sum_by}
+use Rattle.vault_core.proofs.Words.{◌≡◌, ◌≤◌, take, sum_by, room_behind}
+use Rattle.std.proofs.Common.{◌*◌}
 use Rattle.vault_core.specs.declared.job.Job.{Job}
-use Rattle.vault_core.specs.Reserves.{room_behind}
 use Rattle.vault_core.proofs.refusal.reserved_for.Given as goal
 
 abbrev pub invariant-loop-job : goal.invariant-loop-job

@@ -1,5 +1,4 @@
-use Rattle.std.proofs.Common.{arith}
-use Rattle.vault_core.specs.Cut.{of_turns}
+use Rattle.vault_core.proofs.Words.{arith, of_turns}
 use Rattle.vault_core.proofs.Rests.{each_more}
 use Rattle.vault_core.proofs.stream.cut_each.Goals as goal
 

@@ -1,6 +1,4 @@
-use Rattle.std.proofs.Common.{◌∷◌, [], arith}
-use Rattle.std.proofs.lemmas.Result.{err_from_is_err_and}
-use Rattle.record_codec.specs.Entries.{entry_of}
+use Rattle.vault_open.proofs.Words.{◌∷◌, [], arith, err_from_is_err_and, entry_of}
 use Rattle.vault_open.proofs.ActiveFolds.{closed-in, stopped-in, taken-in, refusal-in}
 use Rattle.vault_open.proofs.folding.fold_area.Goals as goal
 

@@ -1,7 +1,4 @@
-use Rattle.std.proofs.Common.{◌≡◌, ◌-◌, List, length}
-use Rattle.record_defs.specs.Records.{Record}
-use Rattle.record_defs.specs.Areas.{Area, base_of}
-use Rattle.vault_open.specs.Folding.{IsReadInto}
+use Rattle.vault_open.proofs.Words.{◌≡◌, ◌-◌, List, length, Record, Area, base_of, IsReadInto}
 use Rattle.vault_open.proofs.folding.fold_area.Given as goal
 
 abbrev pub invariant-loop-table : goal.invariant-loop-table

@@ -1,8 +1,5 @@
-use Rattle.std.proofs.Common.{◌≡◌, sym, subst, List, [], ◌∷◌, Result}
-use Rattle.record_defs.specs.Records.{Record}
-use Rattle.record_codec.specs.Entries.{entry_of}
-use Rattle.vault_open.specs.declared.fault.InitFault.{InitFault}
-use Rattle.vault_open.specs.Preparing.{IsFirstFault, IsFirstAnswer}
+use Rattle.vault_open.proofs.Words.{◌≡◌, sym, subst, List, [], ◌∷◌, Record, entry_of, InitFault, IsFirstFault, IsFirstAnswer}
+use Rattle.std.proofs.Common.{Result}
 use Rattle.vault_open.proofs.FirstRecord.{fault-first}
 use Rattle.vault_open.proofs.preparing.answer_with.Goals as goal
 

@@ -1,8 +1,4 @@
-use Rattle.std.proofs.Common.{◌∷◌, sym, subst, arith}
-use Rattle.std.proofs.lemmas.Result.{err_from_is_err_and}
-use Rattle.record_codec.specs.Entries.{entry_of}
-use Rattle.vault_open.specs.declared.fault.InitFault.{InitFault}
-use Rattle.vault_open.specs.Preparing.{IsTextFault}
+use Rattle.vault_open.proofs.Words.{◌∷◌, sym, subst, arith, err_from_is_err_and, entry_of, InitFault, IsTextFault}
 use Rattle.vault_open.proofs.Answers.{err-from}
 use Rattle.vault_open.proofs.FirstRecord.{stops-bad, none-stands, text-refused}
 use Rattle.vault_open.proofs.preparing.has_no_record.Goals as goal

@@ -1,8 +1,4 @@
-use Rattle.std.proofs.Common.{◌≡◌, ◌-◌, List, length}
-use Rattle.record_defs.specs.Records.{Record}
-use Rattle.record_defs.specs.Areas.{Area, base_of, IsSwitched}
-use Rattle.journal_core.specs.Gates.{IsReadIn}
-use Rattle.vault_open.specs.Preparing.{IsFirstAnswer}
+use Rattle.vault_open.proofs.Words.{◌≡◌, ◌-◌, List, length, Record, Area, base_of, IsSwitched, IsReadIn, IsFirstAnswer}
 use Rattle.vault_open.proofs.preparing.has_no_record.Given as goal
 
 abbrev pub invariant-loop-entry : goal.invariant-loop-entry

@@ -1,6 +1,5 @@
-use Rattle.std.proofs.Common.{ap, Err}
-use Rattle.stream_model.specs.declared.fault.WriteFault.{WriteFault}
-use Rattle.journal_core.proofs.MoveLemmas.{on_err}
+use Rattle.vault_open.proofs.Words.{ap, WriteFault, on_err}
+use Rattle.std.proofs.Common.{Err}
 use Rattle.vault_open.proofs.Emptied.{failed-short}
 use Rattle.vault_open.proofs.preparing.make_empty.Goals as goal
 

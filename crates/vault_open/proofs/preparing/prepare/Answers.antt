@@ -1,10 +1,4 @@
-use Rattle.std.proofs.Common.{List, ℕ, refl, sym, subst}
-use Rattle.std.specs.Prelude.{IfSome}
-use Rattle.record_defs.specs.Areas.{A}
-use Rattle.journal_core.proofs.MoveLemmas.{on_err}
-use Rattle.opening_defs.specs.Journals.{journal_read}
-use Rattle.vault_open.specs.Causes.{IsInitFault}
-use Rattle.vault_open.specs.declared.fault.InitFault.{InitFault}
+use Rattle.vault_open.proofs.Words.{List, ℕ, refl, sym, subst, IfSome, A, on_err, journal_read, IsInitFault, InitFault}
 use Rattle.vault_open.proofs.Answers.{err-from, unjudged, disk-unjudged, text-unjudged}
 use Rattle.vault_open.proofs.Stores.{IsLookedAt}
 use Rattle.vault_open.proofs.Prepared.{half-empty, half-resynced, text_fault, readied-empty, readied-read}

@@ -1,5 +1,4 @@
-use Rattle.std.proofs.Common.{ℕ, List, take, ap, ◌∙◌, arith}
-use Rattle.std.proofs.lemmas.List.{take_at}
+use Rattle.vault_open.proofs.Words.{ℕ, List, take, ap, ◌∙◌, arith, take_at}
 use Rattle.vault_open.proofs.Readings.{front_read}
 use Rattle.vault_open.proofs.reading.read_disk.Goals as goal
 

@@ -1,18 +1,7 @@
-use Rattle.std.proofs.Common.{◌≡◌, true, Result, refl, sym, ◌∙◌, subst, ap, arith, Ok, Err}
-use Rattle.std.proofs.lemmas.Bool.{false≢true}
-use Rattle.std.specs.Prelude.{IfSome}
-use Rattle.stream_model.specs.declared.fault.WriteFault.{WriteFault}
+use Rattle.vault_open.proofs.Words.{◌≡◌, true, refl, sym, ◌∙◌, subst, ap, arith, false≢true, IfSome, WriteFault, is_setup, with_master, InitFault, devices, MakesInit, journal_read, IsInitFault, init_answer, on_err}
+use Rattle.std.proofs.Common.{Result, Ok, Err}
 use Rattle.stream_model.specs.declared.fault.WriteFault.TheVariants as write_fault
-use Rattle.record_defs.specs.Records.{is_setup}
-use Rattle.record_codec.specs.Entries.{with_master}
-use Rattle.vault_open.specs.declared.fault.InitFault.{InitFault}
 use Rattle.vault_open.specs.declared.fault.InitFault.TheVariants as init_fault
-use Rattle.vault_open.specs.Devices.{devices}
-use Rattle.vault_open.specs.Inits.{MakesInit}
-use Rattle.opening_defs.specs.Journals.{journal_read}
-use Rattle.vault_open.specs.Causes.{IsInitFault}
-use Rattle.vault_open.specs.Faults.{init_answer}
-use Rattle.journal_core.proofs.MoveLemmas.{on_err}
 use Rattle.vault_open.proofs.Answers.{err-from, unjudged, disk-unjudged}
 use Rattle.vault_open.proofs.FirstRecord.{base-low, set-up-on}
 use Rattle.vault_open.proofs.Prepared.{half-left, append-left}

@@ -1,8 +1,4 @@
-use Rattle.std.proofs.Common.{List, ℕ, sym, subst, refl}
-use Rattle.std.specs.Prelude.{IfSome}
-use Rattle.opening_defs.specs.Journals.{journal_read}
-use Rattle.vault_open.specs.Causes.{IsStartFault}
-use Rattle.vault_open.specs.declared.fault.StartFault.{StartFault}
+use Rattle.vault_open.proofs.Words.{List, ℕ, sym, subst, refl, IfSome, journal_read, IsStartFault, StartFault}
 use Rattle.vault_open.proofs.Answers.{err-from}
 use Rattle.vault_open.proofs.Stores.{IsLookedAt, short_fault, fold_fault, none_fault, read, stored}
 use Rattle.vault_open.proofs.store.read_store.Goals as goal

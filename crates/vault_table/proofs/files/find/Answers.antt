@@ -1,6 +1,5 @@
-use Rattle.std.proofs.Common.{◌∙◌, sym, ap, map, List, Some}
-use Rattle.record_defs.specs.Table.{File}
-use Rattle.vault_table.specs.Values.{file_of_entry}
+use Rattle.vault_table.proofs.Words.{◌∙◌, sym, ap, File, file_of_entry}
+use Rattle.std.proofs.Common.{map, List, Some}
 use Rattle.vault_table.proofs.Orders.{file-here, find-here, find-between}
 use Rattle.vault_table.proofs.Places.{found, inside-here}
 use Rattle.vault_table.proofs.files.find.Goals as goal

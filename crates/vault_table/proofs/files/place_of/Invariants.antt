@@ -1,6 +1,5 @@
 use Rattle.std.proofs.Common.{◌-◌, ◌≡◌, ◌≤◌, length, take, drop, map, true}
-use Rattle.vault_table.specs.Orders.{comes_after, comes_before}
-use Rattle.vault_table.specs.Values.{file_of_entry}
+use Rattle.vault_table.proofs.Words.{comes_after, comes_before, file_of_entry}
 use Rattle.vault_table.proofs.files.place_of.Given as goal
 
 abbrev pub invariant-loop-low : goal.invariant-loop-low

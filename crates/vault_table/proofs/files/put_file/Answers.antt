@@ -1,8 +1,5 @@
-use Rattle.std.proofs.Common.{◌≡◌, ◌∙◌, refl, sym, ap, arith, map, true, length, List}
-use Rattle.std.proofs.lemmas.Bool.{le-ltb}
-use Rattle.std.proofs.lemmas.List.{map-set}
-use Rattle.record_defs.specs.Table.{File}
-use Rattle.vault_table.specs.Values.{file_of_entry}
+use Rattle.vault_table.proofs.Words.{◌∙◌, refl, sym, ap, arith, le-ltb, map-set, File, file_of_entry}
+use Rattle.std.proofs.Common.{◌≡◌, map, true, length, List}
 use Rattle.vault_table.proofs.Orders.{put-here, put-between}
 use Rattle.vault_table.proofs.Places.{here-of, between-of, fits-here, full-between, map-insert}
 use Rattle.vault_table.proofs.files.put_file.Goals as goal

@@ -1,8 +1,6 @@
-use Rattle.std.proofs.Common.{◌≡◌, ℕ, zero, suc, refl, arith}
-use Rattle.std.proofs.lemmas.Bool.Decides.{nat_tests}
-use Rattle.record_defs.specs.Table.{started_as}
+use Rattle.vault_table.proofs.Words.{refl, arith, nat_tests, started_as, IsFoldOf, started_at}
+use Rattle.std.proofs.Common.{◌≡◌, ℕ, zero, suc}
 use Rattle.record_defs.specs.Examples.{four, raised}
-use Rattle.vault_table.specs.Values.{IsFoldOf, started_at}
 use Rattle.vault_table.specs.Examples.{raised_table}
 use Rattle.vault_table.proofs.Fold.{is_packed}
 use Rattle.vault_table.proofs.laws.a_raised_table_forgets.Goals as goal

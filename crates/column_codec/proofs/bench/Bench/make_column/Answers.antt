@@ -1,6 +1,5 @@
-use Rattle.std.proofs.Common.{ap, ◌∙◌, List, ℕ, length}
-use Rattle.column_defs.specs.Columns.{column_of_symbols}
-use Rattle.column_codec.specs.Bench.{bench_object}
+use Rattle.column_codec.proofs.Words.{ap, ◌∙◌, column_of_symbols, bench_object}
+use Rattle.std.proofs.Common.{List, ℕ, length}
 use Rattle.column_codec.proofs.Places.{written_whole}
 use Rattle.column_codec.proofs.bench.Bench.make_column.Goals as goal
 

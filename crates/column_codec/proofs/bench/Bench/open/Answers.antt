@@ -1,10 +1,7 @@
-use Rattle.std.proofs.Common.{ap, sym, subst, ◌≡◌, ◌∙◌, List, ℕ, Result, Ok, Err, length}
-use Rattle.std.specs.Prelude.{All, OnOk, OnErr, IfErr, replicate}
-use Rattle.column_codec.specs.PresentBlocks.{present_blocks}
+use Rattle.column_codec.proofs.Words.{ap, sym, subst, ◌∙◌, OnOk, OnErr, IfErr, present_blocks, Object, SeenBlock, GivesSymbols, LosesRow, bench_object, OpensAs}
+use Rattle.std.proofs.Common.{◌≡◌, List, ℕ, Result, Ok, Err, length}
+use Rattle.std.specs.Prelude.{All, replicate}
 use Rattle.column_codec.specs.declared.opening.RowLost.{RowLost}
-use Rattle.column_defs.specs.Objects.{Object}
-use Rattle.column_defs.specs.Opened.{SeenBlock, GivesSymbols, LosesRow}
-use Rattle.column_codec.specs.Bench.{bench_object, OpensAs}
 use Rattle.column_codec.proofs.Places.{written_whole}
 use Rattle.column_codec.proofs.bench.Bench.open.Goals as goal
 

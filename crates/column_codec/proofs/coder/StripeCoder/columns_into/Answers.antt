@@ -1,6 +1,5 @@
-use Rattle.std.proofs.Common.{ℕ, ◌∙◌, arith}
-use Rattle.column_defs.specs.Columns.{column_of_symbols}
-use Rattle.file_layout.specs.Files.{shaped_object}
+use Rattle.column_codec.proofs.Words.{◌∙◌, arith, column_of_symbols, shaped_object}
+use Rattle.std.proofs.Common.{ℕ}
 use Rattle.column_codec.proofs.Places.{filled_more, rewritten, sizes_stay}
 use Rattle.column_codec.proofs.coder.StripeCoder.columns_into.Goals as goal
 

@@ -1,7 +1,5 @@
-use Rattle.std.proofs.Common.{◌≡◌, ◌≤◌, ◌<◌, ℕ, [], take, map, length, get_or}
-use Rattle.code_defs.specs.Points.{upto}
-use Rattle.column_defs.specs.Columns.{column_of_symbols}
-use Rattle.file_layout.specs.Files.{shaped_object}
+use Rattle.column_codec.proofs.Words.{get_or, upto, column_of_symbols, shaped_object}
+use Rattle.std.proofs.Common.{◌≡◌, ◌≤◌, ◌<◌, ℕ, [], take, map, length}
 use Rattle.column_codec.proofs.coder.StripeCoder.columns_into.Given as goal
 
 -- the blocks before this one are filled, and the others have their size

@@ -1,9 +1,5 @@
-use Rattle.std.proofs.Common.{◌∙◌, ap, subst, List, ℕ}
-use Rattle.std.proofs.lemmas.Bool.{OnTrue_from}
-use Rattle.code_points.specs.Profile.{plain_profile}
-use Rattle.code_defs.specs.ServerCode.{Opens}
-use Rattle.column_defs.specs.Opened.{bare}
-use Rattle.file_layout.specs.Files.{shaped_object}
+use Rattle.column_codec.proofs.Words.{◌∙◌, ap, subst, OnTrue_from, plain_profile, Opens, bare, shaped_object}
+use Rattle.std.proofs.Common.{List, ℕ}
 use Rattle.server_code.proofs.Checks.{codeword_opens}
 use Rattle.column_codec.proofs.coder.StripeCoder.look_whole.Goals as goal
 

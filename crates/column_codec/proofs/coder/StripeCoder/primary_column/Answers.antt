@@ -1,7 +1,5 @@
-use Rattle.std.proofs.Common.{◌≡◌, ◌+◌, ◌-◌, ◌*◌, take, drop, ap, arith}
-use Rattle.code_points.specs.Profile.{plain_profile}
-use Rattle.server_code.specs.Any.{code_profile}
-use Rattle.file_layout.specs.Files.{shaped_object}
+use Rattle.column_codec.proofs.Words.{ap, arith, plain_profile, code_profile, shaped_object}
+use Rattle.std.proofs.Common.{◌≡◌, ◌+◌, ◌-◌, ◌*◌, take, drop}
 use Rattle.column_codec.proofs.RowLemmas.{primary-final}
 use Rattle.column_codec.proofs.coder.StripeCoder.primary_column.Goals as goal
 

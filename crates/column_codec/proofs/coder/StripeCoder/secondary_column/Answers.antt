@@ -1,8 +1,4 @@
-use Rattle.std.proofs.Common.{ap, ◌∙◌, arith}
-use Rattle.code_points.specs.Profile.{plain_profile}
-use Rattle.code_points.proofs.Steps.{keep_below}
-use Rattle.server_code.specs.Any.{code_profile}
-use Rattle.file_layout.specs.Files.{shaped_object}
+use Rattle.column_codec.proofs.Words.{ap, ◌∙◌, arith, plain_profile, keep_below, code_profile, shaped_object}
 use Rattle.column_codec.proofs.RowLemmas.{secondary-final}
 use Rattle.column_codec.proofs.coder.StripeCoder.secondary_column.Goals as goal
 

@@ -1,7 +1,5 @@
-use Rattle.std.proofs.Common.{ap, ◌∙◌, arith, [], length, ◌*◌}
-use Rattle.std.proofs.lemmas.List.{get_or_default}
-use Rattle.column_defs.specs.Keys.{masks_from}
-use Rattle.file_layout.specs.Files.{shaped_object}
+use Rattle.column_codec.proofs.Words.{ap, ◌∙◌, arith, get_or_default, masks_from, shaped_object}
+use Rattle.std.proofs.Common.{[], length, ◌*◌}
 use Rattle.column_codec.proofs.RowLemmas.{masked-each, masks_front}
 use Rattle.column_codec.proofs.keys.ObjectKeys.add_short.Goals as goal
 

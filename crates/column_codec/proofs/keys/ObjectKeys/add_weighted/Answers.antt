@@ -1,5 +1,4 @@
-use Rattle.std.proofs.Common.{◌∙◌, ap, get_or}
-use Rattle.hail_field.specs.Nim.{nim_add, nim_mul}
+use Rattle.column_codec.proofs.Words.{◌∙◌, ap, get_or, nim_add, nim_mul}
 use Rattle.column_codec.proofs.KeptLemmas.{length-tabled, tabled-at}
 use Rattle.column_codec.proofs.keys.ObjectKeys.add_weighted.Goals as goal
 

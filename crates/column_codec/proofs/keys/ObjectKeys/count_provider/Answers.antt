@@ -1,9 +1,6 @@
-use Rattle.std.proofs.Common.{◌≡◌, ◌+◌, ◌∙◌, ap, sym, arith, get_or, Some, None}
+use Rattle.column_codec.proofs.Words.{◌∙◌, ap, sym, arith, get_or, SeenBlock, keep_below, shaped_object, agreeing_at}
+use Rattle.std.proofs.Common.{◌≡◌, ◌+◌, Some, None}
 use Rattle.std.specs.Bool.{if◌then◌else◌}
-use Rattle.column_defs.specs.Opened.{SeenBlock}
-use Rattle.code_points.proofs.Steps.{keep_below}
-use Rattle.file_layout.specs.Files.{shaped_object}
-use Rattle.column_codec.specs.Agreement.{agreeing_at}
 use Rattle.column_codec.proofs.AgreementLemmas.{agreeing-seen, agreeing-none}
 use Rattle.column_codec.proofs.keys.ObjectKeys.count_provider.Goals as goal
 

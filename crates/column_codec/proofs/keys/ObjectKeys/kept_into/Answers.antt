@@ -1,14 +1,8 @@
-use Rattle.std.proofs.Common.{◌≡◌, ◌∙◌, [], ap, arith, refl, take, get_or, List, ℕ}
-use Rattle.std.proofs.lemmas.List.{get_or-take}
-use Rattle.std.proofs.lemmas.List.FromFn.{fill_by_all}
-use Rattle.file_layout.specs.Files.{shaped_object}
-use Rattle.column_codec.specs.Rows.{row_value}
+use Rattle.column_codec.proofs.Words.{◌∙◌, ap, arith, refl, get_or, get_or-take, fill_by_all, shaped_object, row_value, nim_add, dot, keep_below}
+use Rattle.std.proofs.Common.{◌≡◌, [], take, List, ℕ}
 use Rattle.column_codec.proofs.PresentLemmas.{part-is}
 use Rattle.column_codec.proofs.WeightLemmas.{sum_first, differences_at}
 use Rattle.column_codec.proofs.KeptLemmas.{kept_more, kept_whole}
-use Rattle.hail_field.specs.Nim.{nim_add}
-use Rattle.code_defs.specs.Sums.{dot}
-use Rattle.code_points.proofs.Steps.{keep_below}
 use Rattle.column_codec.proofs.keys.ObjectKeys.kept_into.Goals as goal
 
 pub loop-j-init : goal.loop-j-init

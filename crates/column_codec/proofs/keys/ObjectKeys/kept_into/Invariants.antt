@@ -1,6 +1,5 @@
-use Rattle.std.proofs.Common.{◌≡◌, ◌<◌, ℕ, [], get_or}
-use Rattle.hail_field.specs.Nim.{nim_add}
-use Rattle.code_defs.specs.Sums.{dot}
+use Rattle.column_codec.proofs.Words.{get_or, nim_add, dot}
+use Rattle.std.proofs.Common.{◌≡◌, ◌<◌, ℕ, []}
 use Rattle.column_codec.proofs.WeightLemmas.{differences_at}
 use Rattle.column_codec.proofs.keys.ObjectKeys.kept_into.Given as goal
 

@@ -1,6 +1,5 @@
-use Rattle.std.proofs.Common.{arith, take, length}
-use Rattle.file_layout.specs.Files.{shaped_object}
-use Rattle.column_codec.specs.OpenedBlocks.{opened_of}
+use Rattle.column_codec.proofs.Words.{arith, shaped_object, opened_of}
+use Rattle.std.proofs.Common.{take, length}
 use Rattle.column_codec.proofs.OpenLemmas.{all-points, Apart-all, row-is, accepts-row, accepts-no_row}
 use Rattle.column_codec.proofs.keys.ObjectKeys.open_place.Goals as goal
 

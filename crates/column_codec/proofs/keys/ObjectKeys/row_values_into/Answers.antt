@@ -1,6 +1,4 @@
-use Rattle.std.proofs.Common.{◌∙◌, arith}
-use Rattle.code_points.proofs.Steps.{keep_below}
-use Rattle.file_layout.specs.Files.{shaped_object}
+use Rattle.column_codec.proofs.Words.{◌∙◌, arith, keep_below, shaped_object}
 use Rattle.column_codec.proofs.PresentLemmas.{part-is}
 use Rattle.column_codec.proofs.AgreementLemmas.{primary-values}
 use Rattle.column_codec.proofs.keys.ObjectKeys.row_values_into.Goals as goal

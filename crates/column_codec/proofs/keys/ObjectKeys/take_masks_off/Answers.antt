@@ -1,5 +1,4 @@
-use Rattle.std.proofs.Common.{◌∙◌, arith}
-use Rattle.file_layout.specs.Files.{shaped_object}
+use Rattle.column_codec.proofs.Words.{◌∙◌, arith, shaped_object}
 use Rattle.column_codec.proofs.OpenLemmas.{bare-primary, bare-secondary}
 use Rattle.column_codec.proofs.keys.ObjectKeys.take_masks_off.Goals as goal
 

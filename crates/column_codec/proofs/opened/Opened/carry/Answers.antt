@@ -1,7 +1,4 @@
-use Rattle.std.proofs.Common.{◌∙◌}
-use Rattle.code_points.proofs.Steps.{keep_below}
-use Rattle.file_layout.specs.Files.{shaped_object}
-use Rattle.column_codec.specs.OpenedBlocks.{opened_of}
+use Rattle.column_codec.proofs.Words.{◌∙◌, keep_below, shaped_object, opened_of}
 use Rattle.column_codec.proofs.AgreementLemmas.{has-row}
 use Rattle.column_codec.proofs.opened.Opened.carry.Goals as goal
 

@@ -1,8 +1,6 @@
-use Rattle.std.proofs.Common.{◌≡◌, ◌<◌, ◌∙◌, ap, arith, get_or, length, [], false, Some, None}
+use Rattle.column_codec.proofs.Words.{◌∙◌, ap, arith, get_or, get_or_default, shaped_object, agreed}
+use Rattle.std.proofs.Common.{◌≡◌, ◌<◌, length, [], false, Some, None}
 use Rattle.std.specs.Bool.{if◌then◌else◌}
-use Rattle.std.proofs.lemmas.List.{get_or_default}
-use Rattle.file_layout.specs.Files.{shaped_object}
-use Rattle.column_codec.specs.Agreement.{agreed}
 use Rattle.column_codec.proofs.AgreementLemmas.{agreed_more, agreed_none}
 use Rattle.column_codec.proofs.opened.Opened.count_all.Goals as goal
 

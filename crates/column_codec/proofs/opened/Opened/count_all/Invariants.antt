@@ -1,6 +1,5 @@
-use Rattle.std.proofs.Common.{◌≡◌, ◌≤◌, ◌<◌, ℕ, get_or}
-use Rattle.file_layout.specs.Files.{shaped_object}
-use Rattle.column_codec.specs.Agreement.{agreed}
+use Rattle.column_codec.proofs.Words.{get_or, shaped_object, agreed}
+use Rattle.std.proofs.Common.{◌≡◌, ◌≤◌, ◌<◌, ℕ}
 use Rattle.column_codec.proofs.opened.Opened.count_all.Given as goal
 
 -- the providers before this one are counted

@@ -1,5 +1,4 @@
-use Rattle.std.proofs.Common.{arith, sym}
-use Rattle.code_points.proofs.Steps.{keep_below}
+use Rattle.column_codec.proofs.Words.{arith, sym, keep_below}
 use Rattle.column_codec.proofs.OpenLemmas.{length-front}
 use Rattle.column_codec.proofs.opened.Opened.kept_of.Goals as goal
 

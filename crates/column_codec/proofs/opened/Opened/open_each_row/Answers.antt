@@ -1,6 +1,4 @@
-use Rattle.std.proofs.Common.{◌∙◌, arith}
-use Rattle.file_layout.specs.Files.{shaped_object}
-use Rattle.column_codec.specs.OpenedBlocks.{opened_of}
+use Rattle.column_codec.proofs.Words.{◌∙◌, arith, shaped_object, opened_of}
 use Rattle.column_codec.proofs.OpenLemmas.{rows_more}
 use Rattle.column_codec.proofs.opened.Opened.open_each_row.Goals as goal
 

@@ -1,6 +1,5 @@
 use Rattle.std.proofs.Common.{◌≡◌, ◌<◌, ℕ}
-use Rattle.file_layout.specs.Files.{shaped_object}
-use Rattle.column_codec.specs.OpenedBlocks.{opened_of, HasRow}
+use Rattle.column_codec.proofs.Words.{shaped_object, opened_of, HasRow}
 use Rattle.column_codec.proofs.opened.Opened.open_each_row.Given as goal
 
 -- the rows before this one stand in their places

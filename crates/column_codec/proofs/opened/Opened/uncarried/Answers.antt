@@ -1,8 +1,5 @@
-use Rattle.std.proofs.Common.{◌<◌, ◌≤◌, ◌-◌, arith, get_or, length, ℕ, subst}
-use Rattle.file_layout.specs.Files.{shaped_object}
-use Rattle.column_defs.specs.Columns.{row_polynomial}
-use Rattle.column_defs.specs.Opened.{AcceptsRow}
-use Rattle.column_codec.specs.OpenedBlocks.{opened_of}
+use Rattle.column_codec.proofs.Words.{arith, get_or, subst, shaped_object, row_polynomial, AcceptsRow, opened_of}
+use Rattle.std.proofs.Common.{◌<◌, ◌≤◌, ◌-◌, length, ℕ}
 use Rattle.column_codec.proofs.AgreementLemmas.{agreed_accepts, zeros-front, none-gives}
 use Rattle.column_codec.proofs.opened.Opened.uncarried.Goals as goal
 

@@ -1,7 +1,4 @@
-use Rattle.std.proofs.Common.{◌∙◌}
-use Rattle.column_defs.specs.Opened.{GivesSymbols}
-use Rattle.file_layout.specs.Files.{shaped_object}
-use Rattle.column_codec.specs.PresentBlocks.{present_blocks}
+use Rattle.column_codec.proofs.Words.{◌∙◌, GivesSymbols, shaped_object, present_blocks}
 use Rattle.column_codec.proofs.PresentLemmas.{length-present_blocks, on_true}
 use Rattle.column_codec.proofs.RowLemmas.{profile_room}
 use Rattle.column_codec.proofs.Openings.{marked-give}

@@ -1,7 +1,5 @@
-use Rattle.std.proofs.Common.{arith, Some, None, get_or}
-use Rattle.column_defs.specs.Opened.{OpensTo}
-use Rattle.file_layout.specs.Files.{shaped_object}
-use Rattle.column_codec.specs.PresentBlocks.{present_blocks}
+use Rattle.column_codec.proofs.Words.{arith, get_or, OpensTo, shaped_object, present_blocks}
+use Rattle.std.proofs.Common.{Some, None}
 use Rattle.column_codec.proofs.PresentLemmas.{opens-present, part-is, on_true}
 use Rattle.column_codec.proofs.seen.SeenStripe.look_present.Goals as goal
 

@@ -1,9 +1,5 @@
-use Rattle.std.proofs.Common.{◌≡◌, ◌<◌, ◌∙◌, ap, sym, subst, arith, length, get_or, List, ℕ, [], Some, None}
-use Rattle.std.proofs.lemmas.Bool.{OnTrue_from}
-use Rattle.std.proofs.lemmas.List.{get_or_default}
-use Rattle.column_defs.specs.Opened.{OpensTo}
-use Rattle.file_layout.specs.Files.{shaped_object}
-use Rattle.column_codec.specs.PresentBlocks.{present_blocks}
+use Rattle.column_codec.proofs.Words.{◌∙◌, ap, sym, subst, arith, get_or, OnTrue_from, get_or_default, OpensTo, shaped_object, present_blocks}
+use Rattle.std.proofs.Common.{◌≡◌, ◌<◌, length, List, ℕ, [], Some, None}
 use Rattle.column_codec.proofs.Places.{rewritten}
 use Rattle.column_codec.proofs.OpenLemmas.{marked_more, all_sizes}
 use Rattle.column_codec.proofs.seen.SeenStripe.mark_clean.Goals as goal

@@ -1,7 +1,5 @@
-use Rattle.std.proofs.Common.{◌≡◌, ◌≤◌, ◌<◌, ℕ, [], length, get_or}
-use Rattle.file_layout.specs.Files.{shaped_object}
-use Rattle.column_codec.specs.OpenedBlocks.{AreOpened}
-use Rattle.column_codec.specs.PresentBlocks.{present_blocks}
+use Rattle.column_codec.proofs.Words.{get_or, shaped_object, AreOpened, present_blocks}
+use Rattle.std.proofs.Common.{◌≡◌, ◌≤◌, ◌<◌, ℕ, [], length}
 use Rattle.column_codec.proofs.seen.SeenStripe.mark_clean.Given as goal
 
 -- what is marked is opened, and all blocks have their size

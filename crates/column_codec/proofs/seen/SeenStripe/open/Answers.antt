@@ -1,9 +1,6 @@
-use Rattle.std.proofs.Common.{◌<◌, ◌∙◌, ℕ, []}
+use Rattle.column_codec.proofs.Words.{◌∙◌, GivesSymbols, LosesRow, shaped_object, opened_of, HasRow, LosesPlace, present_blocks}
+use Rattle.std.proofs.Common.{◌<◌, ℕ, []}
 use Rattle.std.proofs.lemmas.Result.{IfErr-weaker}
-use Rattle.column_defs.specs.Opened.{GivesSymbols, LosesRow}
-use Rattle.file_layout.specs.Files.{shaped_object}
-use Rattle.column_codec.specs.OpenedBlocks.{opened_of, HasRow, LosesPlace}
-use Rattle.column_codec.specs.PresentBlocks.{present_blocks}
 use Rattle.column_codec.proofs.OpenLemmas.{gives, loses, on_ok, all-blocks}
 use Rattle.column_codec.proofs.seen.SeenStripe.open.Goals as goal
 

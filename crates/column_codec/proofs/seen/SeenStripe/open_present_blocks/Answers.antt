@@ -1,7 +1,5 @@
-use Rattle.std.proofs.Common.{◌≡◌, ◌<◌, ◌∙◌, arith, ap, length, None, [], get_or, refl}
-use Rattle.std.proofs.lemmas.List.{length-set, get_or_default}
-use Rattle.file_layout.specs.Files.{shaped_object}
-use Rattle.column_codec.specs.PresentBlocks.{present_blocks}
+use Rattle.column_codec.proofs.Words.{◌∙◌, arith, ap, get_or, refl, length-set, get_or_default, shaped_object, present_blocks}
+use Rattle.std.proofs.Common.{◌≡◌, ◌<◌, length, None, []}
 use Rattle.column_codec.proofs.PresentLemmas.{length-present_blocks}
 use Rattle.column_codec.proofs.Places.{rewritten}
 use Rattle.column_codec.proofs.OpenLemmas.{opened_more, all_sizes, AllOpen-each}

@@ -1,8 +1,5 @@
-use Rattle.std.proofs.Common.{◌≡◌, ◌<◌, ℕ, [], None, length, get_or}
-use Rattle.column_defs.specs.Opened.{OpensTo}
-use Rattle.file_layout.specs.Files.{shaped_object}
-use Rattle.column_codec.specs.OpenedBlocks.{opened_at}
-use Rattle.column_codec.specs.PresentBlocks.{present_blocks}
+use Rattle.column_codec.proofs.Words.{get_or, OpensTo, shaped_object, opened_at, present_blocks}
+use Rattle.std.proofs.Common.{◌≡◌, ◌<◌, ℕ, [], None, length}
 use Rattle.column_codec.proofs.seen.SeenStripe.open_present_blocks.Given as goal
 
 -- the blocks before this one are opened, and all have their size

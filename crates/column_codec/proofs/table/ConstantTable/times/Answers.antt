@@ -1,7 +1,5 @@
-use Rattle.std.proofs.Common.{◌≡◌, ◌*◌, ◌+◌, ◌^◌, ◌%◌, ◌<◌, ◌∙◌, ap, arith, mod-eq_of_lt}
-use Rattle.hail_field.specs.Nim.{nim_mul}
-use Rattle.std.proofs.lemmas.Nat.{mod_below}
-use Rattle.std.proofs.lemmas.List.{get_or_default}
+use Rattle.column_codec.proofs.Words.{◌∙◌, ap, arith, mod-eq_of_lt, nim_mul, mod_below, get_or_default}
+use Rattle.std.proofs.Common.{◌≡◌, ◌*◌, ◌+◌, ◌^◌, ◌%◌, ◌<◌}
 use Rattle.column_codec.proofs.TableLemmas.{product_more, next_rest, mul-none}
 use Rattle.column_codec.proofs.table.ConstantTable.times.Goals as goal
 

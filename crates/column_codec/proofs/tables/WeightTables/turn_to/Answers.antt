@@ -1,7 +1,5 @@
-use Rattle.std.proofs.Common.{◌≡◌, ◌*◌, ◌-◌, ◌∙◌, ap, sym, arith, map}
-use Rattle.std.proofs.lemmas.List.{length-set, take_all}
-use Rattle.code_defs.specs.Points.{upto}
-use Rattle.column_codec.specs.ObjectKeys.{weight_at}
+use Rattle.column_codec.proofs.Words.{◌∙◌, ap, sym, arith, length-set, take_all, upto, weight_at}
+use Rattle.std.proofs.Common.{◌≡◌, ◌*◌, ◌-◌, map}
 use Rattle.column_codec.proofs.Places.{filled_more}
 use Rattle.column_codec.proofs.tables.WeightTables.turn_to.Goals as goal
 

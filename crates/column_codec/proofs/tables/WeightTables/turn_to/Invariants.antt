@@ -1,6 +1,5 @@
 use Rattle.std.proofs.Common.{◌≡◌, ◌-◌, ◌*◌, map, take, length}
-use Rattle.code_defs.specs.Points.{upto}
-use Rattle.column_codec.specs.ObjectKeys.{weight_at}
+use Rattle.column_codec.proofs.Words.{upto, weight_at}
 use Rattle.column_codec.proofs.tables.WeightTables.turn_to.Given as goal
 
 -- the tables before this one are made anew

@@ -1,7 +1,5 @@
-use Rattle.std.proofs.Common.{◌≡◌, length, take, drop, subst}
-use Rattle.std.specs.Prelude.{IfOk}
-use Rattle.device_defs.specs.Cells.{reads}
-use Rattle.disk_model.specs.InMemory.{DiskInMemory}
+use Rattle.disk_model.proofs.Words.{◌≡◌, take, drop, subst, IfOk, reads, DiskInMemory}
+use Rattle.std.proofs.Common.{length}
 use Rattle.disk_model.proofs.memory.MemDiskDisk.read_at.Goals as goal
 
 pub returns-clause-bytes : goal.returns-clause-bytes

@@ -1,7 +1,4 @@
-use Rattle.std.proofs.Common.{ap, ◌∙◌}
-use Rattle.device_defs.specs.Cells.{firm}
-use Rattle.device_defs.specs.Picks.{picked}
-use Rattle.disk_model.specs.InMemory.{DiskInMemory}
+use Rattle.disk_model.proofs.Words.{ap, ◌∙◌, firm, picked, DiskInMemory}
 use Rattle.disk_model.proofs.memory.MemDiskDisk.stop.Goals as goal
 
 pub returns-clause-picked : goal.returns-clause-picked

@@ -1,9 +1,5 @@
-use Rattle.std.proofs.Common.{◌≡◌, ◌⊎◌, subst, ap}
-use Rattle.device_defs.specs.Cells.{Cells}
-use Rattle.device_defs.specs.Disks.{Torn, halved, marked}
+use Rattle.disk_model.proofs.Words.{◌≡◌, ◌⊎◌, subst, ap, Cells, Torn, halved, marked, Torn-either, DiskInMemory}
 use Rattle.std.specs.Prelude.{length}
-use Rattle.device_defs.proofs.TearLaws.{Torn-either}
-use Rattle.disk_model.specs.InMemory.{DiskInMemory}
 use Rattle.disk_model.proofs.memory.MemDiskDisk.write_at.Goals as goal
 
 pub returns-then-next-clause-torn : goal.returns-then-next-clause-torn

@@ -1,7 +1,4 @@
-use Rattle.std.proofs.Common.{sym, ap, ◌∙◌, arith}
-use Rattle.std.proofs.lemmas.Slice.Zip.{firsts-zip}
-use Rattle.device_defs.specs.Cells.{reads}
-use Rattle.disk_model.specs.InMemory.{SureInMemory}
+use Rattle.disk_model.proofs.Words.{sym, ap, ◌∙◌, arith, firsts-zip, reads, SureInMemory}
 use Rattle.disk_model.proofs.sure.SureDisk.bytes.Goals as goal
 
 pub returns : goal.returns

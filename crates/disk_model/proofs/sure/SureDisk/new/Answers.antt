@@ -1,7 +1,4 @@
-use Rattle.std.proofs.Common.{refl, sym, false, ◌∙◌, subst, arith}
-use Rattle.std.specs.List.{zip}
-use Rattle.device_defs.specs.Cells.{Cells}
-use Rattle.disk_model.specs.Ranges.{IsFirmOutside}
+use Rattle.disk_model.proofs.Words.{refl, sym, false, ◌∙◌, subst, arith, zip, Cells, IsFirmOutside}
 use Rattle.disk_model.proofs.Ranges.{none_loose}
 use Rattle.disk_model.proofs.Zips.{zip_marked}
 use Rattle.disk_model.proofs.sure.SureDisk.new.Goals as goal

@@ -1,7 +1,5 @@
-use Rattle.std.proofs.Common.{◌≡◌, length, arith}
-use Rattle.std.specs.List.{zip}
-use Rattle.std.proofs.lemmas.Slice.Zip.{length-zip}
-use Rattle.device_defs.proofs.TearLaws.{Torn-either}
+use Rattle.disk_model.proofs.Words.{◌≡◌, arith, zip, length-zip, Torn-either}
+use Rattle.std.proofs.Common.{length}
 use Rattle.disk_model.proofs.Ranges.{torn_firm}
 use Rattle.disk_model.proofs.sure.SureDisk.tear_at.Goals as goal
 

@@ -1,7 +1,5 @@
-use Rattle.std.proofs.Common.{ap, ◌∙◌, ◌≡◌, length, arith}
-use Rattle.std.specs.List.{zip}
-use Rattle.std.proofs.lemmas.Slice.Zip.{length-zip}
-use Rattle.disk_model.specs.InMemory.{SureInMemory}
+use Rattle.disk_model.proofs.Words.{ap, ◌∙◌, ◌≡◌, arith, zip, length-zip, SureInMemory}
+use Rattle.std.proofs.Common.{length}
 use Rattle.disk_model.proofs.sure.SureDiskDisk.len.Goals as goal
 
 pub returns-clause-len : goal.returns-clause-len

@@ -1,9 +1,5 @@
-use Rattle.std.proofs.Common.{[], ◌≡◌, length, drop, ap, ◌∙◌, sym, arith, rules}
-use Rattle.std.proofs.lemmas.List.{drop_all}
-use Rattle.std.proofs.lemmas.Slice.Zip.{firsts-zip}
-use Rattle.device_defs.specs.Cells.{reads}
-use Rattle.device_defs.proofs.Splices.{read_part, take-nil}
-use Rattle.disk_model.specs.InMemory.{SureInMemory}
+use Rattle.disk_model.proofs.Words.{[], ◌≡◌, drop, ap, ◌∙◌, sym, arith, rules, drop_all, firsts-zip, reads, read_part, take-nil, SureInMemory}
+use Rattle.std.proofs.Common.{length}
 use Rattle.disk_model.proofs.sure.SureDiskDisk.read_at.Goals as goal
 
 pub returns-then-at-len-clause-bytes : goal.returns-then-at-len-clause-bytes

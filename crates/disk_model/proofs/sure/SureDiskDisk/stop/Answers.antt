@@ -1,12 +1,6 @@
-use Rattle.std.proofs.Common.{◌∙◌, ap, sym, subst, arith}
-use Rattle.std.proofs.lemmas.List.{take_at}
-use Rattle.device_defs.specs.Cells.{Cells, firm}
-use Rattle.device_defs.specs.Picks.{picked}
-use Rattle.device_defs.proofs.PickLaws.{IsImage-picked}
-use Rattle.disk_model.specs.Ranges.{IsFirmOutside}
+use Rattle.disk_model.proofs.Words.{◌∙◌, ap, sym, subst, arith, take_at, Cells, firm, picked, IsImage-picked, IsFirmOutside, SureInMemory}
 use Rattle.disk_model.proofs.PickLemmas.{zip_stopped}
 use Rattle.disk_model.proofs.Ranges.{none_loose}
-use Rattle.disk_model.specs.InMemory.{SureInMemory}
 use Rattle.disk_model.proofs.sure.SureDiskDisk.stop.Goals as goal
 
 pub returns-clause-picked : goal.returns-clause-picked

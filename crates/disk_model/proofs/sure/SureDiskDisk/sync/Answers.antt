@@ -1,11 +1,7 @@
-use Rattle.std.proofs.Common.{◌≡◌, ◌∙◌, Bool, false, List, length, replicate, ap, sym, subst, arith}
-use Rattle.std.proofs.lemmas.List.{take_at}
-use Rattle.device_defs.specs.Cells.{Cells}
-use Rattle.device_defs.specs.Disks.{synced}
-use Rattle.disk_model.specs.Ranges.{IsFirmOutside, IsUnmarkedOutside}
+use Rattle.disk_model.proofs.Words.{◌≡◌, ◌∙◌, Bool, false, List, replicate, ap, sym, subst, arith, take_at, Cells, synced, IsFirmOutside, IsUnmarkedOutside, SureInMemory}
+use Rattle.std.proofs.Common.{length}
 use Rattle.disk_model.proofs.Ranges.{unmarked_outside, none_loose}
 use Rattle.disk_model.proofs.Zips.{zip_settled}
-use Rattle.disk_model.specs.InMemory.{SureInMemory}
 use Rattle.disk_model.proofs.sure.SureDiskDisk.sync.Goals as goal
 
 pub unmark-requires : goal.unmark-requires

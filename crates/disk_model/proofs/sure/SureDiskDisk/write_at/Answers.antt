@@ -1,8 +1,5 @@
-use Rattle.std.proofs.Common.{◌≡◌, length, arith, sym, subst}
-use Rattle.std.specs.List.{zip}
-use Rattle.std.proofs.lemmas.Slice.Zip.{length-zip}
-use Rattle.device_defs.specs.Cells.{Cells}
-use Rattle.device_defs.specs.Disks.{Torn}
+use Rattle.disk_model.proofs.Words.{◌≡◌, arith, sym, subst, zip, length-zip, Cells, Torn}
+use Rattle.std.proofs.Common.{length}
 use Rattle.disk_model.proofs.Ranges.{Torn-whole, torn_firm}
 use Rattle.disk_model.proofs.sure.SureDiskDisk.write_at.Goals as goal
 

@@ -1,6 +1,4 @@
-use Rattle.std.proofs.Common.{arith, ap, length}
-use Rattle.std.proofs.lemmas.List.{length-take}
-use Rattle.dispersal_code.specs.Present.{Chosen}
+use Rattle.dispersal_code.proofs.Words.{arith, ap, length, length-take, Chosen}
 use Rattle.dispersal_code.proofs.present.Present.len.Goals as goal
 
 pub returns-clause-points : goal.returns-clause-points

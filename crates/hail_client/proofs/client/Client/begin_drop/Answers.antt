@@ -1,5 +1,4 @@
-use Rattle.std.proofs.Common.{refl}
-use Rattle.machine_defs.specs.Jobs.{DropJob}
+use Rattle.hail_client.proofs.Words.{refl, DropJob}
 use Rattle.hail_client.proofs.Beside.{begun-at, streamless-on}
 use Rattle.hail_client.proofs.Made.{begin-of}
 use Rattle.hail_client.proofs.client.Client.begin_drop.Goals as goal

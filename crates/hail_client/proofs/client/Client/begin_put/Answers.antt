@@ -1,5 +1,4 @@
-use Rattle.std.proofs.Common.{refl, subst}
-use Rattle.machine_defs.specs.Events.{AreBytes}
+use Rattle.hail_client.proofs.Words.{refl, subst, AreBytes}
 use Rattle.hail_client.proofs.Beside.{begun-at, streamless-on}
 use Rattle.hail_client.proofs.Made.{put-of, put-closed}
 use Rattle.hail_client.proofs.client.Client.begin_put.Goals as goal

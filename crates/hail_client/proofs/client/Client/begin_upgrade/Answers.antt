@@ -1,5 +1,4 @@
-use Rattle.std.proofs.Common.{refl}
-use Rattle.machine_defs.specs.Jobs.{UpgradeJob}
+use Rattle.hail_client.proofs.Words.{refl, UpgradeJob}
 use Rattle.hail_client.proofs.Beside.{begun-at, streamless-on}
 use Rattle.hail_client.proofs.Made.{begin-of}
 use Rattle.hail_client.proofs.client.Client.begin_upgrade.Goals as goal

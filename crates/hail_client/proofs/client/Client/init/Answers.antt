@@ -1,8 +1,6 @@
-use Rattle.std.proofs.Common.{sym, ◌∙◌}
-use Rattle.algebra_laws.proofs.Options.{is_some-none}
+use Rattle.hail_client.proofs.Words.{sym, ◌∙◌, is_some-none, with_master}
 use Rattle.hail_client.proofs.Begun.{init-open, init-closed}
 use Rattle.hail_client.proofs.Anew.{by-told, closed-standing, left-same}
-use Rattle.record_codec.specs.Entries.{with_master}
 use Rattle.opening_defs.proofs.Resyncs.{resynced-same}
 use Rattle.hail_client.proofs.client.Client.init.Goals as goal
 

@@ -1,11 +1,4 @@
-use Rattle.std.proofs.Common.{ap, ◌∙◌, arith, map}
-use Rattle.std.specs.Prelude.{IsSome}
-use Rattle.std.specs.Option.{option_map}
-use Rattle.std.proofs.lemmas.List.{length-map, map-set}
-use Rattle.std.proofs.lemmas.Option.{slice_get-get_or, slice_get-map}
-use Rattle.device_defs.specs.Providers.{without_block}
-use Rattle.machine_defs.specs.Events.{Lose, IsSpelled}
-use Rattle.provider_model.specs.Seen.{provider_seen}
+use Rattle.hail_client.proofs.Words.{ap, ◌∙◌, arith, map, IsSome, option_map, length-map, map-set, slice_get-get_or, slice_get-map, without_block, Lose, IsSpelled, provider_seen}
 use Rattle.hail_client.proofs.Replaced.{not-handed, handed}
 use Rattle.hail_client.proofs.client.Client.lose.Goals as goal
 

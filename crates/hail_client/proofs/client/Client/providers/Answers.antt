@@ -1,6 +1,5 @@
-use Rattle.std.proofs.Common.{◌∙◌, ap, sym}
+use Rattle.hail_client.proofs.Words.{◌∙◌, ap, sym, uses_by}
 use Rattle.record_codec.specs.declared.setup.Setup.{Setup}
-use Rattle.hail_client.specs.Client.{uses_by}
 use Rattle.hail_client.proofs.client.Client.providers.Goals as goal
 
 pub returns-in-Some : goal.returns-in-Some

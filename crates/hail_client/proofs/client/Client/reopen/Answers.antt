@@ -1,8 +1,5 @@
-use Rattle.std.proofs.Common.{Err, ap, ◌∙◌, arith}
+use Rattle.hail_client.proofs.Words.{Err, ap, ◌∙◌, arith, StartFault, Client, is_open, client_next_job}
 use Rattle.record_codec.specs.declared.setup.Setup.{Setup}
-use Rattle.vault_open.specs.declared.fault.StartFault.{StartFault}
-use Rattle.hail_client.specs.declared.client.Client.{Client}
-use Rattle.hail_client.specs.Client.{is_open, client_next_job}
 use Rattle.hail_client.proofs.Reopening.{refused-event, few-event, opened-event}
 use Rattle.hail_client.proofs.Anew.{by-told, refused-anew, few-are, enough-are, left-standing, opens-over}
 use Rattle.hail_client.proofs.client.Client.reopen.Goals as goal

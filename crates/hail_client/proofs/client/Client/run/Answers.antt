@@ -1,6 +1,5 @@
-use Rattle.std.proofs.Common.{length, ◌++◌, sym, ◌∙◌}
-use Rattle.machine_defs.specs.Runs.{now}
-use Rattle.vault.specs.Devices.{devices_seen}
+use Rattle.hail_client.proofs.Words.{◌++◌, sym, ◌∙◌, now, devices_seen}
+use Rattle.std.proofs.Common.{length}
 use Rattle.hail_client.proofs.Runs.{one-more, at-end}
 use Rattle.hail_client.proofs.client.Client.run.Goals as goal
 

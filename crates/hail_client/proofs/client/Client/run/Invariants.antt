@@ -1,10 +1,5 @@
-use Rattle.std.proofs.Common.{◌≡◌, List, true, length}
-use Rattle.std.specs.Prelude.{is_some}
-use Rattle.machine_defs.specs.Runs.{Moment}
-use Rattle.machine_defs.specs.States.{State}
-use Rattle.vault.specs.Devices.{devices_seen}
-use Rattle.hail_client.specs.Client.{is_open, client_left}
-use Rattle.hail_client.specs.Stands.{IsStanding, IsReached}
+use Rattle.hail_client.proofs.Words.{◌≡◌, List, is_some, Moment, State, devices_seen, is_open, client_left, IsStanding, IsReached}
+use Rattle.std.proofs.Common.{true, length}
 use Rattle.hail_client.proofs.Runs.{IsOnWay}
 use Rattle.hail_client.proofs.client.Client.run.Given as goal
 

@@ -1,11 +1,6 @@
-use Rattle.std.proofs.Common.{◌≡◌, map, None, Some, refl, ap, sym, subst, ◌∙◌, true, arith}
-use Rattle.std.proofs.Math.Logic.{∥∥₁_map}
-use Rattle.journal_pack.specs.declared.pack.Pack.{Pack}
-use Rattle.provider_model.specs.Seen.{provider_seen}
+use Rattle.hail_client.proofs.Words.{◌≡◌, map, None, Some, refl, ap, sym, subst, ◌∙◌, arith, ∥∥₁_map, Pack, provider_seen, called_provider, IsBesideVault, StepsPackCells}
+use Rattle.std.proofs.Common.{true}
 use Rattle.record_codec.specs.declared.setup.Setup.{Setup}
-use Rattle.vault_core.specs.Coming.{called_provider}
-use Rattle.hail_client.specs.AtWork.{IsBesideVault}
-use Rattle.hail_client.specs.PackCells.{StepsPackCells}
 use Rattle.hail_client.specs.declared.alone.Alone.TheVariants as alone
 use Rattle.hail_client.specs.declared.turn.PackStep.TheVariants as pack_step
 use Rattle.hail_client.proofs.Beside.{streamless-on, none-wait, free-works, beside-at, taken, number-taken}

@@ -1,6 +1,4 @@
-use Rattle.std.proofs.Common.{◌∙◌, ap, arith}
-use Rattle.std.proofs.lemmas.Grind.{common_steps}
-use Rattle.code_defs.specs.Polynomials.{trim}
+use Rattle.hail_poly.proofs.Words.{◌∙◌, ap, arith, common_steps, trim}
 use Rattle.hail_poly.proofs.EuclidSteps.{lent}
 use Rattle.hail_poly.proofs.ArithSteps.{interpolated_short, interpolated_takes}
 use Rattle.hail_poly.proofs.poly.Poly.interpolate.Goals as goal

@@ -1,6 +1,4 @@
-use Rattle.std.proofs.Common.{◌≡◌, [], ◌∙◌, ap, arith}
-use Rattle.code_defs.specs.Polynomials.{trim}
-use Rattle.hail_poly.specs.RowState.{RowState}
+use Rattle.hail_poly.proofs.Words.{◌≡◌, [], ◌∙◌, ap, arith, trim, RowState}
 use Rattle.hail_poly.proofs.WorkSteps.{quotient_is, no_quotient, begun}
 use Rattle.hail_poly.proofs.work.Work.divide.Goals as goal
 

@@ -1,6 +1,4 @@
-use Rattle.std.proofs.Common.{arith, ◌∙◌, sym, ap}
-use Rattle.std.proofs.lemmas.Grind.{common_steps}
-use Rattle.code_defs.specs.Polynomials.{trim}
+use Rattle.hail_poly.proofs.Words.{arith, ◌∙◌, sym, ap, common_steps, trim}
 use Rattle.hail_poly.proofs.EuclidSteps.{lent}
 use Rattle.hail_poly.proofs.RowSteps.{vanish-trimmed}
 use Rattle.hail_poly.proofs.work.Work.load.Goals as goal

@@ -1,17 +1,5 @@
-use Rattle.std.proofs.Common.{◌+◌, ◌-◌, ◌<◌, ◌++◌, ◌∙◌, List, map, ap, sym, subst, refl, arith}
-use Rattle.std.specs.Prelude.{slice_set}
-use Rattle.std.specs.Option.{option_map}
-use Rattle.std.specs.Vec.{with_item}
-use Rattle.std.proofs.lemmas.List.{map-set}
-use Rattle.std.proofs.lemmas.Option.{slice_get-get_or, slice_get-map, slice_get_read}
-use Rattle.algebra_laws.proofs.Lists.{get-set_other}
-use Rattle.provider_model.specs.Seen.{provider_seen}
-use Rattle.hail_scrub.specs.declared.cursor.Item.{Item}
-use Rattle.hail_scrub.specs.Todo.{stores_from, past_stripe}
-use Rattle.hail_scrub.specs.Progress.{CursorIsAt, scrub_view}
-use Rattle.hail_scrub.specs.Steps.{MakesNext}
-use Rattle.hail_scrub.proofs.Placed.{bench_there, falls_by}
-use Rattle.stripe_bench.proofs.Sights.{called_at, was_stored, was_failed, found_no_memory}
+use Rattle.hail_scrub.proofs.Words.{◌<◌, map, sym, subst, arith, slice_set, map-set, get-set_other, provider_seen, scrub_view, MakesNext, called_at, was_stored, was_failed, found_no_memory}
+use Rattle.hail_scrub.proofs.Placed.{bench_there, seen_there, falls_by}
 use Rattle.hail_scrub.proofs.Storing.{store_spot, store_within, store_some, store_fits, store_whole, store_done_whole, store_done, store_fails, store_finds_none}
 use Rattle.hail_scrub.proofs.progress.Progress.store.Goals as goal
 
@@ -24,84 +12,42 @@ index_mut-bench-requires g c =
 
 pub store_stripe-requires : goal.store_stripe-requires
 store_stripe-requires g c =
-    let p = c.args.self.now in
-    let W = c.requires.whole in
-    let spot = c.args.spot in
-    let within = bench_there p W spot (store_spot p W spot c.args.provider c.requires.here) in
-    store_fits p W spot c.args.provider c.requires.here c.index_mut-bench.result.now
-    (slice_get_read p.benches.items _ spot.item.bench c.index_mut-bench.result.now refl within
-    c.index_mut-bench.ensures.value)
+    store_fits c.args.self.now c.requires.whole c.args.spot c.args.provider c.requires.here
+    c.index_mut-bench.result.now c.index_mut-bench.ensures.value
 
 pub stop-requires : goal.stop-requires
 stop-requires g c =
-    let p = c.args.self.now in
-    let W = c.requires.whole in
-    let spot = c.args.spot in
-    let b0 = c.index_mut-bench.result.now in
-    let within = bench_there p W spot (store_spot p W spot c.args.provider c.requires.here) in
-    store_whole p W spot c.args.provider c.requires.here b0
-    (slice_get_read p.benches.items _ spot.item.bench b0 refl within c.index_mut-bench.ensures.value)
-    c.store_stripe.new.bench c.store_stripe.ensures.object
-    (with_item p.benches spot.item.bench c.store_stripe.new.bench) refl
+    store_whole c.args.self.now c.requires.whole c.args.spot c.args.provider c.requires.here
+    c.index_mut-bench.result.now c.index_mut-bench.ensures.value c.store_stripe.new.bench
+    c.store_stripe.ensures.object
 
 pub stop-requires-in-Err-Memory : goal.stop-requires-in-Err-Memory
 stop-requires-in-Err-Memory g c =
-    let p = c.args.self.now in
-    let W = c.requires.whole in
-    let spot = c.args.spot in
-    let b0 = c.index_mut-bench.result.now in
-    let within = bench_there p W spot (store_spot p W spot c.args.provider c.requires.here) in
-    store_whole p W spot c.args.provider c.requires.here b0
-    (slice_get_read p.benches.items _ spot.item.bench b0 refl within c.index_mut-bench.ensures.value)
-    c.store_stripe.new.bench c.store_stripe.ensures.object
-    (with_item p.benches spot.item.bench c.store_stripe.new.bench) refl
+    store_whole c.args.self.now c.requires.whole c.args.spot c.args.provider c.requires.here
+    c.index_mut-bench.result.now c.index_mut-bench.ensures.value c.store_stripe.new.bench
+    c.store_stripe.ensures.object
 
 pub returns-in-Ok-clause-whole : goal.returns-in-Ok-clause-whole
 returns-in-Ok-clause-whole g c =
-    let p = c.args.self.now in
-    let W = c.requires.whole in
-    let spot = c.args.spot in
-    let j = c.args.provider in
-    let b0 = c.index_mut-bench.result.now in
-    let within = bench_there p W spot (store_spot p W spot j c.requires.here) in
-    let some : 0 < p.left = store_some p W spot j c.requires.here in
     let after = c.stores_after-self in
-    store_done_whole p W spot j c.requires.here b0
-    (slice_get_read p.benches.items _ spot.item.bench b0 refl within c.index_mut-bench.ensures.value)
-    c.store_stripe.new.bench c.store_stripe.ensures.object
-    (with_item p.benches spot.item.bench c.store_stripe.new.bench) refl
-    after.result (p.left - 1)
-    (subst (λ (items : List Item). CursorIsAt p.providers items p.off after.result
-    (stores_from p.providers (j + 1) p.off spot.item.file.id spot.stripe ++ past_stripe p.providers items spot))
-    c.deref.ensures.value after.ensures.at)
-    after.ensures.behind (omega (arith, some))
+    store_done_whole c.args.self.now c.requires.whole c.args.spot c.args.provider c.requires.here c.index_mut-bench.result.now
+    c.index_mut-bench.ensures.value c.store_stripe.new.bench c.store_stripe.ensures.object after.result
+    (rw c.deref.ensures.value at after.ensures.at) after.ensures.behind
 
 pub returns-in-Ok-clause-step : goal.returns-in-Ok-clause-step
 returns-in-Ok-clause-step g c =
     let p = c.args.self.now in
-    let W = c.requires.whole in
     let spot = c.args.spot in
-    let j = c.args.provider in
-    let b0 = c.index_mut-bench.result.now in
-    let within = bench_there p W spot (store_spot p W spot j c.requires.here) in
-    let some : 0 < p.left = store_some p W spot j c.requires.here in
-    let less : j < p.providers = store_within p W spot j c.requires.here in
+    let less = store_within p c.requires.whole spot c.args.provider c.requires.here in
     let after = c.stores_after-self in
     let seen = provider_seen g.P.Provider in
-    store_done p W spot j c.requires.here b0
-    (slice_get_read p.benches.items _ spot.item.bench b0 refl within c.index_mut-bench.ensures.value)
-    c.store_stripe.new.bench c.store_stripe.ensures.object
-    (with_item p.benches spot.item.bench c.store_stripe.new.bench) refl
-    after.result (p.left - 1)
-    (subst (λ (items : List Item). CursorIsAt p.providers items p.off after.result
-    (stores_from p.providers (j + 1) p.off spot.item.file.id spot.stripe ++ past_stripe p.providers items spot))
-    c.deref.ensures.value after.ensures.at)
-    after.ensures.behind (omega (arith, some))
+    store_done p c.requires.whole spot c.args.provider c.requires.here c.index_mut-bench.result.now
+    c.index_mut-bench.ensures.value c.store_stripe.new.bench c.store_stripe.ensures.object after.result
+    (rw c.deref.ensures.value at after.ensures.at) after.ensures.behind
     c.store_stripe.ensures.rows _ _ _ _
-    (slice_get-map seen c.args.providers.now j
-    ∙ ap (option_map seen) (slice_get-get_or c.args.providers.now j c.index-providers-index.result
-    (omega (arith, less, c.requires.there))))
-    (map-set seen c.args.providers.now j c.store_stripe.new.to)
+    (seen_there seen c.args.providers.now c.args.provider c.index-providers-index.result
+    (omega (arith, less, c.requires.there)))
+    (map-set seen c.args.providers.now c.args.provider c.store_stripe.new.to)
     (was_stored _ _ _ _ _ _ _ c.in-Ok.is c.store_stripe.ensures.stored)
 
 pub returns-in-Ok-clause-left : goal.returns-in-Ok-clause-left
@@ -123,20 +69,15 @@ returns-in-Ok-clause-called g c =
 pub returns-in-Err-Failed-clause-step : goal.returns-in-Err-Failed-clause-step
 returns-in-Err-Failed-clause-step g c =
     let p = c.args.self.now in
-    let W = c.requires.whole in
     let j = c.args.provider in
-    let less : j < p.providers = store_within p W c.args.spot j c.requires.here in
-    let b0 = c.index_mut-bench.result.now in
-    let there = slice_get_read p.benches.items _ c.args.spot.item.bench b0 refl
-    (bench_there p W c.args.spot (store_spot p W c.args.spot j c.requires.here))
-    c.index_mut-bench.ensures.value in
+    let less = store_within p c.requires.whole c.args.spot j c.requires.here in
     let seen = provider_seen g.P.Provider in
     subst (λ t. MakesNext (scrub_view p) (map seen c.args.providers.now) t (scrub_view c.stop.new.self)
     (map seen (slice_set c.args.providers.now j c.store_stripe.new.to))) (sym c.stop.ensures.answer)
-    (store_fails p W c.args.spot j c.requires.here b0 there _ _ _ _ _ c.stop.ensures.over
-    (slice_get-map seen c.args.providers.now j
-    ∙ ap (option_map seen) (slice_get-get_or c.args.providers.now j c.index-providers-index.result
-    (omega (arith, less, c.requires.there))))
+    (store_fails p c.requires.whole c.args.spot j c.requires.here c.index_mut-bench.result.now
+    c.index_mut-bench.ensures.value _ _ _ _ _ c.stop.ensures.over
+    (seen_there seen c.args.providers.now j c.index-providers-index.result
+    (omega (arith, less, c.requires.there)))
     (map-set seen c.args.providers.now j c.store_stripe.new.to)
     (was_failed _ _ _ _ _ _ _ c.in-Err-Failed.is c.in-Err-Failed.field-0-is c.store_stripe.ensures.stored))
 
@@ -153,21 +94,15 @@ returns-in-Err-Failed-clause-called g c =
 pub returns-in-Err-Memory-clause-step : goal.returns-in-Err-Memory-clause-step
 returns-in-Err-Memory-clause-step g c =
     let p = c.args.self.now in
-    let W = c.requires.whole in
     let j = c.args.provider in
-    let less : j < p.providers = store_within p W c.args.spot j c.requires.here in
-    let b0 = c.index_mut-bench.result.now in
-    let there = slice_get_read p.benches.items _ c.args.spot.item.bench b0 refl
-    (bench_there p W c.args.spot (store_spot p W c.args.spot j c.requires.here))
-    c.index_mut-bench.ensures.value in
+    let less = store_within p c.requires.whole c.args.spot j c.requires.here in
     let seen = provider_seen g.P.Provider in
-    subst (λ t. MakesNext (scrub_view p) (map seen c.args.providers.now) t
-    (scrub_view c.stop-in-Err-Memory.new.self)
+    subst (λ t. MakesNext (scrub_view p) (map seen c.args.providers.now) t (scrub_view c.stop-in-Err-Memory.new.self)
     (map seen (slice_set c.args.providers.now j c.store_stripe.new.to))) (sym c.stop-in-Err-Memory.ensures.answer)
-    (store_finds_none p W c.args.spot j c.requires.here b0 there _ _ _ _ _ c.stop-in-Err-Memory.ensures.over
-    (slice_get-map seen c.args.providers.now j
-    ∙ ap (option_map seen) (slice_get-get_or c.args.providers.now j c.index-providers-index.result
-    (omega (arith, less, c.requires.there))))
+    (store_finds_none p c.requires.whole c.args.spot j c.requires.here c.index_mut-bench.result.now
+    c.index_mut-bench.ensures.value _ _ _ _ _ c.stop-in-Err-Memory.ensures.over
+    (seen_there seen c.args.providers.now j c.index-providers-index.result
+    (omega (arith, less, c.requires.there)))
     (map-set seen c.args.providers.now j c.store_stripe.new.to)
     (found_no_memory _ _ _ _ _ _ _ c.in-Err-Memory.is c.in-Err-Memory.field-0-is c.store_stripe.ensures.stored))
 

@@ -1,10 +1,4 @@
-use Rattle.std.proofs.Common.{List, map, ap, sym, subst, ◌∙◌}
-use Rattle.device_defs.specs.Providers.{Provider}
-use Rattle.provider_model.specs.Seen.{provider_seen}
-use Rattle.hail_scrub.specs.Views.{ScrubView, next_to_do, called_by}
-use Rattle.stripe_bench.specs.Calls.{provider_by}
-use Rattle.hail_scrub.specs.Stands.{ScrubStands, MakesScrubStep}
-use Rattle.hail_scrub.specs.Progress.{scrub_view}
+use Rattle.hail_scrub.proofs.Words.{List, map, ap, sym, subst, ◌∙◌, Provider, provider_seen, ScrubView, next_to_do, called_by, provider_by, ScrubStands, MakesScrubStep, scrub_view}
 use Rattle.hail_scrub.proofs.Machine.{made_step}
 use Rattle.hail_scrub.proofs.Overs.{cursor_ends, over_is}
 use Rattle.hail_scrub.proofs.Sights.{map_twice, step_by}

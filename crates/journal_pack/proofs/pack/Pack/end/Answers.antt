@@ -1,5 +1,4 @@
-use Rattle.std.proofs.Common.{◌+◌, ℕ, ap, ◌∙◌}
-use Rattle.journal_pack.specs.Packs.{to_of}
+use Rattle.journal_pack.proofs.Words.{◌+◌, ℕ, ap, ◌∙◌, to_of}
 use Rattle.journal_pack.proofs.Packs.{end-is}
 use Rattle.journal_pack.proofs.pack.Pack.end.Goals as goal
 

@@ -1,5 +1,4 @@
-use Rattle.std.proofs.Common.{arith, drop, length-drop}
-use Rattle.provider_wire.specs.Asking.{request_of}
+use Rattle.provider_wire.proofs.Words.{arith, drop, length-drop, request_of}
 use Rattle.provider_wire.proofs.Looped.{sent_busy, sent_whole}
 use Rattle.provider_wire.proofs.loop_link.LoopLinkLink.send.Goals as goal
 

@@ -1,6 +1,4 @@
-use Rattle.std.proofs.Common.{◌≡◌, ◌+◌, ◌*◌, length, take, ap, ◌∙◌, arith, length-append}
-use Rattle.column_defs.specs.Objects.{bytes_of_symbols}
-use Rattle.column_defs.proofs.SymbolBytes.{length-symbol}
+use Rattle.provider_wire.proofs.Words.{◌≡◌, ◌+◌, ◌*◌, length, take, ap, ◌∙◌, arith, length-append, bytes_of_symbols, length-symbol}
 use Rattle.provider_wire.proofs.Symbols.{length-front, pushed_more}
 use Rattle.provider_wire.proofs.piece.Piece.push_symbols.Goals as goal
 

@@ -1,5 +1,4 @@
-use Rattle.std.proofs.Common.{◌≡◌, ◌++◌, take}
-use Rattle.column_defs.specs.Objects.{bytes_of_symbols}
+use Rattle.provider_wire.proofs.Words.{◌≡◌, ◌++◌, take, bytes_of_symbols}
 use Rattle.provider_wire.proofs.piece.Piece.push_symbols.Given as goal
 
 abbrev pub invariant-loop-symbol : goal.invariant-loop-symbol

@@ -1,9 +1,5 @@
-use Rattle.std.proofs.Common.{◌≡◌, ◌-◌, ◌++◌, ℕ, List, length, take, ap, sym, ◌∙◌, arith, length-append}
-use Rattle.std.proofs.lemmas.List.{take_at}
-use Rattle.wire_defs.specs.Requests.{request_bytes, Request, SpellsRequest}
+use Rattle.provider_wire.proofs.Words.{◌≡◌, ◌-◌, ◌++◌, ℕ, List, length, take, ap, sym, ◌∙◌, arith, length-append, take_at, request_bytes, Request, SpellsRequest, request_of, request_at}
 use Rattle.provider_wire.proofs.Begins.{short}
-use Rattle.provider_wire.specs.Asking.{request_of}
-use Rattle.provider_wire.specs.Reading.{request_at}
 use Rattle.provider_wire.proofs.Takes.{request_takes, request_again, spelling-some}
 use Rattle.provider_wire.proofs.request.Request.read.Goals as goal
 

@@ -1,5 +1,4 @@
-use Rattle.std.proofs.Common.{◌+◌, ◌∙◌, ap, take}
-use Rattle.std.proofs.lemmas.List.{with_items_is}
+use Rattle.provider_wire.proofs.Words.{◌+◌, ◌∙◌, ap, take, with_items_is}
 use Rattle.provider_wire.proofs.Windows.{end_fits, end_within, filled_fits, filled_within, filled-given, filled-end}
 use Rattle.provider_wire.proofs.window.Window.fill.Goals as goal
 

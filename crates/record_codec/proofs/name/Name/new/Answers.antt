@@ -1,5 +1,4 @@
-use Rattle.std.proofs.Common.{◌≡◌, true, refl, rules}
-use Rattle.record_defs.specs.Records.{is_name}
+use Rattle.record_codec.proofs.Words.{◌≡◌, true, refl, rules, is_name}
 use Rattle.record_defs.proofs.Sizes.{is_name-short}
 use Rattle.record_codec.proofs.NameLemmas.{IsKept-made}
 use Rattle.record_codec.proofs.name.Name.new.Goals as goal

@@ -1,8 +1,5 @@
-use Rattle.std.proofs.Common.{◌≡◌, ◌-◌, ◌++◌, ℕ, List, length, take, ap, sym, ◌∙◌, arith, length-append}
-use Rattle.std.proofs.lemmas.List.{take_at}
-use Rattle.record_defs.specs.Spellings.{spelling}
-use Rattle.record_codec.specs.Entries.{entry_of}
-use Rattle.record_codec.specs.Reading.{record_at}
+use Rattle.record_codec.proofs.Words.{◌≡◌, ◌-◌, ◌++◌, ℕ, List, length, take, ap, sym, ◌∙◌, arith, take_at, spelling, entry_of, record_at}
+use Rattle.std.proofs.Common.{length-append}
 use Rattle.record_codec.proofs.Takes.{record_takes, record_again}
 use Rattle.record_codec.proofs.records.Record.read.Goals as goal
 

@@ -1,7 +1,4 @@
-use Rattle.std.proofs.Common.{◌-◌, ◌∙◌, length, arith}
-use Rattle.code_points.specs.Profile.{plain_profile}
-use Rattle.code_points.proofs.Steps.{keep_below}
-use Rattle.server_code.specs.Transform.{level_of, first_of}
+use Rattle.server_code.proofs.Words.{◌-◌, ◌∙◌, length, arith, plain_profile, keep_below, level_of, first_of}
 use Rattle.server_code.proofs.Blocks.{extended_is_codeword}
 use Rattle.server_code.proofs.QuarterSums.{are_quarters, quarters_are_codeword}
 use Rattle.server_code.proofs.tables.Tables.encode.Goals as goal

@@ -1,5 +1,4 @@
-use Rattle.std.proofs.lemmas.Bool.{OnTrue_from}
-use Rattle.code_points.specs.Profile.{plain_profile}
+use Rattle.server_code.proofs.Words.{OnTrue_from, plain_profile}
 use Rattle.server_code.proofs.Checks.{codeword_opens}
 use Rattle.server_code.proofs.tables.Tables.is_clean.Goals as goal
 

@@ -1,7 +1,4 @@
-use Rattle.std.proofs.Common.{◌-◌, ◌<◌, length, refl, arith}
-use Rattle.code_points.specs.Profile.{plain_profile}
-use Rattle.code_points.proofs.Steps.{keep_below}
-use Rattle.server_code.specs.Transform.{level_of, first_of}
+use Rattle.server_code.proofs.Words.{◌-◌, ◌<◌, length, refl, arith, plain_profile, keep_below, level_of, first_of}
 use Rattle.server_code.proofs.Checks.{extended_is, codeword_extends}
 use Rattle.server_code.proofs.QuarterSums.{are_quarters, codeword_quarters}
 use Rattle.server_code.proofs.tables.Tables.is_codeword.Goals as goal

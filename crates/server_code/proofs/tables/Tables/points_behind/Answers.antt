@@ -1,5 +1,4 @@
-use Rattle.std.proofs.Common.{◌∙◌}
-use Rattle.code_points.proofs.Steps.{keep_below}
+use Rattle.server_code.proofs.Words.{◌∙◌, keep_below}
 use Rattle.server_code.proofs.BehindSteps.{points_behind}
 use Rattle.server_code.proofs.tables.Tables.points_behind.Goals as goal
 

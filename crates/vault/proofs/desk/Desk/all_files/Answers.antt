@@ -1,6 +1,4 @@
-use Rattle.std.proofs.Common.{◌∙◌, Vec, Global}
-use Rattle.std.proofs.lemmas.Result.{IfOk-weaker}
-use Rattle.file_layout.specs.declared.file.FileShape.{FileShape}
+use Rattle.vault.proofs.Words.{◌∙◌, Vec, Global, IfOk-weaker, FileShape}
 use Rattle.vault.proofs.Scrubbed.{all_shaped, all_files}
 use Rattle.vault.proofs.desk.Desk.all_files.Goals as goal
 

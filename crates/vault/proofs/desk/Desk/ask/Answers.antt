@@ -1,17 +1,11 @@
-use Rattle.std.proofs.Common.{None, refl, ap, arith, ◌∙◌, []}
-use Rattle.std.specs.Option.{option_map}
-use Rattle.std.proofs.Math.Logic.{∥∥₁_map}
-use Rattle.std.proofs.lemmas.List.{map-set, length-set}
-use Rattle.algebra_laws.proofs.Lists.{get-set_other}
-use Rattle.std.proofs.lemmas.Option.{slice_get-get_or, slice_get-map}
-use Rattle.stripe_bench.specs.Calls.{sight}
-use Rattle.stripe_bench.proofs.Sights.{called_at}
+use Rattle.vault.proofs.Words.{None, refl, arith, [], ∥∥₁_map, map-set, sight}
 use Rattle.vault.proofs.AskJoin.{put_there, ask_there, tell_there, ask_step, told_takes}
 use Rattle.vault.proofs.AtWork.{by_work, place_there}
 use Rattle.vault.proofs.JobPlaces.{item_at, place_within}
 use Rattle.vault.proofs.Props.{ask_prop, tell_prop}
 use Rattle.vault.proofs.RunningJobs.{runs_next}
 use Rattle.vault.proofs.Untold.{asks_by, answered, audits_on}
+use Rattle.vault.proofs.Called.{called-only, seen-at}
 use Rattle.vault.proofs.desk.Desk.ask.Goals as goal
 
 pub question-question-requires-clause-runs : goal.question-question-requires-clause-runs
@@ -68,10 +62,7 @@ returns-clause-machine g c = λ w moment holds faults is_told stands.
     _ _ _ _ (record { number = c.index_mut.result.now.number; task = c.ask.new.self }) made.0
     c.is_last_ask-is_last.result c.reply-reply.result refl made.1
     (asks_by is_told _ _ _ _ _ (answered _ _ _ _ _ made.0 made.1) made.2)
-    (slice_get-map seen c.args.providers.now c.args.provider
-    ∙ ap (option_map seen)
-    (slice_get-get_or c.args.providers.now c.args.provider c.index-providers-index.result
-    c.requires.there))
+    (seen-at seen c.args.providers.now c.args.provider c.index-providers-index.result c.requires.there)
     (map-set seen c.args.providers.now c.args.provider c.ask.new.from)
     c.is_last_ask-is_last.ensures
     c.reply-reply.ensures
@@ -90,23 +81,18 @@ index_mut-requires g c =
 pub bounds-providers-index : goal.bounds-providers-index
 bounds-providers-index g c = c.requires.there
 
-pub returns-clause-count : goal.returns-clause-count
-returns-clause-count g c = length-set c.args.providers.now c.args.provider c.ask.new.from
-
-pub returns-clause-others : goal.returns-clause-others
-returns-clause-others g c = λ k other.
-    get-set_other c.args.providers.now c.args.provider k c.ask.new.from other
-
-pub returns-clause-left : goal.returns-clause-left
-returns-clause-left g c = c.feed.ensures.falls
-
-pub returns-clause-called : goal.returns-clause-called
-returns-clause-called g c =
-    called_at g.P.Provider.calls c.args.providers.now c.args.provider c.index-providers-index.result
-    c.ask.new.from c.requires.there c.ask.ensures.called
-
 pub feed-requires-clause-given : goal.feed-requires-clause-given
 feed-requires-clause-given g c = c.requires.next.wants
 
-pub returns-clause-streams : goal.returns-clause-streams
-returns-clause-streams g c = record { setup = c.feed.ensures.setup; none = c.feed.ensures.streams; told = c.feed.ensures.told }
+pub returns-clause-calls : goal.returns-clause-calls
+returns-clause-calls g c =
+    called-only g.P.Provider.calls c.args.providers.now c.args.provider c.index-providers-index.result
+    c.ask.new.from c.requires.there c.ask.ensures.called
+
+pub returns-clause-acted : goal.returns-clause-acted
+returns-clause-acted g c = record {
+  acted = λ none. none;
+  left = λ more. c.feed.ensures.falls;
+  padded = tt;
+  streams = record { setup = c.feed.ensures.setup; none = c.feed.ensures.streams; told = c.feed.ensures.told };
+}

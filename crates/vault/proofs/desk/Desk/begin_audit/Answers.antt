@@ -1,7 +1,5 @@
-use Rattle.std.proofs.Common.{◌≡◌, ℕ, ◌*◌, length, subst, ◌∙◌, ap, min, refl}
-use Rattle.machine_defs.specs.Jobs.{AuditJob}
-use Rattle.vault_table.specs.Values.{Kept}
-use Rattle.vault.specs.Benches.{IsNewAudit}
+use Rattle.vault.proofs.Words.{◌≡◌, ℕ, ◌*◌, subst, ◌∙◌, ap, min, refl, AuditJob, Kept, IsNewAudit}
+use Rattle.std.proofs.Common.{length}
 use Rattle.vault.proofs.AuditBegins.{few-files, audit-task}
 use Rattle.vault.proofs.desk.Desk.begin_audit.Goals as goal
 use Rattle.vault.proofs.GetBegins.{least}

@@ -1,10 +1,6 @@
-use Rattle.std.proofs.Common.{Result, ℕ, None, ◌∷◌, ◌∙◌, sym, subst}
-use Rattle.machine_defs.specs.Jobs.{DropJob}
-use Rattle.vault_core.specs.declared.wish.BeginFault.{BeginFault}
-use Rattle.vault.specs.Desks.{DeskMakesBegin}
+use Rattle.vault.proofs.Words.{Result, ℕ, None, ◌∷◌, ◌∙◌, sym, subst, DropJob, BeginFault, DeskMakesBegin, err-is}
 use Rattle.vault.proofs.Begun.{causes_of_name, aims-counted, turned_down}
 use Rattle.vault.proofs.Puts.{name_cause}
-use Rattle.vault_open.proofs.InitEvents.{err-is}
 use Rattle.vault.proofs.desk.Desk.begin_drop.Goals as goal
 
 pub returns-in_err-name-clause-machine : goal.returns-in_err-name-clause-machine

@@ -1,14 +1,8 @@
-use Rattle.std.proofs.Common.{Result, ℕ, ap, sym, subst, ◌∙◌, ◌∷◌, ◌≡◌, Some, None}
-use Rattle.machine_defs.specs.Jobs.{GetJob}
-use Rattle.vault_core.specs.declared.wish.BeginFault.{BeginFault}
+use Rattle.vault.proofs.Words.{Result, ℕ, ap, sym, subst, ◌∙◌, ◌∷◌, ◌≡◌, Some, None, GetJob, BeginFault, find_file, file_of_entry, err-is, DeskMakesBegin}
 use Rattle.vault_core.specs.declared.wish.BeginFault.TheVariants as fault
-use Rattle.record_defs.specs.Table.{find_file}
-use Rattle.vault_table.specs.Values.{file_of_entry}
 use Rattle.vault.proofs.Begun.{causes_of_name, aims-counted, turned_down}
-use Rattle.vault_open.proofs.InitEvents.{err-is}
 use Rattle.vault.proofs.Puts.{name_cause}
 use Rattle.vault.proofs.GetBegins.{found-in, no-such-name, get-begun}
-use Rattle.vault.specs.Desks.{DeskMakesBegin}
 use Rattle.vault.proofs.desk.Desk.begin_get.Goals as goal
 
 pub returns-in_err-name-clause-machine : goal.returns-in_err-name-clause-machine

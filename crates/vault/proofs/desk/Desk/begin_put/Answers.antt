@@ -1,11 +1,6 @@
-use Rattle.std.proofs.Common.{Result, Err, List, ℕ, ◌∷◌, ◌∙◌, ◌<◌, length, sym, subst, arith}
-use Rattle.record_defs.specs.Records.{largest_file}
-use Rattle.machine_defs.specs.Events.{AreBytes}
-use Rattle.machine_defs.specs.Jobs.{PutJob, ToPut}
-use Rattle.vault_core.specs.declared.wish.BeginFault.{BeginFault}
+use Rattle.vault.proofs.Words.{Result, Err, List, ℕ, ◌∷◌, ◌∙◌, ◌<◌, sym, subst, arith, largest_file, AreBytes, PutJob, ToPut, BeginFault, err-is, DeskMakesBegin}
+use Rattle.std.proofs.Common.{length}
 use Rattle.vault_core.specs.declared.wish.BeginFault.TheVariants as fault
-use Rattle.vault_open.proofs.InitEvents.{err-is}
-use Rattle.vault.specs.Desks.{DeskMakesBegin}
 use Rattle.vault.proofs.Begun.{aims-counted, memory-alone, turned_down, found_none}
 use Rattle.vault.proofs.Puts.{name_cause, causes_of_put, bad-profile, too-long, put-task}
 use Rattle.vault.proofs.desk.Desk.begin_put.Goals as goal

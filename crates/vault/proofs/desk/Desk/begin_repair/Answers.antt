@@ -1,8 +1,4 @@
-use Rattle.std.proofs.Common.{Result, Err, ℕ, None, sym, subst, refl}
-use Rattle.machine_defs.specs.Jobs.{RepairJob}
-use Rattle.vault_core.specs.declared.wish.BeginFault.{BeginFault}
-use Rattle.vault_open.proofs.InitEvents.{err-is}
-use Rattle.vault.specs.Desks.{DeskMakesBegin}
+use Rattle.vault.proofs.Words.{Result, Err, ℕ, None, sym, subst, refl, RepairJob, BeginFault, err-is, DeskMakesBegin}
 use Rattle.vault.proofs.Begun.{memory-alone, found_none}
 use Rattle.vault.proofs.RepairBegins.{repair-task}
 use Rattle.vault.proofs.desk.Desk.begin_repair.Goals as goal

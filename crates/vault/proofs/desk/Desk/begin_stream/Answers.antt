@@ -1,13 +1,8 @@
-use Rattle.std.proofs.Common.{refl, List, Result, Err, ℕ, ◌∷◌, ◌∙◌, sym, subst}
-use Rattle.machine_defs.specs.Events.{AreBytes}
-use Rattle.machine_defs.specs.Jobs.{PutJob}
-use Rattle.vault_core.specs.declared.wish.BeginFault.{BeginFault}
+use Rattle.vault.proofs.Words.{refl, List, Result, Err, ℕ, ◌∷◌, ◌∙◌, sym, subst, AreBytes, PutJob, BeginFault, err-is, DeskMakesBegin, OpensStream}
 use Rattle.vault_core.specs.declared.wish.BeginFault.TheVariants as fault
-use Rattle.vault_open.proofs.InitEvents.{err-is}
-use Rattle.vault.specs.Desks.{DeskMakesBegin}
 use Rattle.vault.proofs.Begun.{aims-counted, memory-alone, turned_down, found_none}
 use Rattle.vault.proofs.Puts.{name_cause, causes_of_put, bad-profile}
-use Rattle.vault.proofs.Streams.{stream-task}
+use Rattle.vault.proofs.Streams.{stream-task, opens_none, unchanged_desk}
 use Rattle.vault.proofs.desk.Desk.begin_stream.Goals as goal
 
 pub returns-in_err-name-clause-machine : goal.returns-in_err-name-clause-machine
@@ -52,3 +47,22 @@ returns-clause-machine c = λ w d moment bytes stands are few.
     (subst AreBytes (sym c.in_ok-name.ensures.named) c.in_ok-name.ensures.bytes, are) few
     (λ accepted. stream-task v d w moment _ bytes c.args.profile _ _ _ stands c.in_ok-bench.ensures.ok
     c.profile_of_put-chosen.ensures refl))
+
+pub returns-in_err-name-clause-opens : goal.returns-in_err-name-clause-opens
+returns-in_err-name-clause-opens c =
+    let v = c.args.self.now in
+    subst (λ (r : Result ℕ BeginFault). OpensStream v v r)
+    (sym (err-is c.from_residual.result c.in_err-name.field-0.0 c.from_residual.ensures.1))
+    (opens_none v v c.in_err-name.field-0.0 (unchanged_desk v))
+
+pub returns-then-is_unknown-clause-opens : goal.returns-then-is_unknown-clause-opens
+returns-then-is_unknown-clause-opens c =
+    opens_none c.args.self.now c.args.self.now fault.BadProfile (unchanged_desk c.args.self.now)
+
+pub returns-in_err-bench-clause-opens : goal.returns-in_err-bench-clause-opens
+returns-in_err-bench-clause-opens c =
+    let v = c.args.self.now in
+    subst (λ (r : Result ℕ BeginFault). OpensStream v v r)
+    (sym (err-is c.from_residual-in_err-bench.result c.in_err-bench.field-0.0
+    c.from_residual-in_err-bench.ensures.1))
+    (opens_none v v c.in_err-bench.field-0.0 (unchanged_desk v))

@@ -1,5 +1,4 @@
-use Rattle.std.proofs.Common.{refl}
-use Rattle.machine_defs.specs.Jobs.{UpgradeJob}
+use Rattle.vault.proofs.Words.{refl, UpgradeJob}
 use Rattle.vault.proofs.desk.Desk.begin_upgrade.Goals as goal
 
 pub returns-clause-machine : goal.returns-clause-machine

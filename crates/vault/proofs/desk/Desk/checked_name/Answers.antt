@@ -1,5 +1,4 @@
-use Rattle.std.proofs.Common.{arith}
-use Rattle.record_codec.proofs.Takes.{IsBytes-all}
+use Rattle.vault.proofs.Words.{arith, IsBytes-all}
 use Rattle.vault.proofs.desk.Desk.checked_name.Goals as goal
 
 pub returns-in-Some-clause-bytes : goal.returns-in-Some-clause-bytes

@@ -1,4 +1,4 @@
-use Rattle.std.proofs.Common.{refl, sym, arith}
+use Rattle.std.proofs.Common.{refl, sym, arith, rules}
 use Rattle.vault.specs.declared.turn.Turn.TheVariants as turn
 use Rattle.vault.proofs.AtWork.{place_there}
 use Rattle.vault.proofs.JobPlaces.{item_at, place_within}
@@ -50,5 +50,10 @@ remove-running-requires c =
 pub feed-requires-clause-given : goal.feed-requires-clause-given
 feed-requires-clause-given c = c.requires.next.wants
 
-pub returns-clause-streams : goal.returns-clause-streams
-returns-clause-streams c = record { setup = c.feed.ensures.setup; none = c.feed.ensures.streams; told = c.feed.ensures.told }
+pub returns-clause-acted : goal.returns-clause-acted
+returns-clause-acted c = record {
+  acted = λ none. none;
+  left = λ more. c.feed.ensures.falls;
+  padded = (search rules);
+  streams = record { setup = c.feed.ensures.setup; none = c.feed.ensures.streams; told = c.feed.ensures.told };
+}

@@ -1,16 +1,11 @@
-use Rattle.std.proofs.Common.{None, refl, ap, arith, ◌∙◌}
-use Rattle.std.proofs.lemmas.List.{map-set, length-set}
-use Rattle.algebra_laws.proofs.Lists.{get-set_other}
-use Rattle.std.proofs.lemmas.Option.{slice_get-get_or, slice_get-map}
-use Rattle.std.specs.Option.{option_map}
-use Rattle.stripe_bench.specs.Calls.{sight}
-use Rattle.stripe_bench.proofs.Sights.{fetches_by, called_at}
+use Rattle.vault.proofs.Words.{None, refl, arith, map-set, sight, fetches_by}
 use Rattle.vault.proofs.AtWork.{by_work, place_there}
 use Rattle.vault.proofs.FetchStep.{room_there, fetch_step}
 use Rattle.vault.proofs.JobPlaces.{item_at, place_within}
 use Rattle.vault.proofs.Props.{room_prop}
 use Rattle.vault.proofs.Replies.{replies}
 use Rattle.vault.proofs.Untold.{taken}
+use Rattle.vault.proofs.Called.{called-only, seen-at}
 use Rattle.vault.proofs.desk.Desk.fetch.Goals as goal
 
 pub place_of-place-requires : goal.place_of-place-requires
@@ -43,10 +38,7 @@ returns-clause-machine g c = λ w moment holds faults is_told stands.
     _ _ _ _ (record { number = c.index_mut.result.now.number; task = c.fetch.new.self }) made.0 made.1 refl
     made.2
     (fetches_by is_told _ _ _ _ _ _ (taken _ _ made.0 made.1 made.2) made.3)
-    (slice_get-map seen c.args.providers.now c.args.provider
-    ∙ ap (option_map seen)
-    (slice_get-get_or c.args.providers.now c.args.provider c.index-providers-index.result
-    c.requires.there))
+    (seen-at seen c.args.providers.now c.args.provider c.index-providers-index.result c.requires.there)
     (map-set seen c.args.providers.now c.args.provider c.fetch.new.from)
     refl
     (record { setup = refl; master = refl; shape = refl; base = refl })
@@ -66,23 +58,18 @@ bounds-providers-index g c = c.requires.there
 pub feed-requires-clause-reply : goal.feed-requires-clause-reply
 feed-requires-clause-reply g c = replies c.args.self.now.core c.args.job _ _ c.requires.next.value tt
 
-pub returns-clause-count : goal.returns-clause-count
-returns-clause-count g c = length-set c.args.providers.now c.args.provider c.fetch.new.from
-
-pub returns-clause-others : goal.returns-clause-others
-returns-clause-others g c = λ k other.
-    get-set_other c.args.providers.now c.args.provider k c.fetch.new.from other
-
-pub returns-clause-left : goal.returns-clause-left
-returns-clause-left g c = c.feed.ensures.falls
-
-pub returns-clause-called : goal.returns-clause-called
-returns-clause-called g c =
-    called_at g.P.Provider.calls c.args.providers.now c.args.provider c.index-providers-index.result
-    c.fetch.new.from c.requires.there c.fetch.ensures.called
-
 pub feed-requires-clause-given : goal.feed-requires-clause-given
 feed-requires-clause-given g c = c.requires.next.wants
 
-pub returns-clause-streams : goal.returns-clause-streams
-returns-clause-streams g c = record { setup = c.feed.ensures.setup; none = c.feed.ensures.streams; told = c.feed.ensures.told }
+pub returns-clause-calls : goal.returns-clause-calls
+returns-clause-calls g c =
+    called-only g.P.Provider.calls c.args.providers.now c.args.provider c.index-providers-index.result
+    c.fetch.new.from c.requires.there c.fetch.ensures.called
+
+pub returns-clause-acted : goal.returns-clause-acted
+returns-clause-acted g c = record {
+  acted = λ none. none;
+  left = λ more. c.feed.ensures.falls;
+  padded = tt;
+  streams = record { setup = c.feed.ensures.setup; none = c.feed.ensures.streams; told = c.feed.ensures.told };
+}

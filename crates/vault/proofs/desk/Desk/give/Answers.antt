@@ -1,9 +1,6 @@
-use Rattle.std.proofs.Common.{◌≤◌, ℕ, ◌*◌, ◌+◌, length, Option, refl, sym, ap, subst, ◌∙◌, arith}
-use Rattle.record_defs.specs.Records.{largest_file}
-use Rattle.vault_core.specs.Streams.{IsGivenLength}
-use Rattle.vault_core.specs.View.{CoreJob, job_in, told_by, wants_in}
-use Rattle.vault.specs.Streams.{stripe_by, IsPiece}
-use Rattle.vault.proofs.GivenStripes.{given_fitting, given_works, may_tell, piece_bound}
+use Rattle.vault.proofs.Words.{◌≤◌, ℕ, ◌*◌, ◌+◌, Option, refl, sym, ap, subst, ◌∙◌, arith, largest_file, IsGivenLength, CoreJob, job_in, told_by, wants_in, stripe_by, IsPiece}
+use Rattle.std.proofs.Common.{length}
+use Rattle.vault.proofs.GivenStripes.{IsGiven, given_fitting, given_works, may_tell, piece_bound}
 use Rattle.vault.proofs.JobPlaces.{item_at, place_within}
 use Rattle.vault.proofs.Streams.{place_waits, size_there, streams_there, total_with}
 use Rattle.vault.proofs.desk.Desk.give.Goals as goal
@@ -58,10 +55,11 @@ given-requires-clause-length c = λ j is.
 pub given-requires-clause-wants : goal.given-requires-clause-wants
 given-requires-clause-wants c = c.requires.wants
 
-pub returns-clause-stands : goal.returns-clause-stands
-returns-clause-stands c =
-    given_fitting c.args.self.now _ c.args.job c.in-Some.stripe c.args.piece.now c.args.last (
-    record {
+pub returns : goal.returns
+returns c =
+    let there = item_at c.args.self.now.jobs.items c.args.job c.place_of-place.result c.index_mut.result.now
+    c.place_of-place.ensures c.index_mut.ensures.value in
+    let given : IsGiven c.args.self.now _ c.args.job c.in-Some.stripe c.args.piece.now c.args.last = record {
       wants = sym c.in-Some.ensures;
       is_piece = subst
           (λ (o : Option ℕ). IsPiece (stripe_by c.args.self.now.core.setup
@@ -71,9 +69,7 @@ returns-clause-stands c =
       old = c.index_mut.result.now;
       new = record { number = c.index_mut.result.now.number; task = c.take-size.new.self };
       at = c.place_of-place.ensures;
-      there =
-          item_at c.args.self.now.jobs.items c.args.job c.place_of-place.result c.index_mut.result.now
-          c.place_of-place.ensures c.index_mut.ensures.value;
+      there = there;
       number_is = refl;
       takes = c.take-size.ensures.taken;
       jobs = refl;
@@ -81,61 +77,22 @@ returns-clause-stands c =
       flight = refl;
       total = c.length_with-length.result;
       total_is = total_with c.args.self.now c.args.job c.in-Some.stripe c.place_of-place.result
-          c.index_mut.result.now (sym c.in-Some.ensures) c.place_of-place.ensures
-          (item_at c.args.self.now.jobs.items c.args.job c.place_of-place.result c.index_mut.result.now
-          c.place_of-place.ensures c.index_mut.ensures.value)
+          c.index_mut.result.now (sym c.in-Some.ensures) c.place_of-place.ensures there
           c.requires.at_work c.take-size.result c.length_with-length.result (length c.args.piece.now)
           c.take-size.ensures.size c.length_with-length.ensures;
       stands = c.given.ensures.stands;
       more = c.given.ensures.more c.in-Some.stripe (sym c.in-Some.ensures);
       closed = c.given.ensures.closed;
       others = λ m other. ap told_by (c.given.ensures.others m other);
-    }
-    )
-
-pub returns-clause-at_work : goal.returns-clause-at_work
-returns-clause-at_work c =
-    given_works c.args.self.now _ c.args.job c.in-Some.stripe c.args.piece.now c.args.last (
+    } in
     record {
-      wants = sym c.in-Some.ensures;
-      is_piece = subst
-          (λ (o : Option ℕ). IsPiece (stripe_by c.args.self.now.core.setup
-          (job_in c.args.self.now.core.jobs c.args.job)) o (length c.args.piece.now) c.args.last)
-          (sym c.in-Some.ensures) c.requires.piece;
-      place = c.place_of-place.result;
-      old = c.index_mut.result.now;
-      new = record { number = c.index_mut.result.now.number; task = c.take-size.new.self };
-      at = c.place_of-place.ensures;
-      there =
-          item_at c.args.self.now.jobs.items c.args.job c.place_of-place.result c.index_mut.result.now
-          c.place_of-place.ensures c.index_mut.ensures.value;
-      number_is = refl;
-      takes = c.take-size.ensures.taken;
-      jobs = refl;
-      keeps = record { setup = refl; master = refl; shape = refl; base = refl };
-      flight = refl;
-      total = c.length_with-length.result;
-      total_is = total_with c.args.self.now c.args.job c.in-Some.stripe c.place_of-place.result
-          c.index_mut.result.now (sym c.in-Some.ensures) c.place_of-place.ensures
-          (item_at c.args.self.now.jobs.items c.args.job c.place_of-place.result c.index_mut.result.now
-          c.place_of-place.ensures c.index_mut.ensures.value)
-          c.requires.at_work c.take-size.result c.length_with-length.result (length c.args.piece.now)
-          c.take-size.ensures.size c.length_with-length.ensures;
-      stands = c.given.ensures.stands;
-      more = c.given.ensures.more c.in-Some.stripe (sym c.in-Some.ensures);
-      closed = c.given.ensures.closed;
-      others = λ m other. ap told_by (c.given.ensures.others m other);
+      stands = given_fitting c.args.self.now _ c.args.job c.in-Some.stripe c.args.piece.now c.args.last given;
+      at_work = given_works c.args.self.now _ c.args.job c.in-Some.stripe c.args.piece.now c.args.last given
+          c.bytes_are_bytes.ensures c.requires.at_work;
+      takes = record {
+        more = c.given.ensures.more;
+        closed = c.given.ensures.closed;
+        wants = c.given.ensures.wants;
+        left = c.given.ensures.left;
+      };
     }
-    ) c.bytes_are_bytes.ensures c.requires.at_work
-
-pub returns-clause-more : goal.returns-clause-more
-returns-clause-more c = c.given.ensures.more
-
-pub returns-clause-closed : goal.returns-clause-closed
-returns-clause-closed c = c.given.ensures.closed
-
-pub returns-clause-wants : goal.returns-clause-wants
-returns-clause-wants c = c.given.ensures.wants
-
-pub returns-clause-left : goal.returns-clause-left
-returns-clause-left c = c.given.ensures.left

@@ -1,6 +1,4 @@
-use Rattle.std.proofs.Common.{ℕ, Some, ap, sym, subst, ◌∙◌, arith}
-use Rattle.std.specs.Prelude.{is_some}
-use Rattle.vault.specs.Streams.{IsPiece}
+use Rattle.vault.proofs.Words.{ℕ, Some, ap, sym, subst, ◌∙◌, arith, is_some, IsPiece}
 use Rattle.vault.proofs.JobPlaces.{item_at, place_within}
 use Rattle.vault.proofs.Streams.{place_waits, size_there}
 use Rattle.vault.proofs.desk.Desk.may_give.Goals as goal

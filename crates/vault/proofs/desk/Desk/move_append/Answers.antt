@@ -1,20 +1,13 @@
-use Rattle.std.proofs.Common.{◌<◌, ◌-◌, ◌++◌, ◌∷◌, [], refl, sym, ap, subst, ◌≡◌, None}
-use Rattle.std.specs.Prelude.{IsSome}
-use Rattle.record_defs.specs.Spellings.{spelling}
-use Rattle.vault_core.specs.Coming.{core_left}
+use Rattle.vault.proofs.Words.{◌<◌, ◌-◌, ◌++◌, ◌∷◌, [], refl, sym, ap, subst, ◌≡◌, None, IsSome, spelling, core_left, Desk, place_in, wants_in, KeepsStreams}
 use Rattle.vault_core.specs.declared.reply.Reply.TheVariants as reply
 use Rattle.vault.specs.declared.flight.Moved.TheVariants as moved
 use Rattle.vault.specs.declared.turn.Answer.TheVariants as answer
-use Rattle.vault.specs.declared.desk.Desk.{Desk}
-use Rattle.vault.specs.Running.{place_in}
 use Rattle.vault.proofs.AtWork.{place_there}
-use Rattle.vault.proofs.Untold.{goes_by, move_by}
+use Rattle.vault.proofs.Untold.{goes_by, move_by, leaves_told}
 use Rattle.vault.proofs.AppendMoves.{append_goes_on, append_done, append_failed, append_unwritten, gave_away, fed_away}
 use Rattle.vault.proofs.MovedCells.{append_of, cells_on, cells_torn, cells_stopped}
 use Rattle.vault.proofs.Replies.{move_replies, goes_not_on, padded_end}
 use Rattle.vault.proofs.desk.Desk.move_append.Goals as goal
-use Rattle.vault_core.specs.View.{wants_in}
-use Rattle.vault.specs.AtHand.{KeepsStreams}
 
 pub stop-requires-clause-there : goal.stop-requires-clause-there
 stop-requires-clause-there g c =
@@ -90,7 +83,7 @@ returns-in-Memory-clause-machine g c = λ w moment providers is_told stands.
     c.requires.next.action c.requires.next.comes c.requires.next.moves
     (c.take_flight.ensures.is w _ _ providers c.requires.next.action stands c.requires.next.comes) _ _ _
     (move_by is_told c.take_flight.result.append (g.D.Disk.holds c.args.disk.now) moved.Memory
-    (g.D.Disk.holds c.turn.new.disk) c.in-Memory.ensures.made) c.in-Memory.ensures.cause
+    (g.D.Disk.holds c.turn.new.disk) c.in-Memory.ensures.made) (c.in-Memory.ensures.no_fault refl)
     (ap (λ (v : Desk). v.core) c.take_flight.ensures.rest)
     (ap (λ (v : Desk). v.jobs.items) c.take_flight.ensures.rest)
     (ap (λ (v : Desk). v.flight) c.take_flight.ensures.rest)
@@ -102,14 +95,14 @@ returns-in-On-clause-cells g c = λ w entry providers stands given.
     cells_on c.args.self.now _ entry _ _ _
     (append_of c.args.self.now w _ _ c.args.job providers stands c.requires.next.action c.requires.next.comes
     c.take_flight.result (c.take_flight.ensures.is w _ _ providers c.requires.next.action stands
-    c.requires.next.comes) entry given) c.in-On.ensures.cells
+    c.requires.next.comes) entry given) c.in-On.ensures.made.disk.does
 
 pub returns-in-Done-clause-cells : goal.returns-in-Done-clause-cells
 returns-in-Done-clause-cells g c = λ w entry providers stands given.
     cells_on c.args.self.now _ entry _ _ _
     (append_of c.args.self.now w _ _ c.args.job providers stands c.requires.next.action c.requires.next.comes
     c.take_flight.result (c.take_flight.ensures.is w _ _ providers c.requires.next.action stands
-    c.requires.next.comes) entry given) c.in-Done.ensures.cells
+    c.requires.next.comes) entry given) c.in-Done.ensures.made.1.disk.does
 
 pub returns-in-Failed-clause-cells : goal.returns-in-Failed-clause-cells
 returns-in-Failed-clause-cells g c = λ w entry providers stands given.
@@ -120,14 +113,14 @@ returns-in-Failed-clause-cells g c = λ w entry providers stands given.
     (append_of c.args.self.now w _ _ c.args.job providers stands c.requires.next.action
     c.requires.next.comes c.take_flight.result
     (c.take_flight.ensures.is w _ _ providers c.requires.next.action stands c.requires.next.comes)
-    entry given) c.in-Failed.ensures.cells)
+    entry given) (c.in-Failed.ensures.made.1.disk.torn refl))
 
 pub returns-in-Memory-clause-cells : goal.returns-in-Memory-clause-cells
 returns-in-Memory-clause-cells g c = λ w entry providers stands given.
     cells_stopped _ c.stop-in-Memory.new.self c.args.job _ (c.args.self.now.core.end - 1)
     (spelling entry ++ 0 ∷ []) reply.Memory answer.Memory c.stop-in-Memory.result
     (g.D.Disk.holds c.args.disk.now) (g.D.Disk.holds c.turn.new.disk) c.stop-in-Memory.ensures.stopped
-    c.in-Memory.ensures.cells
+    (c.in-Memory.ensures.made.1.disk.memory refl)
 
 pub feed-requires-clause-reply : goal.feed-requires-clause-reply
 feed-requires-clause-reply g c =
@@ -150,7 +143,7 @@ stop-requires-in-Memory-clause-reply g c =
     c.requires.next).memory
 
 pub returns-in-On-clause-tells : goal.returns-in-On-clause-tells
-returns-in-On-clause-tells g c = c.turn.ensures.tells
+returns-in-On-clause-tells g c = leaves_told _ _ _ _ _ _ c.in-On.ensures.made.disk
 
 pub returns-in-On-clause-called : goal.returns-in-On-clause-called
 returns-in-On-clause-called g c = c.turn.ensures.called
@@ -167,7 +160,7 @@ pub returns-in-On-clause-acted : goal.returns-in-On-clause-acted
 returns-in-On-clause-acted g c = λ none. none
 
 pub returns-in-Done-clause-tells : goal.returns-in-Done-clause-tells
-returns-in-Done-clause-tells g c = c.turn.ensures.tells
+returns-in-Done-clause-tells g c = leaves_told _ _ _ _ _ _ c.in-Done.ensures.made.1.disk
 
 pub returns-in-Done-clause-called : goal.returns-in-Done-clause-called
 returns-in-Done-clause-called g c = c.turn.ensures.called
@@ -184,7 +177,7 @@ pub returns-in-Done-clause-acted : goal.returns-in-Done-clause-acted
 returns-in-Done-clause-acted g c = λ none. none
 
 pub returns-in-Failed-clause-tells : goal.returns-in-Failed-clause-tells
-returns-in-Failed-clause-tells g c = c.turn.ensures.tells
+returns-in-Failed-clause-tells g c = leaves_told _ _ _ _ _ _ c.in-Failed.ensures.made.1.disk
 
 pub returns-in-Failed-clause-called : goal.returns-in-Failed-clause-called
 returns-in-Failed-clause-called g c = c.turn.ensures.called
@@ -199,7 +192,7 @@ pub returns-in-Failed-clause-acted : goal.returns-in-Failed-clause-acted
 returns-in-Failed-clause-acted g c = c.stop.ensures.acted
 
 pub returns-in-Memory-clause-tells : goal.returns-in-Memory-clause-tells
-returns-in-Memory-clause-tells g c = c.turn.ensures.tells
+returns-in-Memory-clause-tells g c = leaves_told _ _ _ _ _ _ c.in-Memory.ensures.made.1.disk
 
 pub returns-in-Memory-clause-called : goal.returns-in-Memory-clause-called
 returns-in-Memory-clause-called g c = c.turn.ensures.called

@@ -1,10 +1,7 @@
-use Rattle.std.proofs.Common.{◌≤◌, ◌^◌, List, ap, sym, subst, arith}
-use Rattle.std.specs.Prelude.{IsSome, All}
-use Rattle.record_defs.specs.Areas.{entries_size}
+use Rattle.vault.proofs.Words.{◌≤◌, ◌^◌, List, ap, sym, subst, arith, IsSome, entries_size, IsInGrammar, Kept, IsFoldOf}
+use Rattle.std.specs.Prelude.{All}
 use Rattle.journal_core.specs.Lists.{newest_first}
 use Rattle.record_codec.specs.declared.records.Record.{Record}
-use Rattle.record_codec.specs.Entries.{IsInGrammar}
-use Rattle.vault_table.specs.Values.{Kept, IsFoldOf}
 use Rattle.vault.proofs.PackBegins.{two-bases, has-setup, spelled, short}
 use Rattle.vault.proofs.desk.Desk.new_pack.Goals as goal
 

@@ -1,6 +1,4 @@
-use Rattle.std.proofs.Common.{◌≡◌, ◌-◌, suc, ap, subst, ◌∙◌, ◌∷◌, drop, arith}
-use Rattle.vault_table.specs.Values.{Kept, file_of_entry}
-use Rattle.vault.specs.Benches.{AreServed}
+use Rattle.vault.proofs.Words.{◌≡◌, ◌-◌, suc, ap, subst, ◌∙◌, ◌∷◌, drop, arith, Kept, file_of_entry, AreServed}
 use Rattle.vault.proofs.Kits.{all_served_more, one_served_more}
 use Rattle.vault.proofs.desk.Desk.others_for.Goals as goal
 

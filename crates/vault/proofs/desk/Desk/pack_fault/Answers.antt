@@ -1,12 +1,9 @@
-use Rattle.std.proofs.Common.{◌<◌, ◌≤◌, length, ap, sym, ◌∙◌, arith}
-use Rattle.std.proofs.lemmas.Slice.Zip.{AllZip-long}
+use Rattle.vault.proofs.Words.{◌<◌, ◌≤◌, ap, sym, ◌∙◌, arith, AllZip-long, IsJobOf, Desk, Kept}
+use Rattle.std.proofs.Common.{length}
 use mathlib.Core.Bool.{Bool-set}
-use Rattle.vault_core.specs.Carried.{IsJobOf}
 use Rattle.vault.proofs.Alone.{unbarred, busy_pack}
 use Rattle.vault.proofs.AtWork.{by_work}
 use Rattle.vault.proofs.PackBegins.{none-flight, second-version, none-there}
-use Rattle.vault.specs.declared.desk.Desk.{Desk}
-use Rattle.vault_table.specs.Values.{Kept}
 use Rattle.vault.proofs.desk.Desk.pack_fault.Goals as goal
 
 pub returns-then-running-gt0-clause-refusal : goal.returns-then-running-gt0-clause-refusal

@@ -1,7 +1,4 @@
-use Rattle.std.proofs.Common.{◌≡◌, ◌∙◌, ap, sym, List, ◌∷◌, [], ◌++◌, true, subst}
-use Rattle.code_defs.specs.Profiles.{Profile}
-use Rattle.column_codec.specs.declared.bench.Bench.{Bench}
-use Rattle.vault.specs.Benches.{AreOfDesk, is_served}
+use Rattle.vault.proofs.Words.{◌≡◌, ◌∙◌, ap, sym, List, ◌∷◌, [], ◌++◌, true, subst, Profile, Bench, AreOfDesk, is_served}
 use Rattle.vault.proofs.Kits.{served_last, served_more, desk_more}
 use Rattle.vault.proofs.desk.Desk.serve.Goals as goal
 

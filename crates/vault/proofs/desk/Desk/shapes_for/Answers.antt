@@ -1,10 +1,7 @@
-use Rattle.std.proofs.Common.{◌<◌, ◌+◌, ◌++◌, ◌∷◌, [], List, length, take, get_or, sym, subst, arith}
-use Rattle.std.specs.List.{AllZip}
-use Rattle.std.proofs.lemmas.List.{take_more}
-use Rattle.file_layout.specs.declared.file.FileShape.{FileShape}
+use Rattle.vault.proofs.Words.{◌<◌, ◌+◌, ◌++◌, ◌∷◌, [], List, take, get_or, sym, subst, arith, AllZip, take_more, FileShape, IsShapeFor}
+use Rattle.std.proofs.Common.{length}
 use Rattle.vault_core.specs.declared.pinned.Pinned.{Pinned}
 use Rattle.vault_core.proofs.Kept.{zip_push}
-use Rattle.vault.specs.Files.{IsShapeFor}
 use Rattle.vault.proofs.desk.Desk.shapes_for.Goals as goal
 
 pub loop-file-preserved : goal.loop-file-preserved

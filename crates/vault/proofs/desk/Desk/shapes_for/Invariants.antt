@@ -1,6 +1,4 @@
-use Rattle.std.proofs.Common.{take}
-use Rattle.std.specs.List.{AllZip}
-use Rattle.vault.specs.Files.{IsShapeFor}
+use Rattle.vault.proofs.Words.{take, AllZip, IsShapeFor}
 use Rattle.vault.proofs.desk.Desk.shapes_for.Given as goal
 
 abbrev pub invariant-loop-file : goal.invariant-loop-file

@@ -1,5 +1,4 @@
-use Rattle.std.proofs.Common.{ap}
-use Rattle.vault.specs.declared.desk.Desk.{Desk}
+use Rattle.vault.proofs.Words.{ap, Desk}
 use Rattle.vault.proofs.Switching.{second, clear, sound, ends, moved-stands, moved-works}
 use Rattle.vault.proofs.desk.Desk.switch.Goals as goal
 

@@ -1,5 +1,4 @@
-use Rattle.std.proofs.Common.{sym, ap, ◌∙◌}
-use Rattle.vault_core.specs.Coming.{calls_disk}
+use Rattle.vault.proofs.Words.{sym, ap, ◌∙◌, calls_disk}
 use Rattle.vault.proofs.AppendMoves.{flight_moves, flight_begins}
 use Rattle.vault.proofs.desk.Desk.take_flight.Goals as goal
 

@@ -1,12 +1,11 @@
-use Rattle.std.proofs.Common.{None, refl, ap, arith}
-use Rattle.std.specs.Prelude.{is_some}
+use Rattle.vault.proofs.Words.{None, refl, ap, arith, is_some, devices}
 use Rattle.vault.proofs.JobPlaces.{item_at, place_within}
-use Rattle.vault_open.specs.Devices.{devices}
 use Rattle.vault.proofs.AtWork.{by_work, place_there}
 use Rattle.vault.proofs.Props.{work_prop}
-use Rattle.vault.proofs.Replies.{replies, goes_not_on, padded_end}
+use Rattle.vault.proofs.Replies.{replies}
 use Rattle.vault.proofs.Stops.{place_set}
 use Rattle.vault.proofs.WorkStep.{work_there, work_step, lost_step}
+use Rattle.vault.proofs.Called.{stopped-acted}
 use Rattle.vault.proofs.desk.Desk.work.Goals as goal
 
 pub place_of-place-requires : goal.place_of-place-requires
@@ -68,26 +67,19 @@ feed-requires-clause-reply c = replies c.args.self.now.core c.args.job _ _ c.req
 pub stop-requires-clause-reply : goal.stop-requires-clause-reply
 stop-requires-clause-reply c = replies c.args.self.now.core c.args.job _ _ c.requires.next.value tt
 
-pub returns-in-Ok-clause-left : goal.returns-in-Ok-clause-left
-returns-in-Ok-clause-left c = λ more. c.feed.ensures.falls
-
-pub returns-in-Err-clause-left : goal.returns-in-Err-clause-left
-returns-in-Err-clause-left c = λ more. absurd (goes_not_on _ _ _ _ _ _ c.stop.ensures.stopped more)
-
-pub returns-in-Err-clause-padded : goal.returns-in-Err-clause-padded
-returns-in-Err-clause-padded c = padded_end _ _ _ _ _ _ c.stop.ensures.stopped tt
-
-pub returns-in-Err-clause-acted : goal.returns-in-Err-clause-acted
-returns-in-Err-clause-acted c = c.stop.ensures.acted
-
 pub feed-requires-clause-given : goal.feed-requires-clause-given
 feed-requires-clause-given c = c.requires.next.wants
 
 pub stop-requires-clause-given : goal.stop-requires-clause-given
 stop-requires-clause-given c = c.requires.next.wants
 
-pub returns-in-Ok-clause-streams : goal.returns-in-Ok-clause-streams
-returns-in-Ok-clause-streams c = record { setup = c.feed.ensures.setup; none = c.feed.ensures.streams; told = c.feed.ensures.told }
+pub returns-in-Ok-clause-acted : goal.returns-in-Ok-clause-acted
+returns-in-Ok-clause-acted c = record {
+  acted = λ none. none;
+  left = λ more. c.feed.ensures.falls;
+  padded = tt;
+  streams = record { setup = c.feed.ensures.setup; none = c.feed.ensures.streams; told = c.feed.ensures.told };
+}
 
-pub returns-in-Err-clause-streams : goal.returns-in-Err-clause-streams
-returns-in-Err-clause-streams c = c.stop.ensures.stopped.fed.streams
+pub returns-in-Err-clause-acted : goal.returns-in-Err-clause-acted
+returns-in-Err-clause-acted c = stopped-acted _ _ _ _ _ _ c.stop.ensures.stopped tt

@@ -1,5 +1,4 @@
-use Rattle.std.proofs.Common.{◌≡◌, ℕ, List, Option, None, Some, sym, ap, ◌∙◌}
-use Rattle.std.specs.Prelude.{slice_get}
+use Rattle.vault.proofs.Words.{◌≡◌, ℕ, List, Option, None, Some, sym, ap, ◌∙◌, slice_get}
 use Rattle.vault.specs.declared.heard.Ask.{Ask}
 use Rattle.vault.proofs.HeardAt.{answered_at, answered_at-none, slice_get-answered_entries}
 use Rattle.vault.proofs.heard.Answers.at.Goals as goal

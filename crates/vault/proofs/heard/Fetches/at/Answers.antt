@@ -1,12 +1,6 @@
-use Rattle.std.proofs.Common.{◌≡◌, ◌+◌, ◌/◌, ◌<◌, ◌^◌, length, None, Some, sym, ap, ◌∙◌, zero-add, arith}
-use Rattle.std.specs.Prelude.{slice_get}
-use Rattle.std.specs.Option.{option_copied, option_map}
+use Rattle.vault.proofs.Words.{◌≡◌, ◌+◌, ◌/◌, ◌<◌, ◌^◌, None, Some, sym, ap, ◌∙◌, zero-add, arith, slice_get, option_copied, option_map, div-le_self, slice_get_within, length-present_blocks, blocks_in, fetched_entry}
+use Rattle.std.proofs.Common.{length}
 use Rattle.std.proofs.Math.Facts.{Fits-of_lt}
-use Rattle.std.proofs.Math.Nat.{div-le_self}
-use Rattle.std.proofs.lemmas.Option.{slice_get_within}
-use Rattle.column_codec.proofs.PresentLemmas.{length-present_blocks}
-use Rattle.stripe_bench.specs.Blocks.{blocks_in}
-use Rattle.vault.specs.Heard.{fetched_entry}
 use Rattle.vault.proofs.HeardAt.{slice_get-fetched_entries}
 use Rattle.vault.proofs.heard.Fetches.at.Goals as goal
 

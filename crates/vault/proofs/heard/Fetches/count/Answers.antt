@@ -1,6 +1,4 @@
-use Rattle.std.proofs.Common.{arith}
-use Rattle.column_codec.proofs.PresentLemmas.{length-present_blocks}
-use Rattle.stripe_bench.specs.Blocks.{blocks_in}
+use Rattle.vault.proofs.Words.{arith, length-present_blocks, blocks_in}
 use Rattle.vault.proofs.HeardAt.{length-fetched_entries}
 use Rattle.vault.proofs.heard.Fetches.count.Goals as goal
 

@@ -1,8 +1,6 @@
-use Rattle.std.proofs.Common.{◌≡◌, ◌≤◌, ◌∙◌, ℕ, List, Option, length, refl, ap, subst, arith}
-use Rattle.audit_verdict.specs.Rounds.{sums_of}
-use Rattle.column_defs.specs.Verdicts.{Judges}
+use Rattle.vault.proofs.Words.{◌≡◌, ◌≤◌, ◌∙◌, ℕ, List, Option, refl, ap, subst, arith, sums_of, Judges, challenge_put, sums_on}
+use Rattle.std.proofs.Common.{length}
 use Rattle.file_layout.specs.Files.{shaped_object}
-use Rattle.vault.specs.Asking.{challenge_put, sums_on}
 use Rattle.stripe_bench.proofs.Grown.{last_part, length-last}
 use Rattle.vault.proofs.tasks.AuditTask.judge.Goals as goal
 

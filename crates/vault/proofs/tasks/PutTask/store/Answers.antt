@@ -1,6 +1,4 @@
-use Rattle.std.proofs.Common.{◌∙◌, ap, sym, Vec, Global}
-use Rattle.column_defs.specs.Objects.{Object, symbols_in}
-use Rattle.hail_field.specs.declared.symbol.Symbol.{Symbol}
+use Rattle.vault.proofs.Words.{◌∙◌, ap, sym, Vec, Global, Object, symbols_in, Symbol}
 use Rattle.vault.proofs.tasks.PutTask.store.Goals as goal
 
 -- the symbols of a stripe do not depend on the number of the object

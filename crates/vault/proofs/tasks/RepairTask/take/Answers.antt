@@ -1,8 +1,4 @@
-use Rattle.std.proofs.Common.{◌≡◌, inl, inr, refl, sym, ap, ◌∙◌, List, Some, arith}
-use Rattle.std.specs.Prelude.{position, slice_set}
-use Rattle.std.proofs.lemmas.Option.{slice_get-get_or}
-use Rattle.column_codec.specs.declared.bench.Bench.{Bench}
-use Rattle.vault.specs.Benches.{is_sized}
+use Rattle.vault.proofs.Words.{◌≡◌, inl, inr, refl, sym, ap, ◌∙◌, List, Some, arith, position, slice_set, slice_get-get_or, Bench, is_sized}
 use Rattle.vault.proofs.Kits.{one_placed, size_of, none_own}
 use Rattle.vault.proofs.tasks.RepairTask.take.Goals as goal
 

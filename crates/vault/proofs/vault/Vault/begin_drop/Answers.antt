@@ -1,5 +1,4 @@
-use Rattle.std.proofs.Common.{None}
-use Rattle.machine_defs.specs.Jobs.{DropJob}
+use Rattle.vault.proofs.Words.{None, DropJob}
 use Rattle.vault.proofs.AtWork.{begun_works, begin_keeps}
 use Rattle.vault.proofs.Free.{not_free, begin_made}
 use Rattle.vault.proofs.vault.Vault.begin_drop.Goals as goal

@@ -1,9 +1,4 @@
-use Rattle.std.proofs.Common.{◌∙◌, refl, ap, sym, subst}
-use Rattle.record_defs.specs.Areas.{other_area}
-use Rattle.journal_pack.specs.Packs.{WritesText}
-use Rattle.journal_pack.proofs.Tabled.{packed-folds}
-use Rattle.vault_core.specs.View.{CoreView}
-use Rattle.vault.specs.declared.desk.Desk.{Desk}
+use Rattle.vault.proofs.Words.{◌∙◌, refl, ap, sym, subst, other_area, WritesText, packed-folds, CoreView, Desk}
 use Rattle.vault.proofs.Alone.{drawn_works}
 use Rattle.vault.proofs.PackBegins.{pack-begun}
 use Rattle.vault.proofs.Switching.{no-job}

@@ -1,11 +1,8 @@
-use Rattle.std.proofs.Common.{◌<◌, ◌≤◌, ◌∙◌, length, refl, arith, sym, subst}
-use Rattle.std.proofs.lemmas.Slice.Zip.{AllZip-long}
-use Rattle.vault_core.specs.Carried.{IsJobOf}
-use Rattle.vault.specs.declared.desk.Desk.{Desk}
+use Rattle.vault.proofs.Words.{◌<◌, ◌≤◌, ◌∙◌, refl, arith, sym, subst, AllZip-long, IsJobOf, Desk, CoreView, HasNoStream}
+use Rattle.std.proofs.Common.{length}
 use Rattle.vault.proofs.Free.{not_free, none_run}
 use Rattle.vault.proofs.Alone.{barred_alone, unbarred, busy_alone, free_alone, drawn_stands, drawn_works}
 use Rattle.vault.proofs.vault.Vault.hold.Goals as goal
-use Rattle.vault_core.specs.View.{CoreView, HasNoStream}
 
 pub returns-in_err-unheld-clause-holds : goal.returns-in_err-unheld-clause-holds
 returns-in_err-unheld-clause-holds c = λ w d stands.

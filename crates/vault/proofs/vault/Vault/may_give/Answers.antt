@@ -1,6 +1,4 @@
-use Rattle.std.proofs.Common.{ℕ, Option, sym, ap, subst}
-use Rattle.std.specs.Prelude.{is_some}
-use Rattle.vault.specs.Streams.{stripe_of, IsPiece}
+use Rattle.vault.proofs.Words.{ℕ, Option, sym, ap, subst, is_some, stripe_of, IsPiece}
 use Rattle.vault.proofs.vault.Vault.may_give.Goals as goal
 
 pub may_give-requires-clause-at_work : goal.may_give-requires-clause-at_work

@@ -1,8 +1,4 @@
-use Rattle.std.proofs.Common.{◌≤◌, ℕ, sym, subst}
-use Rattle.std.proofs.lemmas.Result.{IfOk-weaker}
-use Rattle.machine_defs.specs.Alone.{new_scrub}
-use Rattle.machine_defs.specs.States.{setup_in}
-use Rattle.state_laws.proofs.Written.{setup-providers}
+use Rattle.vault.proofs.Words.{◌≤◌, ℕ, sym, subst, IfOk-weaker, new_scrub, setup_in, setup-providers}
 use Rattle.hail_scrub.proofs.Starts.{new_begun}
 use Rattle.vault.proofs.Scrubbed.{few_files, files_apart, one_count, count_fits}
 use Rattle.vault.proofs.vault.Vault.scrub.Goals as goal

@@ -1,10 +1,8 @@
-use Rattle.std.proofs.Common.{◌≡◌, Ok, Err, refl, ap, arith, sym, subst}
+use Rattle.vault.proofs.Words.{◌≡◌, Ok, Err, refl, ap, arith, sym, subst, CoreView, HasNoStream, All-nil}
 use Rattle.record_defs.proofs.Standing.{base-least}
-use Rattle.vault_core.specs.View.{CoreView, HasNoStream}
 use Rattle.vault_open.specs.declared.fault.StartFault.{StartFault}
 use Rattle.vault.proofs.Opened.{carries, stands, fresh_works}
 use Rattle.vault.proofs.vault.Vault.start.Goals as goal
-use Rattle.std.proofs.lemmas.List.Elements.{All-nil}
 
 pub open_fresh-requires-clause-least : goal.open_fresh-requires-clause-least
 open_fresh-requires-clause-least g c =

@@ -1,12 +1,6 @@
-use Rattle.std.proofs.Common.{◌≡◌, ◌⊎◌, ◌<◌, ◌≤◌, ℕ, Bool, false, None, Err, refl, ap, sym, ◌∙◌, inl, inr, arith}
-use Rattle.std.specs.Prelude.{IsTrue}
-use Rattle.std.proofs.lemmas.Bool.{false≢true, cases_eq}
+use Rattle.vault.proofs.Words.{◌≡◌, ◌⊎◌, ◌<◌, ◌≤◌, ℕ, Bool, false, None, Err, refl, ap, sym, ◌∙◌, inl, inr, arith, IsTrue, false≢true, cases_eq, CoreView, devices, Desk, plain}
 use Rattle.journal_pack.specs.Packs.{moves_of}
-use Rattle.vault_core.specs.View.{CoreView}
-use Rattle.vault_open.specs.Devices.{devices}
-use Rattle.vault.specs.declared.desk.Desk.{Desk}
-use Rattle.vault.specs.Packing.{plain}
-use Rattle.vault.proofs.PackSteps.{turned_by, torn_by, unwritten_by, barred-works, pack-on, ends_made, ends_unwritten, fails, goes, goes_fourth}
+use Rattle.vault.proofs.PackSteps.{turned_by, barred-works, pack-on, ends_made, ends_unwritten, fails, goes, goes_fourth}
 use Rattle.vault.proofs.vault.Vault.step_pack.Goals as goal
 
 -- of a pack whose moves are not all made, fewer than four are
@@ -26,20 +20,11 @@ returns-then-is_made-clause-machine g c = λ w ps is_told S.
 pub returns-in-Ok-true-clause-machine : goal.returns-in-Ok-true-clause-machine
 returns-in-Ok-true-clause-machine g c = λ w ps is_told S.
     let e = c.in-Ok-true.ensures in
-    let four = e.last.0 c.in-Ok-true.field-0-test in
-    let three : moves_of c.args.job.pack ≡ 3 = (let n = e.next in omega (arith, n, four)) in
-    goes_fourth c.args.self.now c.args.job w _ _ ps S _ _ _ refl refl
-    (turned_by is_told c.args.job.pack c.turn.new.self (g.D.Disk.holds c.args.disk.now)
-    (g.D.Disk.holds c.turn.new.disk) (record {
-      next = e.next;
-      to = e.to;
-      text = e.text;
-      moved = e.moved;
-      before = e.before;
-      between = e.between;
-      after = e.after;
-      ready = e.ready;
-    }))
+    let four = e.moves.count.last.0 c.in-Ok-true.field-0-test in
+    let three : moves_of c.args.job.pack ≡ 3 = (let n = e.moves.count.next in omega (arith, n, four)) in
+    goes_fourth c.args.self.now c.args.job w _ _ ps S _ _ _ refl refl _
+    (turned_by is_told c.args.job.pack _ c.turn.new.self (g.D.Disk.holds c.args.disk.now)
+    (g.D.Disk.holds c.turn.new.disk) (record { turns = e.moves; disk = e.disk }))
     c.turn.ensures.cause.never_falls three _
     (record {
       held = c.requires.held;
@@ -59,22 +44,13 @@ returns-in-Ok-false-clause-machine g c = λ w ps is_told S.
     let e = c.in-Ok-false.ensures in
     let few = few_of (moves_of c.args.job.pack) c.is_made.result c.args.job.undone c.is_made.ensures.1
     c.if-is_made.false in
-    let less = few_of (moves_of c.turn.new.self) c.in-Ok-false.field-0 (let n = e.next in omega (arith, n, few))
-    e.last.1 c.in-Ok-false.field-0-test in
-    goes c.args.self.now c.args.job w _ _ ps S _ _ _ refl refl
-    (turned_by is_told c.args.job.pack c.turn.new.self (g.D.Disk.holds c.args.disk.now)
-    (g.D.Disk.holds c.turn.new.disk) (record {
-      next = e.next;
-      to = e.to;
-      text = e.text;
-      moved = e.moved;
-      before = e.before;
-      between = e.between;
-      after = e.after;
-      ready = e.ready;
-    }))
-    c.turn.ensures.cause.never_falls (let n = e.next in omega (arith, n, less))
-    (pack-on c.args.self.now c.args.job _ c.requires refl e.to e.text few)
+    let less = few_of (moves_of c.turn.new.self) c.in-Ok-false.field-0 (let n = e.moves.count.next in omega (arith, n, few))
+    e.moves.count.last.1 c.in-Ok-false.field-0-test in
+    goes c.args.self.now c.args.job w _ _ ps S _ _ _ refl refl _
+    (turned_by is_told c.args.job.pack _ c.turn.new.self (g.D.Disk.holds c.args.disk.now)
+    (g.D.Disk.holds c.turn.new.disk) (record { turns = e.moves; disk = e.disk }))
+    c.turn.ensures.cause.never_falls (let n = e.moves.count.next in omega (arith, n, less))
+    (pack-on c.args.self.now c.args.job _ c.requires refl e.moves.to e.moves.text few)
 
 pub invariant_of-self-in-Err-Failed : goal.invariant_of-self-in-Err-Failed
 invariant_of-self-in-Err-Failed g c =
@@ -88,21 +64,20 @@ pub returns-in-Err-Failed-clause-machine : goal.returns-in-Err-Failed-clause-mac
 returns-in-Err-Failed-clause-machine g c = λ w ps is_told S.
     let v : Desk = c.args.self.now.desk in
     let e = c.in-Err-Failed.ensures in
-    fails c.args.self.now c.args.job w _ _ ps S _ _ _ refl c.turn.ensures.cause.never_falls
-    (torn_by is_told c.args.job.pack (g.D.Disk.holds c.args.disk.now) (g.D.Disk.holds c.turn.new.disk)
-    (record { before = e.before; between = e.between }))
+    fails c.args.self.now c.args.job w _ _ ps S _ _ _ refl c.turn.ensures.cause.never_falls _ _
+    (turned_by is_told c.args.job.pack _ c.turn.new.self (g.D.Disk.holds c.args.disk.now)
+    (g.D.Disk.holds c.turn.new.disk) (record { turns = e.moves; disk = e.disk }))
     (e.cause.rose (ap Err c.in-Err-Failed.field-0-is)) (ap (λ (core : CoreView). record v { core = core }) c.bar.ensures.barred)
     (few_of (moves_of c.args.job.pack) c.is_made.result c.args.job.undone c.is_made.ensures.1 c.if-is_made.false)
 
 pub returns-clause-machine : goal.returns-clause-machine
 returns-clause-machine g c = λ w ps is_told S.
     let e = c.in-Err-Memory.ensures in
-    ends_unwritten c.args.self.now c.args.job w _ _ ps S _ _ _ refl c.turn.ensures.cause.never_falls
-    (unwritten_by is_told c.args.job.pack (g.D.Disk.holds c.args.disk.now) (g.D.Disk.holds c.turn.new.disk)
-    (record {
-      write = e.writes (ap Err c.in-Err-Memory.field-0-is);
-      kept = λ area rs qs on. e.kept area rs qs on (ap Err c.in-Err-Memory.field-0-is);
-    }))
+    ends_unwritten c.args.self.now c.args.job w _ _ ps S _ _ _ refl
+    (e.no_fault (ap Err c.in-Err-Memory.field-0-is)) _ _
+    (turned_by is_told c.args.job.pack _ c.turn.new.self (g.D.Disk.holds c.args.disk.now)
+    (g.D.Disk.holds c.turn.new.disk) (record { turns = e.moves; disk = e.disk }))
+    (ap Err c.in-Err-Memory.field-0-is)
     (few_of (moves_of c.args.job.pack) c.is_made.result c.args.job.undone c.is_made.ensures.1 c.if-is_made.false)
     refl
 
@@ -110,21 +85,21 @@ pub returns-then-is_made-clause-moves : goal.returns-then-is_made-clause-moves
 returns-then-is_made-clause-moves g c = (c.is_made.ensures.0 c.if-is_made.true, refl)
 
 pub returns-in-Ok-true-clause-moves : goal.returns-in-Ok-true-clause-moves
-returns-in-Ok-true-clause-moves g c = c.in-Ok-true.ensures.does
+returns-in-Ok-true-clause-moves g c = c.in-Ok-true.ensures.disk.does
 
 pub returns-in-Ok-true-clause-same : goal.returns-in-Ok-true-clause-same
-returns-in-Ok-true-clause-same g c = (c.in-Ok-true.ensures.to, c.in-Ok-true.ensures.text)
+returns-in-Ok-true-clause-same g c = (c.in-Ok-true.ensures.moves.to, c.in-Ok-true.ensures.moves.text)
 
 pub returns-in-Ok-false-clause-moves : goal.returns-in-Ok-false-clause-moves
-returns-in-Ok-false-clause-moves g c = c.in-Ok-false.ensures.does
+returns-in-Ok-false-clause-moves g c = c.in-Ok-false.ensures.disk.does
 
 pub returns-in-Ok-false-clause-same : goal.returns-in-Ok-false-clause-same
-returns-in-Ok-false-clause-same g c = (c.in-Ok-false.ensures.to, c.in-Ok-false.ensures.text)
+returns-in-Ok-false-clause-same g c = (c.in-Ok-false.ensures.moves.to, c.in-Ok-false.ensures.moves.text)
 
 pub returns-in-Err-Failed-clause-moves : goal.returns-in-Err-Failed-clause-moves
-returns-in-Err-Failed-clause-moves g c = c.in-Err-Failed.ensures.torn (ap Err c.in-Err-Failed.field-0-is)
+returns-in-Err-Failed-clause-moves g c = c.in-Err-Failed.ensures.disk.torn (ap Err c.in-Err-Failed.field-0-is)
 
 pub returns-clause-moves : goal.returns-clause-moves
 returns-clause-moves g c =
     let memory = ap Err c.in-Err-Memory.field-0-is in
-    (c.in-Err-Memory.ensures.writes memory, c.in-Err-Memory.ensures.memory memory)
+    (c.in-Err-Memory.ensures.disk.writes memory, c.in-Err-Memory.ensures.disk.memory memory)

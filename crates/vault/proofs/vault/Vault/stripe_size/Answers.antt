@@ -1,5 +1,4 @@
-use Rattle.std.proofs.Common.{◌*◌, ap, ◌∙◌}
-use Rattle.code_defs.specs.Profiles.{profile_of}
+use Rattle.vault.proofs.Words.{◌*◌, ap, ◌∙◌, profile_of}
 use Rattle.vault.proofs.vault.Vault.stripe_size.Goals as goal
 
 pub returns : goal.returns

@@ -1,6 +1,4 @@
-use Rattle.std.proofs.Common.{◌≡◌, true, sym, subst}
-use Rattle.vault_core.specs.declared.cursor.Cursor.{Cursor}
-use Rattle.vault_core.specs.Parts.{comes_to}
+use Rattle.vault_core.proofs.Words.{◌≡◌, true, sym, subst, Cursor, comes_to}
 use Rattle.vault_core.proofs.Rests.{at_along, opened_on, opened, closed_on, closed, removed_on, removed, rest_calling, rest_working, rest_rewriting}
 use Rattle.vault_core.proofs.job.Job.after.Goals as goal
 

@@ -1,7 +1,4 @@
-use Rattle.std.proofs.Common.{◌+◌, ◌-◌, ap, sym, arith}
-use Rattle.vault_core.specs.Rest.{rest_of}
-use Rattle.vault_core.specs.Going.{removals_of}
-use Rattle.std.proofs.Common.{length}
+use Rattle.vault_core.proofs.Words.{◌+◌, ◌-◌, ap, sym, arith, rest_of, removals_of, length}
 use Rattle.vault_core.proofs.Gates.{decided, ended, removals_length}
 use Rattle.vault_core.proofs.job.Job.decide.Goals as goal
 

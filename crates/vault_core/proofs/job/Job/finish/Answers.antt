@@ -1,6 +1,4 @@
-use Rattle.std.proofs.Common.{◌-◌, ap, sym, subst, ◌∙◌}
-use Rattle.std.proofs.lemmas.Bool.{and_parts}
-use Rattle.vault_core.specs.Going.{LeavesBehind}
+use Rattle.vault_core.proofs.Words.{◌-◌, ap, sym, subst, ◌∙◌, and_parts, LeavesBehind}
 use Rattle.vault_core.proofs.Gates.{steady_with, rest_with}
 use Rattle.vault_core.proofs.job.Job.finish.Goals as goal
 

@@ -1,5 +1,4 @@
-use Rattle.std.proofs.Common.{◌∙◌}
-use Rattle.machine_defs.specs.Actions.{Ask}
+use Rattle.vault_core.proofs.Words.{◌∙◌, Ask}
 use Rattle.vault_core.proofs.Gates.{not_over, asks_last}
 use Rattle.vault_core.proofs.job.Job.is_last_ask.Goals as goal
 

@@ -1,7 +1,4 @@
-use Rattle.std.proofs.Common.{◌≡◌, ◌≤◌, List, Some, length, refl, subst}
-use Rattle.std.specs.Prelude.{slice_get}
-use Rattle.std.proofs.lemmas.Option.{slice_get_read}
-use Rattle.vault_core.specs.declared.job.Task.{Task}
+use Rattle.vault_core.proofs.Words.{◌≡◌, ◌≤◌, List, Some, length, refl, subst, slice_get, slice_get_read, Task}
 use Rattle.vault_core.proofs.Rests.{task_found, tasks_over}
 use Rattle.vault_core.proofs.job.Job.task_at.Goals as goal
 

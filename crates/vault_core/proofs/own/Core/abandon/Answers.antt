@@ -1,10 +1,4 @@
-use Rattle.std.proofs.Common.{rules, ◌<◌, ◌∙◌, ap, sym, subst, length}
-use Rattle.std.proofs.lemmas.Option.{slice_get_within}
-use Rattle.std.specs.Prelude.{remove}
-use Rattle.machine_defs.specs.States.{ended}
-use Rattle.vault_core.specs.Carried.{CoreIs}
-use Rattle.vault_core.specs.View.{CoreView, job_in}
-use Rattle.vault_core.specs.Parts.{view_of}
+use Rattle.vault_core.proofs.Words.{rules, ◌<◌, ◌∙◌, ap, sym, subst, length, slice_get_within, remove, ended, CoreIs, CoreView, job_in, view_of}
 use Rattle.vault_core.proofs.Gating.{place_len}
 use Rattle.vault_core.proofs.Kept.{less_view, less_core}
 use Rattle.vault_core.proofs.Waiting.{ended-stands, ended-gone, ended-others}
@@ -25,36 +19,22 @@ invariant_of-self c = less_core c.self.inside c.remove.new.self c.waiting-place.
     c.waiting-place.ensures.here))
     c.remove.ensures.items c.self.invariant
 
-pub returns-clause-stands : goal.returns-clause-stands
-returns-clause-stands c =
+pub returns : goal.returns
+returns c =
     let e = less_view c.self.inside c.remove.new.self c.waiting-place.result.0 c.self.inside.append
     c.self.inside.barred c.remove.ensures.items
     ∙ ap (λ (x : CoreView). record x { jobs = remove x.jobs c.waiting-place.result.0 }) c.self.view_is in
-    λ w j is runs. subst (λ (x : CoreView). CoreIs x (ended w j)) (sym e)
-    (ended-stands c.args.self.now c.args.job c.waiting-place.result.0 c.waiting-place.result.1
-    c.waiting-place.ensures w is j runs)
-
-pub returns-clause-ended : goal.returns-clause-ended
-returns-clause-ended c =
-    let e = less_view c.self.inside c.remove.new.self c.waiting-place.result.0 c.self.inside.append
-    c.self.inside.barred c.remove.ensures.items
-    ∙ ap (λ (x : CoreView). record x { jobs = remove x.jobs c.waiting-place.result.0 }) c.self.view_is in
-    ap (λ (x : CoreView). job_in x.jobs c.args.job) e
-    ∙ ended-gone c.args.self.now c.args.job c.waiting-place.result.0 c.waiting-place.result.1
-    c.waiting-place.ensures
-    c.self.inside c.self.view_is c.self.invariant
-
-pub returns-clause-kept : goal.returns-clause-kept
-returns-clause-kept c = ap (λ (x : CoreView). record x {
-  jobs = (view_of (record c.self.inside
-      { jobs = c.remove.new.self })).jobs;
-}) c.self.view_is
-
-pub returns-clause-others : goal.returns-clause-others
-returns-clause-others c =
-    let e = less_view c.self.inside c.remove.new.self c.waiting-place.result.0 c.self.inside.append
-    c.self.inside.barred c.remove.ensures.items
-    ∙ ap (λ (x : CoreView). record x { jobs = remove x.jobs c.waiting-place.result.0 }) c.self.view_is in
-    λ other o. ap (λ (x : CoreView). job_in x.jobs other) e
-    ∙ ended-others c.args.self.now c.args.job c.waiting-place.result.0 c.waiting-place.result.1
-    c.waiting-place.ensures other o
+    record {
+      stands = λ w j is runs. subst (λ (x : CoreView). CoreIs x (ended w j)) (sym e)
+          (ended-stands c.args.self.now c.args.job c.waiting-place.result.0 c.waiting-place.result.1
+          c.waiting-place.ensures w is j runs);
+      ended = ap (λ (x : CoreView). job_in x.jobs c.args.job) e
+          ∙ ended-gone c.args.self.now c.args.job c.waiting-place.result.0 c.waiting-place.result.1
+          c.waiting-place.ensures c.self.inside c.self.view_is c.self.invariant;
+      others = λ other o. ap (λ (x : CoreView). job_in x.jobs other) e
+          ∙ ended-others c.args.self.now c.args.job c.waiting-place.result.0 c.waiting-place.result.1
+          c.waiting-place.ensures other o;
+      kept = ap (λ (x : CoreView). record x {
+        jobs = (view_of (record c.self.inside { jobs = c.remove.new.self })).jobs;
+      }) c.self.view_is;
+    }

@@ -1,11 +1,5 @@
-use Rattle.std.proofs.Common.{◌≡◌, ◌∙◌, List, ◌++◌, ◌∷◌, [], ◌+◌, ◌<◌, ◌≤◌, ap, sym, subst, length}
-use Rattle.std.specs.Prelude.{sum_by}
-use Rattle.record_defs.specs.Records.{largest_journal}
+use Rattle.vault_core.proofs.Words.{◌≡◌, ◌∙◌, List, ◌++◌, ◌∷◌, [], ◌+◌, ◌<◌, ◌≤◌, ap, sym, subst, length, sum_by, largest_journal, CoreView, HasLoneUpgrade, core_job, IsJobKept, IsTold, reserved_of}
 use Rattle.vault_core.specs.declared.job.Job.{Job}
-use Rattle.vault_core.specs.View.{CoreView, HasLoneUpgrade}
-use Rattle.vault_core.specs.Parts.{core_job, IsJobKept}
-use Rattle.vault_core.specs.Streams.{IsTold}
-use Rattle.vault_core.specs.Reserves.{reserved_of}
 use Rattle.vault_core.proofs.Admitted.{admitted-core, admitted-view, fewer-than}
 use Rattle.vault_core.proofs.own.Core.admit.Goals as goal
 use Rattle.vault_core.proofs.Gating.{on_ok}

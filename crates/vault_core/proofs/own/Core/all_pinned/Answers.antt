@@ -1,9 +1,5 @@
-use Rattle.std.proofs.Common.{◌∙◌, refl, sym, subst}
+use Rattle.vault_core.proofs.Words.{◌∙◌, refl, sym, subst, AuditJob, CoreIs, view_of, CoreView}
 use Rattle.std.proofs.lemmas.Result.{IfOk-weaker}
-use Rattle.machine_defs.specs.Jobs.{AuditJob}
-use Rattle.vault_core.specs.Carried.{CoreIs}
-use Rattle.vault_core.specs.Parts.{view_of}
-use Rattle.vault_core.specs.View.{CoreView}
 use Rattle.vault_core.specs.declared.wish.Wish.TheVariants as wish
 use Rattle.vault_core.proofs.Alike.{table-like}
 use Rattle.vault_core.proofs.Joins.{pins-are}

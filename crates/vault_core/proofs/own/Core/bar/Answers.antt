@@ -1,7 +1,4 @@
-use Rattle.std.proofs.Common.{sym, subst, true}
-use Rattle.machine_defs.specs.Appends.{barred}
-use Rattle.vault_core.specs.View.{CoreView}
-use Rattle.vault_core.specs.Carried.{CoreIs}
+use Rattle.vault_core.proofs.Words.{sym, subst, true, barred, CoreView, CoreIs}
 use Rattle.vault_core.proofs.Idle.{bar_core, core-bar}
 use Rattle.vault_core.proofs.own.Core.bar.Goals as goal
 

@@ -1,10 +1,4 @@
-use Rattle.std.proofs.Common.{◌≡◌, ◌≤◌, ◌<◌, ◌∙◌, ap, sym, true, false, None, Some, Bool, length, arith}
-use Rattle.std.specs.Prelude.{if◌then◌else◌}
-use Rattle.std.proofs.lemmas.Bool.{le-leb, lt-leb}
-use Rattle.std.proofs.lemmas.List.{length-map}
-use Rattle.machine_defs.specs.Refusals.{Busy}
-use Rattle.vault_core.specs.View.{CoreView}
-use Rattle.vault_core.specs.Parts.{core_job}
+use Rattle.vault_core.proofs.Words.{◌≡◌, ◌≤◌, ◌<◌, ◌∙◌, ap, sym, true, false, None, Some, Bool, length, arith, if◌then◌else◌, le-leb, lt-leb, length-map, Busy, CoreView, core_job}
 use Rattle.vault_core.proofs.Refusals.{has_upgrade, upgrade_seen, refused_early, early}
 use Rattle.vault_core.proofs.own.Core.barred.Goals as goal
 

@@ -1,23 +1,18 @@
-use Rattle.std.proofs.Common.{refl}
-use Rattle.machine_defs.specs.Jobs.{PutJob}
-use Rattle.vault_core.proofs.Admitted.{stream-open, stream-others}
+use Rattle.vault_core.proofs.Words.{IsShortKindOf, IsPutUnder}
+use Rattle.std.specs.Prelude.{Some, ◌^◌}
+use Rattle.vault_core.specs.declared.wish.Wish.TheVariants as wish
+use Rattle.vault_core.proofs.Admitted.{begins_among, put_under, stream-open, stream-others}
 use Rattle.vault_core.proofs.own.Core.begin_stream.Goals as goal
 
-pub returns-clause-begun : goal.returns-clause-begun
-returns-clause-begun c = λ w bytes moment is spelled l.
-    c.start_job.ensures.begun w (PutJob c.args.name bytes) moment is refl l spelled
-
-pub returns-clause-accepted : goal.returns-clause-accepted
-returns-clause-accepted c = λ w bytes is l. c.start_job.ensures.accepted w (PutJob c.args.name bytes)
-    is refl l
-
-pub returns-clause-refused : goal.returns-clause-refused
-returns-clause-refused c = λ w bytes is l. c.start_job.ensures.refused w (PutJob c.args.name bytes) is refl l
+pub returns-clause-begins : goal.returns-clause-begins
+returns-clause-begins c = begins_among c.args.self.now c.start_job.new.self
+    (IsShortKindOf (Some 0) (wish.Put c.args.name (2 ^ 22) c.args.profile)) (IsPutUnder c.args.name)
+    c.args.profile c.start_job.result (put_under c.args.name c.args.profile) c.start_job.ensures.begins
 
 pub returns-clause-open : goal.returns-clause-open
 returns-clause-open c = stream-open c.start_job.result c.args.self.now c.start_job.new.self
-    c.start_job.ensures.jobs c.start_job.ensures.number
+    c.start_job.ensures.jobs c.start_job.ensures.begins.number
 
 pub returns-clause-others : goal.returns-clause-others
 returns-clause-others c = stream-others c.start_job.result c.args.self.now c.start_job.new.self
-    c.start_job.ensures.jobs c.start_job.ensures.unchanged
+    c.start_job.ensures.jobs c.start_job.ensures.begins.unchanged

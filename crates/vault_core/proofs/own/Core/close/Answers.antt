@@ -1,11 +1,5 @@
-use Rattle.std.proofs.Common.{rules, ◌≡◌, ◌<◌, ◌≤◌, ◌∙◌, ap, sym, subst, refl, Some, length}
-use Rattle.std.specs.Prelude.{slice_get}
-use Rattle.std.specs.Vec.{with_item}
+use Rattle.vault_core.proofs.Words.{rules, ◌≡◌, ◌<◌, ◌≤◌, ◌∙◌, ap, sym, subst, refl, Some, length, slice_get, with_item, CoreView, CoreJob, closed, most_of, setup_kept, core_job}
 use Rattle.vault_core.specs.declared.job.Job.{Job}
-use Rattle.vault_core.specs.View.{CoreView, CoreJob}
-use Rattle.vault_core.specs.Streams.{closed}
-use Rattle.vault_core.specs.Coming.{most_of}
-use Rattle.vault_core.specs.Parts.{setup_kept, core_job}
 use Rattle.vault_core.proofs.Admitted.{primary}
 use Rattle.vault_core.proofs.Kept.{other_core}
 use Rattle.vault_core.proofs.Told.{told_none}
@@ -37,29 +31,23 @@ invariant_of-self c =
     (told_none (setup_kept c.self.inside) (core_job c.close.new.self)
     (ap (λ (j : Job). j.told) c.close.ensures.same)) ends.went.room ends.went.starts c.self.invariant
 
-pub returns-clause-moved : goal.returns-clause-moved
-returns-clause-moved c =
+pub returns : goal.returns
+returns c =
     let old = c.index_mut-job.result.now in
     let here = job_here c.self.inside c.args.self.now c.args.place old c.self.view_is c.self.invariant
     c.requires.within c.index_mut-job.ensures.value in
     let ends = closed_here c.self.inside c.args.self.now c.args.place old c.close.new.self c.args.given
     c.args.size c.stripes-stripes.result c.self.view_is c.self.invariant here c.requires.ends
     (c.stripes-stripes.ensures c.self.inside.master.0) c.close.ensures.tasks c.close.ensures.same in
-    set_view_same c.self.inside c.args.self.now
-    (with_item c.self.inside.jobs c.args.place c.close.new.self) c.args.place c.close.new.self old
-    (closed c.args.size) c.self.view_is refl here.here ends.seen
-
-pub returns-clause-left : goal.returns-clause-left
-returns-clause-left c = λ j at.
-    let old = c.index_mut-job.result.now in
-    let here = job_here c.self.inside c.args.self.now c.args.place old c.self.view_is c.self.invariant
-    c.requires.within c.index_mut-job.ensures.value in
-    let ends = closed_here c.self.inside c.args.self.now c.args.place old c.close.new.self c.args.given
-    c.args.size c.stripes-stripes.result c.self.view_is c.self.invariant here c.requires.ends
-    (c.stripes-stripes.ensures c.self.inside.master.0) c.close.ensures.tasks c.close.ensures.same in
-    let f : Some (core_job old) ≡ Some j = sym here.here
-    ∙ (ap (λ (x : CoreView). slice_get x.jobs c.args.place) c.self.view_is ∙ at) in
-    let is : core_job old ≡ j = cc in
-    subst (λ (x : CoreView). most_of x.setup (closed c.args.size j) ≤ most_of x.setup j) c.self.view_is
-    (subst (λ (y : CoreJob). most_of (setup_kept c.self.inside) (closed c.args.size y)
-    ≤ most_of (setup_kept c.self.inside) y) is ends.left)
+    record {
+      moved = set_view_same c.self.inside c.args.self.now
+          (with_item c.self.inside.jobs c.args.place c.close.new.self) c.args.place c.close.new.self old
+          (closed c.args.size) c.self.view_is refl here.here ends.seen;
+      left = λ j at.
+          let f : Some (core_job old) ≡ Some j = sym here.here
+          ∙ (ap (λ (x : CoreView). slice_get x.jobs c.args.place) c.self.view_is ∙ at) in
+          let is : core_job old ≡ j = cc in
+          subst (λ (x : CoreView). most_of x.setup (closed c.args.size j) ≤ most_of x.setup j) c.self.view_is
+          (subst (λ (y : CoreJob). most_of (setup_kept c.self.inside) (closed c.args.size y)
+          ≤ most_of (setup_kept c.self.inside) y) is ends.left);
+    }

@@ -1,7 +1,4 @@
-use Rattle.std.proofs.Common.{◌∙◌, ap, sym}
-use Rattle.vault_core.specs.View.{CoreView}
-use Rattle.vault_core.specs.Coming.{action_next}
-use Rattle.vault_core.specs.Parts.{core_job}
+use Rattle.vault_core.proofs.Words.{◌∙◌, ap, sym, CoreView, action_next, core_job}
 use Rattle.vault_core.proofs.Standing.{acts_next}
 use Rattle.vault_core.proofs.own.Core.coming.Goals as goal
 

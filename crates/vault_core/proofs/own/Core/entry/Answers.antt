@@ -1,5 +1,4 @@
-use Rattle.std.specs.Option.{option_map}
-use Rattle.record_codec.specs.Entries.{entry_of}
+use Rattle.vault_core.proofs.Words.{option_map, entry_of}
 use Rattle.vault_core.proofs.Standing.{entry_machine}
 use Rattle.vault_core.proofs.own.Core.entry.Goals as goal
 

@@ -1,6 +1,4 @@
-use Rattle.std.proofs.Common.{◌<◌, ◌∙◌, sym, ap, subst, length, None, true}
-use Rattle.vault_core.specs.Fed.{barred_at}
-use Rattle.vault_core.specs.View.{CoreView}
+use Rattle.vault_core.proofs.Words.{◌<◌, ◌∙◌, sym, ap, subst, length, None, true, barred_at, CoreView}
 use Rattle.vault_core.proofs.Kept.{less_view, less_core}
 use Rattle.vault_core.proofs.own.Core.fail.Goals as goal
 

@@ -1,8 +1,5 @@
-use Rattle.std.proofs.Common.{◌∙◌, ap, ◌<◌, length, sym, subst, Some}
-use Rattle.std.specs.Prelude.{◌==◌, slice_get}
+use Rattle.vault_core.proofs.Words.{◌∙◌, ap, ◌<◌, length, sym, subst, Some, ◌==◌, slice_get, CoreJob, CoreView, core_job}
 use Rattle.std.proofs.lemmas.List.Quantifiers.{position-Some}
-use Rattle.vault_core.specs.View.{CoreJob, CoreView}
-use Rattle.vault_core.specs.Parts.{core_job}
 use Rattle.vault_core.proofs.Kept.{seen_at}
 use Rattle.vault_core.proofs.Places.{found_at, found_none}
 use Rattle.vault_core.proofs.own.Core.find.Goals as goal

@@ -1,12 +1,6 @@
-use Rattle.std.proofs.Common.{◌≡◌, ◌∙◌, ap, sym, ℕ, true, false, Bool, not, ◌||◌, List, length, arith}
-use Rattle.std.specs.List.{list_any}
-use Rattle.std.specs.Prelude.{◌==◌, nat_le, vec_len}
-use Rattle.std.proofs.lemmas.List.{length-map}
-use Rattle.std.proofs.lemmas.Bool.{le-leb}
-use Rattle.machine_defs.specs.Sights.{is_put_or_check, is_check}
+use Rattle.vault_core.proofs.Words.{◌≡◌, ◌∙◌, ap, sym, ℕ, true, false, Bool, List, length, arith, list_any, ◌==◌, nat_le, vec_len, length-map, le-leb, is_put_or_check, is_check, aim_of_wish, aims_kept}
+use Rattle.std.proofs.Common.{not, ◌||◌}
 use Rattle.vault_core.specs.declared.job.Job.{Job}
-use Rattle.vault_core.specs.Wished.{aim_of_wish}
-use Rattle.vault_core.specs.Refusing.{aims_kept}
 use Rattle.vault_core.proofs.Places.{any-map}
 use Rattle.vault_core.proofs.Refusals.{has_upgrade, upgrade_seen, busy, beside, some_jobs, none-beside, are_in_the_way}
 use Rattle.vault_core.proofs.own.Core.is_busy.Goals as goal

@@ -1,8 +1,6 @@
-use Rattle.std.proofs.Common.{◌∙◌, ap, sym, refl, ◌≤◌, Bool, ◌&&◌, not, List, arith}
-use Rattle.std.proofs.lemmas.Bool.{le-leb}
-use Rattle.machine_defs.specs.Sights.{is_name_among}
+use Rattle.vault_core.proofs.Words.{◌∙◌, ap, sym, refl, ◌≤◌, Bool, List, arith, le-leb, is_name_among, aims_kept, taken_names}
+use Rattle.std.proofs.Common.{◌&&◌, not}
 use Rattle.vault_core.specs.declared.job.Job.{Job}
-use Rattle.vault_core.specs.Refusing.{aims_kept, taken_names}
 use Rattle.vault_core.proofs.Refusals.{crowded, names-along, few_false}
 use Rattle.vault_core.proofs.own.Core.is_crowded.Goals as goal
 

@@ -1,11 +1,6 @@
-use Rattle.std.proofs.Common.{◌∙◌, ap}
-use Rattle.std.specs.Prelude.{◌==◌}
-use Rattle.std.specs.List.{list_any}
+use Rattle.vault_core.proofs.Words.{◌∙◌, ap, ◌==◌, list_any, CoreJob, CoreView, core_job, is_pinned_in}
 use Rattle.vault_core.specs.declared.pinned.Pinned.{Pinned}
 use Rattle.vault_core.specs.declared.job.Job.{Job}
-use Rattle.vault_core.specs.View.{CoreJob, CoreView}
-use Rattle.vault_core.specs.Parts.{core_job}
-use Rattle.vault_core.specs.Fed.{is_pinned_in}
 use Rattle.vault_core.proofs.Places.{any-map}
 use Rattle.vault_core.proofs.own.Core.is_pinned.Goals as goal
 

@@ -1,17 +1,7 @@
-use Rattle.std.proofs.Common.{ap, refl, arith}
-use Rattle.std.specs.Vec.{with_item}
-use Rattle.record_codec.specs.Entries.{counted}
-use Rattle.vault_core.specs.declared.job.Job.{Job}
-use Rattle.vault_core.specs.View.{CoreView, CoreJob}
-use Rattle.machine_defs.specs.Sights.{is_upgrade}
-use Rattle.vault_core.specs.Wished.{aim_of_wish}
-use Rattle.vault_core.specs.Parts.{setup_kept, core_job, view_of}
-use Rattle.vault_core.specs.Fed.{judged}
+use Rattle.vault_core.proofs.Words.{ap, refl, with_item, counted, CoreJob, setup_kept, core_job, judged}
 use Rattle.vault_core.proofs.Goes.{left_some}
-use Rattle.vault_core.proofs.Kept.{other_core, jobs_set}
 use Rattle.vault_core.proofs.Moving.{plain_here, judged_here, went_judged, set_view_same}
-use Rattle.vault_core.proofs.Told.{told_went}
-use Rattle.vault_core.proofs.Falls.{placed_falls}
+use Rattle.vault_core.proofs.Advancing.{advances, on_core, on_same}
 use Rattle.vault_core.proofs.own.Core.judge.Goals as goal
 
 pub advance-requires-clause-kept : goal.advance-requires-clause-kept
@@ -39,52 +29,38 @@ pub invariant_of-self : goal.invariant_of-self
 invariant_of-self c =
     let here = plain_here c.self.inside c.args.self.now c.args.place c.index_mut-job.result.now c.self.view_is
     c.self.invariant c.index_mut-job.ensures.value c.requires.plain in
-    let went = went_judged (setup_kept c.self.inside) c.index_mut-job.result.now
-    c.advance.new.self here.action
-    c.args.undecided c.args.counts here.kept here.head here.gateless
-    (judged_here c.self.inside c.args.self.now c.args.place c.index_mut-job.result.now c.args.undecided
-    c.args.counts c.self.view_is c.self.invariant c.index_mut-job.ensures.value c.requires.plain
-    c.requires.counts c.requires.padded)
-    c.advance.ensures.kept c.advance.ensures.rest c.advance.ensures.same in
-    other_core c.self.inside (with_item c.self.inside.jobs c.args.place c.advance.new.self) c.args.place
-    c.advance.new.self (core_job c.index_mut-job.result.now) (core_job c.advance.new.self)
-    c.self.inside.append refl refl here.here (ap (λ (j : Job). j.number) c.advance.ensures.same)
-    (ap (λ (j : Job). is_upgrade (aim_of_wish j.wish)) c.advance.ensures.same) went.kept
-    (told_went c.self.inside c.args.self.now c.args.place c.index_mut-job.result.now c.advance.new.self
-    c.self.view_is c.self.invariant here.here c.requires.given
-    (ap (λ (j : Job). j.told) c.advance.ensures.same)
-    (ap (λ (j : Job). j.wish) c.advance.ensures.same)
-    (ap (λ (j : Job). j.profile) c.advance.ensures.same)
-    (ap (λ (j : Job). j.place) c.advance.ensures.same))
-    went.room went.starts c.self.invariant
+    let mid = judged_here c.self.inside c.args.self.now c.args.place c.index_mut-job.result.now
+    c.args.undecided c.args.counts c.self.view_is c.self.invariant c.index_mut-job.ensures.value
+    c.requires.plain c.requires.counts c.requires.padded in
+    let went = went_judged (setup_kept c.self.inside) c.index_mut-job.result.now c.advance.new.self here.action
+    c.args.undecided c.args.counts here.kept here.head here.gateless mid c.advance.ensures.kept
+    c.advance.ensures.rest c.advance.ensures.same in
+    let is = advances (setup_kept c.self.inside) c.index_mut-job.result.now
+    (record c.index_mut-job.result.now { undecided = c.args.undecided; counts = c.args.counts })
+    c.advance.new.self _ here.kept refl refl refl refl refl refl c.advance.ensures.same in
+    on_core c.self.inside c.args.self.now c.args.place c.index_mut-job.result.now c.advance.new.self
+    c.self.view_is c.self.invariant here.here is c.self.inside.append went c.requires.given
 
-pub returns-clause-moved : goal.returns-clause-moved
-returns-clause-moved c =
+pub returns : goal.returns
+returns c =
     let here = plain_here c.self.inside c.args.self.now c.args.place c.index_mut-job.result.now c.self.view_is
     c.self.invariant c.index_mut-job.ensures.value c.requires.plain in
-    set_view_same c.self.inside c.args.self.now (with_item c.self.inside.jobs c.args.place c.advance.new.self)
-    c.args.place c.advance.new.self c.index_mut-job.result.now
-    (λ (k : CoreJob). judged k (record { counts = counted c.args.counts; undecided = c.args.undecided }))
-    c.self.view_is refl here.here (ap core_job c.advance.ensures.same)
-
-pub returns-clause-falls : goal.returns-clause-falls
-returns-clause-falls c =
-    let here = plain_here c.self.inside c.args.self.now c.args.place c.index_mut-job.result.now c.self.view_is
-    c.self.invariant c.index_mut-job.ensures.value c.requires.plain in
-    let went = went_judged (setup_kept c.self.inside) c.index_mut-job.result.now
-    c.advance.new.self here.action
-    c.args.undecided c.args.counts here.kept here.head here.gateless
-    (judged_here c.self.inside c.args.self.now c.args.place c.index_mut-job.result.now c.args.undecided
-    c.args.counts c.self.view_is c.self.invariant c.index_mut-job.ensures.value c.requires.plain
-    c.requires.counts c.requires.padded)
-    c.advance.ensures.kept c.advance.ensures.rest c.advance.ensures.same in
-    placed_falls c.self.inside c.args.self.now (view_of (record c.self.inside {
-      jobs = with_item c.self.inside.jobs c.args.place c.advance.new.self;
-    })) c.args.place c.index_mut-job.result.now c.advance.new.self
-    c.self.view_is c.self.invariant here.here here.kept went.kept
-    (let e = ap (λ (j : Job). j.left) c.advance.ensures.same in
-    let l = left_some (setup_kept c.self.inside) c.index_mut-job.result.now here.kept in omega (arith, e, l))
-    (ap (λ (x : CoreView). x.setup) c.self.view_is)
-    (jobs_set c.self.inside c.args.self.now (with_item c.self.inside.jobs c.args.place c.advance.new.self)
-    c.args.place c.advance.new.self c.self.view_is refl)
-    (ap (λ (j : Job). j.number) c.advance.ensures.same)
+    let mid = judged_here c.self.inside c.args.self.now c.args.place c.index_mut-job.result.now
+    c.args.undecided c.args.counts c.self.view_is c.self.invariant c.index_mut-job.ensures.value
+    c.requires.plain c.requires.counts c.requires.padded in
+    let went = went_judged (setup_kept c.self.inside) c.index_mut-job.result.now c.advance.new.self here.action
+    c.args.undecided c.args.counts here.kept here.head here.gateless mid c.advance.ensures.kept
+    c.advance.ensures.rest c.advance.ensures.same in
+    let is = advances (setup_kept c.self.inside) c.index_mut-job.result.now
+    (record c.index_mut-job.result.now { undecided = c.args.undecided; counts = c.args.counts })
+    c.advance.new.self _ here.kept refl refl refl refl refl refl c.advance.ensures.same in
+    record {
+      moved = set_view_same c.self.inside c.args.self.now
+          (with_item c.self.inside.jobs c.args.place c.advance.new.self) c.args.place c.advance.new.self
+          c.index_mut-job.result.now
+          (λ (k : CoreJob). judged k
+          (record { counts = counted c.args.counts; undecided = c.args.undecided }))
+          c.self.view_is refl here.here (ap core_job c.advance.ensures.same);
+      falls = on_same c.self.inside c.args.self.now c.args.place c.index_mut-job.result.now c.advance.new.self
+          c.self.view_is c.self.invariant here.here is c.self.inside.append here.kept went.kept;
+    }

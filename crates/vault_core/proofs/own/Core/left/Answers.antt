@@ -1,6 +1,4 @@
-use Rattle.std.proofs.Common.{◌∙◌, ap, Some}
-use Rattle.std.specs.Option.{option_map}
-use Rattle.vault_core.specs.Coming.{most_of}
+use Rattle.vault_core.proofs.Words.{◌∙◌, ap, Some, option_map, most_of}
 use Rattle.vault_core.proofs.Goes.{left_some}
 use Rattle.vault_core.proofs.Standing.{left_same}
 use Rattle.vault_core.proofs.own.Core.left.Goals as goal

@@ -1,7 +1,4 @@
-use Rattle.std.proofs.Common.{rules, sym, subst}
-use Rattle.machine_defs.specs.Alone.{switched}
-use Rattle.vault_core.specs.View.{CoreView}
-use Rattle.vault_core.specs.Carried.{CoreIs}
+use Rattle.vault_core.proofs.Words.{rules, sym, subst, switched, CoreView, CoreIs}
 use Rattle.vault_core.proofs.Idle.{core-moved}
 use Rattle.vault_core.proofs.own.Core.moved.Goals as goal
 

@@ -1,8 +1,5 @@
-use Rattle.std.proofs.Common.{◌∙◌, ap}
-use Rattle.std.specs.Prelude.{◌==◌, position}
+use Rattle.vault_core.proofs.Words.{◌∙◌, ap, ◌==◌, position, CoreJob, CoreView, core_job}
 use Rattle.vault_core.specs.declared.job.Job.{Job}
-use Rattle.vault_core.specs.View.{CoreJob, CoreView}
-use Rattle.vault_core.specs.Parts.{core_job}
 use Rattle.vault_core.proofs.Places.{position-map}
 use Rattle.vault_core.proofs.own.Core.place_of.Goals as goal
 

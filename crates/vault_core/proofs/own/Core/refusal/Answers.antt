@@ -1,5 +1,4 @@
-use Rattle.std.proofs.Common.{◌∙◌, ap}
-use Rattle.machine_defs.specs.Refusals.{first_refusal}
+use Rattle.vault_core.proofs.Words.{◌∙◌, ap, first_refusal}
 use Rattle.vault_core.proofs.Refusals.{causes-same}
 use Rattle.vault_core.proofs.own.Core.refusal.Goals as goal
 

@@ -1,9 +1,6 @@
-use Rattle.std.proofs.Common.{◌∙◌, ap, sym, Bool, Option, [], ◌∷◌}
-use Rattle.std.specs.Option.{option_map}
-use Rattle.std.specs.Prelude.{if◌then◌else◌}
+use Rattle.vault_core.proofs.Words.{◌∙◌, ap, sym, Bool, [], ◌∷◌, option_map, if◌then◌else◌, file_of_entry, removable_in}
+use Rattle.std.proofs.Common.{Option}
 use Rattle.vault_table.specs.declared.entry.Entry.{Entry}
-use Rattle.vault_table.specs.Values.{file_of_entry}
-use Rattle.vault_core.specs.Fed.{removable_in}
 use Rattle.vault_core.proofs.own.Core.removable.Goals as goal
 
 pub returns-then-is_pinned : goal.returns-then-is_pinned

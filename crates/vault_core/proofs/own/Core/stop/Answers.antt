@@ -1,9 +1,6 @@
-use Rattle.std.proofs.Common.{◌<◌, ◌∙◌, sym, ap, subst, length, ℕ, None, true, false}
-use Rattle.std.specs.Prelude.{Option, remove}
-use Rattle.vault_core.specs.Fed.{ended_at}
-use Rattle.vault_core.specs.View.{CoreView}
+use Rattle.vault_core.proofs.Words.{◌<◌, ◌∙◌, sym, ap, subst, length, ℕ, None, true, false, remove, ended_at, CoreView, core_job, view_of}
+use Rattle.std.specs.Prelude.{Option}
 use Rattle.vault_core.proofs.Kept.{less_view, less_core, seen_at, freed_is}
-use Rattle.vault_core.specs.Parts.{core_job, view_of}
 use Rattle.vault_core.proofs.own.Core.stop.Goals as goal
 
 pub invariant_of-self : goal.invariant_of-self

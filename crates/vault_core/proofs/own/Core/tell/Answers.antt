@@ -1,14 +1,9 @@
-use Rattle.std.proofs.Common.{rules, ◌<◌, sym, subst, refl, Some, length}
-use Rattle.std.specs.Vec.{with_item}
+use Rattle.vault_core.proofs.Words.{rules, ◌<◌, sym, subst, refl, Some, length, with_item, CoreView, CoreJob, IsToldAs, given_more, setup_kept, core_job, Setup}
 use Rattle.vault_core.specs.declared.job.Job.{Job}
-use Rattle.vault_core.specs.View.{CoreView, CoreJob}
-use Rattle.vault_core.specs.Streams.{IsToldAs, given_more}
-use Rattle.vault_core.specs.Parts.{setup_kept, core_job}
 use Rattle.vault_core.proofs.Kept.{other_core, same_needs}
 use Rattle.vault_core.proofs.Gating.{place_len}
 use Rattle.vault_core.proofs.Moving.{set_view_same}
 use Rattle.vault_core.proofs.Waiting.{retold-kept, job_here, of_kept}
-use Rattle.record_defs.specs.Records.{Setup}
 use Rattle.vault_core.proofs.own.Core.tell.Goals as goal
 
 pub index_mut-job-requires : goal.index_mut-job-requires

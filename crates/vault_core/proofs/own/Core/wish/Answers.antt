@@ -1,6 +1,4 @@
-use Rattle.std.proofs.Common.{ap, sym, ◌∙◌, Some}
-use Rattle.std.specs.Option.{option_map}
-use Rattle.vault_core.specs.View.{CoreJob}
+use Rattle.vault_core.proofs.Words.{ap, sym, ◌∙◌, Some, option_map, CoreJob}
 use Rattle.vault_core.proofs.own.Core.wish.Goals as goal
 
 pub returns-in-Some-clause-own : goal.returns-in-Some-clause-own

@@ -1,9 +1,6 @@
-use Rattle.std.proofs.Common.{◌≡◌, ap, true, subst, sym}
+use Rattle.vault_core.proofs.Words.{◌≡◌, ap, true, subst, sym, action_next, is_move, core_job, CoreView}
 use Rattle.vault_core.proofs.Fits.{writing_room}
 use Rattle.vault_core.proofs.own.Core.writing.Goals as goal
-use Rattle.vault_core.specs.Coming.{action_next, is_move}
-use Rattle.vault_core.specs.Parts.{core_job}
-use Rattle.vault_core.specs.View.{CoreView}
 use Rattle.vault_core.proofs.NextMoves.{moves-job}
 
 pub returns-clause-room : goal.returns-clause-room

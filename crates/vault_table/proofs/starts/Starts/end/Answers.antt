@@ -1,8 +1,6 @@
-use Rattle.std.proofs.Common.{◌≡◌, ℕ, ◌+◌, ◌%◌, ◌<◌, true, List, Option, None, length, ap, sym, ◌∙◌, arith, subst, set, get_or}
-use Rattle.std.specs.Prelude.{vec_len}
-use Rattle.std.specs.List.{list_all}
+use Rattle.vault_table.proofs.Words.{ap, sym, ◌∙◌, arith, subst, set, get_or, vec_len, list_all, Starts, begins_at, kept_names, is_kept_name}
+use Rattle.std.proofs.Common.{◌≡◌, ℕ, ◌+◌, ◌%◌, ◌<◌, true, List, Option, None, length}
 use Rattle.std.proofs.lemmas.List.{length-set}
-use Rattle.vault_table.specs.Starts.{Starts, begins_at, kept_names, is_kept_name}
 use Rattle.vault_table.proofs.KeptNames.{length-names, names-set, kept-set, begins-set, marks-set, same-size}
 use Rattle.vault_table.proofs.starts.Starts.end.Goals as goal
 

@@ -1,6 +1,5 @@
-use Rattle.std.proofs.Common.{◌≡◌, ℕ, ◌<◌, ◌≤◌, List, length, ap, sym, ◌∙◌, arith}
-use Rattle.vault_table.specs.Values.{started_from}
-use Rattle.vault_table.specs.Starts.{Starts, begins_at, kept_names}
+use Rattle.vault_table.proofs.Words.{ap, sym, ◌∙◌, arith, started_from, Starts, begins_at, kept_names}
+use Rattle.std.proofs.Common.{◌≡◌, ℕ, ◌<◌, ◌≤◌, List, length}
 use Rattle.vault_table.proofs.KeptNames.{length-names, name-past, name-done, name-there, name-fits}
 use Rattle.vault_table.proofs.starts.Starts.name.Goals as goal
 

@@ -1,6 +1,5 @@
-use Rattle.std.proofs.Common.{◌≡◌, ℕ, ◌-◌, ◌<◌, ◌++◌, true, List, [], ◌∷◌, Option, Some, length, refl, ap, sym, ◌∙◌, arith, subst, length-append}
-use Rattle.std.specs.List.{list_all}
-use Rattle.vault_table.specs.Starts.{Starts, begins_at, kept_names, is_kept_name, with_mark, AreNameMarks}
+use Rattle.vault_table.proofs.Words.{refl, ap, sym, ◌∙◌, arith, subst, list_all, Starts, begins_at, kept_names, is_kept_name, with_mark, AreNameMarks}
+use Rattle.std.proofs.Common.{◌≡◌, ℕ, ◌-◌, ◌<◌, ◌++◌, true, List, [], ◌∷◌, Option, Some, length, length-append}
 use Rattle.vault_table.proofs.KeptNames.{names-push, kept-push, begins-all, marks-push, length-marked, name-short}
 use Rattle.vault_table.proofs.starts.Starts.put.Goals as goal
 

@@ -1,7 +1,6 @@
-use Rattle.std.proofs.Common.{◌-◌, None, length, map, arith, ap, sym, ◌∙◌}
+use Rattle.vault_table.proofs.Words.{arith, ap, sym, ◌∙◌, Kept, file_of_entry, started_at, Starts}
+use Rattle.std.proofs.Common.{◌-◌, None, length, map}
 use Rattle.std.proofs.lemmas.List.{length-set}
-use Rattle.vault_table.specs.Values.{Kept, file_of_entry, started_at}
-use Rattle.vault_table.specs.Starts.{Starts}
 use Rattle.vault_table.proofs.Taken.{put-in_order}
 use Rattle.vault_table.proofs.Fold.{at-kept}
 use Rattle.vault_table.proofs.table.Table.end_put.Goals as goal

@@ -1,7 +1,6 @@
-use Rattle.std.proofs.Common.{◌∙◌, ap, ℕ, ◌+◌, None}
+use Rattle.vault_table.proofs.Words.{◌∙◌, ap, Starts, forgotten}
+use Rattle.std.proofs.Common.{ℕ, ◌+◌, None}
 use Rattle.vault_table.specs.Parts.{kept_of}
-use Rattle.vault_table.specs.Starts.{Starts}
-use Rattle.vault_table.specs.Values.{forgotten}
 use Rattle.vault_table.proofs.table.Table.forget.Goals as goal
 
 pub returns : goal.returns

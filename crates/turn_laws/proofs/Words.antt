@@ -1,4 +1,4 @@
--- The words in which the laws are proved, passed on from one place. Declares nothing.
+-- The words in which this crate is proved, passed on from one place. Declares nothing.
 pub use Rattle.code_defs.specs.Points.{upto}
 pub use Rattle.column_defs.specs.Columns.{columns}
 pub use Rattle.command_defs.specs.Commands.{Answers, AnswersAlone, AnswersPut}
@@ -9,7 +9,8 @@ pub use Rattle.command_defs.specs.Jobs.{AnswersJob, EndsByAnswer, IsNext, IsNext
 pub use Rattle.command_defs.specs.Lines.{pack_text, text_of}
 pub use Rattle.command_defs.specs.Opens.{IsOpened, setup_in_effect}
 pub use Rattle.command_defs.specs.Packs.{AnswersPack, PacksAlone, RanPack}
-pub use Rattle.command_defs.specs.Refusals.{is_unknown, pack_refusal_over, refusal_over}
+pub use Rattle.code_defs.specs.Profiles.{is_unknown}
+pub use Rattle.command_defs.specs.Refusals.{pack_refusal_over, refusal_over}
 pub use Rattle.command_defs.specs.Scrubs.{RanScrub, ScrubsAlone}
 pub use Rattle.command_defs.specs.Seen.{Ending, SameSource, Seen, provider_at}
 pub use Rattle.device_defs.specs.Cells.{Cells}

@@ -1,9 +1,0 @@
-use Rattle.std.proofs.Common.{◌≡◌, ◌≤◌, ◌+◌, drop}
-use Rattle.code_defs.specs.ServerCode.{differences}
-use Rattle.hail_scrub.proofs.compare.count_differences.Given as goal
-
-abbrev pub invariant-loop-k : goal.invariant-loop-k
-invariant-loop-k l = record {
-  bound : l.count ≤ l.k;
-  count : l.count + differences (drop l.k l.a) (drop l.k l.b) ≡ differences l.a l.b;
-}

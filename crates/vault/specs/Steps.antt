@@ -1,0 +1,62 @@
+-- What a step calls, and what it does to its job: one record for each, which a contract cites whole.
+--
+--   OnlyCalled calls j old new  == of a list of devices only the one at place j was called, once
+--   CallsNext D P coming disk providers new_disk new_providers
+--                               == of the devices only the one that the next action calls was called, once
+--   HasActed old new job turn   == an action of a job was made, and it goes on or ends
+--   LeavesVault old new job turn
+--                               == what a step of a job leaves of a vault, by what came of it
+use Rattle.std.specs.Prelude.{◌≡◌, ◌≢◌, ◌↔◌, ◌<◌, ℕ, true, false, List, length, None, Some, is_some, slice_get}
+use Rattle.device_defs.specs.Faults.{one_more}
+use Rattle.disk_model.specs.declared.disk.Disk.{Ghosts as DiskGhosts}
+use Rattle.provider_model.specs.declared.provider.Provider.{Ghosts as ProviderGhosts}
+use Rattle.stripe_bench.specs.Calls.{CalledOnce}
+use Rattle.vault_core.specs.View.{CoreView}
+use Rattle.vault_core.specs.Coming.{Coming, IsNoJob, core_left, calls_disk, called_provider}
+use Rattle.vault.specs.AtHand.{KeepsStreams}
+use Rattle.vault.specs.Outcomes.{IfEnded, IsNoAction, HasPaddedCounts}
+use Rattle.vault.specs.Seen.{coming_of, held_by, left_of}
+use Rattle.vault.specs.Streams.{KeepsStreamless, KeepsTold}
+use Rattle.vault.specs.declared.turn.Turn.{Turn}
+use Rattle.vault.specs.declared.turn.Turn.TheVariants as turn
+use Rattle.vault.specs.declared.vault.Vault.{Vault}
+
+-- of a list of devices only the one at this place was called, once; the others stay as they are
+pub record OnlyCalled {X : Type 0} (calls : X → ℕ) (j : ℕ) (old new : List X) : Type 0 where
+  pub count : length new ≡ length old
+  pub others : (k : ℕ) → k ≢ j → slice_get new k ≡ slice_get old k
+  pub called : CalledOnce calls j old new
+
+-- Of the devices only the one that the next action calls was called, once: the disk where the action is a move
+-- of an append, and it still tells what it holds or still does not; and the provider that the action names.
+-- What was not called stays as it is.
+pub record CallsNext {W X : Type 0} (D : DiskGhosts W) (P : ProviderGhosts X) (coming : Coming) (disk : W)
+    (providers : List X) (new_disk : W) (new_providers : List X) : Type 0 where
+  pub tells : is_some (D.holds new_disk) ≡ is_some (D.holds disk)
+  pub still : calls_disk coming ≡ false → new_disk ≡ disk
+  pub one_disk_call : calls_disk coming ≡ true → D.calls new_disk ≡ one_more (D.calls disk)
+  pub away : called_provider coming ≡ None → new_providers ≡ providers
+  pub count : length new_providers ≡ length providers
+  pub others : (j k : ℕ) → called_provider coming ≡ Some j → k ≢ j
+      → slice_get new_providers k ≡ slice_get providers k
+  pub one_provider_call : (j : ℕ) → called_provider coming ≡ Some j
+      → CalledOnce P.calls j providers new_providers
+
+-- an action of a job was made: it goes on with fewer steps left, or ends, an audit with padded counts; no
+-- stream was opened or told of a stripe
+pub record HasActed (old new : CoreView) (job : ℕ) (t : Turn) : Type 0 where
+  pub acted : IsNoAction t → ⊥
+  pub left : t ≡ turn.More → core_left new job < core_left old job
+  pub padded : IfEnded t (λ ended. HasPaddedCounts ended.answer)
+  pub streams : KeepsStreams old new
+
+-- What a step of a job leaves of a vault: a job that goes on has fewer steps left, an audit ends with padded
+-- counts, and only of a number that no job has it is told so; the vault is held as before, no stream was
+-- opened, and each job that still runs was given what it was given before.
+pub record LeavesVault (old new : Vault) (job : ℕ) (t : Turn) : Type 0 where
+  pub left : t ≡ turn.More → left_of new job < left_of old job
+  pub padded : IfEnded t (λ ended. HasPaddedCounts ended.answer)
+  pub no_job : (t ≡ turn.NoSuchJob) ↔ (coming_of old job ≡ IsNoJob)
+  pub held : held_by new ≡ held_by old
+  pub streams : KeepsStreamless old new
+  pub told : (number : ℕ) → KeepsTold old new number
