@@ -756,14 +756,14 @@ standing() {
     told 'now, undecided 0 flagged 2, number 2'
     told 'to do: audit 2 flagged provider 2: look why, then repair'
     rm -r home/provider-3
-    mkdir home/remote-4 && echo '4 sleep 99.3' >home/remotes
+    mkdir home/remote-4 && echo "4 sleep 99.3$$" >home/remotes
     mkdir two && echo "$PWD/two" >home/copies
     ends 1 hail-status -t 15 home
     told 'to do: provider 3 does not answer: No such file or directory'
     told 'to do: provider 4 does not answer: no answer in time'
     told "to do: the copy of the journal is behind: $PWD/two"
     told 'copies      1, of which 1 are behind'
-    pgrep -f '^sleep 99.3$' >/dev/null && wrong 'a far end is left'
+    ! is_left "sleep 99.3$$" || wrong 'a far end is left'
     echo '4 90s "$HAIL" far serve 4' >home/remotes && mkdir far
     ends 1 hail-status home
     grep -Eq '^  4 +remote +yes +- ' out || wrong "of a remote provider is told $(cat out)"

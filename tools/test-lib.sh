@@ -42,6 +42,16 @@ make_launcher() {
     ln -s "$HAIL" package/lib/hail/program
 }
 
+# Whether a process with these words, which was to be killed, is there still behind ten seconds: one that is killed takes a moment to be gone. Whoever
+# looks for one puts $$ into its words, since other runs of the tests have such too.
+is_left() {
+    local turn
+    for turn in {1..100}; do
+        pgrep -f "^$1\$" >/dev/null || return 1
+        sleep 0.1
+    done
+}
+
 make_key() {
     head -c 32 /dev/urandom | od -An -v -tx1 | tr -d ' \n'
 }

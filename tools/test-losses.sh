@@ -279,19 +279,19 @@ far_outage() {
     [ -d home/remote-2 ] || wrong 'hail-init makes no remote provider'
     seq 1 400 | "$tools/hail-remote" home put notes >out 2>err || wrong "a put says $(cat out err)"
     says 0 '' hail-watch -w 60 home
-    echo '2 sleep 99.8' >home/remotes
+    echo "2 sleep 99.8$$" >home/remotes
     "$tools/hail-watch" -w 3 home >watched 2>err &
     sleep 1
     [ "$(timeout 120 "$HAIL" home list)" = 'notes 1492' ] || wrong 'a list waits for a far end that does not answer'
     wait $!
     [ "$? $(cat watched)" = '4 provider 2 does not answer' ] || wrong "a far end that does not answer is watched with $(cat watched err)"
-    for far in false 'cat >&2' 'printf "\2"' 'exec setsid sleep 98.9'; do
+    for far in false 'cat >&2' 'printf "\2"' "exec setsid sleep 98.9$$"; do
         echo "2 $far" >home/remotes
         rm -f home/audits-skipped
         says 4 'provider 2 does not answer' hail-watch -w 8 home
     done
-    pkill -f '^sleep 98.9$'
-    pgrep -f '^sleep 99.8$' >/dev/null && wrong 'a far end is left'
+    pkill -f "^sleep 98.9$$\$"
+    ! is_left "sleep 99.8$$" || wrong 'a far end is left'
     printf ' 2 "$HAIL" far serve 2\n' >home/remotes
     says 0 '' hail-watch -w 60 home
 }

@@ -751,17 +751,17 @@ hostile_remotes() {
     bears true 13
     bears no-such-command 13
     bears 'exec >&-; cat' 13
-    bears 'exec <&-; sleep 99.7' 13
+    bears "exec <&-; sleep 99.7$$" 13
     bears 'cat /dev/urandom' '0 13'
     bears 'exec yes' 13
     bears cat '0 13'
-    bears 'sleep 99.7' 13
+    bears "sleep 99.7$$" 13
     bears '{ head -c 100000 /dev/zero; "$HAIL" far serve 2; }' 13
     bears '{ printf "\\0"; "$HAIL" far serve 2; }' 13
     bears '{ printf "\\1"; "$HAIL" far serve 2; }' '0 13'
     bears '"$HAIL" far serve 3' 0 30
     bears 'cat /dev/urandom >&2' 13
-    pgrep -f '^sleep 99.7$' >/dev/null && wrong 'a far end is left'
+    ! is_left "sleep 99.7$$" || wrong 'a far end is left'
 }
 
 # A far end that gives no answer for its time is given up and named, with what left its process group; the others go on.
@@ -769,15 +769,15 @@ silent_remotes() {
     local far
     new_home 6 3 1 1 4 8 0
     rm -r home/provider-2
-    for far in 'setsid sleep 98.6 & sleep 98.6' 'exec sleep 98.6' 'trap "" HUP INT TERM PIPE; while :; do sleep 98.6; done'; do
-        echo "2 1s $far" >home/remotes
+    for far in 'setsid sleep LONG & sleep LONG' 'exec sleep LONG' 'trap "" HUP INT TERM PIPE; while :; do sleep LONG; done'; do
+        echo "2 1s ${far//LONG/98.6$$}" >home/remotes
         timeout 300 "$tools/hail-remote" home put x <key >out 2>err
         [ $? -eq 13 ] || wrong "with the far end $far a put says $(cat out err)"
         told 'hail-remote: provider 2 is given up: no answer for 1 seconds'
         told 'hail: provider fault 2'
         seq 1 400 | cmp -s - <(timeout 300 "$tools/hail-remote" home get notes 2>err) || wrong "with the far end $far a get says $(cat err)"
         told 'hail-remote: provider 2 is given up: no answer for 1 seconds'
-        ! pgrep -f '^sleep 98.6$' >/dev/null || wrong "the far end $far is left"
+        ! is_left "sleep 98.6$$" || wrong "the far end $far is left"
     done
     timeout 300 "$tools/hail-watch" home >out 2>err
     [ "$? $(cat out)" = '4 provider 2 does not answer' ] || wrong "with a silent far end hail-watch says $(cat out err)"
@@ -835,9 +835,9 @@ END
     serves ./server 'stored 10000' '16776432
 3843568'
     serves '[ ! -e begun ] || exit 1; touch begun; exec ./server' 'ended behind 8136' 16776432
-    serves './server; exec sleep 98.7' 'stored 10000' '16776432
+    serves "./server; exec sleep 98.7$$" 'stored 10000' '16776432
 3843568'
-    ! pgrep -f '^sleep 98.7$' >/dev/null || wrong 'a far end that does not end is left'
+    ! is_left "sleep 98.7$$" || wrong 'a far end that does not end is left'
 }
 
 # Things in place of a remote provider's folder or pipes: it is a provider that fails, at once, and nothing is written there.

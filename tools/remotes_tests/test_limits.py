@@ -27,6 +27,14 @@ def runs(name: str) -> bool:
     return False
 
 
+def is_left(name: str) -> bool:
+    """The same of one that was to be killed, which takes a moment to be gone."""
+    until = time.monotonic() + HANG
+    while runs(name) and time.monotonic() < until:
+        time.sleep(0.05)
+    return runs(name)
+
+
 def is_free(path: Path) -> bool:
     """Whether nobody has this locked."""
     file = os.open(path, os.O_RDONLY)
@@ -98,7 +106,7 @@ class Limits(InFolder):
         for turn, keeping in enumerate(('', '0<&-', '0<&- 1>&-')):
             name = f'1000.{os.getpid()}{turn}'
             self.is_gone(f'1s (setsid sleep {name} {keeping} &) ; exec sleep 1000', 'no answer for 1 seconds')
-            self.assertFalse(runs(name), keeping)
+            self.assertFalse(is_left(name), keeping)
 
     def test_who_was_there(self) -> None:
         """A program that was there before, and was handed the pipes, is not killed, and holds nothing up."""
@@ -148,7 +156,7 @@ class Limits(InFolder):
             time.sleep(0.05)
         case.tell(running.pid, signal.SIGTERM)
         told = running.communicate(timeout=HANG)
-        self.assertEqual((running.returncode, runs(case.name)), (128 + signal.SIGTERM, False), (case, told))
+        self.assertEqual((running.returncode, is_left(case.name)), (128 + signal.SIGTERM, False), (case, told))
         for path in (home.path, home.path / 'remotes', home.path / 'journal'):
             self.assertTrue(is_free(path), (case, path))
         home.far_ends(**{far: 'SERVE' for far in case.commands})
