@@ -59,6 +59,7 @@ pub fn open_vault<D: Disk>(alloc: Global, disk: &mut D, handed: usize) -> Result
     ensures synced { OnOk result (D.holds disk.new ≡ option_map synced (D.holds disk.old)) }
     ensures resynced { IfErr result
         (λ why. LiesInStore why → D.holds disk.new ≡ option_map synced (D.holds disk.old)) }
+    ensures no_fault { (IsErrOf result unopened.DiskFault → ⊥) → D.faults disk.new ≡ D.faults disk.old }
     ensures cause { HasCause (D.faults disk.old) (D.faults disk.new) (IsErrOf result unopened.DiskFault) }
 {
     opened_states();

@@ -24,6 +24,7 @@ pub trait Disk {
     fn len(&mut self) -> Result<u64, Failed>
         ensures len { IfOk result (λ n. IfSome (holds self.old) (λ cells. n ≡ length cells)) }
         ensures same { holds self.new ≡ holds self.old }
+        ensures no_fault { OnOk result (faults self.new ≡ faults self.old) }
         ensures cause { HasCause (faults self.old) (faults self.new) (IsErr result) }
         ensures called { calls self.new ≡ one_more (calls self.old) };
 
@@ -33,6 +34,7 @@ pub trait Disk {
         ensures bytes { IfOk result (λ n. IfSome (holds self.old)
             (λ cells. take n out.new ≡ take (length out.old) (drop at (reads cells)))) }
         ensures same { holds self.new ≡ holds self.old }
+        ensures no_fault { OnOk result (faults self.new ≡ faults self.old) }
         ensures cause { HasCause (faults self.old) (faults self.new) (IsErr result) }
         ensures called { calls self.new ≡ one_more (calls self.old) };
 
@@ -43,7 +45,7 @@ pub trait Disk {
         ensures failed { IsErrOf result write_fault.Failed
             → Goes (Torn at (length bytes.now)) (holds self.old) (holds self.new) }
         ensures memory { IsErrOf result write_fault.Memory → holds self.new ≡ holds self.old }
-        ensures no_fault { IsErrOf result write_fault.Memory → faults self.new ≡ faults self.old }
+        ensures no_fault { (IsErrOf result write_fault.Failed → ⊥) → faults self.new ≡ faults self.old }
         ensures cause { HasCause (faults self.old) (faults self.new) (IsErrOf result write_fault.Failed) }
         ensures called { calls self.new ≡ one_more (calls self.old) };
 
@@ -51,6 +53,7 @@ pub trait Disk {
     fn sync(&mut self) -> Result<(), Failed>
         ensures ok { OnOk result (holds self.new ≡ option_map synced (holds self.old)) }
         ensures failed { IsErr result → holds self.new ≡ holds self.old }
+        ensures no_fault { OnOk result (faults self.new ≡ faults self.old) }
         ensures cause { HasCause (faults self.old) (faults self.new) (IsErr result) }
         ensures called { calls self.new ≡ one_more (calls self.old) };
 

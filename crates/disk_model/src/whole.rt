@@ -14,6 +14,7 @@ pub fn read_front<D: Disk>(alloc: Global, disk: &mut D) -> Result<Vec<u8>, Write
     ensures bytes { IfOk result (λ v. IfSome (D.holds disk.old)
         (λ cells. v.items ≡ take largest_journal (reads cells))) }
     ensures same { D.holds disk.new ≡ D.holds disk.old }
+    ensures no_fault { (IsErrOf result write_fault.Failed → ⊥) → D.faults disk.new ≡ D.faults disk.old }
     ensures cause { HasCause (D.faults disk.old) (D.faults disk.new) (IsErrOf result write_fault.Failed) }
 {
     let len = disk.len()?;

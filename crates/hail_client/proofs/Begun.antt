@@ -23,7 +23,7 @@ settled-keeps old mid (inr (d, in_doubt, is)) =
 closed-keeps : (old new : State) (s : Setup) (r : Outcome) → InitsClosed old s r new → Keeps old new
 closed-keeps old new s (Refused refusal.DiskFault) (doubt, leaves, (faults, low, rose, is)) =
     (ap (λ (u : State). u.is_open) is, ap (λ (u : State). u.next_job) is)
-closed-keeps old new s (Refused refusal.Memory) (doubt, leaves, (faults, low, is)) =
+closed-keeps old new s (Refused refusal.Memory) (doubt, leaves, is) =
     (ap (λ (u : State). u.is_open) is, ap (λ (u : State). u.next_job) is)
 closed-keeps old new s (Refused refusal.Already) (mid, settles, up, (faults, low, is)) =
     (let k = settled-keeps old mid settles in

@@ -63,6 +63,7 @@ impl Client {
             → IsStanding self.now (devices (D.holds disk.old) (D.faults disk.old) providers)
             → IsStanding self.now (devices (D.holds disk.new) (D.faults disk.new) providers) }
         ensures tells { is_some (D.holds disk.new) ≡ is_some (D.holds disk.old) }
+        ensures no_fault { (IsErrOf result init_fault.DiskFault → ⊥) → D.faults disk.new ≡ D.faults disk.old }
         ensures cause { HasCause (D.faults disk.old) (D.faults disk.new)
             (IsErrOf result init_fault.DiskFault) }
     {
@@ -109,6 +110,8 @@ impl Client {
         ensures few { IsErrOf result reopen_fault.TooFewProviders
             → D.holds disk.new ≡ option_map synced (D.holds disk.old) }
         ensures disk { Goes IsResynced (D.holds disk.old) (D.holds disk.new) }
+        ensures no_fault { (IsErrOf result (reopen_fault.NotOpened start_fault.DiskFault) → ⊥)
+            → D.faults disk.new ≡ D.faults disk.old }
         ensures cause { HasCause (D.faults disk.old) (D.faults disk.new)
             (IsErrOf result (reopen_fault.NotOpened start_fault.DiskFault)) }
     {

@@ -72,7 +72,7 @@ impl Append {
         ensures disk { AppendsDisk self.old result (D.holds disk.old) (D.holds disk.new) }
         ensures beyond { Goes (SameFrom (gate_of self.old + 1 + length (body_of self.old)))
             (D.holds disk.old) (D.holds disk.new) }
-        ensures no_fault { IsErrOf result write_fault.Memory → D.faults disk.new ≡ D.faults disk.old }
+        ensures no_fault { (IsErrOf result write_fault.Failed → ⊥) → D.faults disk.new ≡ D.faults disk.old }
         ensures cause { HasCause (D.faults disk.old) (D.faults disk.new) (IsErrOf result write_fault.Failed) }
         ensures called { D.calls disk.new ≡ one_more (D.calls disk.old) }
     {

@@ -27,7 +27,7 @@ pub fn make_move<D: Disk>(
     ensures count { CountsMove moves.old result moves.new }
     ensures disk { LeavesDisk moves.old (moved_on moves.old at bytes.now mark_at mark)
         (MayBeTorn moves.old at (length bytes.now) mark_at) result (D.holds disk.old) (D.holds disk.new) }
-    ensures no_fault { IsErrOf result write_fault.Memory → D.faults disk.new ≡ D.faults disk.old }
+    ensures no_fault { (IsErrOf result write_fault.Failed → ⊥) → D.faults disk.new ≡ D.faults disk.old }
     ensures cause { HasCause (D.faults disk.old) (D.faults disk.new) (IsErrOf result write_fault.Failed) }
     ensures called { D.calls disk.new ≡ one_more (D.calls disk.old) }
 {

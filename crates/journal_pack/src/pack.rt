@@ -129,7 +129,7 @@ impl Pack {
         requires { moves_of self.old < 4 }
         ensures moves { TurnsPack self.old result self.new }
         ensures disk { PacksDisk self.old result (D.holds disk.old) (D.holds disk.new) }
-        ensures no_fault { IsErrOf result write_fault.Memory → D.faults disk.new ≡ D.faults disk.old }
+        ensures no_fault { (IsErrOf result write_fault.Failed → ⊥) → D.faults disk.new ≡ D.faults disk.old }
         ensures cause { HasCause (D.faults disk.old) (D.faults disk.new) (IsErrOf result write_fault.Failed) }
         ensures called { D.calls disk.new ≡ one_more (D.calls disk.old) }
     {

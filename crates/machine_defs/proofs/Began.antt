@@ -317,7 +317,7 @@ reopens_none old (Refused refusal.NotSetUp) new (mid, (journal, area, holds, s),
 reopens_none old (Refused refusal.TooFewProviders) new (mid, (journal, area, holds, s), up, few, (faults, low, is)) =
     ap (λ (w : State). w.jobs) is ∙ settled_jobs (reread old journal area) mid s
 reopens_none old (Refused refusal.DiskFault) new (faults, low, rose, is) = ap (λ (w : State). w.jobs) is
-reopens_none old (Refused refusal.Memory) new (faults, low, is) = ap (λ (w : State). w.jobs) is
+reopens_none old (Refused refusal.Memory) new is = ap (λ (w : State). w.jobs) is
 reopens_none old r new h = absurd h
 
 continues_none : (old : State) (r : Outcome) (new : State) → Continues old r new → new.jobs ≡ []

@@ -8,7 +8,7 @@
 --   by_action, by_alone      == so P holds of every action, and of every step of what runs alone
 --   by_step, by_event        == so P holds of every step, and of every event
 use Rattle.machine_defs.proofs.Words.{◌≡◌, zero, suc, ◌≤◌, Bool, false, ◌⊎◌, refl, ap, sym, subst, ◌∙◌, inl, inr, IsSome, is_some, nat_lt, eq-eqb, GivesSymbols, LosesRow, Record, Setup, SetUp, is_setup, setup_of, Area, Rose, Held, Provider, with_symbol, without_block, HasPlace, Stores, FailsToStore, FindsNoMemory, Fetches, Asks, Removes, Replaces, Kind, PutJob, Job, Fetched, Answered, Worked, job_of, advanced, advanced_with, Action, WriteBody, SyncBody, WriteGate, SyncGate, Store, Fetch, Ask, Work, Remove, End, Refusal, Answer, Event, Init, Begin, BeginAt, BeginScrub, BeginPack, Step, Alter, Lose, Stop, Reopen, Names, Continue, Outcome, Ready, Refused, Opened, Begun, More, Waiting, Ended, Replaced, NothingHeld, Stopped, Listed, Closed, Continued, State, Append, Doubt, Scrub, Pack, Alone, Scrubbing, Packing, setup_in, worked_object, brought, with_provider, going_on, continued, Settles, blocks_given, refusal_of_begin, beginning, BeginsAt, Writes, begun_append, moved, doubted, done_append, barred, unappended, IsAt, Moves, block_to_store, Ends, next_action, holder_of, Acts, ActsOrWaits, StepsOn, StepsJob, StepsMine, StepsOne, StepsOpen, Steps, number_alone, alone_refusal, scrubbed_object, block_to_scrub, Scrubs, StepsScrub, Packs, StepsAlone, new_scrub, pack_refusal, new_pack, BeginsAlone, IsSetUp, IsNotSetUp, LeavesDoubt, reread, Rereads, Stops, Reopens, InitsClosed, InitsBy, Inits, Continues, ReplacesAt, ReplacesIf, Lists, Happens, is_replacement}
-use Rattle.std.proofs.Common.{ℕ, ◌+◌, ◌==◌, true, List, [], ◌∷◌, ◌++◌, Option, Some, None}
+use Rattle.std.proofs.Common.{ℕ, ◌+◌, ◌==◌, true, List, [], ◌∷◌, ◌++◌, Option, Some, None, arith}
 use Rattle.algebra_laws.proofs.Options.{some-not-none, is_some-none}
 use Rattle.column_defs.specs.Challenges.{honest_answer}
 use Rattle.machine_defs.specs.Refusals as refusal
@@ -424,15 +424,16 @@ module _ (limit moment : ℕ) (old : State) (P : Event → Outcome → State →
       (λ rs js area so is. becomes is (c.opens_not refusal.TooFewProviders rs js area so faults low)) mid s is
   reopens (Refused refusal.DiskFault) new (faults, low, rose, is) =
       becomes is (c.reads_not refusal.DiskFault faults low)
-  reopens (Refused refusal.Memory) new (faults, low, is) = becomes is (c.reads_not refusal.Memory faults low)
+  reopens (Refused refusal.Memory) new is =
+      becomes is (c.reads_not refusal.Memory old.disk_faults (omega arith))
   reopens r new h = absurd h
 
   inits_closed : (s : Setup) (r : Outcome) (new : State) → is_setup s ≡ true → old.is_open ≡ false →
       InitsClosed old s r new → P (Init s) r new
   inits_closed s (Refused refusal.DiskFault) new good closed (doubt, leaves_it, (faults, low, rose, is)) =
       becomes is (c.sets_up_not s refusal.DiskFault doubt good closed leaves_it faults low)
-  inits_closed s (Refused refusal.Memory) new good closed (doubt, leaves_it, (faults, low, is)) =
-      becomes is (c.sets_up_not s refusal.Memory doubt good closed leaves_it faults low)
+  inits_closed s (Refused refusal.Memory) new good closed (doubt, leaves_it, is) =
+      becomes is (c.sets_up_not s refusal.Memory doubt good closed leaves_it old.disk_faults (omega arith))
   inits_closed s (Refused refusal.Already) new good closed (mid, settles, up, (faults, low, is)) =
       by_settling old (λ mid. new ≡ record mid { disk_faults = faults } →
       P (Init s) (Refused refusal.Already) new)

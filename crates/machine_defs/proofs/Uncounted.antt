@@ -1,8 +1,9 @@
--- A step that ends for want of memory counts no fault.
-use Rattle.machine_defs.proofs.Words.{◌≡◌, refl, ap, sym, subst, ◌∙◌, inl, inr, cases_Bool, eqb-true, Provider, FindsNoMemory, Job, Action, WriteBody, SyncBody, WriteGate, SyncGate, Store, End, Step, Outcome, Ended, State, Append, Scrub, Pack, Alone, Scrubbing, Packing, with_provider, Moves, Acts, StepsScrub, Packs, StepsAlone, Happens}
-use Rattle.std.specs.Prelude.{ℕ, suc, zero, ◌==◌, List, [], ◌∷◌, Option, Some}
+-- What ends or is refused for want of memory counts no fault.
+use Rattle.machine_defs.proofs.Words.{◌≡◌, refl, ap, sym, subst, ◌∙◌, inl, inr, cases_Bool, eqb-true, Provider, FindsNoMemory, Setup, is_setup, Job, Action, WriteBody, SyncBody, WriteGate, SyncGate, Store, End, Init, Step, Reopen, Outcome, Refused, Ended, State, Append, Scrub, Pack, Alone, Scrubbing, Packing, with_provider, Moves, Acts, StepsScrub, Packs, StepsAlone, InitsBy, Inits, Happens}
+use Rattle.std.specs.Prelude.{ℕ, suc, zero, ◌==◌, Bool, true, false, List, [], ◌∷◌, Option, Some}
+use Rattle.machine_defs.specs.Refusals as refusal
 use Rattle.machine_defs.specs.Answers as answer
-use Rattle.machine_defs.specs.States.{ended}
+use Rattle.machine_defs.specs.States.{ended, given_up}
 use Rattle.machine_defs.specs.Failures.{Count, OfDisk, OfStores, OfOthers, count_in}
 use Rattle.machine_defs.specs.Alone.{unalone}
 use Rattle.machine_defs.proofs.Cases.{IsStill, by_step}
@@ -74,6 +75,14 @@ module _ (old : State) where
   alone (Scrubbing scrub) new h = scrubs scrub scrub.todo new h
   alone (Packing pack) new h = packs pack pack.moves new h
 
+  inits_by : (s : Setup) (good : Bool) (new : State) → InitsBy old s good (Refused refusal.Memory) new → Keeps new
+  inits_by s true new (doubt, leaves, is) = quiet (record old { doubt = doubt }) new refl refl is
+  inits_by s false new h = absurd h
+
+  inits : (s : Setup) (is_open : Bool) (new : State) → Inits old s is_open (Refused refusal.Memory) new → Keeps new
+  inits s false new h = inits_by s (is_setup s) new h
+  inits s true new h = absurd h
+
 -- a step that ends for want of memory leaves each count of faults
 pub memory_counts_none : (limit moment : ℕ) (old new : State) (number : ℕ) →
     Happens limit moment old (Step number) (Ended answer.Memory) new → (count : Count) →
@@ -88,3 +97,15 @@ memory_counts_none limit moment old new number h =
   where
     Left : ℕ → Outcome → State → Type 0
     Left n r w = r ≡ Ended answer.Memory → (count : Count) → count_in count w ≡ count_in count old
+
+-- so does a reopening that is refused for it
+pub reopenings_count_none : (limit moment : ℕ) (old new : State) →
+    Happens limit moment old Reopen (Refused refusal.Memory) new → (count : Count) →
+    count_in count new ≡ count_in count old
+reopenings_count_none limit moment old new is = quiet old (given_up old) new refl refl is
+
+-- and an init
+pub inits_count_none : (limit moment : ℕ) (old new : State) (s : Setup) →
+    Happens limit moment old (Init s) (Refused refusal.Memory) new → (count : Count) →
+    count_in count new ≡ count_in count old
+inits_count_none limit moment old new s h = inits old s old.is_open new h

@@ -9,8 +9,8 @@
 --   Inits old s is_open outcome new == what an init may come to
 --   Continues old outcome new       == what a later call of the program comes to
 --
--- Reopenings and inits call the disk more than once. One that finds no memory may have made calls before, that
--- went well: of the disk's count no more is said than of theirs, that it does not fall.
+-- A reopening or an init that finds no memory is no fault, whatever calls of the disk it made before: the disk's
+-- count stays.
 use Rattle.std.specs.Prelude.{◌≡◌, ◌⊎◌, ◌<◌, ◌≤◌, Bool, true, false, List, Option, None, Some, is_some}
 use Rattle.record_defs.specs.Records.{Setup, Record, SetUp, is_setup}
 use Rattle.record_defs.specs.Table.{setup_of}
@@ -58,7 +58,7 @@ Reopens old (Refused NotSetUp) new = (mid : State) × Rereads old mid × IsNotSe
 Reopens old (Refused TooFewProviders) new =
     (mid : State) × Rereads old mid × IsSetUp mid × (mid.handed < (setup_in mid).n) × DiskCall old mid new
 Reopens old (Refused DiskFault) new = DiskFails old (given_up old) new
-Reopens old (Refused Memory) new = DiskCall old (given_up old) new
+Reopens old (Refused Memory) new = new ≡ given_up old
 Reopens old outcome new = ⊥
 
 -- what is in doubt after an init that failed: what was before, or its own setup where none is in effect
@@ -71,7 +71,7 @@ abbrev pub InitsClosed : State → Setup → Outcome → State → Type 0
 InitsClosed old s (Refused DiskFault) new =
     (doubt : Option Doubt) × LeavesDoubt old s doubt × DiskFails old (record old { doubt = doubt }) new
 InitsClosed old s (Refused Memory) new =
-    (doubt : Option Doubt) × LeavesDoubt old s doubt × DiskCall old (record old { doubt = doubt }) new
+    (doubt : Option Doubt) × LeavesDoubt old s doubt × (new ≡ record old { doubt = doubt })
 InitsClosed old s (Refused Already) new = (mid : State) × Settles old mid × IsSetUp mid × DiskCall old mid new
 InitsClosed old s Ready new =
     (mid : State) × Settles old mid × IsNotSetUp mid × DiskCall old (brought mid (SetUp s)) new

@@ -3,13 +3,15 @@ ghost use Rattle.std.specs.Prelude.{◌≡◌, ◌↔◌, ℕ, ◌≤◌, ◌<�
 ghost use Rattle.std.specs.List.{Contains};
 ghost use Rattle.column_defs.specs.Objects.{Object};
 ghost use Rattle.column_defs.specs.Columns.{columns};
+ghost use Rattle.record_defs.specs.Records.{Setup};
 ghost use Rattle.record_defs.specs.Table.{file_as, next_id, next_audit, started_as};
 ghost use Rattle.machine_defs.specs.Jobs.{Kind, PutJob, AuditJob, Pinned, Job, job_of};
 ghost use Rattle.machine_defs.specs.States.{State, IsStart, setup_in, put_object};
 ghost use Rattle.machine_defs.specs.Runs.{Moment, IsRun, now, first_moments, is_replaced_since};
 ghost use Rattle.machine_defs.specs.Began.{IsBeginOf, IsBeginOfKind, NoneBegan, WasBegun, GivesUp, IsOfJob};
 ghost use Rattle.machine_defs.specs.Answers.{Answer, Memory};
-ghost use Rattle.machine_defs.specs.Events.{Step, Begun, Ended};
+ghost use Rattle.machine_defs.specs.Events.{Init, Reopen, Step, Begun, Ended, Refused};
+ghost use Rattle.machine_defs.specs.Refusals as refusal;
 ghost use Rattle.machine_defs.specs.Machine.{Happens};
 ghost use Rattle.machine_defs.specs.Failures.{Count, count_in};
 ghost use Rattle.machine_defs.specs.Calm.{Mark, IsCalm, since, relies};
@@ -181,11 +183,16 @@ pub fn jobs_end_so()
         → EndsSo (now start (between ++ b ∷ older)) m.state kind answer }
 {}
 
-/// A step that ends for want of memory counts no fault: the disk's count stays as it was, and so do those of
-/// each provider.
+/// A step that ends for want of memory counts no fault, nor does a reopening or an init that is refused for it:
+/// the disk's count stays as it was, and so do those of each provider.
 pub fn want_of_memory_is_no_fault()
-    ensures { (limit moment : ℕ) (old new : State) (number : ℕ) (count : Count)
+    ensures steps { (limit moment : ℕ) (old new : State) (number : ℕ) (count : Count)
         → Happens limit moment old (Step number) (Ended Memory) new → count_in count new ≡ count_in count old }
+    ensures reopenings { (limit moment : ℕ) (old new : State) (count : Count)
+        → Happens limit moment old Reopen (Refused refusal.Memory) new → count_in count new ≡ count_in count old }
+    ensures inits { (limit moment : ℕ) (old new : State) (setup : Setup) (count : Count)
+        → Happens limit moment old (Init setup) (Refused refusal.Memory) new
+        → count_in count new ≡ count_in count old }
 {}
 
 /// While no job that puts or drops a name begins, none on it runs where none did, and no record in doubt takes

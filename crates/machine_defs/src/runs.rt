@@ -1,8 +1,10 @@
-//! A whole run, given outright: it shows that the machine is not empty. And a step that finds no memory.
+//! A whole run, given outright: it shows that the machine is not empty. And events that find no memory.
 ghost use Rattle.std.specs.Prelude.{◌≡◌, List, [], ◌∷◌, ◌++◌, length, codes, Some};
+ghost use Rattle.record_defs.specs.Examples.{four};
 ghost use Rattle.machine_defs.specs.Jobs.{PutJob};
 ghost use Rattle.machine_defs.specs.Answers.{Memory};
-ghost use Rattle.machine_defs.specs.Events.{Begin, Reopen, Step, Ended};
+ghost use Rattle.machine_defs.specs.Events.{Init, Begin, Reopen, Step, Refused, Ended};
+ghost use Rattle.machine_defs.specs.Refusals as refusal;
 ghost use Rattle.machine_defs.specs.States.{file_in};
 ghost use Rattle.machine_defs.specs.Runs.{Moment, IsRun, now};
 ghost use Rattle.machine_defs.specs.Transcripts.{Once, RunJob, CarriesOut};
@@ -22,4 +24,10 @@ pub fn put_is_stored()
 /// the next job's number.
 pub fn put_finds_no_memory()
     ensures { Happens 1 0 putting (Step 1) (Ended Memory) (record putting { jobs = [] }) }
+{}
+
+/// A reopening and an init that find no memory leave a closed vault as it was.
+pub fn openings_find_no_memory()
+    ensures reopening { Happens 1 0 set_up Reopen (Refused refusal.Memory) set_up }
+    ensures init { Happens 1 0 set_up (Init four) (Refused refusal.Memory) set_up }
 {}

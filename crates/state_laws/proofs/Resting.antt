@@ -344,7 +344,7 @@ module _ (limit : ℕ) where
     reopens-sound (Refused refusal.TooFewProviders) new (mid, h, up, few, (faults, low, is)) =
         read-closed mid new faults h is
     reopens-sound (Refused refusal.DiskFault) new (faults, low, rose, is) = unread new faults is
-    reopens-sound (Refused refusal.Memory) new (faults, low, is) = unread new faults is
+    reopens-sound (Refused refusal.Memory) new is = unread new old.disk_faults is
     reopens-sound r new h = absurd h
 
     -- what is in doubt after an init that failed
@@ -379,10 +379,9 @@ module _ (limit : ℕ) where
         subst (IsSound limit) (sym is)
         (shut (record old { doubt = doubt; disk_faults = faults }) idle
         (left-kept s doubt faults valid leaves) closed)
-    inits-closed s (Refused refusal.Memory) new idle closed valid (doubt, leaves, (faults, low, is)) =
+    inits-closed s (Refused refusal.Memory) new idle closed valid (doubt, leaves, is) =
         subst (IsSound limit) (sym is)
-        (shut (record old { doubt = doubt; disk_faults = faults }) idle
-        (left-kept s doubt faults valid leaves) closed)
+        (shut (record old { doubt = doubt }) idle (left-kept s doubt old.disk_faults valid leaves) closed)
     inits-closed s (Refused refusal.Already) new idle closed valid (mid, h, up, (faults, low, is)) =
         (let t = settled old mid kept h in
         subst (IsSound limit) (sym is)

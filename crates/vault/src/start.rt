@@ -39,6 +39,7 @@ impl Vault {
         ensures resynced { IfErr result
             (λ why. LiesInJournal why → D.holds disk.new ≡ option_map synced (D.holds disk.old)) }
         ensures disk { Goes IsResynced (D.holds disk.old) (D.holds disk.new) }
+        ensures no_fault { (IsErrOf result start_fault.DiskFault → ⊥) → D.faults disk.new ≡ D.faults disk.old }
         ensures cause { HasCause (D.faults disk.old) (D.faults disk.new)
             (IsErrOf result start_fault.DiskFault) }
     {

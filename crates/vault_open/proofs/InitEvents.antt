@@ -21,6 +21,14 @@ pub err-is : {T E : Type 0} (r : Result T E) (x : E) → IsErrAnd r (λ e. e ≡
 err-is (Ok t) x is = absurd is
 err-is (Err e) x is = ap (λ y. Err y) is
 
+-- two errors that are one have one cause
+pub err-same : {T E : Type 0} (x y : E) → ◌≡◌ {A = Result T E} (Err x) (Err y) → x ≡ y
+err-same x y is = cc
+
+-- a value is no error
+pub ok-no-err : {T E : Type 0} (t : T) (x : E) → ◌≡◌ {A = Result T E} (Ok t) (Err x) → ⊥
+ok-no-err t x is = cc
+
 begins-up : (rs : List Record) → BeginsWithSetup rs → is_some (setup_of rs) ≡ true
 begins-up [] h = absurd h
 begins-up (SetUp s ∷ rs) h = refl
@@ -190,12 +198,12 @@ module _ (s : Setup) (w : State) (moment : ℕ) (providers : List Provider) (old
   }
 
   wanting : (doubt : Option Doubt) → LeavesDoubt w s doubt →
-      StandsForState new (left_at s w moment providers doubt f1) →
+      StandsForState new (left_at s w moment providers doubt f1) → f1 ≡ f0 →
       MakesInit w moment s (Err init_fault.Memory) (devices new f1 providers)
-  wanting doubt leaves images = record {
+  wanting doubt leaves images same = record {
     state = left_at s w moment providers doubt f1;
     happens = happens s w moment providers _ _ may.closed valid
-        (doubt, leaves, (f1, le w providers old f0 may are f1 never, refl));
+        (doubt, leaves, ap (λ n. left_at s w moment providers doubt n) (same ∙ sym are.faults));
     devices = devices-at doubt images;
   }
 
@@ -226,7 +234,8 @@ module _ (s : Setup) (w : State) (moment : ℕ) (providers : List Provider) (old
   half-failed (inl same) rose = failed w.doubt (inl refl) (still same) rose
   half-failed (inr short) rose = failed own (own-leaves (inl short.0)) (short-images (inl short.0) short.1) rose
 
-  half-wanting : IsHalfReady old new → MakesInit w moment s (Err init_fault.Memory) (devices new f1 providers)
+  half-wanting : IsHalfReady old new → f1 ≡ f0 →
+      MakesInit w moment s (Err init_fault.Memory) (devices new f1 providers)
   half-wanting (inl same) = wanting w.doubt (inl refl) (still same)
   half-wanting (inr short) = wanting own (own-leaves (inl short.0)) (short-images (inl short.0) short.1)
 
@@ -243,7 +252,7 @@ module _ (s : Setup) (w : State) (moment : ℕ) (providers : List Provider) (old
     append-failed : Rose f0 f1 → MakesInit w moment s (Err init_fault.DiskFault) (devices new f1 providers)
     append-failed rose = failed own (own-leaves was-free) append-images rose
 
-    append-wanting : MakesInit w moment s (Err init_fault.Memory) (devices new f1 providers)
+    append-wanting : f1 ≡ f0 → MakesInit w moment s (Err init_fault.Memory) (devices new f1 providers)
     append-wanting = wanting own (own-leaves was-free) append-images
 
 -- ---- what is there already
@@ -374,21 +383,21 @@ module _ (s : Setup) (w : State) (moment : ℕ) (providers : List Provider) wher
       AreDevices (devices old f0 providers) w → is_setup s ≡ true
       → IfSome old (λ cells. IsInitFault (journal_read cells) s why) →
       (IsNoWrite why → new ≡ option_map synced old) → IfSome old (λ cells. IsHalfReady cells new)
-      → HasCause f0 f1 (why ≡ init_fault.DiskFault) →
+      → HasCause f0 f1 (why ≡ init_fault.DiskFault) → ((why ≡ init_fault.DiskFault → ⊥) → f1 ≡ f0) →
       MakesInit w moment s (Err why) (devices new f1 providers)
-  prepared-event None new f0 f1 why may are valid fault looked half cause = absurd (untold None refl may)
-  prepared-event (Some old) new f0 f1 init_fault.BadSetup may are valid fault looked half cause =
+  prepared-event None new f0 f1 why may are valid fault looked half cause stays = absurd (untold None refl may)
+  prepared-event (Some old) new f0 f1 init_fault.BadSetup may are valid fault looked half cause stays =
       absurd (false≢true (sym fault ∙ valid))
-  prepared-event (Some old) new f0 f1 init_fault.DiskFault may are valid fault looked half cause =
+  prepared-event (Some old) new f0 f1 init_fault.DiskFault may are valid fault looked half cause stays =
       half-failed s w moment providers old f0 may are valid new f1 cause.never_falls half (cause.rose refl)
-  prepared-event (Some old) new f0 f1 init_fault.Memory may are valid fault looked half cause =
-      half-wanting s w moment providers old f0 may are valid new f1 cause.never_falls half
-  prepared-event (Some old) new f0 f1 init_fault.Already may are valid fault looked half cause =
+  prepared-event (Some old) new f0 f1 init_fault.Memory may are valid fault looked half cause stays =
+      half-wanting s w moment providers old f0 may are valid new f1 cause.never_falls half (stays (λ e. cc))
+  prepared-event (Some old) new f0 f1 init_fault.Already may are valid fault looked half cause stays =
       subst (λ (o : Option Cells). MakesInit w moment s (Err init_fault.Already) (devices o f1 providers))
       (sym (looked tt))
       (already-by s w moment providers old f0 may are valid f1 cause.never_falls fault.1.1.0 fault.1.0
       fault.1.1.1 fault.1.2 (may-read w providers old f0 may are fault.1.1.0 fault.1.0 fault.1.1.1))
-  prepared-event (Some old) new f0 f1 (init_fault.BadJournal at) may are valid fault looked half cause =
+  prepared-event (Some old) new f0 f1 (init_fault.BadJournal at) may are valid fault looked half cause stays =
       absurd (no-bad w providers old f0 may are at fault.0 fault.1)
 
   module _ (area : Area) where
@@ -396,15 +405,16 @@ module _ (s : Setup) (w : State) (moment : ℕ) (providers : List Provider) wher
     pub append-event : (old mid new : Option Cells) (f0 f1 : ℕ) (fault : WriteFault) → MayInit w old →
         AreDevices (devices old f0 providers) w → is_setup s ≡ true
         → Goes (IsReadied area) old mid → MayStandWith area [] (SetUp s) new →
-        HasCause f0 f1 (fault ≡ write_fault.Failed) →
+        HasCause f0 f1 (fault ≡ write_fault.Failed) → ((fault ≡ write_fault.Failed → ⊥) → f1 ≡ f0) →
         MakesInit w moment s (Err (init_answer fault)) (devices new f1 providers)
-    append-event None mid new f0 f1 fault may are valid goes left cause = absurd (untold None refl may)
-    append-event (Some old) None new f0 f1 fault may are valid goes left cause = absurd goes
-    append-event (Some old) (Some mid) new f0 f1 write_fault.Failed may are valid goes left cause =
+    append-event None mid new f0 f1 fault may are valid goes left cause stays = absurd (untold None refl may)
+    append-event (Some old) None new f0 f1 fault may are valid goes left cause stays = absurd goes
+    append-event (Some old) (Some mid) new f0 f1 write_fault.Failed may are valid goes left cause stays =
         append-failed s w moment providers old f0 may are valid new f1 cause.never_falls area mid goes left
         (cause.rose refl)
-    append-event (Some old) (Some mid) new f0 f1 write_fault.Memory may are valid goes left cause =
+    append-event (Some old) (Some mid) new f0 f1 write_fault.Memory may are valid goes left cause stays =
         append-wanting s w moment providers old f0 may are valid new f1 cause.never_falls area mid goes left
+        (stays (λ e. cc))
 
     -- an init that is done is an event of the machine
     pub ready-event : (old mid new : Option Cells) (f0 f1 : ℕ) → MayInit w old →

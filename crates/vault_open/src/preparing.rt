@@ -33,6 +33,7 @@ fn make_empty<D: Disk>(disk: &mut D) -> Result<(), WriteFault>
     ensures left { OnErr result (IfSome (D.holds disk.old) (λ cells. length (reads cells) ≤ 9) → EachImage
         (D.holds disk.new) (λ image. length image ≤ 9)) }
     ensures tells { is_some (D.holds disk.new) ≡ is_some (D.holds disk.old) }
+    ensures no_fault { (IsErrOf result write_fault.Failed → ⊥) → D.faults disk.new ≡ D.faults disk.old }
     ensures cause { HasCause (D.faults disk.old) (D.faults disk.new) (IsErrOf result write_fault.Failed) }
 {
     disk.write_at(0, &NO_RECORD)?;
@@ -93,6 +94,7 @@ pub(crate) fn prepare<D: Disk>(alloc: Global, disk: &mut D) -> Result<u64, InitF
         (D.holds disk.old)) }
     ensures left { OnErr result (IfSome (D.holds disk.old) (λ cells. IsHalfReady cells (D.holds disk.new))) }
     ensures tells { is_some (D.holds disk.new) ≡ is_some (D.holds disk.old) }
+    ensures no_fault { (IsErrOf result init_fault.DiskFault → ⊥) → D.faults disk.new ≡ D.faults disk.old }
     ensures cause { HasCause (D.faults disk.old) (D.faults disk.new) (IsErrOf result init_fault.DiskFault) }
 {
     let base = match read_disk(alloc, disk)? {
@@ -143,6 +145,7 @@ pub(crate) fn append_setup<D: Disk>(
         → OnErr result (MayStandWith area [] (SetUp (with_master setup.now master.now.0))
         (D.holds disk.new)) }
     ensures tells { is_some (D.holds disk.new) ≡ is_some (D.holds disk.old) }
+    ensures no_fault { (IsErrOf result write_fault.Failed → ⊥) → D.faults disk.new ≡ D.faults disk.old }
     ensures cause { HasCause (D.faults disk.old) (D.faults disk.new) (IsErrOf result write_fault.Failed) }
 {
     let mut append = Append::new(base, &setup_record(master.0, setup));

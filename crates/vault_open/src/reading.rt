@@ -26,6 +26,7 @@ pub(crate) fn read_disk<D: Disk>(alloc: Global, disk: &mut D) -> Result<Option<V
     ensures synced { OnOk result (D.holds disk.new ≡ option_map synced (D.holds disk.old)) }
     ensures disk { Goes IsResynced (D.holds disk.old) (D.holds disk.new) }
     ensures tells { is_some (D.holds disk.new) ≡ is_some (D.holds disk.old) }
+    ensures no_fault { (IsErrOf result write_fault.Failed → ⊥) → D.faults disk.new ≡ D.faults disk.old }
     ensures cause { HasCause (D.faults disk.old) (D.faults disk.new) (IsErrOf result write_fault.Failed) }
 {
     disk.sync()?;

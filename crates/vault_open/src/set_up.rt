@@ -40,6 +40,7 @@ pub fn init<D: Disk>(
     ensures left { OnErr result (IfSome (D.holds disk.old)
         (λ cells. EachImage (D.holds disk.new) (MayBeLeft (with_master setup.now master.now.0) cells))) }
     ensures tells { is_some (D.holds disk.new) ≡ is_some (D.holds disk.old) }
+    ensures no_fault { (IsErrOf result init_fault.DiskFault → ⊥) → D.faults disk.new ≡ D.faults disk.old }
     ensures cause { HasCause (D.faults disk.old) (D.faults disk.new) (IsErrOf result init_fault.DiskFault) }
     ensures machine { (w : State) (providers : List Provider) (moment : ℕ) → MayInit w (D.holds disk.old)
         → AreDevices (devices (D.holds disk.old) (D.faults disk.old) providers) w

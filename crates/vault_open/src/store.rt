@@ -44,6 +44,7 @@ pub fn read_store<D: Disk>(alloc: Global, disk: &mut D) -> Result<Store, StartFa
         (λ why. LiesInJournal why → D.holds disk.new ≡ option_map synced (D.holds disk.old)) }
     ensures disk { Goes IsResynced (D.holds disk.old) (D.holds disk.new) }
     ensures tells { is_some (D.holds disk.new) ≡ is_some (D.holds disk.old) }
+    ensures no_fault { (IsErrOf result start_fault.DiskFault → ⊥) → D.faults disk.new ≡ D.faults disk.old }
     ensures cause { HasCause (D.faults disk.old) (D.faults disk.new)
         (IsErrOf result start_fault.DiskFault) }
 {

@@ -5,7 +5,7 @@ use Rattle.vault_open.specs.declared.fault.InitFault.TheVariants as init_fault
 use Rattle.vault_open.proofs.Answers.{err-from, unjudged, disk-unjudged}
 use Rattle.vault_open.proofs.FirstRecord.{base-low, set-up-on}
 use Rattle.vault_open.proofs.Prepared.{half-left, append-left}
-use Rattle.vault_open.proofs.InitEvents.{bad-refused, bad-setup, prepared-event, append-event, ready-event, err-is, cause-after, readied-blank}
+use Rattle.vault_open.proofs.InitEvents.{bad-refused, bad-setup, prepared-event, append-event, ready-event, err-is, err-same, ok-no-err, cause-after, readied-blank}
 use Rattle.vault_open.proofs.set_up.init.Goals as goal
 
 pub returns-then-not-check-clause-refused : goal.returns-then-not-check-clause-refused
@@ -41,7 +41,8 @@ returns-in_err-base-clause-machine g c = λ w providers moment may are.
     (sym (err-is c.from_residual.result why c.from_residual.ensures.1))
     (prepared-event s w moment providers (g.D.Disk.holds c.args.disk.now) (g.D.Disk.holds c.prepare.new.disk)
     (g.D.Disk.faults c.args.disk.now) (g.D.Disk.faults c.prepare.new.disk) why may are valid
-    (c.in_err-base.ensures.refused s) c.in_err-base.ensures.looked c.in_err-base.ensures.left cause)
+    (c.in_err-base.ensures.refused s) c.in_err-base.ensures.looked c.in_err-base.ensures.left cause
+    (λ none. c.in_err-base.ensures.no_fault (λ e. none (err-same _ _ e))))
 
 pub returns-in_err-base-clause-left : goal.returns-in_err-base-clause-left
 returns-in_err-base-clause-left g c =
@@ -77,7 +78,9 @@ returns-in_err-append_setup-clause-machine g c = λ w providers moment may are.
     (append-event s w moment providers at.0 (g.D.Disk.holds c.args.disk.now) (g.D.Disk.holds c.prepare.new.disk)
     (g.D.Disk.holds c.append_setup.new.disk) (g.D.Disk.faults c.args.disk.now)
     (g.D.Disk.faults c.append_setup.new.disk) fault may are valid at.2
-    (c.in_err-append_setup.ensures.left at.0 at.1 blank) cause)
+    (c.in_err-append_setup.ensures.left at.0 at.1 blank) cause
+    (λ none. c.in_err-append_setup.ensures.no_fault (λ e. none (err-same _ _ e))
+    ∙ c.in_ok-base.ensures.no_fault (λ e. ok-no-err _ _ e)))
 
 pub returns-in_err-append_setup-clause-left : goal.returns-in_err-append_setup-clause-left
 returns-in_err-append_setup-clause-left g c =
