@@ -17,7 +17,7 @@
 --   Ending                          == how a command ended: its status, the place that the status speaks of,
 --                                      and what its job heard
 --   IsRefused status at old new end == the command ended so: nothing was heard or written, the disk was at
---                                      most synced, and the providers are as before
+--                                      most synced, and the providers are as before; 70 is no fault of it
 use Rattle.std.specs.Prelude.{◌≡◌, ℕ, ◌<◌, ◌≤◌, List, [], length, slice_get, unwrap_or, Option, None, IfSome}
 use Rattle.std.specs.Option.{option_map}
 use Rattle.device_defs.specs.Told.{Goes, then_told}
@@ -110,7 +110,7 @@ pub record Ending : Type 0 where
   pub at : ℕ
   pub heard : List Entry
 
--- a command ended without a word
+-- a command ended without a word; one that found no memory counted no fault of the disk
 pub record IsRefused (status at : ℕ) (old new : Seen) (end : Ending) : Type 0 where
   pub status_is : end.status ≡ status
   pub place : end.at ≡ at
@@ -118,3 +118,4 @@ pub record IsRefused (status at : ℕ) (old new : Seen) (end : Ending) : Type 0 
   pub disk : KeepsDisk old new
   pub providers : new.providers ≡ old.providers
   pub sink : new.sink ≡ old.sink
+  pub no_fault : status ≡ 70 → new.disk_faults ≡ old.disk_faults

@@ -265,7 +265,7 @@ module _ (there : ThereIsOne) (v : Vault) (records : List Record) (holds : Optio
   abbrev pub runs-alone : RunsAlone R.area records kind own (machine_answer ended.answer) old new ended.heard
   runs-alone = record {
     faults = faults;
-    before = B.faults;
+    before = (let b = B.faults in omega (arith, b));
     ran = λ w moment over. (all-ran-to w moment over).ran;
   }
 

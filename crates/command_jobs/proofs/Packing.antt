@@ -138,7 +138,7 @@ module _ (there : ThereIsOne) (v : Vault) (records : List Record) (holds : Optio
   packs-alone : PacksAlone R.area records (pack_answer answer) old new
   packs-alone = record {
     faults = faults;
-    before = B.faults;
+    before = (let b = B.faults in omega (arith, b));
     tells = ap is_some A.disk ∙ (tells ∙ told-alike holds old.disk B.reads);
     ran = λ w moment over. ran-pack w moment
         (subst (λ (ps : List Provider). IsJustOpened w R.area records 1 faults ps) B.providers over);

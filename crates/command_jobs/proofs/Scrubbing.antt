@@ -101,7 +101,7 @@ module _ (v : Vault) (records : List Record) (holds : Option Cells) (faults : �
   runs-alone : ScrubsAlone R.area records told old new
   runs-alone = record {
     faults = faults;
-    before = B.faults;
+    before = (let b = B.faults in omega (arith, b));
     ran = λ w moment over. ran-alone w moment
         (subst (λ (ps : List Provider). IsJustOpened w R.area records 1 faults ps) B.providers over);
   }

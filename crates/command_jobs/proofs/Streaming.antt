@@ -201,7 +201,7 @@ module _ (there : ThereIsOne) (v : Vault) (records : List Record) (holds : Optio
     runs : PartRuns R.area records name given own old new
     runs = record {
       faults = faults;
-      before = B.faults;
+      before = (let b = B.faults in omega (arith, b));
       ran = λ w moment over. part-ran w moment
           (subst (λ (ps : List Provider). IsJustOpened w R.area records 1 faults ps) B.providers over);
     }

@@ -28,10 +28,10 @@ use Rattle.vault.specs.declared.turn.Ended.{Ended}
 use Rattle.vault_open.specs.Devices.{Devices}
 use Rattle.vault.specs.Outcomes.{machine_answer}
 
--- what was seen before a vault was opened, which may sync the disk and count faults of it
+-- what was seen before a vault was opened, which syncs the disk and counts no fault of it
 pub record IsSeenBefore (seen : Seen) (d : Devices) : Type 0 where
   pub reads : option_map reads d.holds ≡ option_map reads seen.disk
-  pub faults : seen.disk_faults ≤ d.faults
+  pub faults : d.faults ≡ seen.disk_faults
   pub providers : seen.providers ≡ d.providers
 
 -- what is seen afterwards

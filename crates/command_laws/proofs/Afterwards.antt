@@ -76,6 +76,7 @@ as-told status at old new end r =
       disk = r.disk;
       providers = r.providers;
       sink = r.sink;
+      no_fault = λ e. r.no_fault (sym r.status_is ∙ e);
     }
 
 other-status : (status m : ℕ) → status ≡ m → is_refusal m ≡ false → is_refusal status ≡ true → ⊥

@@ -393,8 +393,7 @@ module _ (start : State) (ms : List Moment) (R : IsRun 8 start ms) (old : Seen)
         ))
 
     memory-on : (at : ℕ) → IsRefused 70 at old new end → GoesOn
-    memory-on at r = closed-on at refusal.Memory r
-        (new.disk_faults, faults-at new.disk_faults counts.disk, refl)
+    memory-on at r = closed-on at refusal.Memory r (ap closed_at (r.no_fault refl ∙ sym S.faults_are))
 
     fault-on : Rose old.disk_faults new.disk_faults → IsRefused 12 0 old new end → GoesOn
     fault-on rose r = closed-on 0 refusal.DiskFault r (

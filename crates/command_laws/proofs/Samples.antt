@@ -130,14 +130,16 @@ keeps (Some cells) = inl refl
 
 -- a command that changes nothing ended without a word
 pub quiet : {status at : ℕ} {old new : Seen} → new.disk ≡ old.disk → new.providers ≡ old.providers →
-    new.sink ≡ old.sink → IsRefused status at old new (record { status = status; at = at; heard = [] })
-quiet {old} disk providers sink = record {
+    new.sink ≡ old.sink → (status ≡ 70 → new.disk_faults ≡ old.disk_faults) →
+    IsRefused status at old new (record { status = status; at = at; heard = [] })
+quiet {old} disk providers sink no_fault = record {
   status_is = refl;
   place = refl;
   heard = refl;
   disk = subst (λ told. Goes IsResynced old.disk told) (sym disk) (keeps old.disk);
   providers = providers;
   sink = sink;
+  no_fault = no_fault;
 }
 
 -- its begin was refused
@@ -145,27 +147,27 @@ pub refused : {kind : Kind} {s : Seen} {rs : List Record} (why : Refusal) → (o
     refusal_over opened.area rs kind None ≡ Some why → IsSynced s s →
     AnswersAlone kind s s (ends (status_of why)) × SameSource s s
 refused {rs} why opened is synced =
-    (AnswersAlone.begun rs opened (AnswersJob.refused why is synced (quiet refl refl refl)), (refl, refl))
+    (AnswersAlone.begun rs opened (AnswersJob.refused why is synced (quiet refl refl refl (λ e. refl))), (refl, refl))
 
 -- so was that of a pack
 pub pack-refused : {s : Seen} {rs : List Record} (why : Refusal) → (opened : IsOpened s rs) →
     pack_refusal_over opened.area rs ≡ Some why → IsSynced s s →
     Answers PackJournal s s (ends (status_of why))
 pack-refused {rs} why opened is synced =
-    (AnswersPack.refused rs why opened is synced (quiet refl refl refl), (refl, refl))
+    (AnswersPack.refused rs why opened is synced (quiet refl refl refl (λ e. refl)), (refl, refl))
 
 -- a put with a profile of its own is refused in a journal of the first version
 pub old-refused : Answers (PutAt held_name 1) (store set_up_records) (store set_up_records) (ends 23)
 old-refused = AnswersPut.begun set_up_records [] set_up-sure.known.opened refl
     (record { are_bytes = refl; front = refl }) (omega arith)
-    (AnswersJob.refused refusal.OldVersion refl (same-disk set_up_records) (quiet refl refl refl))
+    (AnswersJob.refused refusal.OldVersion refl (same-disk set_up_records) (quiet refl refl refl (λ e. refl)))
     (λ may. refl)
 
 -- and so is one with a profile that there is none of
 pub unknown-refused : Answers (PutAt held_name 5) (store set_up_records) (store set_up_records) (ends 20)
 unknown-refused = AnswersPut.bad_profile set_up_records set_up-sure.known.opened refl
     (same-disk set_up_records)
-    (refl, refl) (quiet refl refl refl)
+    (refl, refl) (quiet refl refl refl (λ e. refl))
 
 -- a list of the store with the empty file is done
 pub listed : Answers ListAll (store held_records)

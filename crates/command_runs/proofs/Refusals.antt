@@ -24,7 +24,7 @@ pub put-refused : (name : List ℕ) (own : Option ℕ) (why : Refusal) → is_un
     AnswersPut name own to_put put_unmade (ends (status_of why))
 put-refused name own why known is = AnswersPut.begun four_records byte put-old.known.opened known
     (record { are_bytes = refl; front = refl }) (omega arith)
-    (AnswersJob.refused why is (same-disk four_records) (quiet refl refl refl)) (λ m. absurd m)
+    (AnswersJob.refused why is (same-disk four_records) (quiet refl refl refl (λ e. refl))) (λ m. absurd m)
 
 -- a list ends with 15 where the sink fails
 pub sink-fault : Answers ListAll byte_kept (record byte_kept { sink_faults = 1 }) (ends 15)

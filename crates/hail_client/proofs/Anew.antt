@@ -1,5 +1,5 @@
 -- Clients over a disk of no known state: a run begins at each reopening.
-use Rattle.hail_client.proofs.Words.{◌≡◌, ℕ, ◌<◌, ◌≤◌, false, List, [], Option, Some, None, Result, Err, refl, sym, subst, inl, arith, IsSome, IfSome, IsTrue, IsErrAnd, is_some, list_all, false≢true, is_some-none, Cells, Rose, EachImage, Provider, Goes, Record, is_in_grammar, largest_journal, AreAccepted, Area, A, end_in, Outcome, Reopen, State, setup_in, IsSetUp, Rereads, Reopens, StandsForState, IsSound, IsAtRest, journal-whole, rest-sound, StartFault, Vault, IsJustOpened, devices, IsRead, IsResynced, MayBeLeft, provider_count, Stands, IsStreamless, Client, ReopenFault, client_next_job, with_vault, without_vault, start_refusal, reopen_outcome, UnlessBadJournal, provider_or_empty, StandsClosed, StandsBy, IsMadeAnew, IsStanding, OpensOver, err-is}
+use Rattle.hail_client.proofs.Words.{◌≡◌, ℕ, ◌<◌, ◌≤◌, false, List, [], Option, Some, None, Result, Err, refl, ap, sym, subst, inl, arith, IsSome, IfSome, IsTrue, IsErrAnd, is_some, list_all, false≢true, is_some-none, Cells, Rose, EachImage, Provider, Goes, Record, is_in_grammar, largest_journal, AreAccepted, Area, A, end_in, Outcome, Reopen, State, setup_in, IsSetUp, Rereads, Reopens, StandsForState, IsSound, IsAtRest, journal-whole, rest-sound, StartFault, Vault, IsJustOpened, devices, IsRead, IsResynced, MayBeLeft, provider_count, Stands, IsStreamless, Client, ReopenFault, client_next_job, with_vault, without_vault, start_refusal, reopen_outcome, UnlessBadJournal, provider_or_empty, StandsClosed, StandsBy, IsMadeAnew, IsStanding, OpensOver, err-is}
 use Rattle.std.proofs.Common.{true, length}
 use Rattle.record_defs.specs.Records.{Setup}
 use Rattle.machine_defs.specs.Events as events
@@ -121,14 +121,16 @@ module _ (moment next f g : ℕ) (ps : List Provider) (old new : Option Cells) (
   }
 
   fault-anew : (why : StartFault) → (why ≡ start_fault.DiskFault → Rose f g) →
+      ((why ≡ start_fault.DiskFault → ⊥) → g ≡ f) →
       UnlessBadJournal (Err (reopen_fault.NotOpened why))
       (AnewBy (events.Refused (start_refusal why)) (without_vault next))
-  fault-anew start_fault.DiskFault rose =
+  fault-anew start_fault.DiskFault rose stays =
       closed-anew A [] none-rests refusal.DiskFault (g, never, rose refl, refl)
-  fault-anew start_fault.Memory rose = closed-anew A [] none-rests refusal.Memory (g, never, refl)
-  fault-anew start_fault.NotSetUp rose = closed-anew A [] none-rests refusal.NotSetUp
+  fault-anew start_fault.Memory rose stays = closed-anew A [] none-rests refusal.Memory
+      (ap (λ n. closed-over A [] next n ps) (stays (λ e. cc)))
+  fault-anew start_fault.NotSetUp rose stays = closed-anew A [] none-rests refusal.NotSetUp
       (closed-over A [] next f ps, same-rereads-over A [] next f ps, refl, (g, never, refl))
-  fault-anew (start_fault.BadJournal at) rose = tt
+  fault-anew (start_fault.BadJournal at) rose stays = tt
 
 -- records were read
 module _ (told : Option Cells) (area : Area) (rs : List Record) (is_read : IsRead told area rs) (v : Vault)
@@ -238,10 +240,10 @@ module _ (c left : Client) (left_is : left ≡ without_vault (client_next_job c)
     -- a reopening that fails, for what it read or by the disk, is an event of some closed state
     pub refused-anew : (why : StartFault) (result : Result Unit ReopenFault) →
         IsErrAnd result (λ e. e ≡ reopen_fault.NotOpened why) → (why ≡ start_fault.DiskFault → Rose f g) →
-        UnlessBadJournal result
+        ((why ≡ start_fault.DiskFault → ⊥) → g ≡ f) → UnlessBadJournal result
         (IsMadeAnew moment (client_next_job c) Reopen (reopen_outcome result) left (devices old f ps)
         (devices new g ps))
-    refused-anew why result is rose =
+    refused-anew why result is rose stays =
         subst (λ (x : Client). UnlessBadJournal result
         (IsMadeAnew moment (client_next_job c) Reopen (reopen_outcome result) x (devices old f ps)
         (devices new g ps))) (sym left_is)
@@ -250,7 +252,7 @@ module _ (c left : Client) (left_is : left ≡ without_vault (client_next_job c)
         (without_vault (client_next_job c)) (devices old f ps) (devices new g ps)))
         (sym (err-is result (reopen_fault.NotOpened why) is))
         (fault-anew moment (client_next_job c) f g ps old new (is_some-none old none)
-        (untold-goes IsResynced old new none goes) never why rose))
+        (untold-goes IsResynced old new none goes) never why rose stays))
 
     -- a reopening with too few providers is refused, as an event of some closed state
     pub few-are : (v : Vault) → WasOpened v old new g left.next_job → length ps < provider_count v →

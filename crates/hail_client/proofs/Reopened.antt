@@ -189,22 +189,23 @@ module _ (w : State) (moment next : ℕ) (old : Cells) (f0 f1 : ℕ) (ps : List 
   -- a start that fails, by the disk or by what it read, is a reopening that the machine refuses
   pub fault-event : (new : Option Cells) (why : StartFault) → Goes IsResynced (Some old) new →
       IsStartFault (journal_read old) why → (LiesInJournal why → new ≡ option_map synced (Some old)) →
-      (why ≡ start_fault.DiskFault → Rose f0 f1) →
+      (why ≡ start_fault.DiskFault → Rose f0 f1) → ((why ≡ start_fault.DiskFault → ⊥) → f1 ≡ f0) →
       MakesEvent w moment Reopen (events.Refused (start_refusal why)) (without_vault next) (devices new f1 ps)
-  fault-event new start_fault.DiskFault goes is lies rose =
+  fault-event new start_fault.DiskFault goes is lies rose stays =
       refused-at new refusal.DiskFault left
       (f1, le, subst (λ (k : ℕ). Rose k f1) (sym are.faults) (rose refl), refl)
       (resynced-images new goes) refl refl (λ j. refl) refl refl
-  fault-event new start_fault.Memory goes is lies rose =
-      refused-at new refusal.Memory left (f1, le, refl) (resynced-images new goes) refl refl
-      (λ j. refl) refl refl
-  fault-event new start_fault.NotSetUp goes is lies rose =
+  fault-event new start_fault.Memory goes is lies rose stays =
+      refused-at new refusal.Memory left
+      (ap (λ n. record (given_up w) { disk_faults = n }) (stays (λ e. cc) ∙ sym are.faults))
+      (resynced-images new goes) refl refl (λ j. refl) refl refl
+  fault-event new start_fault.NotSetUp goes is lies rose stays =
       (let none = none-read w (reads old) sound.journal read (free-read is) in
       refused-at new refusal.NotSetUp (record bare { disk_faults = f1 })
       (bare, left-rereads w w.records w.journal w.area (same-left w), none-set none.0, (f1, le, refl))
       (shown-again new bare (record bare { disk_faults = f1 }) refl refl refl refl
       (synced-images new bare (lies tt) none.1)) refl refl (λ j. refl) refl refl)
-  fault-event new (start_fault.BadJournal at) goes is lies rose = absurd (not-bad at is)
+  fault-event new (start_fault.BadJournal at) goes is lies rose stays = absurd (not-bad at is)
 
   -- records were read
   module _ (new : Option Cells) (area : Area) (js : List Record) (is_read : IsRead (Some old) area js)

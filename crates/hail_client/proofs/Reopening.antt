@@ -20,11 +20,12 @@ module _ (w : State) (moment : ℕ) (c left : Client) where
       IsErrAnd result (λ e. e ≡ reopen_fault.NotOpened why) → Goes IsResynced old new →
       IfSome old (λ cells. IsStartFault (journal_read cells) why) →
       (LiesInJournal why → new ≡ option_map synced old) →
-      f ≤ g → (why ≡ start_fault.DiskFault → Rose f g) → ClientStands c (devices old f ps) w →
+      f ≤ g → (why ≡ start_fault.DiskFault → Rose f g) → ((why ≡ start_fault.DiskFault → ⊥) → g ≡ f) →
+      ClientStands c (devices old f ps) w →
       MakesEvent w moment Reopen (reopen_outcome result) left (devices new g ps)
-  refused-event None new f g ps why result told left_is is goes cause lies never rose S =
+  refused-event None new f g ps why result told left_is is goes cause lies never rose stays S =
       absurd (false≢true told)
-  refused-event (Some old) new f g ps why result told left_is is goes cause lies never rose S =
+  refused-event (Some old) new f g ps why result told left_is is goes cause lies never rose stays S =
       subst (λ (x : Client). MakesEvent w moment Reopen (reopen_outcome result) x (devices new g ps))
       (sym left_is)
       (subst (λ (r : Result Unit ReopenFault). MakesEvent w moment Reopen (reopen_outcome r)
@@ -33,7 +34,8 @@ module _ (w : State) (moment : ℕ) (c left : Client) where
       (reopened.fault-event w moment (client_next_job c) old f g ps
       (sound-of c.vault c.alone c.next_job (devices (Some old) f ps) w S)
       (devices-of c.vault c.alone c.next_job (devices (Some old) f ps) w S)
-      (next-of c.vault c.alone c.next_job (devices (Some old) f ps) w S) never new why goes cause lies rose))
+      (next-of c.vault c.alone c.next_job (devices (Some old) f ps) w S) never new why goes cause lies rose
+      stays))
 
   -- a client's reopening with too few providers is one that the machine refuses
   pub few-event : (old new : Option Cells) (f g : ℕ) (ps : List Provider) (v : Vault) → IsSome old →

@@ -42,6 +42,7 @@ no_memory-told command same end is =
   where
     refused : IsRefused 70 0 same same (ending_with 70 0)
     refused = refused-told 70 0 same same (ending_with 70 0) refl (resynced-same same.disk) refl refl
+        (λ e. refl)
 
     none : (text : List ℕ) → TakesFront same.sink same.sink text
     none text = front-none same.sink same.sink text refl

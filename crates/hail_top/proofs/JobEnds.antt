@@ -72,6 +72,6 @@ refused-over kind own area records old new d end why before was_synced over is d
     by_cause (inl memory) = jobs.no_memory synced_here
         (refused-told 70 0 old new end
         (is ∙ ap (λ (w : BeginFault). ending_with (status_of (refusal_of w)) 0) memory) kept
-        same_providers silent)
+        same_providers silent (λ e. faults ∙ before.faults))
     by_cause (inr some) = jobs.refused (refusal_of why) some synced_here
-        (refused-told (status_of (refusal_of why)) 0 old new end is kept same_providers silent)
+        (refused-told (status_of (refusal_of why)) 0 old new end is kept same_providers silent (λ e. faults ∙ before.faults))

@@ -73,6 +73,6 @@ refused-pack records old new d end why opened before was_synced over is disk fau
     by_cause (inl memory) = packs.no_memory records opened synced_here
         (refused-told 70 0 old new end
         (is ∙ ap (λ (w : BeginFault). ending_with (status_of (refusal_of w)) 0) memory) kept
-        same_providers silent)
+        same_providers silent (λ e. faults ∙ before.faults))
     by_cause (inr some) = packs.refused records (refusal_of why) opened some synced_here
-        (refused-told (status_of (refusal_of why)) 0 old new end is kept same_providers silent)
+        (refused-told (status_of (refusal_of why)) 0 old new end is kept same_providers silent (λ e. faults ∙ before.faults))

@@ -26,7 +26,7 @@ unknown-put name own records old new d end count left was_count was_left is_coun
       answers = bad_profile records opened unknown synced_here
           (is_left ∙ sym was_left, is_count ∙ sym was_count)
           (refused-told 20 0 old new end is (resynced old.disk new.disk synced_here)
-          (providers ∙ sym before.providers) silent);
+          (providers ∙ sym before.providers) silent (λ e. faults ∙ before.faults));
       counts = untouched old new d before faults providers;
     })
 
@@ -63,10 +63,10 @@ unbegun-put name own records old new d end why count left is_count is_left opene
         on (inl memory) = begun records r.bytes opened known r.reads r.few
             (jobs.no_memory synced_here (refused-told 70 0 old new end
             (is ∙ ap (λ (w : BeginFault). ending_with (status_of (refusal_of w)) 0) memory) kept
-            same_providers silent)) (λ m. absurd m)
+            same_providers silent (λ e. faults ∙ before.faults))) (λ m. absurd m)
         on (inr some) = begun records r.bytes opened known r.reads r.few
             (jobs.refused (refusal_of why) some synced_here
-            (refused-told (status_of (refusal_of why)) 0 old new end is kept same_providers silent))
+            (refused-told (status_of (refusal_of why)) 0 old new end is kept same_providers silent (λ e. faults ∙ before.faults)))
             (λ m. absurd m)
 
     by_cause : (why : Unbegun) → end ≡ unbegun_ending why →
@@ -74,9 +74,9 @@ unbegun-put name own records old new d end why count left is_count is_left opene
         IsUnbegunOver opened.area records name own why old.source new.source → AnswersPut name own old new end
     by_cause unbegun.SourceFault is rose taken =
         source_fault records opened known (subst (λ (n : ℕ). Rose n new.source_faults) (sym is_count) (rose refl))
-        synced_here taken (refused-told 14 0 old new end is kept same_providers silent)
+        synced_here taken (refused-told 14 0 old new end is kept same_providers silent (λ e. faults ∙ before.faults))
     by_cause unbegun.Memory is rose taken =
-        no_memory taken (refused-told 70 0 old new end is kept same_providers silent)
+        no_memory taken (refused-told 70 0 old new end is kept same_providers silent (λ e. faults ∙ before.faults))
     by_cause (unbegun.Refused why) is rose r = by_refusal why is r
 
 -- how the job of a put ended, and what of its source was read

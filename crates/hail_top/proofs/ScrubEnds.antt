@@ -65,6 +65,6 @@ pub no-scrub : (records : List Record) (old new : Seen) (d : Devices) (end : End
 no-scrub records old new d end opened before synced_here is faults providers silent = record {
   answers = scrubs.no_memory records opened synced_here
       (refused-told 70 0 old new end is (resynced old.disk new.disk synced_here)
-      (providers ∙ sym before.providers) silent);
+      (providers ∙ sym before.providers) silent (λ e. faults ∙ before.faults));
   counts = untouched old new d before faults providers;
 }

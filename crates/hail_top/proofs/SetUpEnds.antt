@@ -1,11 +1,12 @@
 -- How an `init` ends that has come to the disk.
-use Rattle.hail_top.proofs.Words.{◌≡◌, ℕ, List, refl, sym, subst, IfSome, Rose, Goes, Seen, Ending, IsRefused, sinking, WritesLine, ready_line, InitsDisk, FailsToInit, InitFault, ending_with, init_ending}
+use Rattle.hail_top.proofs.Words.{◌≡◌, ℕ, List, refl, sym, subst, arith, IfSome, Rose, Goes, Seen, Ending, IsRefused, sinking, WritesLine, ready_line, InitsDisk, FailsToInit, InitFault, ending_with, init_ending}
 use Rattle.device_defs.specs.Images.{EachImage}
 use Rattle.record_defs.specs.Records.{Setup}
 use Rattle.command_defs.specs.Inits as inits
 use Rattle.opening_defs.specs.Journals.{IsSetUpOn, IsResynced, MayBeLeft, journal_read}
 use Rattle.vault_open.specs.Causes.{IsInitFault, IsNoWrite}
 use Rattle.vault_open.specs.declared.fault.InitFault.TheVariants as init_fault
+use Rattle.hail_top.proofs.Refused.{refused-told}
 
 -- a store is ready, and that was told
 pub ready-told : (s : Setup) (old new : Seen) (end : Ending) (line : List ℕ) (status : ℕ) →
@@ -40,10 +41,10 @@ not_set_up-told s old new end why is cause looked left rose same silent =
       sink = silent;
     }
 
-    refused : (status at : ℕ) → Goes IsResynced old.disk new.disk →
+    refused : (status at : ℕ) → (status ≡ 70 → ⊥) → Goes IsResynced old.disk new.disk →
         IsRefused status at old new (ending_with status at)
-    refused status at goes =
-        record { status_is = refl; place = refl; heard = refl; disk = goes; providers = same; sink = silent }
+    refused status at fault goes = refused-told status at old new (ending_with status at) refl goes same silent
+        (λ e. absurd (fault e))
 
     by_fault : (why : InitFault) → IfSome old.disk (λ cells. IsInitFault (journal_read cells) s why) →
         (IsNoWrite why → Goes IsResynced old.disk new.disk)
@@ -52,7 +53,7 @@ not_set_up-told s old new end why is cause looked left rose same silent =
     by_fault init_fault.BadSetup cause looked rose = inits.no_memory (failed 70)
     by_fault init_fault.DiskFault cause looked rose = inits.disk_fault (rose refl) (failed 12)
     by_fault (init_fault.BadJournal at) cause looked rose =
-        inits.bad_journal at cause (refused 8 at (looked tt))
+        inits.bad_journal at cause (refused 8 at (λ e. omega (arith, e)) (looked tt))
     by_fault init_fault.Already cause looked rose =
-        inits.already cause (refused 10 0 (looked tt))
+        inits.already cause (refused 10 0 (λ e. omega (arith, e)) (looked tt))
     by_fault init_fault.Memory cause looked rose = inits.no_memory (failed 70)

@@ -31,6 +31,7 @@ use vault::{BeginFault, Heard, HeardList, PackJob, PackTurn, StartFault, Turn, V
 
 /// `Vault::start`.
 pub fn start<D: Disk>(alloc: Global, disk: &mut D, first: u32) -> Result<Vault, StartFault>
+    ensures no_fault { (IsErrOf result start_fault.DiskFault → ⊥) → D.faults disk.new ≡ D.faults disk.old }
     ensures cause { HasCause (D.faults disk.old) (D.faults disk.new)
         (IsErrOf result start_fault.DiskFault) }
 {

@@ -7,21 +7,21 @@ use Rattle.command_runs.proofs.refused.commands_end_early.Goals as goal
 
 pub returns : goal.returns
 returns c = record {
-  disk_fault = unlisted (Unstarted.disk_fault (λ low. omega arith) (quiet refl refl refl)) (refl, refl);
+  disk_fault = unlisted (Unstarted.disk_fault (λ low. omega arith) (quiet refl refl refl (λ e. omega (arith, e)))) (refl, refl);
   sink_fault = sink-fault;
   source_fault = AnswersPut.source_fault four_records put-old.known.opened refl (λ low. omega arith)
       (same-disk four_records) (record { bytes = []; front = refl; few = omega arith })
-      (quiet refl refl refl);
-  no_memory = unlisted (Unstarted.no_memory (quiet refl refl refl)) (refl, refl);
-  bad_journal = unlisted (Unstarted.bad_journal 0 (long, inl (no_magic, refl)) (quiet refl refl refl))
+      (quiet refl refl refl (λ e. refl));
+  no_memory = unlisted (Unstarted.no_memory (quiet refl refl refl (λ e. refl))) (refl, refl);
+  bad_journal = unlisted (Unstarted.bad_journal 0 (long, inl (no_magic, refl)) (quiet refl refl refl (λ e. refl)))
       (refl, refl);
   too_few = unlisted (Unstarted.too_few_providers A byte_records stored-sure.known.opened.read (omega arith)
-      (same-disk byte_records) (quiet refl refl refl)) (refl, refl);
+      (same-disk byte_records) (quiet refl refl refl (λ e. refl))) (refl, refl);
   repair_due = refused refusal.RepairDue due-sure.known.opened refl (same-disk byte_audited_records);
   nothing_due = refused refusal.NothingDue stored-sure.known.opened refl (same-disk byte_records);
   bad_name = put-refused _ _ refusal.BadName refl refl;
   bad_profile = AnswersPut.bad_profile four_records put-old.known.opened refl (same-disk four_records)
-      (refl, refl) (quiet refl refl refl);
+      (refl, refl) (quiet refl refl refl (λ e. refl));
   old_version = put-refused _ _ refusal.OldVersion refl refl;
   new_version = refused refusal.NewVersion upgraded_kept-sure.known.opened refl
       (same-disk byte_upgraded_records);

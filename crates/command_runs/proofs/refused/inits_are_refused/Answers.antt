@@ -7,16 +7,16 @@ use Rattle.command_runs.proofs.refused.inits_are_refused.Goals as goal
 
 pub returns : goal.returns
 returns c = record {
-  bad_setup = AnswersInit.bad_setup refl (refl, refl) (quiet refl refl refl);
-  too_few = AnswersInit.too_few_providers refl (omega arith) (refl, refl) (quiet refl refl refl);
+  bad_setup = AnswersInit.bad_setup refl (refl, refl) (quiet refl refl refl (λ e. refl));
+  too_few = AnswersInit.too_few_providers refl (omega arith) (refl, refl) (quiet refl refl refl (λ e. refl));
   source_fault = AnswersInit.source_fault refl (omega arith) (λ low. omega arith)
-      (record { bytes = []; front = refl; few = omega arith }) (quiet refl refl refl);
+      (record { bytes = []; front = refl; few = omega arith }) (quiet refl refl refl (λ e. refl));
   bad_key = AnswersInit.bad_key [] refl (omega arith)
       (record { are_bytes = refl; front = refl; few = omega arith; end = λ l. refl }) no_key
-      (quiet refl refl refl);
+      (quiet refl refl refl (λ e. refl));
   already = AnswersInit.keyed key_text four.master refl (omega arith) reads-key key-form
       (InitsDisk.already (long_journal, (byte_records, (A, stored-sure.known.opened.read.reads_are.1), tt))
-      (quiet refl refl refl));
+      (quiet refl refl refl (λ e. refl)));
   bad_journal = AnswersInit.keyed key_text four.master refl (omega arith) reads-key key-form
-      (InitsDisk.bad_journal 0 (long, inl (inl (no_magic, refl))) (quiet refl refl refl));
+      (InitsDisk.bad_journal 0 (long, inl (inl (no_magic, refl))) (quiet refl refl refl (λ e. refl)));
 }

@@ -1,4 +1,4 @@
-use Rattle.hail_top.proofs.Words.{Err, refl, ap, sym, Seen, seen, Unopened}
+use Rattle.hail_top.proofs.Words.{Err, err-same, refl, ap, sym, Seen, seen, Unopened}
 use Rattle.command_defs.specs.Commands.{unstarted}
 use Rattle.hail_top.proofs.Unopened.{unopened-told}
 use Rattle.hail_top.proofs.Opened.{opened-read}
@@ -20,4 +20,5 @@ returns-in-Err-clause-answers g c providers left count handed =
     unstarted (unopened-told _ _ _ c.in-Err.why c.args.handed c.unopened.ensures
     (sym handed) c.in-Err.ensures.refused c.in-Err.ensures.disk
     c.in-Err.ensures.resynced
-    (λ same. c.in-Err.ensures.cause.rose (ap (λ (w : Unopened). Err w) same)) refl refl)
+    (λ same. c.in-Err.ensures.cause.rose (ap (λ (w : Unopened). Err w) same))
+    (λ none. c.in-Err.ensures.no_fault (λ e. none (err-same _ _ e))) refl refl)

@@ -1,4 +1,4 @@
-use Rattle.hail_top.proofs.Words.{Err, refl, ap, sym, Seen, seen, Unopened}
+use Rattle.hail_top.proofs.Words.{Err, err-same, refl, ap, sym, Seen, seen, Unopened}
 use Rattle.command_defs.specs.Packs.{unstarted}
 use Rattle.hail_top.specs.PackRuns as around
 use Rattle.hail_top.proofs.Unopened.{unopened-told}
@@ -12,7 +12,7 @@ returns-in-Ok-clause-answers g c providers left count handed =
     let found = c.in-Ok.ensures.opened in
     let opened = opened-read old found.0 found.1 c.args.handed (sym handed) found.2 in
     (c.answer_pack.ensures.over found.1 old providers left count opened found.3
-    (record { reads = c.in-Ok.ensures.reads; faults = c.in-Ok.ensures.cause.never_falls; providers = refl })
+    (record { reads = c.in-Ok.ensures.reads; faults = c.in-Ok.ensures.no_fault (λ e. cc); providers = refl })
     c.in-Ok.ensures.synced refl refl).answers
 
 pub returns-in-Err-clause-answers : goal.returns-in-Err-clause-answers
@@ -20,7 +20,8 @@ returns-in-Err-clause-answers g c providers left count handed =
     unstarted (unopened-told _ _ _ c.in-Err.why c.args.handed c.unopened.ensures
     (sym handed) c.in-Err.ensures.refused c.in-Err.ensures.disk
     c.in-Err.ensures.resynced
-    (λ same. c.in-Err.ensures.cause.rose (ap (λ (w : Unopened). Err w) same)) refl refl)
+    (λ same. c.in-Err.ensures.cause.rose (ap (λ (w : Unopened). Err w) same))
+    (λ none. c.in-Err.ensures.no_fault (λ e. none (err-same _ _ e))) refl refl)
 
 pub returns-in-Ok-clause-around : goal.returns-in-Ok-clause-around
 returns-in-Ok-clause-around g c providers left count handed =

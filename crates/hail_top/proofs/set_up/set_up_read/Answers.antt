@@ -12,7 +12,7 @@ returns-in-Ok-clause-answers g c numbers providers for =
 pub returns-in-Err-clause-answers : goal.returns-in-Err-clause-answers
 returns-in-Err-clause-answers g c numbers providers for =
     unread-told c.args.setup.now numbers _ _ _ c.in-Err.fault for c.read_up_to.ensures.at_most
-    c.unread.ensures (λ same. c.in-Err.ensures.cause.rose (ap (λ (f : ReadFault). Err f) same)) refl refl refl
+    c.unread.ensures (λ same. c.in-Err.ensures.cause.rose (ap (λ (f : ReadFault). Err f) same)) refl refl refl refl
 
 pub returns-in-Ok-clause-goes_on : goal.returns-in-Ok-clause-goes_on
 returns-in-Ok-clause-goes_on g c numbers providers for =

@@ -1,4 +1,4 @@
-use Rattle.hail_client.proofs.Words.{Err, ap, ◌∙◌, arith, StartFault, Client, is_open, client_next_job}
+use Rattle.hail_client.proofs.Words.{Err, err-same, ap, ◌∙◌, arith, StartFault, Client, is_open, client_next_job}
 use Rattle.record_codec.specs.declared.setup.Setup.{Setup}
 use Rattle.hail_client.proofs.Reopening.{refused-event, few-event, opened-event}
 use Rattle.hail_client.proofs.Anew.{by-told, refused-anew, few-are, enough-are, left-standing, opens-over}
@@ -12,7 +12,8 @@ returns-in_err-vault-clause-machine g c = λ w providers moment told handed stan
     c.in_err-vault.field-0.0 c.from_residual.result told c.give_up.ensures.closed c.from_residual.ensures.1
     c.in_err-vault.ensures.disk c.in_err-vault.ensures.refused c.in_err-vault.ensures.resynced
     c.in_err-vault.ensures.cause.never_falls
-    (λ is. c.in_err-vault.ensures.cause.rose (ap (λ (f : StartFault). Err f) is)) stands
+    (λ is. c.in_err-vault.ensures.cause.rose (ap (λ (f : StartFault). Err f) is))
+    (λ none. c.in_err-vault.ensures.no_fault (λ e. none (err-same _ _ e))) stands
 
 pub returns-then-handed-from-clause-machine : goal.returns-then-handed-from-clause-machine
 returns-then-handed-from-clause-machine g c = λ w providers moment told handed stands.
@@ -43,6 +44,7 @@ returns-in_err-vault-clause-anew g c = λ providers moment none handed.
     moment providers none c.in_err-vault.ensures.disk c.in_err-vault.ensures.cause.never_falls
     c.in_err-vault.field-0.0 c.from_residual.result c.from_residual.ensures.1
     (λ is. c.in_err-vault.ensures.cause.rose (ap (λ (f : StartFault). Err f) is))
+    (λ none. c.in_err-vault.ensures.no_fault (λ e. none (err-same _ _ e)))
 
 pub returns-in_err-vault-clause-standing : goal.returns-in_err-vault-clause-standing
 returns-in_err-vault-clause-standing g c = λ providers handed S.
