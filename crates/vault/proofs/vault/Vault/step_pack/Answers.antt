@@ -74,7 +74,7 @@ pub returns-clause-machine : goal.returns-clause-machine
 returns-clause-machine g c = λ w ps is_told S.
     let e = c.in-Err-Memory.ensures in
     ends_unwritten c.args.self.now c.args.job w _ _ ps S _ _ _ refl
-    (e.no_fault (ap Err c.in-Err-Memory.field-0-is)) _ _
+    (e.no_fault (λ failed. let memory = c.in-Err-Memory.field-0-is in cc)) _ _
     (turned_by is_told c.args.job.pack _ c.turn.new.self (g.D.Disk.holds c.args.disk.now)
     (g.D.Disk.holds c.turn.new.disk) (record { turns = e.moves; disk = e.disk }))
     (ap Err c.in-Err-Memory.field-0-is)
