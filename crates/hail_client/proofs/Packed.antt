@@ -1,11 +1,16 @@
 -- A pack that runs alone beside a client's vault: its begin and its steps, as events of the machine.
 use mathlib.Core.Bool.{Bool-set}
-use Rattle.hail_client.proofs.Words.{◌≡◌, ℕ, zero, suc, ◌==◌, ◌<◌, ◌≤◌, ◌^◌, false, List, [], ◌∷◌, Option, None, Some, Result, Err, refl, ap, sym, subst, ◌∙◌, inl, inr, ◌⊎◌, arith, is_some, unwrap_or, ∥∥₁_elim, ℕ_set, false≢true, eq-eqb, is_some-none, Cells, Provider, Pack, moves_of, is_too_long, pack_refusal, BeginsPack, BeginPack, Step, Refused, More, Ended, Happens, State, cond_true, version_of, refusal_of, IsNoJob, calls_disk, called_provider, BeginFault, Devices, devices, PackJob, Vault, IsPackOf, StandsPacking, pack_answer, PacksOver, MakesPackStep, held_by, IsUnchanged, Stands, client_coming, coming_by, pack_coming, pack_alone, Alone, Client, client_begin_outcome, StandsBy, ClientStands, MakesEvent, ClientMakesStep}
+use Rattle.hail_client.proofs.Words.{◌≡◌, ℕ, zero, suc, ◌==◌, ◌<◌, ◌≤◌, ◌^◌, false, List, [], ◌∷◌, Option, None, Some, Result, Err, refl, ap, sym, subst, ◌∙◌, inl, inr, ◌⊎◌, arith, is_some, unwrap_or, ∥∥₁_elim, ℕ_set, false≢true, eq-eqb, is_some-none, Cells, Provider, Pack, moves_of, is_too_long, pack_refusal, BeginsPack, BeginPack, Step, Refused, More, Ended, Happens, State, cond_true, version_of, refusal_of, IsNoJob, calls_disk, called_provider, calls-nothing, BeginFault, Devices, devices, PackJob, Vault, IsPackOf, StandsPacking, pack_answer, PacksOver, MakesPackStep, held_by, IsUnchanged, Stands, client_coming, coming_by, pack_coming, pack_alone, Alone, Client, client_begin_outcome, StandsBy, ClientStands, MakesEvent, ClientMakesStep}
 use Rattle.std.proofs.Common.{true, length}
 use Rattle.std.proofs.Props.{props}
+use Rattle.device_defs.specs.Faults.{one_more}
+use Rattle.disk_model.specs.declared.disk.Disk.{Ghosts as DiskGhosts}
+use Rattle.provider_model.specs.declared.provider.Provider.{Ghosts as ProviderGhosts}
 use Rattle.machine_defs.specs.Refusals as refusal
 use Rattle.machine_defs.specs.States as states
+use Rattle.vault_core.specs.Coming.{Coming}
 use Rattle.vault_core.specs.declared.wish.BeginFault.TheVariants as fault
+use Rattle.vault.specs.Steps.{CallsNext}
 use Rattle.vault.specs.declared.packing.PackAnswer.{PackAnswer}
 use Rattle.vault.specs.declared.packing.PackTurn.TheVariants as turn
 use Rattle.hail_client.specs.declared.alone.Alone.TheVariants as alone
@@ -95,6 +100,11 @@ pack-refused c new v next why is new_is alone_is number packs busy unchanged w d
 
 -- ---- steps
 
+-- where no job is, no device is called
+module _ {W X : Type 0} (D : DiskGhosts W) (P : ProviderGhosts X) (disk : W) (ps : List X) where
+  pub calls-idle : (coming : Coming) → coming ≡ IsNoJob → CallsNext D P coming disk ps disk ps
+  calls-idle coming none = calls-nothing D P disk ps IsNoJob coming (sym none) refl refl
+
 -- what comes next for a pack calls no provider
 no-provider : (moves : ℕ) → called_provider (pack_coming moves) ≡ None
 no-provider zero = refl
@@ -133,19 +143,22 @@ module _ (c : Client) (v : Vault) (job : PackJob) (number : ℕ) (is : c.vault �
       (λ i. coming_by (is i) (some i) number)
       ∙ cond_true (job.number == number) _ _ (eq-eqb job.number number same)
 
-  -- as long as moves are left, the next one calls the disk
-  pub moves-left : calls_disk (client_coming c number) ≡ true → moves_of job.pack < 4
-  moves-left e = calls-first (moves_of job.pack) (sym (ap calls_disk coming) ∙ e)
-
-  -- and then none does
-  pub moves-made : calls_disk (client_coming c number) ≡ false → moves_of job.pack ≡ 4
-  moves-made e = calls-last (moves_of job.pack) job.undone (sym (ap calls_disk coming) ∙ e)
-
-  -- a pack calls no provider
-  pub calls-none : {X : Type 0} (j : ℕ) → called_provider (client_coming c number) ≡ Some j → X
-  calls-none j e =
-      absurd (let f : None ≡ Some j = sym (no-provider (moves_of job.pack)) ∙ (sym (ap called_provider coming) ∙ e)
-      in cc)
+  -- it calls the disk as long as moves are left, and no provider
+  pub calls-pack : {W X : Type 0} (D : DiskGhosts W) (P : ProviderGhosts X) (disk new : W) (ps : List X) →
+      is_some (D.holds new) ≡ is_some (D.holds disk) →
+      (moves_of job.pack < 4 → D.calls new ≡ one_more (D.calls disk)) → (moves_of job.pack ≡ 4 → new ≡ disk) →
+      CallsNext D P (client_coming c number) disk ps new ps
+  calls-pack D P disk new ps tells called ends = record {
+    tells = tells;
+    still = λ e. ends (calls-last (moves_of job.pack) job.undone (sym (ap calls_disk coming) ∙ e));
+    one_disk_call = λ e. called (calls-first (moves_of job.pack) (sym (ap calls_disk coming) ∙ e));
+    away = λ e. refl;
+    count = refl;
+    others = λ j k e other. refl;
+    one_provider_call = λ j e.
+        absurd (let f : None ≡ Some j = sym (no-provider (moves_of job.pack)) ∙ (sym (ap called_provider coming) ∙ e)
+        in cc);
+  }
 
   -- something is next for it
   pub has-move : {X : Type 0} → client_coming c number ≡ IsNoJob → X

@@ -3,6 +3,10 @@ use mathlib.Core.HLevel.{⊥_prop}
 use Rattle.hail_client.proofs.Words.{◌≡◌, ◌≢◌, ℕ, ◌==◌, ◌<◌, ◌≤◌, ◌^◌, Bool, false, List, [], ◌∷◌, Option, Some, None, refl, ap, sym, subst, ◌∙◌, arith, slice_get, ∥∥₁_elim, false≢true, eq-eqb, Cells, Provider, unalone, Scrubs, StepsScrub, Step, Outcome, Ended, cond_true, Happens, State, Scrub, Scrubbing, setup_in, IsSound, events-sound, handed_same, setup_same, step_beside, ScrubIs, ScrubStands, MakesScrubStep, scrub_outcome, ScrubView, scrub_left, next_to_do, called_by, Vault, coming_of, provider_count, Stands, StandsBeside, held_replaced, Acts, IsNoJob, calls_disk, called_provider, Devices, devices, IsScrub, IsBesideVault, ScrubJob, Client, uses_by, scrub_coming, coming_by, client_coming, provider_or_empty, StandsHeld, ClientStands, ClientMakesStep}
 use Rattle.std.proofs.Common.{true, length}
 use Rattle.std.specs.Coded.{Unit-prop, le_prop}
+use Rattle.disk_model.specs.declared.disk.Disk.{Ghosts as DiskGhosts}
+use Rattle.provider_model.specs.declared.provider.Provider.{Ghosts as ProviderGhosts}
+use Rattle.stripe_bench.specs.Calls.{CalledOnce}
+use Rattle.vault.specs.Steps.{CallsNext}
 use Rattle.journal_core.proofs.BeyondLemmas.{goes_still}
 use Rattle.machine_defs.specs.Actions.{Action, WriteBody, SyncBody, WriteGate, SyncGate, Store, Fetch, Ask, Work, Remove, End}
 use Rattle.machine_defs.specs.Answers as answers
@@ -191,18 +195,24 @@ module _ (c : Client) (v : Vault) (job : ScrubJob) (number : ℕ) (is : c.vault 
       (λ i. coming_by (is i) (some i) number)
       ∙ cond_true (job.number == number) _ _ (eq-eqb job.number number same)
 
-  -- a scrub calls no disk
-  pub no-disk : {X : Type 0} → calls_disk (client_coming c number) ≡ true → X
-  no-disk e = absurd (false≢true (sym next.disk ∙ (sym (ap calls_disk coming) ∙ e)))
-
-  -- the provider that it calls
-  pub calls-one : (j : ℕ) → called_provider (client_coming c number) ≡ Some j →
-      called_by (next_to_do job.scrub) ≡ Some j
-  calls-one j e = sym next.provider ∙ (sym (ap called_provider coming) ∙ e)
-
-  -- it calls none where none is called
-  pub calls-nobody : called_provider (client_coming c number) ≡ None → called_by (next_to_do job.scrub) ≡ None
-  calls-nobody e = sym next.provider ∙ (sym (ap called_provider coming) ∙ e)
+  -- it calls no disk, and of the providers only the one that its next action names
+  pub calls-scrub : {W X : Type 0} (D : DiskGhosts W) (P : ProviderGhosts X) (disk : W) (ps qs : List X) →
+      length qs ≡ length ps → (called_by (next_to_do job.scrub) ≡ None → qs ≡ ps) →
+      ((j k : ℕ) → called_by (next_to_do job.scrub) ≡ Some j → k ≢ j → slice_get qs k ≡ slice_get ps k) →
+      ((j : ℕ) → called_by (next_to_do job.scrub) ≡ Some j → CalledOnce P.calls j ps qs) →
+      CallsNext D P (client_coming c number) disk ps disk qs
+  calls-scrub D P disk ps qs count away others one_call =
+      (let one : called_provider (client_coming c number) ≡ called_by (next_to_do job.scrub) =
+      ap called_provider coming ∙ next.provider in
+      record {
+        tells = refl;
+        still = λ none. refl;
+        one_disk_call = λ e. absurd (false≢true (sym next.disk ∙ (sym (ap calls_disk coming) ∙ e)));
+        away = λ e. away (sym one ∙ e);
+        count = count;
+        others = λ j k e other. others j k (sym one ∙ e) other;
+        one_provider_call = λ j e. one_call j (sym one ∙ e);
+      })
 
   -- something is next for it
   pub has-next : {X : Type 0} → client_coming c number ≡ IsNoJob → X

@@ -49,6 +49,7 @@ pub use Rattle.state_laws.proofs.Resting.{rest-sound, start-sound}
 pub use Rattle.state_laws.specs.Follows.{AreHeld}
 pub use Rattle.state_laws.specs.Sound.{IsAtRest, IsSound, IsSoundJournal}
 pub use Rattle.vault.proofs.AtWork.{by_work}
+pub use Rattle.vault.proofs.Called.{calls-nothing}
 pub use Rattle.vault.proofs.Replaced.{held_replaced, vault_replaced}
 pub use Rattle.vault.specs.Desks.{DeskStands, IsAtWork, IsFlight, IsShaped}
 pub use Rattle.vault.specs.Devices.{devices_seen}

@@ -1,5 +1,4 @@
-ghost use Rattle.std.specs.Prelude.{◌≡◌, ◌≢◌, ◌↔◌, ◌<◌, ◌≤◌, ◌++◌, ◌∷◌, [], ℕ, true, false, Some, None, IfSome, is_some, length, map, slice_get};
-ghost use Rattle.device_defs.specs.Faults.{one_more};
+ghost use Rattle.std.specs.Prelude.{◌≡◌, ◌↔◌, ◌<◌, ◌≤◌, ◌++◌, ◌∷◌, [], ℕ, true, Some, None, IfSome, length};
 ghost use Rattle.machine_defs.specs.Heard.{heard_by};
 ghost use Rattle.machine_defs.specs.Jobs.{job_of};
 ghost use Rattle.machine_defs.specs.States.{State};
@@ -7,14 +6,14 @@ ghost use Rattle.record_defs.specs.Records.{Record as Entry};
 ghost use Rattle.record_defs.specs.Spellings.{spelling};
 ghost use Rattle.vault.specs.declared.turn.Turn.TheVariants as turn;
 ghost use Rattle.vault.specs.Calls.{moves_before_next, MovesCells};
-ghost use Rattle.stripe_bench.specs.Calls.{CalledOnce};
 ghost use Rattle.hail_client.specs.declared.turn.ClientTurn.TheVariants as client_turn;
 ghost use Rattle.hail_client.specs.Outcomes.{job_goes_on, IfJob, HeardIs};
 ghost use Rattle.hail_client.specs.PackCells.{client_pack, IfPackStep, StepsPackCells};
 ghost use Rattle.journal_pack.specs.declared.pack.Pack.{Pack};
 ghost use Rattle.vault.specs.Devices.{devices_seen};
 ghost use Rattle.vault.specs.Outcomes.{IfEnded, IsNoAction, HasPaddedCounts};
-ghost use Rattle.vault_core.specs.Coming.{IsNoJob, calls_disk, called_provider};
+ghost use Rattle.vault.specs.Steps.{CallsNext};
+ghost use Rattle.vault_core.specs.Coming.{IsNoJob, calls_disk};
 ghost use Rattle.hail_client.specs.Client.{uses, is_open, client_left, client_coming, client_entry, client_closed_gate, IsSame};
 ghost use Rattle.hail_client.specs.Stands.{ClientStands, ClientMakesStep};
 
@@ -47,12 +46,11 @@ impl Client {
         ensures heard { (w : State)
             → ClientStands self.old (devices_seen D.Disk P.Provider disk.old providers.old) w
             → IfSome result (λ turn. HeardIs turn (heard_by (job_of w.jobs job))) }
-        ensures tells { is_some (D.holds disk.new) ≡ is_some (D.holds disk.old) }
+        ensures calls { CallsNext D.Disk P.Provider (client_coming self.old job) disk.old providers.old disk.new
+            providers.new }
         ensures left { job_goes_on result ≡ true → client_left self.new job < client_left self.old job }
         ensures padded { IfJob result (λ turn. IfEnded turn (λ ended. HasPaddedCounts ended.answer)) }
         ensures stays_open { is_open self.new ≡ is_open self.old }
-        ensures count { length providers.new ≡ length providers.old }
-        ensures still { calls_disk (client_coming self.old job) ≡ false → disk.new ≡ disk.old }
         ensures moves { (w : State) (entry : Entry)
             → ClientStands self.old (devices_seen D.Disk P.Provider disk.old providers.old) w
             → client_entry self.old job ≡ Some entry → calls_disk (client_coming self.old job) ≡ true
@@ -61,13 +59,6 @@ impl Client {
             (D.holds disk.new)) }
         ensures packs { (p : Pack) → client_pack self.old ≡ Some p → IfPackStep result
             (λ step. StepsPackCells p step (D.holds disk.old) (D.holds disk.new)) }
-        ensures away { called_provider (client_coming self.old job) ≡ None → providers.new ≡ providers.old }
-        ensures others { (j k : ℕ) → called_provider (client_coming self.old job) ≡ Some j → k ≢ j
-            → slice_get providers.new k ≡ slice_get providers.old k }
-        ensures one_disk_call { calls_disk (client_coming self.old job) ≡ true
-            → D.calls disk.new ≡ one_more (D.calls disk.old) }
-        ensures one_provider_call { (j : ℕ) → called_provider (client_coming self.old job) ≡ Some j
-            → CalledOnce P.calls j providers.old providers.new }
         ensures no_job { client_coming self.old job ≡ IsNoJob
             → IsSame self.old self.new × (disk.new ≡ disk.old) × (providers.new ≡ providers.old) }
         ensures gone { IfSome result

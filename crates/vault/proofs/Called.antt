@@ -1,6 +1,5 @@
 -- Which devices a step called, and what it did to its job.
-use Rattle.vault.proofs.Words.{◌≡◌, ◌⊎◌, inl, inr, ◌<◌, ℕ, true, false, get_or, map, List, None, Some, refl, sym, ap, subst, ◌∙◌, is_some, option_map, false≢true, none-some, get-set_other, slice_get, slice_set, slice_get-get_or, slice_get-map, same_value, Coming, IsNoJob, seen_action, calls_disk, called_provider, CalledOnce, called_at, Desk, Vault, Reply, Answer, Turn, IfEnded, IsNoAction, HasPaddedCounts, IsStopped}
-use Rattle.std.specs.Prelude.{◌↔◌}
+use Rattle.vault.proofs.Words.{◌≡◌, ◌⊎◌, inl, inr, ◌<◌, ℕ, true, false, get_or, map, List, None, Some, refl, sym, ap, subst, ◌∙◌, is_some, option_map, false≢true, none-some, get-set_other, slice_get, slice_set, slice_get-get_or, slice_get-map, same_value, Coming, IsNoJob, core_left, seen_action, calls_disk, called_provider, CalledOnce, called_at, CoreView, KeepsStreams, Desk, Vault, Reply, Answer, Turn, IfEnded, IsNoAction, HasPaddedCounts, IsStopped}
 use Rattle.std.proofs.Common.{◌≢◌, length}
 use Rattle.std.proofs.lemmas.List.{length-set}
 use Rattle.device_defs.specs.Faults.{one_more}
@@ -10,7 +9,7 @@ use Rattle.machine_defs.specs.Actions.{Action}
 use Rattle.vault_core.specs.declared.action.Action.{Action as ActionValue}
 use Rattle.vault_core.specs.declared.action.Action.TheVariants as act
 use Rattle.vault_core.specs.Coming.{Acts}
-use Rattle.vault.specs.Seen.{coming_of, IsUnchanged}
+use Rattle.vault.specs.Seen.{IsUnchanged}
 use Rattle.vault.specs.Steps.{OnlyCalled, CallsNext, HasActed, LeavesVault}
 use Rattle.vault.specs.declared.turn.Turn.TheVariants as turn
 use Rattle.vault.proofs.Hands.{keeps_same}
@@ -115,13 +114,21 @@ stopped-acted v new job r a t stopped padded = record {
   streams = stopped.fed.streams;
 }
 
+-- a job that goes on behind its reply has acted, by a desk that gave its append away before
+pub fed-acted : (v given : Desk) (job : ℕ) (new : CoreView) → given ≡ record v { flight = None }
+    → core_left new job < core_left given.core job → KeepsStreams given.core new
+    → HasActed v.core new job turn.More
+fed-acted v given job new rest falls streams = record {
+  acted = λ none. none;
+  left = λ more. subst (λ (x : Desk). core_left new job < core_left x.core job) rest falls;
+  padded = tt;
+  streams = subst (λ (x : Desk). KeepsStreams x.core new) rest streams;
+}
+
 -- what a step that made no action leaves
-pub idle-leaves : (v : Vault) (job : ℕ) (t : Turn) → IsNoAction t
-    → (t ≡ turn.NoSuchJob) ↔ (coming_of v job ≡ IsNoJob) → LeavesVault v v job t
-idle-leaves v job t none no_job = record {
-  left = λ more. absurd (subst IsNoAction more none);
+pub idle-leaves : (v : Vault) (t : Turn) → IsNoAction t → LeavesVault v v t
+idle-leaves v t none = record {
   padded = by_turn t none;
-  no_job = no_job;
   held = refl;
   streams = λ none. none;
   told = λ number j is. (keeps_same v.desk.core).told number j is;

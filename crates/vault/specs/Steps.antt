@@ -4,18 +4,17 @@
 --   CallsNext D P coming disk providers new_disk new_providers
 --                               == of the devices only the one that the next action calls was called, once
 --   HasActed old new job turn   == an action of a job was made, and it goes on or ends
---   LeavesVault old new job turn
---                               == what a step of a job leaves of a vault, by what came of it
-use Rattle.std.specs.Prelude.{◌≡◌, ◌≢◌, ◌↔◌, ◌<◌, ℕ, true, false, List, length, None, Some, is_some, slice_get}
+--   LeavesVault old new turn    == what a step of a job leaves of a vault, by what came of it
+use Rattle.std.specs.Prelude.{◌≡◌, ◌≢◌, ◌<◌, ℕ, true, false, List, length, None, Some, is_some, slice_get}
 use Rattle.device_defs.specs.Faults.{one_more}
 use Rattle.disk_model.specs.declared.disk.Disk.{Ghosts as DiskGhosts}
 use Rattle.provider_model.specs.declared.provider.Provider.{Ghosts as ProviderGhosts}
 use Rattle.stripe_bench.specs.Calls.{CalledOnce}
 use Rattle.vault_core.specs.View.{CoreView}
-use Rattle.vault_core.specs.Coming.{Coming, IsNoJob, core_left, calls_disk, called_provider}
+use Rattle.vault_core.specs.Coming.{Coming, core_left, calls_disk, called_provider}
 use Rattle.vault.specs.AtHand.{KeepsStreams}
 use Rattle.vault.specs.Outcomes.{IfEnded, IsNoAction, HasPaddedCounts}
-use Rattle.vault.specs.Seen.{coming_of, held_by, left_of}
+use Rattle.vault.specs.Seen.{held_by}
 use Rattle.vault.specs.Streams.{KeepsStreamless, KeepsTold}
 use Rattle.vault.specs.declared.turn.Turn.{Turn}
 use Rattle.vault.specs.declared.turn.Turn.TheVariants as turn
@@ -50,13 +49,13 @@ pub record HasActed (old new : CoreView) (job : ℕ) (t : Turn) : Type 0 where
   pub padded : IfEnded t (λ ended. HasPaddedCounts ended.answer)
   pub streams : KeepsStreams old new
 
--- What a step of a job leaves of a vault: a job that goes on has fewer steps left, an audit ends with padded
--- counts, and only of a number that no job has it is told so; the vault is held as before, no stream was
--- opened, and each job that still runs was given what it was given before.
-pub record LeavesVault (old new : Vault) (job : ℕ) (t : Turn) : Type 0 where
-  pub left : t ≡ turn.More → left_of new job < left_of old job
+-- what a step of a job leaves of a vault, by what came of it
+pub record LeavesVault (old new : Vault) (t : Turn) : Type 0 where
+  -- an audit ends with padded counts
   pub padded : IfEnded t (λ ended. HasPaddedCounts ended.answer)
-  pub no_job : (t ≡ turn.NoSuchJob) ↔ (coming_of old job ≡ IsNoJob)
+  -- the vault is held as before
   pub held : held_by new ≡ held_by old
+  -- no stream was opened
   pub streams : KeepsStreamless old new
+  -- each job that still runs was given what it was given before
   pub told : (number : ℕ) → KeepsTold old new number

@@ -1,4 +1,4 @@
-ghost use Rattle.std.specs.Prelude.{ℕ, Bool, List, [], ◌∷◌, ◌++◌, ◌≡◌, ◌<◌, ◌-◌, None, Option, Some, is_some};
+ghost use Rattle.std.specs.Prelude.{ℕ, Bool, List, [], ◌∷◌, ◌++◌, ◌≡◌, ◌-◌, None, Option, Some, is_some};
 ghost use Rattle.device_defs.specs.Cells.{Cells};
 ghost use Rattle.device_defs.specs.Faults.{one_more};
 ghost use Rattle.device_defs.specs.Providers.{Provider};
@@ -7,14 +7,12 @@ ghost use Rattle.record_defs.specs.Spellings.{spelling};
 ghost use Rattle.machine_defs.specs.Actions.{Action};
 ghost use Rattle.machine_defs.specs.States.{State};
 ghost use Rattle.vault_open.specs.Devices.{devices};
-ghost use Rattle.vault_core.specs.Coming.{core_left, entry_in, next_in};
+ghost use Rattle.vault_core.specs.Coming.{entry_in, next_in};
 ghost use Rattle.vault.specs.Calls.{moves_before_next, MovesCells};
-ghost use Rattle.vault.specs.AtHand.{KeepsStreams};
 ghost use Rattle.vault.specs.Desks.{DeskStands, IsAtWork, Comes, DeskMakesStep};
 ghost use Rattle.vault.specs.Devices.{cells_by};
 ghost use Rattle.vault.specs.Movers.{ComesMove, IsUnbegun, IsMover};
-ghost use Rattle.vault.specs.Outcomes.{IfEnded, IsNoAction, HasPaddedCounts};
-ghost use Rattle.vault.specs.declared.turn.Turn.TheVariants as turn;
+ghost use Rattle.vault.specs.Steps.{HasActed};
 
 use crate::desk::Desk;
 use crate::flight::{Flight, Moved};
@@ -66,11 +64,8 @@ impl Desk {
             → MovesCells (moves_before_next (next_in self.old.core job)) (self.old.core.end - 1)
             (spelling entry ++ 0 ∷ []) result (D.holds disk.old) (D.holds disk.new) }
         ensures tells { is_some (D.holds disk.new) ≡ is_some (D.holds disk.old) }
-        ensures left { result ≡ turn.More → core_left self.new.core job < core_left self.old.core job }
-        ensures padded { IfEnded result (λ ended. HasPaddedCounts ended.answer) }
-        ensures acted { IsNoAction result → ⊥ }
         ensures called { D.calls disk.new ≡ one_more (D.calls disk.old) }
-        ensures streams { KeepsStreams self.old.core self.new.core }
+        ensures acted { HasActed self.old.core self.new.core job result }
     {
         match self.take_flight(job).turn(disk) {
             Moved::On(flight) => {

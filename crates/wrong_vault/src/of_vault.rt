@@ -1,5 +1,5 @@
 //! Bodies of vault's public functions, for its must-fail edits to spoil.
-ghost use Rattle.std.specs.Prelude.{◌≡◌, ◌<◌, ◌≤◌, ◌-◌, ◌^◌, ℕ, Bool, List, None, Some, Err, true, false, length, is_some, slice_get, IfOk, IsErrOf};
+ghost use Rattle.std.specs.Prelude.{◌≡◌, ◌<◌, ◌≤◌, ◌-◌, ◌^◌, ℕ, Bool, List, None, Err, true, false, length, is_some, slice_get, IfOk, IsErrOf};
 ghost use Rattle.std.specs.Option.{option_map};
 ghost use Rattle.device_defs.specs.Faults.{HasCause, one_more};
 ghost use Rattle.device_defs.specs.Providers.{Provider};
@@ -9,8 +9,6 @@ ghost use Rattle.machine_defs.specs.Jobs.{PutJob, job_of};
 ghost use Rattle.machine_defs.specs.States.{State, setup_in};
 ghost use Rattle.record_defs.specs.Areas.{text_length};
 ghost use Rattle.hail_scrub.specs.Stands.{ScrubIs};
-ghost use Rattle.stripe_bench.specs.Calls.{CalledOnce};
-ghost use Rattle.vault_core.specs.Coming.{called_provider};
 ghost use Rattle.vault_core.specs.declared.wish.BeginFault.TheVariants as fault;
 ghost use Rattle.vault_open.specs.Devices.{Devices, devices};
 ghost use Rattle.vault_open.specs.declared.fault.StartFault.TheVariants as start_fault;
@@ -20,6 +18,7 @@ ghost use Rattle.vault.specs.Outcomes.{IsNoAction};
 ghost use Rattle.vault.specs.Packing.{IsPackOf, StandsPacking, PacksOver, MakesPackStep, IsPackDone};
 ghost use Rattle.vault.specs.Seen.{held_by, next_job_of, provider_count, coming_of, IsUnchanged};
 ghost use Rattle.vault.specs.Stands.{Stands, HoldsOver, MakesBegin, MakesStep};
+ghost use Rattle.vault.specs.Steps.{CallsNext};
 ghost use Rattle.vault.specs.Streams.{wants_of, stripe_of, IsPiece, FitsPiece};
 
 use disk_model::Disk;
@@ -77,8 +76,8 @@ pub fn step<D: Disk, P: provider_model::Provider>(
         → MakesStep w moment job result vault.new
         (devices_seen D.Disk P.Provider disk.old providers.old)
         (devices_seen D.Disk P.Provider disk.new providers.new) }
-    ensures one_provider_call { (j : ℕ) → called_provider (coming_of vault.old job) ≡ Some j
-        → CalledOnce P.calls j providers.old providers.new }
+    ensures calls { CallsNext D.Disk P.Provider (coming_of vault.old job) disk.old providers.old disk.new
+        providers.new }
     ensures waits { IsNoAction result
         → IsUnchanged vault.old vault.new × (disk.new ≡ disk.old) × (providers.new ≡ providers.old) }
 {

@@ -31,11 +31,11 @@ loop-ended-preserved g c = (
       one-more start kind own w moment c.args.number c.requires.first c.loop-ended.vault c.step.new.self _ _ _ way
       (step-front c.loop-ended.vault _ _ (now w way.steps) c.args.number turn.More way.stands
       (c.only_streams_wait.ensures c.loop-ended.vault c.args.number c.loop-ended.invariant.1)
-      (λ none. ap g.D.Disk.holds (c.in-More.ensures.still none))
+      (λ none. ap g.D.Disk.holds (c.in-More.ensures.calls.still none))
       (λ entry. c.in-More.ensures.moves (now w way.steps) entry way.stands))
       (c.in-More.ensures.machine (now w way.steps) (moment + length way.steps) way.stands),
-  c.step.ensures.streams c.loop-ended.invariant.1,
-  c.step.ensures.tells ∙ c.loop-ended.invariant.2,
+  c.step.ensures.leaves.streams c.loop-ended.invariant.1,
+  c.step.ensures.calls.tells ∙ c.loop-ended.invariant.2,
 )
 
 pub returns-in-Done-clause-ended : goal.returns-in-Done-clause-ended
@@ -45,9 +45,15 @@ returns-in-Done-clause-ended g c = λ start w kind own moment only stands.
     c.in-Done.ended
     (step-front c.loop-ended.vault _ _ (now w way.steps) c.args.number (turn.Done c.in-Done.ended) way.stands
     (c.only_streams_wait.ensures c.loop-ended.vault c.args.number c.loop-ended.invariant.1)
-    (λ none. ap g.D.Disk.holds (c.in-Done.ensures.still none))
+    (λ none. ap g.D.Disk.holds (c.in-Done.ensures.calls.still none))
     (λ entry. c.in-Done.ensures.moves (now w way.steps) entry way.stands))
     (c.in-Done.ensures.machine (now w way.steps) (moment + length way.steps) way.stands)
+
+pub returns-in-Done-clause-tells : goal.returns-in-Done-clause-tells
+returns-in-Done-clause-tells g c = c.step.ensures.calls.tells ∙ c.loop-ended.invariant.2
+
+pub returns-in-Done-clause-padded : goal.returns-in-Done-clause-padded
+returns-in-Done-clause-padded g c = c.in-Done.ensures.leaves.padded
 
 pub unreachable-requires : goal.unreachable-requires
 unreachable-requires g c =

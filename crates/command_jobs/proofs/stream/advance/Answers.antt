@@ -35,7 +35,7 @@ returns-then-is_some-clause-went g c = λ start w kind own moment d way b.
     (still-behind start kind own w moment c.args.number c.requires.first _ way.only.job.place
     c.loop-vault.vault c.step.new.self d _ _ here c.loop-vault.invariant.told c.loop-vault.invariant.given
     (step-front c.loop-vault.vault _ _ (now w here.way.steps) c.args.number turn.More here.way.stands
-    c.loop-vault.invariant.given (λ none. ap g.D.Disk.holds (c.in-More.ensures.still none))
+    c.loop-vault.invariant.given (λ none. ap g.D.Disk.holds (c.in-More.ensures.calls.still none))
     (λ entry. c.in-More.ensures.moves (now w here.way.steps) entry here.way.stands))
     (c.in-More.ensures.machine (now w here.way.steps) (moment + length here.way.steps) here.way.stands)).way
 
@@ -47,10 +47,10 @@ returns-then-is_some-clause-told g c = λ none.
     still-told u.start u.kind u.own u.state 0 c.args.number c.requires.first _ _
     c.loop-vault.vault c.step.new.self _ _ _ here c.loop-vault.invariant.told c.loop-vault.invariant.given
     (step-front c.loop-vault.vault _ _ (now u.state here.way.steps) c.args.number turn.More here.way.stands
-    c.loop-vault.invariant.given (λ none. ap g.D.Disk.holds (c.in-More.ensures.still none))
+    c.loop-vault.invariant.given (λ none. ap g.D.Disk.holds (c.in-More.ensures.calls.still none))
     (λ entry. c.in-More.ensures.moves (now u.state here.way.steps) entry here.way.stands))
     (c.in-More.ensures.machine (now u.state here.way.steps) (0 + length here.way.steps) here.way.stands)
-    (c.in-More.ensures.told c.args.number)
+    (c.in-More.ensures.leaves.told c.args.number)
 
 pub loop-vault-preserved : goal.loop-vault-preserved
 loop-vault-preserved g c =
@@ -64,7 +64,7 @@ loop-vault-preserved g c =
           c.loop-vault.vault c.step.new.self d _ _ here c.loop-vault.invariant.told
           c.loop-vault.invariant.given
           (step-front c.loop-vault.vault _ _ (now w here.way.steps) c.args.number turn.More here.way.stands
-          c.loop-vault.invariant.given (λ none. ap g.D.Disk.holds (c.in-More.ensures.still none))
+          c.loop-vault.invariant.given (λ none. ap g.D.Disk.holds (c.in-More.ensures.calls.still none))
           (λ entry. c.in-More.ensures.moves (now w here.way.steps) entry here.way.stands))
           (c.in-More.ensures.machine (now w here.way.steps) (moment + length here.way.steps)
           here.way.stands);
@@ -73,15 +73,21 @@ loop-vault-preserved g c =
           c.loop-vault.vault c.step.new.self _ _ _ there c.loop-vault.invariant.told
           c.loop-vault.invariant.given
           (step-front c.loop-vault.vault _ _ (now u.state there.way.steps) c.args.number turn.More there.way.stands
-          c.loop-vault.invariant.given (λ none. ap g.D.Disk.holds (c.in-More.ensures.still none))
+          c.loop-vault.invariant.given (λ none. ap g.D.Disk.holds (c.in-More.ensures.calls.still none))
           (λ entry. c.in-More.ensures.moves (now u.state there.way.steps) entry there.way.stands))
           (c.in-More.ensures.machine (now u.state there.way.steps) (0 + length there.way.steps)
-          there.way.stands) (c.in-More.ensures.told c.args.number);
-      tells = c.in-More.ensures.tells ∙ c.loop-vault.invariant.tells;
+          there.way.stands) (c.in-More.ensures.leaves.told c.args.number);
+      tells = c.in-More.ensures.calls.tells ∙ c.loop-vault.invariant.tells;
       left = (let a = c.in-More.ensures.left refl in let b = c.loop-vault.invariant.left in
           omega (arith, a, b));
-      count = c.in-More.ensures.count ∙ c.loop-vault.invariant.count;
+      count = c.in-More.ensures.calls.count ∙ c.loop-vault.invariant.count;
     }
+
+pub returns-then-is_some-clause-tells : goal.returns-then-is_some-clause-tells
+returns-then-is_some-clause-tells g c = c.in-More.ensures.calls.tells ∙ c.loop-vault.invariant.tells
+
+pub returns-then-is_some-clause-count : goal.returns-then-is_some-clause-count
+returns-then-is_some-clause-count g c = c.in-More.ensures.calls.count ∙ c.loop-vault.invariant.count
 
 pub returns-in-Done-clause-went : goal.returns-in-Done-clause-went
 returns-in-Done-clause-went g c = λ start w kind own moment d way b.
@@ -90,9 +96,15 @@ returns-in-Done-clause-went g c = λ start w kind own moment d way b.
     c.loop-vault.vault c.step.new.self d _ _ here c.loop-vault.invariant.told c.loop-vault.invariant.given
     c.in-Done.ended
     (step-front c.loop-vault.vault _ _ (now w here.way.steps) c.args.number (turn.Done c.in-Done.ended) here.way.stands
-    c.loop-vault.invariant.given (λ none. ap g.D.Disk.holds (c.in-Done.ensures.still none))
+    c.loop-vault.invariant.given (λ none. ap g.D.Disk.holds (c.in-Done.ensures.calls.still none))
     (λ entry. c.in-Done.ensures.moves (now w here.way.steps) entry here.way.stands))
     (c.in-Done.ensures.machine (now w here.way.steps) (moment + length here.way.steps) here.way.stands) b
+
+pub returns-in-Done-clause-tells : goal.returns-in-Done-clause-tells
+returns-in-Done-clause-tells g c = c.in-Done.ensures.calls.tells ∙ c.loop-vault.invariant.tells
+
+pub returns-in-Done-clause-count : goal.returns-in-Done-clause-count
+returns-in-Done-clause-count g c = c.in-Done.ensures.calls.count ∙ c.loop-vault.invariant.count
 
 pub unreachable-requires : goal.unreachable-requires
 unreachable-requires g c =

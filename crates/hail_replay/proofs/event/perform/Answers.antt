@@ -109,7 +109,7 @@ returns-in-Step g c =
     let see = provider_seen g.P.Provider in
     record {
       performed = performed-as _ _ _ _ _ _ _ c.in-Step.is
-          (stepped c.in-Step.job _ _ _ _ c.step.result c.requires.standing c.step.ensures.tells
+          (stepped c.in-Step.job _ _ _ _ c.step.result c.requires.standing c.step.ensures.calls.tells
           (λ w moment T. (c.step.ensures.machine w moment T).makes) c.step.ensures.heard
           (λ none. (let n = c.step.ensures.no_job none in (
             n.0,

@@ -17,8 +17,8 @@ loop-turn-preserved-else-not-goes_on-4 g c = (
   λ opened. (let S = c.loop-turn.invariant.1 (sym c.step-turn.ensures.stays_open ∙ opened) in
       let M = (c.step-turn.ensures.machine S.state 0 S.stands).makes in
       record { state = M.state; stands = M.stands }),
-  c.step-turn.ensures.count ∙ c.loop-turn.invariant.2,
-  c.step-turn.ensures.tells ∙ c.loop-turn.invariant.3,
+  c.step-turn.ensures.calls.count ∙ c.loop-turn.invariant.2,
+  c.step-turn.ensures.calls.tells ∙ c.loop-turn.invariant.3,
 )
 
 pub loop-turn-preserved-else-not-goes_on-5 : goal.loop-turn-preserved-else-not-goes_on-5
@@ -35,8 +35,8 @@ loop-turn-preserved-else-not-goes_on-5 g c = (
   λ opened. (let S = c.loop-turn.invariant.1 (sym c.step-turn.ensures.stays_open ∙ opened) in
       let M = (c.step-turn.ensures.machine S.state 0 S.stands).makes in
       record { state = M.state; stands = M.stands }),
-  c.step-turn.ensures.count ∙ c.loop-turn.invariant.2,
-  c.step-turn.ensures.tells ∙ c.loop-turn.invariant.3,
+  c.step-turn.ensures.calls.count ∙ c.loop-turn.invariant.2,
+  c.step-turn.ensures.calls.tells ∙ c.loop-turn.invariant.3,
 )
 
 pub returns-then-not-goes_on-clause-machine : goal.returns-then-not-goes_on-clause-machine

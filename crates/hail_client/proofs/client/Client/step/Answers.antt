@@ -1,12 +1,14 @@
-use Rattle.hail_client.proofs.Words.{◌≡◌, map, None, Some, refl, ap, sym, subst, ◌∙◌, arith, ∥∥₁_map, Pack, provider_seen, called_provider, IsBesideVault, StepsPackCells}
+use Rattle.hail_client.proofs.Words.{◌≡◌, map, None, Some, refl, ap, sym, subst, ◌∙◌, arith, ∥∥₁_map, Pack, provider_seen, IsBesideVault, StepsPackCells}
 use Rattle.std.proofs.Common.{true}
+use Rattle.vault_core.specs.Coming.{Coming}
+use Rattle.vault.specs.Steps.{CallsNext}
 use Rattle.record_codec.specs.declared.setup.Setup.{Setup}
 use Rattle.hail_client.specs.declared.alone.Alone.TheVariants as alone
 use Rattle.hail_client.specs.declared.turn.PackStep.TheVariants as pack_step
 use Rattle.hail_client.proofs.Beside.{streamless-on, none-wait, free-works, beside-at, taken, number-taken}
 use Rattle.hail_client.proofs.Made.{step-of, heard-of}
-use Rattle.hail_client.proofs.Packed.{its-pack, pack-of, packs-on, packs-end}
-use Rattle.hail_client.proofs.Scrubbed.{IsNext, going-at, there-at, next-at, beside-on, vault-coming, no-disk, calls-one, calls-nobody, has-next, goes-on, ends}
+use Rattle.hail_client.proofs.Packed.{its-pack, pack-of, packs-on, packs-end, calls-pack}
+use Rattle.hail_client.proofs.Scrubbed.{IsNext, going-at, there-at, next-at, beside-on, vault-coming, calls-scrub, has-next, goes-on, ends}
 use Rattle.hail_client.proofs.client.Client.step.Given as given
 use Rattle.hail_client.proofs.client.Client.step.Goals as goal
 
@@ -21,7 +23,7 @@ pub invariant_of-self-in_default-take : goal.invariant_of-self-in_default-take
 invariant_of-self-in_default-take g c = record {
   at_work = free-works c.step.new.self c.take.new.self c.take.ensures.after;
   streamless = streamless-on c.in-Some.vault c.step.new.self c.args.self.now.vault c.in-Some.is
-      c.step.ensures.streams c.args.self.now.streamless;
+      c.step.ensures.leaves.streams c.args.self.now.streamless;
 }
 
 none-taken : (g : given.Over) (c : goal.After-providers-1 g) → c.args.self.now.alone ≡ None
@@ -38,10 +40,16 @@ returns-in_default-take-clause-heard g c =
     heard-of c.args.self.now c.args.self.now c.in-Some.vault c.step.new.self c.args.job c.step.result _ _
     c.in-Some.is (none-taken g c) c.step.ensures.machine
 
-pub returns-in_default-take-clause-others : goal.returns-in_default-take-clause-others
-returns-in_default-take-clause-others g c = λ j k e other. c.step.ensures.others j k
-    (sym (ap called_provider
-    (vault-coming c.args.self.now c.in-Some.vault c.args.job c.in-Some.is (none-taken g c))) ∙ e) other
+pub returns-in_default-take-clause-calls : goal.returns-in_default-take-clause-calls
+returns-in_default-take-clause-calls g c =
+    subst
+    (λ (coming : Coming). CallsNext g.D.Disk g.P.Provider coming c.args.disk.now c.args.providers.now
+    c.step.new.disk c.step.new.providers)
+    (sym (vault-coming c.args.self.now c.in-Some.vault c.args.job c.in-Some.is (none-taken g c)))
+    c.step.ensures.calls
+
+pub returns-in_default-take-clause-padded : goal.returns-in_default-take-clause-padded
+returns-in_default-take-clause-padded g c = c.step.ensures.leaves.padded
 
 -- ---- a scrub
 
@@ -102,24 +110,11 @@ returns-in-More-clause-machine g c =
     (ap (λ (s : Setup). s.n) c.setup-n.ensures) c.step-in-Scrub.new.self refl refl
     (λ w m S. c.in-More.ensures.machine w m true S)
 
-pub returns-in-More-clause-away : goal.returns-in-More-clause-away
-returns-in-More-clause-away g c = λ e. c.step-in-Scrub.ensures.away
-    (calls-nobody c.args.self.now c.in-Some.vault c.in-Scrub.running c.args.job c.in-Some.is (more-is g c)
-    (more-number g c) (more-next g c) e)
-
-pub returns-in-More-clause-others : goal.returns-in-More-clause-others
-returns-in-More-clause-others g c = λ j k e other. c.step-in-Scrub.ensures.others j k
-    (calls-one c.args.self.now c.in-Some.vault c.in-Scrub.running c.args.job c.in-Some.is (more-is g c)
-    (more-number g c) (more-next g c) j e) other
-
-pub returns-in-More-clause-one_disk_call : goal.returns-in-More-clause-one_disk_call
-returns-in-More-clause-one_disk_call g c = λ e. no-disk c.args.self.now c.in-Some.vault c.in-Scrub.running
-    c.args.job c.in-Some.is (more-is g c) (more-number g c) (more-next g c) e
-
-pub returns-in-More-clause-one_provider_call : goal.returns-in-More-clause-one_provider_call
-returns-in-More-clause-one_provider_call g c = λ j e. c.step-in-Scrub.ensures.one_call j
-    (calls-one c.args.self.now c.in-Some.vault c.in-Scrub.running c.args.job c.in-Some.is (more-is g c)
-    (more-number g c) (more-next g c) j e)
+pub returns-in-More-clause-calls : goal.returns-in-More-clause-calls
+returns-in-More-clause-calls g c =
+    calls-scrub c.args.self.now c.in-Some.vault c.in-Scrub.running c.args.job c.in-Some.is (more-is g c)
+    (more-number g c) (more-next g c) g.D.Disk g.P.Provider _ _ _ c.step-in-Scrub.ensures.count
+    c.step-in-Scrub.ensures.away c.step-in-Scrub.ensures.others c.step-in-Scrub.ensures.one_call
 
 pub returns-in-More-clause-no_job : goal.returns-in-More-clause-no_job
 returns-in-More-clause-no_job g c = λ e. has-next c.args.self.now c.in-Some.vault c.in-Scrub.running
@@ -167,24 +162,11 @@ returns-in-Done-clause-machine g c =
     c.take.ensures.after
     (λ u d k h. c.release.ensures.free u d k h) (λ w m S. c.in-Done.ensures.machine w m true S)
 
-pub returns-in-Done-clause-away : goal.returns-in-Done-clause-away
-returns-in-Done-clause-away g c = λ e. c.step-in-Scrub.ensures.away
-    (calls-nobody c.args.self.now c.in-Some.vault c.in-Scrub.running c.args.job c.in-Some.is (done-is g c)
-    (done-number g c) (done-next g c) e)
-
-pub returns-in-Done-clause-others : goal.returns-in-Done-clause-others
-returns-in-Done-clause-others g c = λ j k e other. c.step-in-Scrub.ensures.others j k
-    (calls-one c.args.self.now c.in-Some.vault c.in-Scrub.running c.args.job c.in-Some.is (done-is g c)
-    (done-number g c) (done-next g c) j e) other
-
-pub returns-in-Done-clause-one_disk_call : goal.returns-in-Done-clause-one_disk_call
-returns-in-Done-clause-one_disk_call g c = λ e. no-disk c.args.self.now c.in-Some.vault c.in-Scrub.running
-    c.args.job c.in-Some.is (done-is g c) (done-number g c) (done-next g c) e
-
-pub returns-in-Done-clause-one_provider_call : goal.returns-in-Done-clause-one_provider_call
-returns-in-Done-clause-one_provider_call g c = λ j e. c.step-in-Scrub.ensures.one_call j
-    (calls-one c.args.self.now c.in-Some.vault c.in-Scrub.running c.args.job c.in-Some.is (done-is g c)
-    (done-number g c) (done-next g c) j e)
+pub returns-in-Done-clause-calls : goal.returns-in-Done-clause-calls
+returns-in-Done-clause-calls g c =
+    calls-scrub c.args.self.now c.in-Some.vault c.in-Scrub.running c.args.job c.in-Some.is (done-is g c)
+    (done-number g c) (done-next g c) g.D.Disk g.P.Provider _ _ _ c.step-in-Scrub.ensures.count
+    c.step-in-Scrub.ensures.away c.step-in-Scrub.ensures.others c.step-in-Scrub.ensures.one_call
 
 pub returns-in-Done-clause-no_job : goal.returns-in-Done-clause-no_job
 returns-in-Done-clause-no_job g c = λ e. has-next c.args.self.now c.in-Some.vault c.in-Scrub.running
@@ -254,3 +236,21 @@ returns-in-Done-step_pack-clause-packs g c = λ p is.
     (taken c.args.self.now.alone c.take.result c.in-Some-take.alone (alone.Pack c.in-Pack.running)
     c.take.ensures.value c.in-Some-take.is c.in-Pack.is) is)
     c.in-Done-step_pack.ensures.moves
+
+pub returns-in-More-step_pack-clause-calls : goal.returns-in-More-step_pack-clause-calls
+returns-in-More-step_pack-clause-calls g c =
+    calls-pack c.args.self.now c.in-Some.vault c.in-Pack.running c.args.job c.in-Some.is
+    (taken c.args.self.now.alone c.take.result c.in-Some-take.alone (alone.Pack c.in-Pack.running)
+    c.take.ensures.value c.in-Some-take.is c.in-Pack.is)
+    (number-taken c.in-Some-take.alone (alone.Pack c.in-Pack.running) c.number.result c.args.job c.in-Pack.is
+    c.number.ensures c.if-number-job.false) g.D.Disk g.P.Provider _ _ _
+    c.step_pack.ensures.tells c.step_pack.ensures.called (λ four. (c.step_pack.ensures.ends four).1)
+
+pub returns-in-Done-step_pack-clause-calls : goal.returns-in-Done-step_pack-clause-calls
+returns-in-Done-step_pack-clause-calls g c =
+    calls-pack c.args.self.now c.in-Some.vault c.in-Pack.running c.args.job c.in-Some.is
+    (taken c.args.self.now.alone c.take.result c.in-Some-take.alone (alone.Pack c.in-Pack.running)
+    c.take.ensures.value c.in-Some-take.is c.in-Pack.is)
+    (number-taken c.in-Some-take.alone (alone.Pack c.in-Pack.running) c.number.result c.args.job c.in-Pack.is
+    c.number.ensures c.if-number-job.false) g.D.Disk g.P.Provider _ _ _
+    c.step_pack.ensures.tells c.step_pack.ensures.called (λ four. (c.step_pack.ensures.ends four).1)

@@ -15,12 +15,7 @@ returns-in-WriteBody g c = record {
       (spelling entry ++ 0 ∷ []) c.move_append.result
       (g.D.Disk.holds c.args.disk.now) (g.D.Disk.holds c.move_append.new.disk))
       c.requires.next.value (c.move_append.ensures.cells w entry _ stands wrote);
-  acted = record {
-    acted = c.move_append.ensures.acted;
-    left = c.move_append.ensures.left;
-    padded = c.move_append.ensures.padded;
-    streams = c.move_append.ensures.streams;
-  };
+  acted = c.move_append.ensures.acted;
 }
 
 pub store-requires-clause-next : goal.store-requires-clause-next

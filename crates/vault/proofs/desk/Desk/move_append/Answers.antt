@@ -1,4 +1,4 @@
-use Rattle.vault.proofs.Words.{◌<◌, ◌-◌, ◌++◌, ◌∷◌, [], refl, sym, ap, subst, ◌≡◌, None, IsSome, spelling, core_left, Desk, place_in, wants_in, KeepsStreams}
+use Rattle.vault.proofs.Words.{◌-◌, ◌++◌, ◌∷◌, [], refl, sym, ap, subst, ◌≡◌, None, IsSome, spelling, Desk, place_in, wants_in}
 use Rattle.vault_core.specs.declared.reply.Reply.TheVariants as reply
 use Rattle.vault.specs.declared.flight.Moved.TheVariants as moved
 use Rattle.vault.specs.declared.turn.Answer.TheVariants as answer
@@ -6,7 +6,9 @@ use Rattle.vault.proofs.AtWork.{place_there}
 use Rattle.vault.proofs.Untold.{goes_by, move_by, leaves_told}
 use Rattle.vault.proofs.AppendMoves.{append_goes_on, append_done, append_failed, append_unwritten, gave_away, fed_away}
 use Rattle.vault.proofs.MovedCells.{append_of, cells_on, cells_torn, cells_stopped}
-use Rattle.vault.proofs.Replies.{move_replies, goes_not_on, padded_end}
+use Rattle.vault.proofs.Replies.{move_replies}
+use Rattle.vault.specs.Steps.{HasActed}
+use Rattle.vault.proofs.Called.{fed-acted, stopped-acted}
 use Rattle.vault.proofs.desk.Desk.move_append.Goals as goal
 
 pub stop-requires-clause-there : goal.stop-requires-clause-there
@@ -148,33 +150,11 @@ returns-in-On-clause-tells g c = leaves_told _ _ _ _ _ _ c.in-On.ensures.made.di
 pub returns-in-On-clause-called : goal.returns-in-On-clause-called
 returns-in-On-clause-called g c = c.turn.ensures.called
 
-pub returns-in-On-clause-left : goal.returns-in-On-clause-left
-returns-in-On-clause-left g c = λ more.
-    subst (λ (v : Desk). core_left c.feed.new.self c.args.job < core_left v.core c.args.job)
-    c.take_flight.ensures.rest c.feed.ensures.falls
-
-pub returns-in-On-clause-padded : goal.returns-in-On-clause-padded
-returns-in-On-clause-padded g c = tt
-
-pub returns-in-On-clause-acted : goal.returns-in-On-clause-acted
-returns-in-On-clause-acted g c = λ none. none
-
 pub returns-in-Done-clause-tells : goal.returns-in-Done-clause-tells
 returns-in-Done-clause-tells g c = leaves_told _ _ _ _ _ _ c.in-Done.ensures.made.1.disk
 
 pub returns-in-Done-clause-called : goal.returns-in-Done-clause-called
 returns-in-Done-clause-called g c = c.turn.ensures.called
-
-pub returns-in-Done-clause-left : goal.returns-in-Done-clause-left
-returns-in-Done-clause-left g c = λ more.
-    subst (λ (v : Desk). core_left c.feed-in-Done.new.self c.args.job < core_left v.core c.args.job)
-    c.take_flight.ensures.rest c.feed-in-Done.ensures.falls
-
-pub returns-in-Done-clause-padded : goal.returns-in-Done-clause-padded
-returns-in-Done-clause-padded g c = tt
-
-pub returns-in-Done-clause-acted : goal.returns-in-Done-clause-acted
-returns-in-Done-clause-acted g c = λ none. none
 
 pub returns-in-Failed-clause-tells : goal.returns-in-Failed-clause-tells
 returns-in-Failed-clause-tells g c = leaves_told _ _ _ _ _ _ c.in-Failed.ensures.made.1.disk
@@ -182,30 +162,11 @@ returns-in-Failed-clause-tells g c = leaves_told _ _ _ _ _ _ c.in-Failed.ensures
 pub returns-in-Failed-clause-called : goal.returns-in-Failed-clause-called
 returns-in-Failed-clause-called g c = c.turn.ensures.called
 
-pub returns-in-Failed-clause-left : goal.returns-in-Failed-clause-left
-returns-in-Failed-clause-left g c = λ more. absurd (goes_not_on _ _ _ _ _ _ c.stop.ensures.stopped more)
-
-pub returns-in-Failed-clause-padded : goal.returns-in-Failed-clause-padded
-returns-in-Failed-clause-padded g c = padded_end _ _ _ _ _ _ c.stop.ensures.stopped tt
-
-pub returns-in-Failed-clause-acted : goal.returns-in-Failed-clause-acted
-returns-in-Failed-clause-acted g c = c.stop.ensures.acted
-
 pub returns-in-Memory-clause-tells : goal.returns-in-Memory-clause-tells
 returns-in-Memory-clause-tells g c = leaves_told _ _ _ _ _ _ c.in-Memory.ensures.made.1.disk
 
 pub returns-in-Memory-clause-called : goal.returns-in-Memory-clause-called
 returns-in-Memory-clause-called g c = c.turn.ensures.called
-
-pub returns-in-Memory-clause-left : goal.returns-in-Memory-clause-left
-returns-in-Memory-clause-left g c =
-    λ more. absurd (goes_not_on _ _ _ _ _ _ c.stop-in-Memory.ensures.stopped more)
-
-pub returns-in-Memory-clause-padded : goal.returns-in-Memory-clause-padded
-returns-in-Memory-clause-padded g c = padded_end _ _ _ _ _ _ c.stop-in-Memory.ensures.stopped tt
-
-pub returns-in-Memory-clause-acted : goal.returns-in-Memory-clause-acted
-returns-in-Memory-clause-acted g c = c.stop-in-Memory.ensures.acted
 
 pub feed-requires-clause-given : goal.feed-requires-clause-given
 feed-requires-clause-given g c =
@@ -227,22 +188,22 @@ stop-requires-in-Memory-clause-given g c =
     subst (λ (v : Desk). wants_in v.core c.args.job ≡ None) (sym c.take_flight.ensures.rest)
     c.requires.next.comes.wants
 
-pub returns-in-On-clause-streams : goal.returns-in-On-clause-streams
-returns-in-On-clause-streams g c =
-    subst (λ (v : Desk). KeepsStreams v.core c.feed.new.self) c.take_flight.ensures.rest
+pub returns-in-On-clause-acted : goal.returns-in-On-clause-acted
+returns-in-On-clause-acted g c =
+    fed-acted c.args.self.now c.take_flight.new.self c.args.job _ c.take_flight.ensures.rest c.feed.ensures.falls
     (record { setup = c.feed.ensures.setup; none = c.feed.ensures.streams; told = c.feed.ensures.told })
 
-pub returns-in-Done-clause-streams : goal.returns-in-Done-clause-streams
-returns-in-Done-clause-streams g c =
-    subst (λ (v : Desk). KeepsStreams v.core c.feed-in-Done.new.self) c.take_flight.ensures.rest
+pub returns-in-Done-clause-acted : goal.returns-in-Done-clause-acted
+returns-in-Done-clause-acted g c =
+    fed-acted c.args.self.now c.take_flight.new.self c.args.job _ c.take_flight.ensures.rest c.feed-in-Done.ensures.falls
     (record { setup = c.feed-in-Done.ensures.setup; none = c.feed-in-Done.ensures.streams; told = c.feed-in-Done.ensures.told })
 
-pub returns-in-Failed-clause-streams : goal.returns-in-Failed-clause-streams
-returns-in-Failed-clause-streams g c =
-    subst (λ (v : Desk). KeepsStreams v.core c.stop.new.self.core) c.take_flight.ensures.rest
-    c.stop.ensures.stopped.fed.streams
+pub returns-in-Failed-clause-acted : goal.returns-in-Failed-clause-acted
+returns-in-Failed-clause-acted g c =
+    subst (λ (v : Desk). HasActed v.core c.stop.new.self.core c.args.job c.stop.result)
+    c.take_flight.ensures.rest (stopped-acted _ _ _ _ _ _ c.stop.ensures.stopped tt)
 
-pub returns-in-Memory-clause-streams : goal.returns-in-Memory-clause-streams
-returns-in-Memory-clause-streams g c =
-    subst (λ (v : Desk). KeepsStreams v.core c.stop-in-Memory.new.self.core) c.take_flight.ensures.rest
-    c.stop-in-Memory.ensures.stopped.fed.streams
+pub returns-in-Memory-clause-acted : goal.returns-in-Memory-clause-acted
+returns-in-Memory-clause-acted g c =
+    subst (λ (v : Desk). HasActed v.core c.stop-in-Memory.new.self.core c.args.job c.stop-in-Memory.result)
+    c.take_flight.ensures.rest (stopped-acted _ _ _ _ _ _ c.stop-in-Memory.ensures.stopped tt)

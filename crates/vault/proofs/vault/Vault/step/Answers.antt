@@ -45,114 +45,71 @@ pub act-requires-clause-at_work : goal.act-requires-clause-at_work
 act-requires-clause-at_work g c = c.args.self.now.at_work
 
 pub returns-in-Act : goal.returns-in-Act
-returns-in-Act g c =
-    let calls = subst (λ (x : Coming). CallsNext g.D.Disk g.P.Provider x c.args.disk.now c.args.providers.now
-    c.act.new.disk c.act.new.providers) c.in-Act.ensures.value c.act.ensures.calls in
-    record {
-      machine = λ w moment stands. step_made w moment c.args.job c.act.result _ _ _ stands.free
-          (c.act.ensures.machine w moment true stands.desk);
-      tells = calls.tells;
-      still = calls.still;
-      away = calls.away;
-      count = calls.count;
-      others = calls.others;
-      one_disk_call = calls.one_disk_call;
-      one_provider_call = calls.one_provider_call;
-      moves = λ w entry stands given calls.
-          subst
-          (λ (x : Coming). MovesCells (moves_before_next x) (closed_gate_of c.args.self.now)
-          (spelling entry ++ 0 ∷ []) c.act.result (g.D.Disk.holds c.args.disk.now)
-          (g.D.Disk.holds c.act.new.disk))
-          c.in-Act.ensures.value
-          (c.act.ensures.moves w entry stands.desk given (ap calls_disk c.in-Act.ensures.value ∙ calls));
-      left = c.act.ensures.acted.left;
-      padded = c.act.ensures.acted.padded;
-      held = refl;
-      streams = c.act.ensures.acted.streams.none;
-      told = λ number j is. c.act.ensures.acted.streams.told number j is;
-      no_job = (
-        λ is. absurd (c.act.ensures.acted.acted (subst IsNoAction (sym is) tt)),
-        λ none. absurd (acts-none _ (c.in-Act.ensures.value ∙ none)),
-      );
-      waits = λ none. absurd (c.act.ensures.acted.acted none);
-    }
+returns-in-Act g c = record {
+  machine = λ w moment stands. step_made w moment c.args.job c.act.result _ _ _ stands.free
+      (c.act.ensures.machine w moment true stands.desk);
+  calls = subst
+      (λ (x : Coming). CallsNext g.D.Disk g.P.Provider x c.args.disk.now c.args.providers.now c.act.new.disk
+      c.act.new.providers)
+      c.in-Act.ensures.value c.act.ensures.calls;
+  moves = λ w entry stands given calls.
+      subst
+      (λ (x : Coming). MovesCells (moves_before_next x) (closed_gate_of c.args.self.now)
+      (spelling entry ++ 0 ∷ []) c.act.result (g.D.Disk.holds c.args.disk.now)
+      (g.D.Disk.holds c.act.new.disk))
+      c.in-Act.ensures.value
+      (c.act.ensures.moves w entry stands.desk given (ap calls_disk c.in-Act.ensures.value ∙ calls));
+  left = c.act.ensures.acted.left;
+  no_job = (
+    λ is. absurd (c.act.ensures.acted.acted (subst IsNoAction (sym is) tt)),
+    λ none. absurd (acts-none _ (c.in-Act.ensures.value ∙ none)),
+  );
+  waits = λ none. absurd (c.act.ensures.acted.acted none);
+  leaves = record {
+    padded = c.act.ensures.acted.padded;
+    held = refl;
+    streams = c.act.ensures.acted.streams.none;
+    told = λ number j is. c.act.ensures.acted.streams.told number j is;
+  };
+}
 
 -- ---- no action
 
 pub returns-in-Waiting : goal.returns-in-Waiting
-returns-in-Waiting g c =
-    let calls = calls-nothing g.D.Disk g.P.Provider _ _ _ _ c.in-Waiting.ensures.value refl refl in
-    let leaves = idle-leaves c.args.self.now c.args.job (turn.Waiting c.in-Waiting.holder) tt
-    (λ e. absurd (let f = e in cc), λ none. absurd (let f = c.in-Waiting.ensures.value ∙ none in cc)) in
-    record {
-      machine = λ w moment stands. step_made w moment c.args.job _ c.args.self.now _ _ stands.free
-          (step-waits c.args.self.now.desk w _ moment c.args.job stands.desk _
-          (c.in-Waiting.ensures.machine w stands.desk.core));
-      tells = calls.tells;
-      still = calls.still;
-      away = calls.away;
-      count = calls.count;
-      others = calls.others;
-      one_disk_call = calls.one_disk_call;
-      one_provider_call = calls.one_provider_call;
-      moves = λ w entry stands given calls. calls-none _ _ c.in-Waiting.ensures.value refl calls;
-      left = leaves.left;
-      padded = leaves.padded;
-      held = leaves.held;
-      streams = leaves.streams;
-      told = leaves.told;
-      no_job = leaves.no_job;
-      waits = λ none. (unchanged c.args.self.now, refl, refl);
-    }
+returns-in-Waiting g c = record {
+  machine = λ w moment stands. step_made w moment c.args.job _ c.args.self.now _ _ stands.free
+      (step-waits c.args.self.now.desk w _ moment c.args.job stands.desk _
+      (c.in-Waiting.ensures.machine w stands.desk.core));
+  calls = calls-nothing g.D.Disk g.P.Provider _ _ _ _ c.in-Waiting.ensures.value refl refl;
+  moves = λ w entry stands given calls. calls-none _ _ c.in-Waiting.ensures.value refl calls;
+  waits = λ none. (unchanged c.args.self.now, refl, refl);
+  left = λ more. absurd (let f = more in cc);
+  no_job = (λ e. absurd (let f = e in cc), λ none. absurd (let f = c.in-Waiting.ensures.value ∙ none in cc));
+  leaves = idle-leaves c.args.self.now (turn.Waiting c.in-Waiting.holder) tt;
+}
 
 pub returns-in-NoSuchJob : goal.returns-in-NoSuchJob
-returns-in-NoSuchJob g c =
-    let calls = calls-nothing g.D.Disk g.P.Provider _ _ _ _ c.in-NoSuchJob.ensures.value refl refl in
-    let leaves = idle-leaves c.args.self.now c.args.job turn.NoSuchJob tt
-    (λ e. sym c.in-NoSuchJob.ensures.value, λ none. refl) in
-    record {
-      machine = λ w moment stands. step_made w moment c.args.job _ c.args.self.now _ _ stands.free
-          (step-unknown c.args.self.now.desk w _ moment c.args.job stands.desk
-          (c.in-NoSuchJob.ensures.machine w stands.desk.core));
-      tells = calls.tells;
-      still = calls.still;
-      away = calls.away;
-      count = calls.count;
-      others = calls.others;
-      one_disk_call = calls.one_disk_call;
-      one_provider_call = calls.one_provider_call;
-      moves = λ w entry stands given calls. calls-none _ _ c.in-NoSuchJob.ensures.value refl calls;
-      left = leaves.left;
-      padded = leaves.padded;
-      held = leaves.held;
-      streams = leaves.streams;
-      told = leaves.told;
-      no_job = leaves.no_job;
-      waits = λ none. (unchanged c.args.self.now, refl, refl);
-    }
+returns-in-NoSuchJob g c = record {
+  machine = λ w moment stands. step_made w moment c.args.job _ c.args.self.now _ _ stands.free
+      (step-unknown c.args.self.now.desk w _ moment c.args.job stands.desk
+      (c.in-NoSuchJob.ensures.machine w stands.desk.core));
+  calls = calls-nothing g.D.Disk g.P.Provider _ _ _ _ c.in-NoSuchJob.ensures.value refl refl;
+  moves = λ w entry stands given calls. calls-none _ _ c.in-NoSuchJob.ensures.value refl calls;
+  waits = λ none. (unchanged c.args.self.now, refl, refl);
+  left = λ more. absurd (let f = more in cc);
+  no_job = (λ e. sym c.in-NoSuchJob.ensures.value, λ none. refl);
+  leaves = idle-leaves c.args.self.now turn.NoSuchJob tt;
+}
 
 pub returns-in-MustReopen : goal.returns-in-MustReopen
-returns-in-MustReopen g c =
-    let calls = calls-nothing g.D.Disk g.P.Provider _ _ _ _ c.in-MustReopen.ensures.value refl refl in
-    let leaves = idle-leaves c.args.self.now c.args.job turn.MustReopen tt
-    (λ e. absurd (let f = e in cc), λ none. absurd (let f = c.in-MustReopen.ensures.value ∙ none in cc)) in
-    record {
-      machine = λ w moment stands. step_made w moment c.args.job _ c.args.self.now _ _ stands.free
-          (step-barred c.args.self.now.desk w _ moment c.args.job stands.desk
-          (c.in-MustReopen.ensures.machine w stands.desk.core));
-      tells = calls.tells;
-      still = calls.still;
-      away = calls.away;
-      count = calls.count;
-      others = calls.others;
-      one_disk_call = calls.one_disk_call;
-      one_provider_call = calls.one_provider_call;
-      moves = λ w entry stands given calls. calls-none _ _ c.in-MustReopen.ensures.value refl calls;
-      left = leaves.left;
-      padded = leaves.padded;
-      held = leaves.held;
-      streams = leaves.streams;
-      told = leaves.told;
-      no_job = leaves.no_job;
-      waits = λ none. (unchanged c.args.self.now, refl, refl);
-    }
+returns-in-MustReopen g c = record {
+  machine = λ w moment stands. step_made w moment c.args.job _ c.args.self.now _ _ stands.free
+      (step-barred c.args.self.now.desk w _ moment c.args.job stands.desk
+      (c.in-MustReopen.ensures.machine w stands.desk.core));
+  calls = calls-nothing g.D.Disk g.P.Provider _ _ _ _ c.in-MustReopen.ensures.value refl refl;
+  moves = λ w entry stands given calls. calls-none _ _ c.in-MustReopen.ensures.value refl calls;
+  waits = λ none. (unchanged c.args.self.now, refl, refl);
+  left = λ more. absurd (let f = more in cc);
+  no_job = (λ e. absurd (let f = e in cc), λ none. absurd (let f = c.in-MustReopen.ensures.value ∙ none in cc));
+  leaves = idle-leaves c.args.self.now turn.MustReopen tt;
+}
