@@ -1,7 +1,7 @@
 //! How a scrub begins. All memory that it takes itself is taken here.
 ghost use Rattle.std.specs.Prelude.{◌≡◌, ◌<◌, ◌≤◌, ◌+◌, ◌*◌, ◌++◌, ◌∷◌, ◌^◌, ℕ, [], All, List, Some, IfOk, OnOk, length, map, slice_get, sum_by};
 ghost use Rattle.machine_defs.specs.States.{Scrub as MachineScrub};
-ghost use Rattle.record_defs.specs.Records.{Setup};
+ghost use Rattle.record_defs.specs.Records.{Setup, most_files, largest_file};
 ghost use Rattle.stripe_bench.specs.Bench.{bench_kind};
 ghost use Rattle.file_layout.specs.declared.file.FileShape.{FileShape as FileValue};
 ghost use Rattle.hail_scrub.specs.declared.cursor.Item.{Item as ItemValue};
@@ -86,9 +86,9 @@ fn take_all(
 
 /// How many steps a scrub of these files may come to.
 fn count_left(items: &[Item], providers: u32) -> u64
-    requires few { length items.now ≤ 1024 }
+    requires few { length items.now ≤ most_files }
     requires providers { providers ≤ 16 }
-    requires stripes { All (λ (item : ItemValue). item.stripes ≤ 2 ^ 22) items.now }
+    requires stripes { All (λ (item : ItemValue). item.stripes ≤ largest_file) items.now }
     ensures left { result ≡ 1 + sum_by (λ (item : ItemValue). item.stripes * (2 * providers + 1)) items.now }
     ensures most { result ≤ 2 ^ 40 }
 {
@@ -104,7 +104,7 @@ impl Scrub {
     /// A scrub of these files, in their order. Conditions: there are at most 1,024, all of one number of
     /// providers, and no two with one object number.
     pub fn new(alloc: Global, master: &Master, files: Vec<FileShape>) -> Result<Scrub, Memory>
-        requires few { length files.items ≤ 1024 }
+        requires few { length files.items ≤ most_files }
         requires one_count { HaveOneCount files.items }
         requires apart { AreApart files.items }
         ensures begun { (s : Setup) (m : MachineScrub) → IsNewScrub s master.now.0 files.items m

@@ -1,5 +1,6 @@
 //! What a scrub does behind what it has done.
 ghost use Rattle.std.specs.Prelude.{◌≡◌, ◌==◌, ◌<◌, ◌≤◌, ◌+◌, ◌++◌, ◌∷◌, ℕ, All, false, [], IfSome, IfNone, List, drop, length, slice_index};
+ghost use Rattle.record_defs.specs.Records.{most_files};
 ghost use Rattle.machine_defs.specs.Actions.{Work};
 ghost use Rattle.hail_scrub.specs.declared.cursor.Item.{Item as ItemValue};
 ghost use Rattle.hail_scrub.specs.declared.cursor.Spot.{Spot as SpotValue};
@@ -49,7 +50,7 @@ pub fn file_at(items: &[Item], providers: u32, place: usize) -> Cursor
 
 /// The cursor behind a stripe.
 fn stripe_after(items: &[Item], providers: u32, spot: Spot) -> Cursor
-    requires few { length items.now ≤ 1024 }
+    requires few { length items.now ≤ most_files }
     requires items { All (CanRun providers) items.now }
     requires spot { IsSpot items.now spot }
     ensures at { (off : List ℕ) → CursorIsAt providers items.now off result (past_stripe providers items.now spot) }
@@ -76,7 +77,7 @@ pub fn stores_after(
     from: u32,
 ) -> Cursor
     requires few { providers ≤ 16 }
-    requires few_items { length items.now ≤ 1024 }
+    requires few_items { length items.now ≤ most_files }
     requires items { All (CanRun providers) items.now }
     requires spot { IsSpot items.now spot }
     ensures at { CursorIsAt providers items.now off.now result

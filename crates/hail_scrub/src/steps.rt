@@ -1,5 +1,6 @@
 //! The steps of a scrub: each is its next action.
 ghost use Rattle.std.specs.Prelude.{◌≡◌, ◌≢◌, ◌<◌, ◌≤◌, ◌+◌, ◌++◌, ◌^◌, ◌==◌, ℕ, All, [], List, Some, None, length, map, slice_index, slice_get, if◌then◌else◌};
+ghost use Rattle.record_defs.specs.Records.{most_files};
 ghost use Rattle.device_defs.specs.Providers.{Provider as ProviderSeen};
 ghost use Rattle.provider_model.specs.Seen.{provider_seen};
 ghost use Rattle.hail_scrub.specs.declared.cursor.Cursor.TheVariants as cursor;
@@ -102,7 +103,7 @@ impl Progress {
     /// Takes in what an opening found.
     fn take(&mut self, spot: Spot, off: [u64; 16])
         requires few { self.old.providers ≤ 16 }
-        requires few_items { length self.old.items.items ≤ 1024 }
+        requires few_items { length self.old.items.items ≤ most_files }
         requires items { All (CanRun self.old.providers) self.old.items.items }
         requires spot { IsSpot self.old.items.items spot }
         requires small { (j : ℕ) → slice_index off j ≤ 128 }

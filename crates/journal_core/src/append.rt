@@ -1,8 +1,8 @@
-ghost use Rattle.std.specs.Prelude.{◌≡◌, ◌+◌, ◌^◌, ◌<◌, ◌≤◌, ◌++◌, [], ◌∷◌, length, drop, IsErrOf};
+ghost use Rattle.std.specs.Prelude.{◌≡◌, ◌+◌, ◌<◌, ◌≤◌, ◌++◌, [], ◌∷◌, length, drop, IsErrOf};
 ghost use Rattle.stream_model.specs.declared.fault.WriteFault.TheVariants as write_fault;
 ghost use Rattle.device_defs.specs.Faults.{HasCause, one_more};
 ghost use Rattle.device_defs.specs.Told.{Goes};
-ghost use Rattle.record_defs.specs.Records.{record_size};
+ghost use Rattle.record_defs.specs.Records.{record_size, largest_journal};
 ghost use Rattle.record_defs.specs.Spellings.{spelling};
 ghost use Rattle.record_codec.specs.Entries.{entry_of, IsInGrammar};
 ghost use Rattle.journal_core.specs.Moves.{SameFrom};
@@ -22,7 +22,7 @@ pub struct Append {
     len: usize,
     moves: u8,
     ghost within: { len ≤ 81 },
-    ghost fits: { gate + 1 + len ≤ 2 ^ 24 },
+    ghost fits: { gate + 1 + len ≤ largest_journal },
 }
 
 fn copy_front(all: &mut [u8], bytes: &[u8])
@@ -39,7 +39,7 @@ impl Append {
     /// journal has room.
     pub fn new(gate: u64, entry: &Record) -> Append
         requires in_grammar { IsInGrammar entry.now }
-        requires room { gate + 2 + record_size (entry_of entry.now) ≤ 2 ^ 24 }
+        requires room { gate + 2 + record_size (entry_of entry.now) ≤ largest_journal }
         ensures gate { gate_of result ≡ gate }
         ensures moves { moves_of result ≡ 0 }
         ensures body { body_of result ≡ spelling (entry_of entry.now) ++ 0 ∷ [] }

@@ -1,4 +1,5 @@
-ghost use Rattle.std.specs.Prelude.{◌+◌, ◌^◌, ◌<◌, ◌≤◌, ◌≡◌, length, IsErrOf};
+ghost use Rattle.std.specs.Prelude.{◌+◌, ◌<◌, ◌≤◌, ◌≡◌, length, IsErrOf};
+ghost use Rattle.record_defs.specs.Records.{largest_journal};
 ghost use Rattle.stream_model.specs.declared.fault.WriteFault.TheVariants as write_fault;
 ghost use Rattle.device_defs.specs.Faults.{HasCause, one_more};
 ghost use Rattle.journal_core.specs.FourMoves.{moved_on, MayBeTorn};
@@ -22,8 +23,8 @@ pub fn make_move<D: Disk>(
     mark: u8,
 ) -> Result<bool, WriteFault>
     requires few { moves.old < 4 }
-    requires room { at + length bytes.now ≤ 2 ^ 24 }
-    requires mark_room { mark_at + 1 ≤ 2 ^ 24 }
+    requires room { at + length bytes.now ≤ largest_journal }
+    requires mark_room { mark_at + 1 ≤ largest_journal }
     ensures count { CountsMove moves.old result moves.new }
     ensures disk { LeavesDisk moves.old (moved_on moves.old at bytes.now mark_at mark)
         (MayBeTorn moves.old at (length bytes.now) mark_at) result (D.holds disk.old) (D.holds disk.new) }

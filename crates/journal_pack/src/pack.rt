@@ -2,7 +2,7 @@ ghost use Rattle.std.specs.Prelude.{◌≡◌, ◌⊎◌, ◌+◌, ◌^◌, ◌<
 ghost use Rattle.std.specs.List.{list_all};
 ghost use Rattle.stream_model.specs.declared.fault.WriteFault.TheVariants as write_fault;
 ghost use Rattle.device_defs.specs.Faults.{HasCause, one_more};
-ghost use Rattle.record_defs.specs.Records.{Record as Entry, is_in_grammar};
+ghost use Rattle.record_defs.specs.Records.{Record as Entry, is_in_grammar, largest_journal};
 ghost use Rattle.record_defs.specs.Spellings.{spelling};
 ghost use Rattle.record_defs.specs.Areas.{Area, other_area, base_of, entries, entries_size, text_length, end_in};
 ghost use Rattle.record_codec.specs.Entries.{entry_of, IsInGrammar};
@@ -115,7 +115,7 @@ impl Pack {
     /// The offset past the gate that closes the new text, in bytes from the start of the disk.
     pub fn end(&self) -> u64
         ensures least { 9 ≤ result }
-        ensures most { result ≤ 2 ^ 24 }
+        ensures most { result ≤ largest_journal }
         ensures value { (area : Area) (qs : List Entry) → IsTrue (list_all is_in_grammar qs)
             → WritesText area qs self.now → result ≡ end_in area qs }
     {

@@ -1,5 +1,6 @@
-ghost use Rattle.std.specs.Prelude.{◌≡◌, ◌≤◌, ◌^◌, ◌∷◌, ℕ, true, position, IfOk, OnOk, OnErr, IsErrOf, IsErr};
+ghost use Rattle.std.specs.Prelude.{◌≡◌, ◌≤◌, ◌∷◌, ℕ, true, position, IfOk, OnOk, OnErr, IsErrOf, IsErr};
 ghost use Rattle.std.specs.List.{list_any};
+ghost use Rattle.record_defs.specs.Records.{largest_file};
 ghost use Rattle.machine_defs.specs.Events.{AreBytes};
 ghost use Rattle.vault_core.specs.declared.wish.BeginFault.TheVariants as fault;
 ghost use Rattle.vault.specs.Benches.{IsBenchFor, AreOfDesk, AreServed, is_sized, is_served};
@@ -38,7 +39,7 @@ pub(crate) fn place_of(benches: &[Bench], size: u32) -> Option<usize>
 impl Desk {
     /// A bench for a file of this number, length and profile.
     pub(crate) fn bench_for(&self, id: u64, length: u32, profile: u8) -> Result<Bench, BeginFault>
-        requires { length ≤ 2 ^ 22 }
+        requires { length ≤ largest_file }
         ensures ok { IfOk result (λ bench. IsBenchFor self.now id length profile bench) }
         ensures err { IsErr result → IsErrOf result fault.Memory }
     {

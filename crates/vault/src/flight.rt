@@ -27,10 +27,10 @@ pub enum Moved {
 }
 
 impl Flight {
-    ghost use Rattle.std.specs.Prelude.{◌≡◌, ◌+◌, ◌^◌, ◌≤◌, ◌++◌, ◌∷◌, [], length};
+    ghost use Rattle.std.specs.Prelude.{◌≡◌, ◌+◌, ◌≤◌, ◌++◌, ◌∷◌, [], length};
     ghost use Rattle.device_defs.specs.Faults.{HasCause, one_more};
     ghost use Rattle.device_defs.specs.Told.{Goes};
-    ghost use Rattle.record_defs.specs.Records.{record_size};
+    ghost use Rattle.record_defs.specs.Records.{record_size, largest_journal};
     ghost use Rattle.record_defs.specs.Spellings.{spelling};
     ghost use Rattle.record_codec.specs.Entries.{entry_of, IsInGrammar};
     ghost use Rattle.journal_core.specs.Appends.{gate_of, body_of, moves_of};
@@ -42,7 +42,7 @@ impl Flight {
     /// has room.
     pub fn new(gate: u64, entry: &Record) -> Flight
         requires in_grammar { IsInGrammar entry.now }
-        requires room { gate + 2 + record_size (entry_of entry.now) ≤ 2 ^ 24 }
+        requires room { gate + 2 + record_size (entry_of entry.now) ≤ largest_journal }
         ensures gate { gate_of result.append ≡ gate }
         ensures moves { moves_of result.append ≡ 0 }
         ensures body { body_of result.append ≡ spelling (entry_of entry.now) ++ 0 ∷ [] }

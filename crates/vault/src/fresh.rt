@@ -1,5 +1,5 @@
 ghost use Rattle.std.specs.Prelude.{◌≡◌, ◌≤◌, ◌^◌, IfOk, IfErr, IsTrue, Some};
-ghost use Rattle.record_defs.specs.Records.{is_setup};
+ghost use Rattle.record_defs.specs.Records.{is_setup, largest_journal};
 ghost use Rattle.record_codec.specs.Entries.{with_master};
 ghost use Rattle.vault_open.specs.declared.fault.StartFault.TheVariants as start_fault;
 ghost use Rattle.vault.specs.Fresh.{IsFreshDesk};
@@ -17,7 +17,7 @@ pub(crate) fn open_fresh(alloc: Global, store: Store, first: u32) -> Result<Desk
     requires set_up { store.table.setup ≡ Some (with_master store.setup store.master.0) }
     requires limits { IsTrue (is_setup (with_master store.setup store.master.0)) }
     requires least { 9 ≤ store.end }
-    requires most { store.end ≤ 2 ^ 24 }
+    requires most { store.end ≤ largest_journal }
     ensures ok { IfOk result (λ v. IsFreshDesk v store first) }
     ensures refused { IfErr result (λ why. why ≡ start_fault.Memory) }
 {

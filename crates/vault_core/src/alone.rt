@@ -1,5 +1,6 @@
 //! What a core is told by what runs alone, a scrub or a pack.
 ghost use Rattle.std.specs.Prelude.{◌≡◌, ◌<◌, ◌≤◌, ◌+◌, ◌-◌, ◌^◌, [], true, None};
+ghost use Rattle.record_defs.specs.Records.{largest_journal};
 ghost use Rattle.machine_defs.specs.States.{State};
 ghost use Rattle.record_defs.specs.Table.{version_of};
 ghost use Rattle.record_defs.specs.Packed.{packed};
@@ -37,7 +38,7 @@ impl Core {
     pub fn moved(&mut self, end: u64)
         requires idle { self.old.jobs ≡ [] }
         requires least { 9 ≤ end }
-        requires most { end ≤ 2 ^ 24 }
+        requires most { end ≤ largest_journal }
         ensures moved { self.new ≡ record self.old { table = forgotten self.old.table; end = end } }
         ensures stands { (w : State) → CoreIs self.old w → version_of w.records ≡ 2 → w.append ≡ None
             → end ≡ end_in (other_area w.area) (packed w.journal) → IsSound 8 (switched w)
