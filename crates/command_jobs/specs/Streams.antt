@@ -22,7 +22,7 @@ use Rattle.record_defs.specs.Areas.{Area}
 use Rattle.machine_defs.specs.Jobs.{PutJob}
 use Rattle.machine_defs.specs.Begins.{chosen}
 use Rattle.machine_defs.specs.States.{State, setup_in}
-use Rattle.command_defs.specs.Seen.{Seen, ReadsFront, ReadsAtMost}
+use Rattle.command_defs.specs.Seen.{Seen, ReadsFront}
 use Rattle.command_defs.specs.Refusals as commands
 use Rattle.command_defs.specs.Puts.{MayHaveEnd}
 use Rattle.command_defs.specs.GivenUp.{put_stripe, PartRuns, PartLeft}
@@ -37,6 +37,7 @@ use Rattle.command_jobs.specs.declared.stream.Streamed.TheVariants as streamed
 use Rattle.command_jobs.specs.declared.stream.Unbegun.{Unbegun}
 use Rattle.command_jobs.specs.declared.stream.Unbegun.TheVariants as unbegun
 use Rattle.command_jobs.specs.Going.{IsOnly, OnWay, EndsEarly}
+use Rattle.command_jobs.specs.Pieces.{ReadsShort}
 use Rattle.command_jobs.specs.Ends.{NoFaultUndone, IsRefusedOver, EndsOver}
 
 -- a stripe may have so many bytes: some symbols of 16 bytes each, and no more than a file
@@ -141,18 +142,20 @@ StreamsOver area records name own streamed.SourceFault old new =
 StreamsOver area records name own streamed.TooLong old new =
     PutStops area records name own old new (λ count. count ≡ largest_file + 1)
 
--- the begin was refused, once these bytes were read
+-- the begin was refused, once these bytes were read, no more than a stripe has
 pub record IsRefusedRead (area : Area) (records : List Record) (name : List ℕ) (own : Option ℕ)
     (why : BeginFault) (was left : Option (List ℕ)) : Type 0 where
   pub bytes : List ℕ
   pub reads : ReadsFront was left bytes
   pub few : length bytes ≤ largest_file
+  pub one : length bytes ≤ put_stripe records own
   pub refused : IsRefusedOver area records (PutJob name bytes) own why
 
--- why a put over these records did not begin
+-- why a put over these records did not begin: a read failed within its first stripe, or nothing was read where
+-- there was no memory for one
 abbrev pub IsUnbegunOver : Area → List Record → List ℕ → Option ℕ → Unbegun → Option (List ℕ)
     → Option (List ℕ) → Type 0
-IsUnbegunOver area records name own unbegun.SourceFault was left = ReadsAtMost (largest_file + 1) was left
-IsUnbegunOver area records name own unbegun.Memory was left = ReadsAtMost (largest_file + 1) was left
+IsUnbegunOver area records name own unbegun.SourceFault was left = ReadsShort 0 (put_stripe records own) was left
+IsUnbegunOver area records name own unbegun.Memory was left = left ≡ was
 IsUnbegunOver area records name own (unbegun.Refused why) was left =
     IsRefusedRead area records name own why was left

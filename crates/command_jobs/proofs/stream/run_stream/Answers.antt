@@ -1,9 +1,9 @@
-use Rattle.command_jobs.proofs.Words.{◌+◌, ◌≡◌, ℕ, ◌≤◌, ◌++◌, List, Option, length, map, take, drop, ap, sym, subst, ◌∙◌, arith, rules, length-map, length-take-le, take-append_seam, Record, largest_file, Area, PutJob, setup_in_effect, put_stripe, ReadsFront, Rose, rose-before, devices_seen, provider_seen, IsFreshOver, StreamsTo, IsUnbegunOver}
+use Rattle.command_jobs.proofs.Words.{◌+◌, ◌≡◌, ℕ, ◌≤◌, ◌++◌, List, Option, length, map, take, drop, refl, ap, sym, subst, ◌∙◌, arith, rules, length-map, length-take-le, take-append_seam, Record, largest_file, Area, PutJob, setup_in_effect, put_stripe, ReadsFront, Rose, rose-before, devices_seen, provider_seen, IsFreshOver, StreamsTo, IsUnbegunOver}
 use Rattle.command_jobs.specs.declared.stream.Unbegun.{Unbegun}
 use Rattle.command_jobs.specs.declared.stream.Unbegun.TheVariants as unbegun
 use Rattle.command_jobs.proofs.Alone.{refused-over}
 use Rattle.command_jobs.proofs.Beginning.{stripe-over, is-stripe, first-number, all-begun}
-use Rattle.command_jobs.proofs.ReadBytes.{none-taken}
+use Rattle.command_jobs.specs.Pieces.{ReadsShort}
 use Rattle.command_jobs.proofs.Readings.{told-by}
 use Rattle.command_jobs.proofs.Streaming.{streams-over}
 use Rattle.command_jobs.proofs.stream.run_stream.Goals as goal
@@ -14,7 +14,21 @@ returns-in_err-stripe-clause-refused g c = told-by c.from_residual.result unbegu
     → IsFreshOver c.args.vault area records (g.D.Disk.holds c.args.disk.now) (g.D.Disk.faults c.args.disk.now)
     → IsUnbegunOver area records c.args.name.now c.args.profile why (g.S.Source.left c.args.source.now)
     (g.S.Source.left c.args.source.now))
-    c.from_residual.ensures.1 (λ area records fresh. none-taken (largest_file + 1) (g.S.Source.left c.args.source.now))
+    c.from_residual.ensures.1 (λ area records fresh. refl)
+
+pub returns-in_err-first-clause-refused : goal.returns-in_err-first-clause-refused
+returns-in_err-first-clause-refused g c = told-by c.from_residual-in_err-first.result unbegun.SourceFault
+    (λ (why : Unbegun). (area : Area) (records : List Record)
+    → IsFreshOver c.args.vault area records (g.D.Disk.holds c.args.disk.now) (g.D.Disk.faults c.args.disk.now)
+    → IsUnbegunOver area records c.args.name.now c.args.profile why (g.S.Source.left c.args.source.now)
+    (g.S.Source.left c.read_piece.new.source))
+    c.from_residual-in_err-first.ensures.1 (λ area records fresh.
+    let room : length c.read_piece.new.stripe ≡ c.stripe_size.result = search rules in
+    subst (λ (size : ℕ). ReadsShort 0 size (g.S.Source.left c.args.source.now)
+    (g.S.Source.left c.read_piece.new.source))
+    (room ∙ (c.stripe_size.ensures ∙ stripe-over c.opened_states.ensures c.args.vault area records
+    (g.D.Disk.holds c.args.disk.now) (g.D.Disk.faults c.args.disk.now) fresh c.args.profile))
+    c.in_err-first.ensures.short)
 
 pub returns-in_err-number-clause-refused : goal.returns-in_err-number-clause-refused
 returns-in_err-number-clause-refused g c = told-by c.from_residual-in_err-number.result
@@ -26,11 +40,12 @@ returns-in_err-number-clause-refused g c = told-by c.from_residual-in_err-number
     c.from_residual-in_err-number.ensures.1 (λ area records fresh.
     let P = c.in_ok-first.ensures.piece in
     let room : length c.read_piece.new.stripe ≡ c.stripe_size.result = search rules in
+    let size : c.stripe_size.result ≡ put_stripe records c.args.profile = c.stripe_size.ensures
+    ∙ stripe-over c.opened_states.ensures c.args.vault area records (g.D.Disk.holds c.args.disk.now)
+    (g.D.Disk.faults c.args.disk.now) fresh c.args.profile in
     let S = is-stripe c.opened_states.ensures c.args.vault area records
     (g.D.Disk.holds c.args.disk.now) (g.D.Disk.faults c.args.disk.now) fresh c.args.profile
-    c.stripe_size.result (c.stripe_size.ensures ∙ stripe-over c.opened_states.ensures c.args.vault area records
-    (g.D.Disk.holds c.args.disk.now)
-    (g.D.Disk.faults c.args.disk.now) fresh c.args.profile) in
+    c.stripe_size.result size in
     let few : length (take c.in_ok-first.first c.read_piece.new.stripe) ≤ largest_file =
     (let a = length-take-le c.in_ok-first.first c.read_piece.new.stripe P.few in let b = P.few in
     let m = S.most in omega (arith, a, b, m, room)) in
@@ -38,6 +53,8 @@ returns-in_err-number-clause-refused g c = told-by c.from_residual-in_err-number
       bytes = take c.in_ok-first.first c.read_piece.new.stripe;
       reads = P.read;
       few = few;
+      one = (let a = length-take-le c.in_ok-first.first c.read_piece.new.stripe P.few in let b = P.few in
+          omega (arith, a, b, room, size));
       refused = refused-over c.opened_states.ensures c.args.vault area records
           (g.D.Disk.holds c.args.disk.now) (g.D.Disk.faults c.args.disk.now) fresh
           c.begin_stream.new.self
