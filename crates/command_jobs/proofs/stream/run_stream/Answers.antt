@@ -1,4 +1,4 @@
-use Rattle.command_jobs.proofs.Words.{◌+◌, ◌≡◌, ℕ, ◌≤◌, ◌++◌, List, Option, length, map, take, drop, refl, ap, sym, subst, ◌∙◌, arith, rules, length-map, length-take-le, take-append_seam, Record, largest_file, Area, PutJob, setup_in_effect, put_stripe, ReadsFront, Rose, rose-before, devices_seen, provider_seen, IsFreshOver, StreamsTo, IsUnbegunOver}
+use Rattle.command_jobs.proofs.Words.{◌≡◌, ℕ, ◌≤◌, ◌++◌, List, Option, length, map, take, drop, refl, ap, sym, subst, ◌∙◌, arith, rules, length-map, length-take-le, take-append_seam, Record, largest_file, Area, PutJob, setup_in_effect, put_stripe, ReadsFront, Rose, rose-before, devices_seen, provider_seen, IsFreshOver, StreamsTo, IsUnbegunOver}
 use Rattle.command_jobs.specs.declared.stream.Unbegun.{Unbegun}
 use Rattle.command_jobs.specs.declared.stream.Unbegun.TheVariants as unbegun
 use Rattle.command_jobs.proofs.Alone.{refused-over}
