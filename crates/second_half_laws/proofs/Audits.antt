@@ -74,13 +74,11 @@ module _ (limit : ℕ) (mark : Mark) (start : State) (m : Moment) (ms : List Mom
   -- an audit that has just begun
   audit_new : m.state.records ≡ (now start ms).records →
       IsClear start (m ∷ ms) (length ms) (WrongAt start (m ∷ ms) (length ms))
-  audit_new rec q f i s h l b bad =
-      (let stood : file_in (now start ms) q ≡ Some f = ap (λ rs. file_of rs q) (sym rec) ∙ h in
-      let setup = setup_same m.state (now start ms) (ap setup_of rec) in
-      let below = file_below A q f stood in
+  audit_new rec q f i s h l b bad = (let stood : file_in (now start ms) q ≡ Some f = cc in
+      let setup = setup_same m.state (now start ms) (ap setup_of rec) in let below = file_below A q f stood in
       let n = ev.bounds limit start m ms A U I E X T f.profile f.id i s setup below l b in
-      elim (pt.file_bad limit mark start m ms clean run A U I E X T
-      (rows_right mark start ms F) R q f i s stood setup bad) [
+      elim (pt.file_bad limit mark start m ms clean run A U I E X T (rows_right mark start ms F) R q f i s
+      stood setup bad) [
         | inl old ↦ inr (subst (λ hs. WasWrong (now start hs) i f.id)
             (sym (first_more (length ms) m ms (omega arith) ∙ first_all ms))
             (record {
@@ -101,8 +99,7 @@ module _ (limit : ℕ) (mark : Mark) (start : State) (m : Moment) (ms : List Mom
         subst (λ n. IsClear start (m ∷ ms) n (WrongAt start (m ∷ ms) n)) (sym begun)
         (audit_on x.begun (E.audit k x runs kx) (G.audit k x runs kx)))
     | Pins_is.new_one kd wish is k_is allowed rec ↦
-        subst (λ n. IsClear start (m ∷ ms) n (WrongAt start (m ∷ ms) n)) (sym (ap (λ (x : Job). x.begun) is))
-        (audit_new rec)
+        subst (λ n. IsClear start (m ∷ ms) n (WrongAt start (m ∷ ms) n)) (cc) (audit_new rec)
   ]
 
   -- ---- repairs
@@ -116,14 +113,12 @@ module _ (limit : ℕ) (mark : Mark) (start : State) (m : Moment) (ms : List Mom
       IsClear start (m ∷ ms) (m.state.audits j.subject) (Remains m.state j)
   rest_on x j k action runs next_is kx kj pinned flagged subject place stores =
       (let P = E.repair k x runs kx in
-      subst (λ n. IsClear start (m ∷ ms) n (Remains m.state j))
-      (sym (ap m.state.audits subject ∙ audits_below T x.subject P.0))
+      subst (λ n. IsClear start (m ∷ ms) n (Remains m.state j)) (cc (audits_below T x.subject P.0))
       (on ((now start ms).audits x.subject) (Remains (now start ms) x) (Remains m.state j) P.1
       (G.repair k x runs kx) more))
     where
       at_number : job_of (now start ms).jobs x.number ≡ Some x
-      at_number = subst (λ n. job_of (now start ms).jobs n ≡ Some x)
-          (sym (number_of (now start ms).jobs k x runs)) runs
+      at_number = cc (number_of (now start ms).jobs k x runs)
 
       more : (q : List ℕ) (f : File) (i s : ℕ) → file_in (now start ms) q ≡ Some f →
           file_in m.state q ≡ Some f → setup_in m.state ≡ setup_in (now start ms) → i < (setup_in m.state).n →
@@ -131,26 +126,18 @@ module _ (limit : ℕ) (mark : Mark) (start : State) (m : Moment) (ms : List Mom
           IsBad m.state f.profile f.id i s → Remains (now start ms) x i f.id s →
           IsReplaced ((now start ms).audits x.subject) i (m ∷ ms) ⊎ Remains m.state j i f.id s
       more q f i s stood h setup l b bad (marked, (p, low, at)) = elim (cases_eq p x.place) [
-        | inl here ↦
-            (let act : action ≡ Store i f.id s = same_value (next_action (now start ms) x) action
-            (Store i f.id s) next_is
-            (next_repairs (now start ms) x kx
-            ∙ subst (λ n. slice_get (actions_of (setup_in (now start ms)) x) n ≡ Some (Store i f.id s))
-            here at) in
-            absurd (pt.stored_right limit mark start m ms clean run A U I E X T
-            (rows_right mark start ms F) f.profile x i f.id s bad.0 at_number (next_is ∙ ap Some act)
-            (A.pins.sound.file q f stood).1 (λ g in_g e. E.pin_file x.number x g q f at_number in_g stood e)
-            (stores i f.id s bad.0 act bad.1)
+        | inl here ↦ (let act : action ≡ Store i f.id s = cc in
+            absurd (pt.stored_right limit mark start m ms clean run A U I E X T (rows_right mark start ms F)
+            f.profile x i f.id s bad.0 at_number (next_is ∙ ap Some act) (A.pins.sound.file q f stood).1
+            (λ g in_g e. E.pin_file x.number x g q f at_number in_g stood e) (stores i f.id s bad.0 act bad.1)
             (pt.wrong_old limit mark start m ms clean run A U I E X T f.profile f.id i s bad.0 setup
             (X.bytes f.id (file_below A q f stood)) bad.2)))
         | inr other ↦ inr (
-          ap (λ g. g i) flagged ∙ marked,
+          cc,
           (
             p,
             omega (arith, low, other, place),
-            ap (λ (t : Setup). slice_get (actions_of t j) p) setup
-                ∙ (ap (λ xs. slice_get xs p) (same_actions (setup_in (now start ms)) x j kx kj pinned flagged)
-                ∙ at),
+            cc (same_actions (setup_in (now start ms)) x j kx kj pinned flagged),
           ),
         )
       ]
@@ -161,10 +148,8 @@ module _ (limit : ℕ) (mark : Mark) (start : State) (m : Moment) (ms : List Mom
       IsClear start (m ∷ ms) (m.state.audits j.subject) (Remains m.state j)
   repair_new j wish is allowed rec =
       (let u = repair_due limit (now start ms) wish (due_of (now start ms).records) refl allowed in
-      let P = E.due u.0 u.1 in
-      let subject : j.subject ≡ u.0.number = ap (λ (x : Job). x.subject) is ∙ ap due_number u.1 in
-      subst (λ n. IsClear start (m ∷ ms) n (Remains m.state j))
-      (sym (ap m.state.audits subject ∙ audits_below T u.0.number P.0))
+      let P = E.due u.0 u.1 in let subject : j.subject ≡ u.0.number = cc in
+      subst (λ n. IsClear start (m ∷ ms) n (Remains m.state j)) (cc (audits_below T u.0.number P.0))
       (on ((now start ms).audits u.0.number) (IsFlaggedBy (now start ms) u.0.counts) (Remains m.state j) P.1
       (G.due u.0 u.1) (more u.0 u.1)))
     where
@@ -174,17 +159,13 @@ module _ (limit : ℕ) (mark : Mark) (start : State) (m : Moment) (ms : List Mom
           s < stripes_of (profiled (setup_in m.state) f.profile) (length (m.state.bytes f.id)) →
           IsBad m.state f.profile f.id i s → IsFlaggedBy (now start ms) u.counts i f.id s →
           IsReplaced ((now start ms).audits u.number) i (m ∷ ms) ⊎ Remains m.state j i f.id s
-      more u due q f i s stood h setup l b bad marked =
-          (let flagged : j.flagged i ≡ true = ap (λ (x : Job). x.flagged i) is
-          ∙ (ap (λ o. due_flags (setup_in (now start ms)).tolerance o i) due ∙ marked) in
-          let bytes : m.state.bytes f.id ≡ (now start ms).bytes f.id = X.bytes f.id (file_below A q f stood) in
-          let st = store_stands (setup_in m.state) j (pinned_file (now start ms) f) i s
-          (ap (λ (x : Job). x.kind) is)
-          (subst (λ (x : Job). In (pinned_file (now start ms) f) x.pinned) (sym is)
-          (all_pinned (now start ms) q f stood)) flagged l
-          (subst (λ (y : List ℕ). s < stripes_of (profiled (setup_in m.state) f.profile) (length y)) bytes
-          b) in
-          inr (flagged, (st.0, (let z : j.place ≡ 0 = ap (λ (x : Job). x.place) is in omega arith), st.1)))
+      more u due q f i s stood h setup l b bad marked = (let flagged : j.flagged i ≡ true = cc in
+          let bytes : m.state.bytes f.id ≡ (now start ms).bytes f.id =
+          X.bytes f.id (file_below A q f stood) in
+          let st = store_stands (setup_in m.state) j (pinned_file (now start ms) f) i s (cc)
+          (subst (λ (x : Job). In (pinned_file (now start ms) f) x.pinned) (sym is) (all_pinned (now start ms)
+          q f stood)) flagged l (subst (λ (y : List ℕ). s < stripes_of (profiled (setup_in m.state) f.profile)
+          (length y)) bytes b) in inr (flagged, (st.0, (let z : j.place ≡ 0 = cc in omega arith), st.1)))
 
   repair_step : (k : ℕ) (j : Job) → job_of m.state.jobs k ≡ Some j → j.kind ≡ RepairJob →
       IsClear start (m ∷ ms) (m.state.audits j.subject) (Remains m.state j)
@@ -192,26 +173,17 @@ module _ (limit : ℕ) (mark : Mark) (start : State) (m : Moment) (ms : List Mom
     | Job_is.kept r grown ↦ (let P = E.repair k j r kind in
         subst (λ n. IsClear start (m ∷ ms) n (Remains m.state j)) (sym (audits_below T j.subject P.0))
         (on ((now start ms).audits j.subject) (Remains (now start ms) j) (Remains m.state j) P.1
-        (G.repair k j r kind)
-        (λ q f i s stood h2 setup l b bad x. inr
-        (x.0, (x.1.0, x.1.1, ap (λ (t : Setup). slice_get (actions_of t j) x.1.0) setup ∙ x.1.2)))))
-    | Job_is.begun kd wish is k_is allowed rec ↦
-        (let kd_is : kd ≡ RepairJob = sym (ap (λ (x : Job). x.kind) is) ∙ kind in
-        repair_new j wish (is ∙ ap (λ kk. beginning (now start ms) (length ms) kk wish) kd_is)
-        (subst (λ kk. refusal_of_begin limit (now start ms) kk wish ≡ None) kd_is allowed) rec)
+        (G.repair k j r kind) (λ q f i s stood h2 setup l b bad x. inr (x.0, (x.1.0, x.1.1, cc)))))
+    | Job_is.begun kd wish is k_is allowed rec ↦ (let kd_is : kd ≡ RepairJob = cc in
+        repair_new j wish (cc) (cc) rec)
     | Job_is.plain x action runs next_is is_plain goes rec st ↦
-        rest_on x j k action runs next_is (sym goes.kind
-        ∙ kind) kind goes.pinned goes.flagged goes.subject goes.place st
-    | Job_is.drew x runs next_is free is rec ↦
-        (let kx : x.kind ≡ RepairJob = sym (ap (λ (y : Job). y.kind) is) ∙ kind in
-        rest_on x j k WriteBody runs next_is kx kind (ap (λ (y : Job). y.pinned) is)
-        (ap (λ (y : Job). y.flagged) is) (ap (λ (y : Job). y.subject) is
-        ∙ ap (subject_drawn (now start ms) x) kx) (ap (λ (y : Job). y.place) is)
-        (λ i o s b e told. absurd (let z : WriteBody ≡ Store i o s = e in cc)))
+        rest_on x j k action runs next_is (cc) kind goes.pinned goes.flagged goes.subject goes.place st
+    | Job_is.drew x runs next_is free is rec ↦ (let kx : x.kind ≡ RepairJob = cc in
+        rest_on x j k WriteBody runs next_is kx kind (cc) (cc) (cc) (cc) (λ i o s b e told. absurd
+        (let z : WriteBody ≡ Store i o s = e in cc)))
     | Job_is.finished x a runs next_is flight mine is rec free ↦
-        rest_on x j k SyncGate runs next_is (sym (ap (λ (y : Job). y.kind) is) ∙ kind) kind
-        (ap (λ (y : Job). y.pinned) is) (ap (λ (y : Job). y.flagged) is) (ap (λ (y : Job). y.subject) is)
-        (ap (λ (y : Job). y.place) is) (λ i o s b e told. absurd (let z : SyncGate ≡ Store i o s = e in cc))
+        rest_on x j k SyncGate runs next_is (cc) kind (cc) (cc) (cc) (cc) (λ i o s b e told. absurd
+        (let z : SyncGate ≡ Store i o s = e in cc))
   ]
 
   repair_doubt_step : (d : Doubt) (number : ℕ) → m.state.doubt ≡ Some d → d.entry ≡ RepairDone number →
@@ -222,14 +194,11 @@ module _ (limit : ℕ) (mark : Mark) (start : State) (m : Moment) (ms : List Mom
         (on ((now start ms).audits number) Never Never P.1 (G.repair_doubt d number was e)
         (λ q f i s stood h2 setup l b bad x. absurd x)))
     | Doubt_now.gated job a runs next_is flight mine entry_is maker rec on_ ↦
-        (let g = ev.repair_gated limit start m ms A U I E X T job a number runs flight mine
-        (sym entry_is ∙ e) in
-        let P = E.repair job.number job runs g.kind in
-        subst (λ n. IsClear start (m ∷ ms) n Never)
-        (sym (ap m.state.audits g.subject ∙ audits_below T job.subject P.0))
-        (on ((now start ms).audits job.subject) (Remains (now start ms) job) Never P.1
-        (G.repair job.number job runs g.kind)
-        (λ q f i s stood h2 setup l b bad x. absurd
+        (let g = ev.repair_gated limit start m ms A U I E X T job a number runs flight mine (sym entry_is
+        ∙ e) in let P = E.repair job.number job runs g.kind in
+        subst (λ n. IsClear start (m ∷ ms) n Never) (cc (audits_below T job.subject P.0))
+        (on ((now start ms).audits job.subject) (Remains (now start ms) job) Never P.1 (G.repair job.number
+        job runs g.kind) (λ q f i s stood h2 setup l b bad x. absurd
         (let z = gate_behind (now start ms) job x.1.0 i f.id s g.kind next_is x.1.2 in let low = x.1.1 in
         omega (arith, z, low)))))
     | Doubt_now.set_up t entry_is bare none closed ↦
@@ -269,11 +238,10 @@ module _ (limit : ℕ) (mark : Mark) (start : State) (m : Moment) (ms : List Mom
     old_due : (u : Due) → due_of (now start ms).records ≡ Some u →
         IsClear start (m ∷ ms) (m.state.audits u.number) (IsFlaggedBy m.state u.counts)
     old_due u was = (let P = E.due u was in
-        subst (λ n. IsClear start (m ∷ ms) n (IsFlaggedBy m.state u.counts)) (sym (audits_below T u.number P.0))
-        (on ((now start ms).audits u.number) (IsFlaggedBy (now start ms) u.counts)
-        (IsFlaggedBy m.state u.counts) P.1 (G.due u was)
-        (λ q f i s stood h setup l b bad x. inr (ap (λ (t : Setup). is_flagged t.tolerance u.counts i) setup
-        ∙ x))))
+        subst (λ n. IsClear start (m ∷ ms) n (IsFlaggedBy m.state u.counts))
+        (sym (audits_below T u.number P.0)) (on ((now start ms).audits u.number) (IsFlaggedBy (now start ms)
+        u.counts) (IsFlaggedBy m.state u.counts) P.1 (G.due u was) (λ q f i s stood h setup l b bad x.
+        inr (cc))))
 
     new_due : (u : Due) (d : Doubt) (und : ℕ) → (now start ms).doubt ≡ Some d →
         d.entry ≡ AuditDone u.number und u.counts →
@@ -304,22 +272,19 @@ module _ (limit : ℕ) (mark : Mark) (start : State) (m : Moment) (ms : List Mom
         | inr (und, e) ↦ new_due u d und at e
             (λ q f i s stood h2 setup l b bad below w. elim (cases_Bool
             (is_flagged (setup_in (now start ms)).tolerance u.counts i)) [
-              | inl t ↦ inr (ap (λ (t2 : Setup). is_flagged t2.tolerance u.counts i) setup ∙ t)
+              | inl t ↦ inr (cc)
               | inr f2 ↦ inl (since_more ((now start ms).audits u.number) i m ms
                   (unmissed u.number und u.counts i f.id
                   (ev.came_one limit start m ms A U I E X T (now start ms).records d.entry rec refl
                   ∙ ap Some e) below (subst (λ (t2 : Setup). i < t2.n) setup l) f2 w))
             ])
       ]
-      | ev.Effect_is.set_up s rs rec none (inl e) ↦ old_due u (ap due_of (sym e) ∙ (ap due_of (sym rec) ∙ h))
-      | ev.Effect_is.set_up s rs rec none (inr (d, at, e)) ↦
-          elim (due_entered u d at (ap due_of (sym e) ∙ (ap due_of (sym rec) ∙ h))) [
-            | inl was ↦ old_due u was
-            | inr (und, e2) ↦ new_due u d und at e2
-                (λ q f i t stood h2 setup l b bad below w. absurd
-                (ev.no_file limit start m ms A U I E X T rs q f none (inr (d, at, e))
-                (ap (λ l2. file_of l2 q) (sym rec) ∙ h2)))
-          ]
+      | ev.Effect_is.set_up s rs rec none (inl e) ↦ old_due u (cc)
+      | ev.Effect_is.set_up s rs rec none (inr (d, at, e)) ↦ elim (due_entered u d at (cc)) [
+        | inl was ↦ old_due u was
+        | inr (und, e2) ↦ new_due u d und at e2 (λ q f i t stood h2 setup l b bad below w. absurd
+            (ev.no_file limit start m ms A U I E X T rs q f none (inr (d, at, e)) (cc)))
+      ]
     ]
 
     -- an event keeps what files in effect are clear of while audits run, repairs are due and repairs run
@@ -345,11 +310,10 @@ module _ (limit : ℕ) (mark : Mark) (start : State) (m : Moment) (ms : List Mom
       settled_audit d number u c at e came_in none = (let P = E.audit_doubt d number u c at e in
           subst (λ n. IsClear start (m ∷ ms) n Never) (sym (audits_below T number P.0))
           (on ((now start ms).audits number) (WrongAt start ms ((now start ms).audits number)) Never P.1
-          (G.audit_doubt d number u c at e)
-          (λ q f i s stood h setup l b bad w. inl (since_more ((now start ms).audits number) i m ms
-          (unmissed number u c i f.id came_in P.0 (subst (λ (t : Setup). i < t.n) setup l)
-          (subst (λ (t : Setup). is_flagged t.tolerance c i ≡ false) setup
-          (none_flagged (setup_in m.state).tolerance c i none)) w)))))
+          (G.audit_doubt d number u c at e) (λ q f i s stood h setup l b bad w.
+          inl (since_more ((now start ms).audits number) i m ms (unmissed number u c i f.id came_in P.0
+          (subst (λ (t : Setup). i < t.n) setup l) (cc (none_flagged (setup_in m.state).tolerance c i none))
+          w)))))
 
       settled_repair : (d : Doubt) (number : ℕ) → (now start ms).doubt ≡ Some d →
           d.entry ≡ RepairDone number → IsClear start (m ∷ ms) (m.state.audits number) Never

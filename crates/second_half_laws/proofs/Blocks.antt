@@ -45,8 +45,7 @@ pub sized_wrong : (o : Object) (bytes : List ℕ) (i s : ℕ) (b : Option (List 
     is_wrong_block o bytes i s (sized o.profile.size b) ≡ true → is_wrong_block o bytes i s b ≡ true
 sized_wrong o bytes i s None h = h
 sized_wrong o bytes i s (Some b) h = elim (cases_Bool (length b == o.profile.size)) [
-  | inl t ↦ subst (λ x. is_wrong_block o bytes i s x ≡ true)
-      (cond_true (length b == o.profile.size) (Some b) None t) h
+  | inl t ↦ cc
   | inr f ↦ rw f refl
 ]
 
@@ -63,10 +62,8 @@ telling w i o s b h = go (w.providers i).held refl h
 -- a provider with a bad block of a file is wrong for it
 pub bad_wrong : (w : State) (f : File) (i s : ℕ) → s < stripes (file_object w f) (length (w.bytes f.id)) →
     IsBad w f.profile f.id i s → is_wrong_now w f i ≡ true
-bad_wrong w f i s below (b, told, wrong) =
-    (let t = telling w i f.id s b told in
-    ap (is_wrong_told w f i) t.1 ∙ wrong-block (file_object w f) (w.bytes f.id) i s (t.0 f.id) below
-    (subst (λ x. is_wrong_block (file_object w f) (w.bytes f.id) i s x ≡ true) (sym t.2) wrong))
+bad_wrong w f i s below (b, told, wrong) = (let t = telling w i f.id s b told in
+    ap (is_wrong_told w f i) t.1 ∙ wrong-block (file_object w f) (w.bytes f.id) i s (t.0 f.id) below (cc))
 
 -- ---- records
 
@@ -91,7 +88,7 @@ ends_second rs k size profile q f e =
 -- it ends the put of its number
 pub ends_ended : (rs : List Record) (r : Record) (id size profile : ℕ) → IsEndOfPut rs r id size profile →
     put_ended r ≡ Some id
-ends_ended rs r id size profile e = ap put_ended e.entry_is ∙ done-ended e.version id size profile
+ends_ended rs r id size profile e = cc (done-ended e.version id size profile)
 
 -- its profile is told by the record, or by the setup
 pub same_profile : (rs : List Record) (v w a b size length p q : ℕ) →
@@ -99,18 +96,11 @@ pub same_profile : (rs : List Record) (v w a b size length p q : ℕ) →
     ((w == 2) ≡ false → q ≡ profile_in (setup_of rs)) → p ≡ q
 same_profile rs v w a b size length p q e first second = elim (cases_Bool (v == 2)) [
   | inl t ↦ elim (cases_Bool (w == 2)) [
-    | inl u ↦ (let same : PutDoneIn a size p ≡ PutDoneIn b length q =
-        sym (cond_true (v == 2) (PutDoneIn a size p) (PutDone a size) t)
-        ∙ (e ∙ cond_true (w == 2) (PutDoneIn b length q) (PutDone b length) u) in
-        let r : p ≡ q = cc in r)
-    | inr u ↦ absurd (let same : PutDoneIn a size p ≡ PutDone b length =
-        sym (cond_true (v == 2) (PutDoneIn a size p) (PutDone a size) t)
-        ∙ (e ∙ cond_false (w == 2) (PutDoneIn b length q) (PutDone b length) u) in cc)
+    | inl u ↦ (let same : PutDoneIn a size p ≡ PutDoneIn b length q = cc in let r : p ≡ q = cc in r)
+    | inr u ↦ absurd (let same : PutDoneIn a size p ≡ PutDone b length = cc in cc)
   ]
   | inr t ↦ elim (cases_Bool (w == 2)) [
-    | inl u ↦ absurd (let same : PutDone a size ≡ PutDoneIn b length q =
-        sym (cond_false (v == 2) (PutDoneIn a size p) (PutDone a size) t)
-        ∙ (e ∙ cond_true (w == 2) (PutDoneIn b length q) (PutDone b length) u) in cc)
+    | inl u ↦ absurd (let same : PutDone a size ≡ PutDoneIn b length q = cc in cc)
     | inr u ↦ first t ∙ sym (second u)
   ]
 ]
@@ -123,9 +113,8 @@ file_done (PutDone k size) rs q f good h =
     (file_as q k size (profile_in (setup_of rs))) f h)
     [ inl was ↦ inl was | inr e ↦ inr (ends_first rs k size q f e) ]
 file_done (Drop name) rs q f good h = elim (cases_Bool (is_same_name name q)) [
-  | inl t ↦ absurd (some-not-none (file_of (Drop name ∷ rs) q) f h
-      (cond_true (is_same_name name q) None (file_of rs q) t))
-  | inr o ↦ inl (sym (cond_false (is_same_name name q) None (file_of rs q) o) ∙ h)
+  | inl t ↦ absurd (some-not-none (file_of (Drop name ∷ rs) q) f h (cc))
+  | inr o ↦ inl (cc)
 ]
 file_done (PutDoneIn k size profile) rs q f good h =
     elim (done_put (is_start_of q (started_as rs k)) (file_of rs q) (file_as q k size profile) f h) [
@@ -161,9 +150,8 @@ pub due_done : (r : Record) (rs : List Record) (u : Due) → IsAppended r → du
 due_done (AuditDone number undecided counts) rs u good h = elim (cases_Bool (exceeds (setup_of rs) counts)) [
   | inl t ↦ (let e : Some (record { number = number; counts = counts }) ≡ Some u =
       sym (cond_true (exceeds (setup_of rs) counts) (Some (record { number = number; counts = counts }))
-      (due_of rs) t) ∙ h in
-      let same : record { number = number; counts = counts } ≡ u = cc in
-      inr (undecided, ap (λ (x : Due). AuditDone x.number undecided x.counts) same))
+      (due_of rs) t) ∙ h in let same : record { number = number; counts = counts } ≡ u = cc in
+      inr (undecided, cc))
   | inr f ↦ inl (sym (cond_false (exceeds (setup_of rs) counts)
       (Some (record { number = number; counts = counts })) (due_of rs) f) ∙ h)
 ]
@@ -178,7 +166,7 @@ pub none_flagged : (tolerance : ℕ) (counts : List ℕ) (j : ℕ) → flags_som
     is_flagged tolerance counts j ≡ false
 none_flagged tolerance [] j h = le-ltb tolerance 0 (omega arith)
 none_flagged tolerance (c ∷ cs) zero h = elim (cases_Bool (nat_lt tolerance c)) [
-  | inl t ↦ absurd (false≢true (sym h ∙ or_left (nat_lt tolerance c) (flags_some tolerance cs) t))
+  | inl t ↦ absurd (false≢true (cc))
   | inr f ↦
       f
 ]
@@ -190,8 +178,8 @@ none_flagged tolerance (c ∷ cs) (suc j) h = none_flagged tolerance cs j
 
 -- before the first event no file is in effect and nothing is due
 pub no_first_file : (rs : List Record) (q : List ℕ) (f : File) → AreFirst rs → file_of rs q ≡ Some f → ⊥
-no_first_file rs q f (inl e) h = (let g : None ≡ Some f = ap (λ l. file_of l q) (sym e) ∙ h in cc)
-no_first_file rs q f (inr p) h = (let g : None ≡ Some f = ap (λ l. file_of l q) (sym p.2) ∙ h in cc)
+no_first_file rs q f (inl e) h = (let g : None ≡ Some f = cc in cc)
+no_first_file rs q f (inr p) h = (let g : None ≡ Some f = cc in cc)
 
 -- before the first event no repair is due
 pub no_first_due : (rs : List Record) (u : Due) → AreFirst rs → due_of rs ≡ Some u → ⊥

@@ -35,8 +35,7 @@ done_on : (limit : ℕ) (start : State) (m : Moment) (ms : List Moment) (x : Job
     setup_in m.state ≡ setup_in (now start ms) → Done start ms x entry → Done start (m ∷ ms) x entry
 done_on limit start m ms x entry N X setup d = record {
   final = subst (λ t. Final t x entry x.kind) (sym setup) d.final;
-  made = λ p action l at. (let f = d.made p action l
-      (subst (λ t. slice_get (actions_of t x) p ≡ Some action) setup at) in
+  made = λ p action l at. (let f = d.made p action l (cc) in
       (made_on start m ms (advanced x) (advanced x) action (later_same (advanced x)) f.0, f.1));
   came = λ gift i. came_on start m ms (advanced x) (advanced x) gift setup (later_same (advanced x))
       (d.came gift i);
@@ -49,42 +48,36 @@ module _ (limit : ℕ) (start : State) (m : Moment) (ms : List Moment) (A : All 
     (V : own.Facts start ms) (I : eff.Facts (now start ms)) (F : Facts start ms)
     (X : Changes limit (length ms) (now start ms) m.event m.outcome m.state)
     (W : Walked (length ms) (now start ms) m.event m.outcome m.state) where
-  done_now : (x : Job) (a : Append) → job_of (now start ms).jobs x.number ≡ Some x →
-      (now start ms).append ≡ Some a → a.job ≡ x.number → m.state.records ≡ (now start ms).records →
-      Done start (m ∷ ms) x a.entry
-  done_now x a runs flight mine rec =
-      (let setup = setup_same m.state (now start ms) (ap setup_of rec) in
+  -- the state after these moments
+  abbrev w : State
+  w = now start ms
+
+  done_now : (x : Job) (a : Append) → job_of w.jobs x.number ≡ Some x → w.append ≡ Some a → a.job ≡ x.number →
+      m.state.records ≡ w.records → Done start (m ∷ ms) x a.entry
+  done_now x a runs flight mine rec = (let setup = setup_same m.state w (ap setup_of rec) in
       record {
-        final = subst (λ t. Final t x a.entry x.kind) (sym setup)
-            (F.flights a x flight (subst (λ n. job_of (now start ms).jobs n ≡ Some x) (sym mine) runs));
-        made = λ p action l at. (let f = F.made.made x.number x p action runs l
-            (subst (λ t. slice_get (actions_of t x) p ≡ Some action) setup at) in
+        final = subst (λ t. Final t x a.entry x.kind) (sym setup) (F.flights a x flight (cc));
+        made = λ p action l at. (let f = F.made.made x.number x p action runs l (cc) in
             (made_on start m ms x (advanced x) action (later_advanced x) f.0, f.1));
         came = λ gift i. came_on start m ms x (advanced x) gift setup (later_advanced x)
             (F.made.came x.number x gift runs i);
-        own = λ name bytes kind late.
-            stands_by limit (length ms) (now start ms) m.event m.outcome m.state x.subject bytes
-            A.numbers.written X
-            (record {
-              below = A.numbers.below x.number x runs (subst (Draws objects) (sym kind) tt, late);
+        own = λ name bytes kind late. stands_by limit (length ms) w m.event m.outcome m.state x.subject bytes
+            A.numbers.written X (record {
+              below = A.numbers.below x.number x runs (cc, late);
               bytes_are = I.kept x.number x name bytes runs kind late;
             });
       })
 
   doubt_step : (d : Doubt) → m.state.doubt ≡ Some d → Standing start (m ∷ ms) d
   doubt_step d h = elim (W.doubt d h) [
-    | Doubted.kept before rec ↦ on (F.doubt d before)
-        (setup_same m.state (now start ms) (ap setup_of rec)) rec
+    | Doubted.kept before rec ↦ on (F.doubt d before) (setup_same m.state w (ap setup_of rec)) rec
     | Doubted.gated x a runs next_is flight mine is rec ↦
-        Standing.by_job x (ap (λ (e : Doubt). e.maker) is)
-        (subst (Done start (m ∷ ms) x) (sym (ap (λ (e : Doubt). e.entry) is))
-        (done_now x a runs flight mine rec))
-    | Doubted.set_up s is none_ ↦ Standing.bare s (ap (λ (e : Doubt). e.entry) is)
-        (ap (λ (e : Doubt). e.maker) is) none_
+        Standing.by_job x (cc) (subst (Done start (m ∷ ms) x) (cc) (done_now x a runs flight mine rec))
+    | Doubted.set_up s is none_ ↦ Standing.bare s (cc) (cc) none_
   ]
     where
-      on : Standing start ms d → setup_in m.state ≡ setup_in (now start ms) →
-          m.state.records ≡ (now start ms).records → Standing start (m ∷ ms) d
+      on : Standing start ms d → setup_in m.state ≡ setup_in w → m.state.records ≡ w.records →
+          Standing start (m ∷ ms) d
       on (Standing.bare s entry maker none_) setup rec = Standing.bare s entry maker (ap setup_of rec ∙ none_)
       on (Standing.by_job x maker done) setup rec =
           Standing.by_job x maker (done_on limit start m ms x d.entry A.numbers.written X setup done)
@@ -125,12 +118,12 @@ setup_step : (limit : ℕ) (start : State) (m : Moment) (ms : List Moment) (s : 
 setup_step limit start m ms s A F X h = elim X.records [
   | Records_is.same rec ↦ ap setup_of rec ∙ h
   | Records_is.finished x a runs next_is flight mine moves rec ↦
-      ap setup_of rec ∙ (wrote_setup x x.kind a.entry (now start ms).records
-      (A.pins.wrote a x flight (subst (λ n. job_of (now start ms).jobs n ≡ Some x) (sym mine) runs)) ∙ h)
-  | Records_is.settled d in_doubt rec ↦ ap setup_of rec ∙ (on_top d (F.doubt d in_doubt) ∙ h)
+      ap setup_of rec ∙ (wrote_setup x x.kind a.entry (now start ms).records (A.pins.wrote a x flight (cc))
+      ∙ h)
+  | Records_is.settled d in_doubt rec ↦ cc (on_top d (F.doubt d in_doubt))
   | Records_is.set_up t none_ rec ↦ absurd (let e : None ≡ Some s = sym none_ ∙ h in cc)
   | Records_is.settled_set_up t d in_doubt none_ rec ↦
-      absurd (let e : None ≡ Some s = sym none_ ∙ (on_top d (F.doubt d in_doubt) ∙ h) in cc)
+      absurd (let e : None ≡ Some s = cc (on_top d (F.doubt d in_doubt)) in cc)
 ]
   where
     on_top : (d : Doubt) → Standing start ms d → setup_of (d.entry ∷ (now start ms).records)

@@ -49,9 +49,7 @@ module _ (limit : ℕ) (mark : Mark) (start : State) (base : List Moment) (from 
 
   marks_first : (xs : List Moment) → xs ≡ base → IsMark start xs from → AreMarks mark start xs →
       AreMarks (moved_mark (length base) from mark) start xs
-  marks_first [] is moment marks =
-      subst (IsMark start []) (sym (moved (length base) from mark []
-      (subst (λ hs. length base ≤ length hs) (sym is) (omega arith)))) moment
+  marks_first [] is moment marks = subst (IsMark start []) (cc) moment
   marks_first (m ∷ xs) is moment marks = (
     subst (IsMark start (m ∷ xs)) (sym (moved (length base) from mark (m ∷ xs)
         (subst (λ hs. length base ≤ length hs) (sym is) (omega arith)))) moment,

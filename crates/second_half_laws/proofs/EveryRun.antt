@@ -92,23 +92,21 @@ pub record Always (start : State) (ms : List Moment) : Type 0 where
 
 -- a record that ends a put is no other one
 ends_other : (v id size profile : ℕ) (r : Record) → done_record v id size profile ≡ r → put_ended r ≡ None → ⊥
-ends_other v id size profile r e none =
-    (let f : Some id ≡ None = sym (done-ended v id size profile) ∙ (ap put_ended e ∙ none) in cc)
+ends_other v id size profile r e none = (let f : Some id ≡ None = cc (done-ended v id size profile) in cc)
 
 -- a put's end is written by a put that has its number
 wrote_put : (job : Job) (kind : Kind) (entry : Record) (id : ℕ) → Wrote job kind entry →
     put_ended entry ≡ Some id → (name : List ℕ) × (bytes : List ℕ) × (kind ≡ PutJob name bytes) ×
     (4 ≤ job.place) × (job.subject ≡ id)
-wrote_put job (PutJob name bytes) entry id (inr h) e =
-    (let f : Some job.subject ≡ Some id =
-    sym (ap put_ended h.1.1 ∙ done-ended h.1.0 job.subject (length bytes) job.profile) ∙ e in
+wrote_put job (PutJob name bytes) entry id (inr h) e = (let f : Some job.subject ≡ Some id =
+    cc (done-ended h.1.0 job.subject (length bytes) job.profile) in
     (name, bytes, refl, h.0, (let g : job.subject ≡ id = cc in g)))
 wrote_put job (GetJob name) entry id h e = absurd h
-wrote_put job (DropJob name) entry id h e = (let f : None ≡ Some id = sym (ap put_ended h) ∙ e in cc)
-wrote_put job AuditJob entry id (inr h) e = (let f : None ≡ Some id = sym (ap put_ended h.3) ∙ e in cc)
-wrote_put job RepairJob entry id h e = (let f : None ≡ Some id = sym (ap put_ended h.1) ∙ e in cc)
-wrote_put job UpgradeJob entry id h e = (let f : None ≡ Some id = sym (ap put_ended h) ∙ e in cc)
-wrote_put job kind entry id (inl h) e = (let f : None ≡ Some id = sym (ap put_ended h.1) ∙ e in cc)
+wrote_put job (DropJob name) entry id h e = (let f : None ≡ Some id = cc in cc)
+wrote_put job AuditJob entry id (inr h) e = (let f : None ≡ Some id = cc in cc)
+wrote_put job RepairJob entry id h e = (let f : None ≡ Some id = cc in cc)
+wrote_put job UpgradeJob entry id h e = (let f : None ≡ Some id = cc in cc)
+wrote_put job kind entry id (inl h) e = (let f : None ≡ Some id = cc in cc)
 
 wrote_audit : (job : Job) (kind : Kind) (entry : Record) (number u : ℕ) (c : List ℕ) → Wrote job kind entry →
     entry ≡ AuditDone number u c → kind ≡ AuditJob
@@ -156,13 +154,9 @@ wrote_no_setup job UpgradeJob entry s h e = (let f : Version ≡ SetUp s = sym h
 -- files in effect that have one number are one
 pub stands_once : (w : State) → AreSound w.records → (f g : Pinned) → Stands w f → Stands w g → f.id ≡ g.id →
     f ≡ g
-stands_once w sound f g s t e =
-    (let ids : s.file.id ≡ t.file.id = sym (ap (λ (x : Pinned). x.id) s.is)
-    ∙ (e ∙ ap (λ (x : Pinned). x.id) t.is) in
+stands_once w sound f g s t e = (let ids : s.file.id ≡ t.file.id = cc in
     let name = sound.one_name s.name t.name s.file t.file s.in_effect t.in_effect ids in
-    let same : s.file ≡ t.file = same_value (file_in w s.name) s.file t.file s.in_effect
-    (ap (λ q. file_in w q) name ∙ t.in_effect) in
-    s.is ∙ (ap (pinned_file w) same ∙ sym t.is))
+    let same : s.file ≡ t.file = cc in cc)
 
 -- the profile of a number among files of which it has one
 pub profile_of : (other : ℕ) (ps : List Pinned) (f : Pinned) → In f ps →
@@ -173,7 +167,7 @@ profile_of other (p ∷ ps) f h one = elim (cases_Bool (p.id == f.id)) [
       ∙ one p (inl refl) (eqb-true p.id f.id t)
   | inr o ↦ cond_false (p.id == f.id) p.profile (pinned_profile other ps f.id) o
       ∙ profile_of other ps f (elim h [
-        | inl e ↦ absurd (false≢true (sym o ∙ eq-eqb p.id f.id (sym (ap (λ (x : Pinned). x.id) e))))
+        | inl e ↦ absurd (false≢true (sym o ∙ eq-eqb p.id f.id (cc)))
         | inr i ↦ i
       ]) (λ g i. one g (inr i))
 ]
@@ -182,10 +176,8 @@ profile_of other (p ∷ ps) f h one = elim (cases_Bool (p.id == f.id)) [
 pub worked_is : (start : State) (ms : List Moment) → Always start ms → (x : Job) (o : ℕ) →
     job_of (now start ms).jobs x.number ≡ Some x → (pin : HasPin x o) →
     worked_object (now start ms) x o ≡ object_in (now start ms) pin.file.profile o
-worked_is start ms E x o runs pin = ap (λ p. object_in (now start ms) p o)
-    (ap (pinned_profile (setup_in (now start ms)).profile x.pinned) (sym pin.id_is)
-    ∙ profile_of (setup_in (now start ms)).profile x.pinned pin.file pin.pinned
-    (λ g i e. E.one_pin x.number x.number x x g pin.file runs runs i pin.pinned e))
+worked_is start ms E x o runs pin = cc (profile_of (setup_in (now start ms)).profile x.pinned pin.file
+    pin.pinned (λ g i e. E.one_pin x.number x.number x x g pin.file runs runs i pin.pinned e))
 
 -- a number that is not drawn keeps its begin
 drawn_other : (w : State) (job : Job) (kind : Kind) (number : ℕ) → (number ≡ next_audit w.records → ⊥) →
@@ -200,10 +192,9 @@ drawn_other w job kind number other = refl
 drawn_begun : (w : State) (job : Job) (kind : Kind) (number : ℕ) → kind ≡ AuditJob →
     is_first_append job ≡ true → number ≡ next_audit w.records → audits_drawn w job kind number ≡ job.begun
 drawn_begun w job kind number is first e =
-    ap (λ kd. audits_drawn w job kd number) is
-    ∙ cond_true (is_first_append job && (number == next_audit w.records)) job.begun (w.audits number)
+    cc (cond_true (is_first_append job && (number == next_audit w.records)) job.begun (w.audits number)
     (and_from (is_first_append job) (number == next_audit w.records) first
-    (eq-eqb number (next_audit w.records) e))
+    (eq-eqb number (next_audit w.records) e)))
 
 -- what an audit's or a repair's append writes
 audit_writes : (w : State) (job : Job) (kind : Kind) (entry : Record) (number u : ℕ) (c : List ℕ) →
@@ -238,11 +229,9 @@ not_barred limit w kind wish h = elim (cases_Bool w.is_barred) [
 no_put : (limit : ℕ) (w : State) (wish : Option ℕ) → refusal_of_begin limit w AuditJob wish ≡ None →
     (k : ℕ) (j : Job) (name bytes : List ℕ) → job_of w.jobs k ≡ Some j → j.kind ≡ PutJob name bytes → ⊥
 no_put limit w wish none k j name bytes runs kind =
-    (let f = any_aim is_put_or_check w.jobs k j runs
-    (right_false _ _ (right_false (is_shut (sight_of w))
-    (are_jobs_in_the_way limit (aims_of w.jobs) (aim_of AuditJob))
-    (not_busy limit w AuditJob wish none))) in
-    false≢true (sym f ∙ ap (λ kd. is_put_or_check (aim_of kd)) kind))
+    (let f = any_aim is_put_or_check w.jobs k j runs (right_false _ _ (right_false (is_shut (sight_of w))
+    (are_jobs_in_the_way limit (aims_of w.jobs) (aim_of AuditJob)) (not_busy limit w AuditJob wish none))) in
+    false≢true (cc))
 
 -- a repair is due where one begins
 pub repair_due : (limit : ℕ) (w : State) (wish : Option ℕ) (o : Option Due) → due_of w.records ≡ o →
@@ -262,112 +251,100 @@ pub audits_below : {old new : State} (T : Turns old new) (number : ℕ) → numb
     new.audits number ≡ old.audits number
 audits_below {old} {new} T number l = elim T.audits [
   | Audits_are.undrawn e no_new ↦ ap (λ f. f number) e
-  | Audits_are.drew x runs free mine e ↦ ap (λ f. f number) e
-      ∙ drawn_other old x x.kind number (λ z. omega (arith, l, z))
+  | Audits_are.drew x runs free mine e ↦ cc (drawn_other old x x.kind number (λ z. omega (arith, l, z)))
 ]
 
 module _ (limit : ℕ) (start : State) (m : Moment) (ms : List Moment) (A : All start ms)
     (U : num.Facts audits start ms) (I : eff.Facts (now start ms)) (E : Always start ms)
     (X : Changes limit (length ms) (now start ms) m.event m.outcome m.state)
     (T : Turns (now start ms) m.state) where
+  -- the state after these moments
+  abbrev w : State
+  w = now start ms
+
   -- ---- what comes into effect
 
   pub data Effect_is : Type 0 where
-    nothing : m.state.records ≡ (now start ms).records → Effect_is
-    entered : (d : Doubt) → (now start ms).doubt ≡ Some d →
-        m.state.records ≡ d.entry ∷ (now start ms).records → Effect_is
+    nothing : m.state.records ≡ w.records → Effect_is
+    entered : (d : Doubt) → w.doubt ≡ Some d → m.state.records ≡ d.entry ∷ w.records → Effect_is
     set_up : (s : Setup) (rs : List Record) → m.state.records ≡ SetUp s ∷ rs → setup_of rs ≡ None →
-        (rs ≡ (now start ms).records) ⊎
-        ((d : Doubt) × ((now start ms).doubt ≡ Some d) × (rs ≡ d.entry ∷ (now start ms).records)) → Effect_is
+        (rs ≡ w.records) ⊎ ((d : Doubt) × (w.doubt ≡ Some d) × (rs ≡ d.entry ∷ w.records)) → Effect_is
 
   -- nothing comes into effect by an event, or the record that was in doubt, or a setup
   pub effect : Effect_is
   effect = elim X.records [
     | Records_is.same rec ↦ nothing rec
-    | Records_is.finished x a runs next_is flight mine moves rec ↦
-        (let g = E.gated a flight moves in
-        entered g.0 g.1 (rec ∙ ap (λ (r : Record). r ∷ (now start ms).records) (sym g.2)))
+    | Records_is.finished x a runs next_is flight mine moves rec ↦ (let g = E.gated a flight moves in
+        entered g.0 g.1 (cc))
     | Records_is.settled d in_doubt rec ↦ entered d in_doubt rec
-    | Records_is.set_up s none rec ↦ set_up s (now start ms).records rec none (inl refl)
+    | Records_is.set_up s none rec ↦ set_up s w.records rec none (inl refl)
     | Records_is.settled_set_up s d in_doubt none rec ↦
-        set_up s (d.entry ∷ (now start ms).records) rec none (inr (d, in_doubt, refl))
+        set_up s (d.entry ∷ w.records) rec none (inr (d, in_doubt, refl))
   ]
 
-  held_up : (q : List ℕ) (f : File) → file_in (now start ms) q ≡ Some f →
-      is_some (setup_of (now start ms).records) ≡ true
+  held_up : (q : List ℕ) (f : File) → file_in w q ≡ Some f → is_some (setup_of w.records) ≡ true
   held_up q f h = (I.files q f h).up
 
-  entry_up : (d : Doubt) (q : List ℕ) (f : File) → (now start ms).doubt ≡ Some d →
-      file_of (d.entry ∷ (now start ms).records) q ≡ Some f → is_some (setup_of (now start ms).records) ≡ true
-  entry_up d q f at h = up_before d.entry (now start ms).records q f (A.numbers.written.1 d at) h
-      (held_up q f) (λ e. (E.put_held d f.id at e).up)
+  entry_up : (d : Doubt) (q : List ℕ) (f : File) → w.doubt ≡ Some d → file_of (d.entry ∷ w.records) q ≡ Some f
+      → is_some (setup_of w.records) ≡ true
+  entry_up d q f at h = up_before d.entry w.records q f (A.numbers.written.1 d at) h (held_up q f)
+      (λ e. (E.put_held d f.id at e).up)
 
-  entry_setup : (d : Doubt) (q : List ℕ) (f : File) → (now start ms).doubt ≡ Some d →
-      file_of (d.entry ∷ (now start ms).records) q ≡ Some f →
-      setup_of (d.entry ∷ (now start ms).records) ≡ setup_of (now start ms).records
-  entry_setup d q f at h = setup_left d.entry (now start ms).records
-      (λ s e. false≢true (sym (ap is_some (E.setup_doubt d s at e)) ∙ entry_up d q f at h))
+  entry_setup : (d : Doubt) (q : List ℕ) (f : File) → w.doubt ≡ Some d →
+      file_of (d.entry ∷ w.records) q ≡ Some f → setup_of (d.entry ∷ w.records) ≡ setup_of w.records
+  entry_setup d q f at h = setup_left d.entry w.records (λ s e. false≢true
+      (cc (E.setup_doubt d s at e, entry_up d q f at h)))
 
   -- how a file came into effect
   pub record Comes (q : List ℕ) (f : File) : Type 0 where
-    pub setup : setup_of m.state.records ≡ setup_of (now start ms).records
-    pub how : (file_in (now start ms) q ≡ Some f) ⊎
-        ((d : Doubt) × ((now start ms).doubt ≡ Some d) ×
-        IsEndOfPut (now start ms).records d.entry f.id f.size f.profile)
+    pub setup : setup_of m.state.records ≡ setup_of w.records
+    pub how : (file_in w q ≡ Some f) ⊎ ((d : Doubt) × (w.doubt ≡ Some d) × IsEndOfPut w.records d.entry f.id
+        f.size f.profile)
 
   -- where no setup is in effect no file is, also with the record in doubt added
   pub no_file : (rs : List Record) (q : List ℕ) (f : File) → setup_of rs ≡ None →
-      (rs ≡ (now start ms).records) ⊎
-      ((d : Doubt) × ((now start ms).doubt ≡ Some d) × (rs ≡ d.entry ∷ (now start ms).records)) →
+      (rs ≡ w.records) ⊎ ((d : Doubt) × (w.doubt ≡ Some d) × (rs ≡ d.entry ∷ w.records)) →
       file_of rs q ≡ Some f → ⊥
-  no_file rs q f none (inl e) h =
-      false≢true (sym (ap is_some (ap setup_of (sym e) ∙ none))
-      ∙ held_up q f (ap (λ l. file_of l q) (sym e) ∙ h))
-  no_file rs q f none (inr (d, at, e)) h =
-      up_more d.entry (now start ms).records (entry_up d q f at (ap (λ l. file_of l q) (sym e) ∙ h))
-      (ap setup_of (sym e) ∙ none)
+  no_file rs q f none (inl e) h = false≢true (sym (cc) ∙ held_up q f (cc))
+  no_file rs q f none (inr (d, at, e)) h = up_more d.entry w.records (entry_up d q f at (cc)) (cc)
 
   -- a file in effect after an event was so before, or is that of a put whose record was in doubt
   pub comes : (q : List ℕ) (f : File) → file_in m.state q ≡ Some f → Comes q f
   comes q f h = elim effect [
-    | nothing rec ↦ record { setup = ap setup_of rec; how = inl (ap (λ l. file_of l q) (sym rec) ∙ h) }
-    | entered d at rec ↦ (let g : file_of (d.entry ∷ (now start ms).records) q ≡ Some f =
-        ap (λ l. file_of l q) (sym rec) ∙ h in
+    | nothing rec ↦ record { setup = ap setup_of rec; how = inl (cc) }
+    | entered d at rec ↦ (let g : file_of (d.entry ∷ w.records) q ≡ Some f = cc in
         record {
-          setup = ap setup_of rec ∙ entry_setup d q f at g;
-          how = elim (file_done d.entry (now start ms).records q f (A.numbers.written.1 d at) g) [
+          setup = cc (entry_setup d q f at g);
+          how = elim (file_done d.entry w.records q f (A.numbers.written.1 d at) g) [
             | inl was ↦ inl was
             | inr e ↦ inr (d, at, e)
           ];
         })
-    | set_up s rs rec none how ↦ absurd (no_file rs q f none how (ap (λ l. file_of l q) (sym rec) ∙ h))
+    | set_up s rs rec none how ↦ absurd (no_file rs q f none how (cc))
   ]
 
   -- the bounds of a block are as before
-  pub bounds : (p o i s : ℕ) → setup_in m.state ≡ setup_in (now start ms) →
-      o < next_id (now start ms).records → i < (setup_in m.state).n →
-      s < stripes_of (profiled (setup_in m.state) p) (length (m.state.bytes o)) →
-      (i < (setup_in (now start ms)).n) ×
-      (s < stripes_of (profiled (setup_in (now start ms)) p) (length ((now start ms).bytes o)))
+  pub bounds : (p o i s : ℕ) → setup_in m.state ≡ setup_in w → o < next_id w.records →
+      i < (setup_in m.state).n → s < stripes_of (profiled (setup_in m.state) p) (length (m.state.bytes o)) →
+      (i < (setup_in w).n) × (s < stripes_of (profiled (setup_in w) p) (length (w.bytes o)))
   bounds p o i s setup below l k = (
     subst (λ (t : Setup). i < t.n) setup l,
-    subst (λ (t : Setup). s < stripes_of (profiled t p) (length ((now start ms).bytes o))) setup
-        (subst (λ (y : List ℕ). s < stripes_of (profiled (setup_in m.state) p) (length y))
-        (X.bytes o below) k),
+    subst (λ (t : Setup). s < stripes_of (profiled t p) (length (w.bytes o))) setup
+        (subst (λ (y : List ℕ). s < stripes_of (profiled (setup_in m.state) p) (length y)) (X.bytes o below)
+        k),
   )
 
   -- no running job takes away the object of a file in effect
-  pub no_remover : (q : List ℕ) (f : File) → file_in (now start ms) q ≡ Some f → (x : Job) →
-      job_of (now start ms).jobs x.number ≡ Some x → In f.id x.older → ⊥
+  pub no_remover : (q : List ℕ) (f : File) → file_in w q ≡ Some f → (x : Job) →
+      job_of w.jobs x.number ≡ Some x → In f.id x.older → ⊥
   no_remover q f h x runs o = A.pins.older_out x.number x f.id q f runs o h refl
 
   -- a put whose record is in doubt after an event began as before
-  gated_put : (job : Job) (a : Append) (id : ℕ) → job_of (now start ms).jobs job.number ≡ Some job →
-      (now start ms).append ≡ Some a → a.job ≡ job.number → put_ended a.entry ≡ Some id →
-      (name : List ℕ) × (bytes : List ℕ) × (job.kind ≡ PutJob name bytes) × (4 ≤ job.place) ×
-      (job.subject ≡ id)
-  gated_put job a id runs flight mine e = wrote_put job job.kind a.entry id
-      (A.pins.wrote a job flight (subst (λ n. job_of (now start ms).jobs n ≡ Some job) (sym mine) runs)) e
+  gated_put : (job : Job) (a : Append) (id : ℕ) → job_of w.jobs job.number ≡ Some job → w.append ≡ Some a →
+      a.job ≡ job.number → put_ended a.entry ≡ Some id →
+      (name : List ℕ) × (bytes : List ℕ) × (job.kind ≡ PutJob name bytes) × (4 ≤ job.place)
+      × (job.subject ≡ id)
+  gated_put job a id runs flight mine e = wrote_put job job.kind a.entry id (A.pins.wrote a job flight (cc)) e
 
   -- ---- moments before which no put began that works
 
@@ -381,7 +358,7 @@ module _ (limit : ℕ) (start : State) (m : Moment) (ms : List Moment) (A : All 
         | Pins_is.had x runs pinned kind_x begun g ↦
             (let l = P.puts k x name bytes runs (sym kind_x ∙ kind) in omega arith)
         | Pins_is.new_one kd wish is k_is allowed rec ↦
-            (let l = P.early in let e : j.begun ≡ length ms = ap (λ (x : Job). x.begun) is in omega arith)
+            (let l = P.early in let e : j.begun ≡ length ms = cc in omega arith)
       ]
 
       doubts_on : (d : Doubt) (version id size profile : ℕ) → m.state.doubt ≡ Some d →
@@ -389,10 +366,9 @@ module _ (limit : ℕ) (start : State) (m : Moment) (ms : List Moment) (A : All 
       doubts_on d version id size profile h e = elim (T.doubt d h) [
         | Doubt_now.kept was rec ↦ P.doubts d version id size profile was e
         | Doubt_now.gated job a runs next_is flight mine entry_is maker rec on ↦
-            (let g = gated_put job a id runs flight mine
-            (ap put_ended (sym entry_is ∙ e) ∙ done-ended version id size profile) in
-            subst (λ (o : Option Job). from ≤ begun_of o) (sym maker)
-            (P.puts job.number job g.0 g.1 runs g.2))
+            (let g = gated_put job a id runs flight mine (cc (done-ended version id size profile)) in
+            subst (λ (o : Option Job). from ≤ begun_of o) (sym maker) (P.puts job.number job g.0 g.1 runs
+            g.2))
         | Doubt_now.set_up s entry_is bare none closed ↦
             absurd (ends_other version id size profile (SetUp s) (sym e ∙ entry_is) refl)
       ]
@@ -402,60 +378,51 @@ module _ (limit : ℕ) (start : State) (m : Moment) (ms : List Moment) (A : All 
   setup_doubt_step : (d : Doubt) (s : Setup) → m.state.doubt ≡ Some d → d.entry ≡ SetUp s →
       setup_of m.state.records ≡ None
   setup_doubt_step d s h e = elim (T.doubt d h) [
-    | Doubt_now.kept was rec ↦ ap setup_of rec ∙ E.setup_doubt d s was e
+    | Doubt_now.kept was rec ↦ cc (E.setup_doubt d s was e)
     | Doubt_now.gated job a runs next_is flight mine entry_is maker rec on ↦
-        absurd (wrote_no_setup job job.kind a.entry s
-        (A.pins.wrote a job flight (subst (λ n. job_of (now start ms).jobs n ≡ Some job) (sym mine) runs))
-        (sym entry_is ∙ e))
+        absurd (wrote_no_setup job job.kind a.entry s (A.pins.wrote a job flight (cc)) (sym entry_is ∙ e))
     | Doubt_now.set_up t entry_is bare none closed ↦ none
   ]
 
   -- while a job runs, a setup is in effect
-  pub runs_up : (k : ℕ) (j : Job) → job_of (now start ms).jobs k ≡ Some j →
-      is_some (setup_of (now start ms).records) ≡ true
-  runs_up k j runs = elim (cases_Bool (now start ms).is_open) [
+  pub runs_up : (k : ℕ) (j : Job) → job_of w.jobs k ≡ Some j → is_some (setup_of w.records) ≡ true
+  runs_up k j runs = elim (cases_Bool w.is_open) [
     | inl t ↦ I.opened t
-    | inr f ↦ absurd (found_none (now start ms).jobs k j (A.numbers.idle.idle f).0 runs)
+    | inr f ↦ absurd (found_none w.jobs k j (A.numbers.idle.idle f).0 runs)
   ]
 
   put_number : (job : Job) (name bytes : List ℕ) → job.kind ≡ PutJob name bytes → 4 ≤ job.place →
       HasNumber objects job
-  put_number job name bytes kind late = (subst (Draws objects) (sym kind) tt, late)
+  put_number job name bytes kind late = (cc, late)
 
   put_held_step : (d : Doubt) (id : ℕ) → m.state.doubt ≡ Some d → put_ended d.entry ≡ Some id →
       PutHeld m.state id (suc (length ms)) d.maker
   put_held_step d id h e = elim (T.doubt d h) [
     | Doubt_now.kept was rec ↦ (let g = E.put_held d id was e in record {
       below = (let l = g.below in let r = ap next_id rec in omega arith);
-      up = ap (λ l. is_some (setup_of l)) rec ∙ g.up;
+      up = cc;
       name = g.name;
-      started = ap (λ l. started_as l id) rec ∙ g.started;
+      started = cc;
       early = (let l = g.early in omega arith);
     })
     | Doubt_now.gated job a runs next_is flight mine entry_is maker rec on ↦
-        by_put job a runs next_is flight mine maker rec
-        (gated_put job a id runs flight mine (ap put_ended (sym entry_is) ∙ e))
-    | Doubt_now.set_up t entry_is bare none closed ↦
-        absurd (let z : None ≡ Some id = sym (ap put_ended entry_is) ∙ e in cc)
+        by_put job a runs next_is flight mine maker rec (gated_put job a id runs flight mine (cc))
+    | Doubt_now.set_up t entry_is bare none closed ↦ absurd (let z : None ≡ Some id = cc in cc)
   ]
     where
-      by_put : (job : Job) (a : Append) → job_of (now start ms).jobs job.number ≡ Some job →
-          next_action (now start ms) job ≡ Some WriteGate → (now start ms).append ≡ Some a →
-          a.job ≡ job.number →
-          d.maker ≡ Some (advanced job) → m.state.records ≡ (now start ms).records →
-          (name : List ℕ) × (bytes : List ℕ) × (job.kind ≡ PutJob name bytes) × (4 ≤ job.place) ×
-          (job.subject ≡ id) →
-          PutHeld m.state id (suc (length ms)) d.maker
+      by_put : (job : Job) (a : Append) → job_of w.jobs job.number ≡ Some job →
+          next_action w job ≡ Some WriteGate → w.append ≡ Some a → a.job ≡ job.number →
+          d.maker ≡ Some (advanced job) → m.state.records ≡ w.records →
+          (name : List ℕ) × (bytes : List ℕ) × (job.kind ≡ PutJob name bytes) × (4 ≤ job.place)
+          × (job.subject ≡ id) → PutHeld m.state id (suc (length ms)) d.maker
       by_put job a runs next_is flight mine maker rec (name, bytes, kind, late, subject) =
-          (let place = write_gate_place (now start ms) job name bytes kind next_is late in
+          (let place = write_gate_place w job name bytes kind next_is late in
           record {
             below = (let l = A.numbers.below job.number job runs (put_number job name bytes kind late) in
                 let r = ap next_id rec in omega arith);
-            up = ap (λ l. is_some (setup_of l)) rec ∙ runs_up job.number job runs;
+            up = cc (runs_up job.number job runs);
             name = name;
-            started = ap (λ l. started_as l id) rec
-                ∙ (ap (started_as (now start ms).records) (sym subject)
-                ∙ A.pins.started job.number job name bytes runs kind late (omega arith));
+            started = cc (A.pins.started job.number job name bytes runs kind late (omega arith));
             early = subst (λ (o : Option Job). begun_of o ≤ suc (length ms)) (sym maker)
                 (let l = A.held.begun job.number job runs in let z : job.begun ≤ suc (length ms) =
                 omega arith in z);
@@ -463,111 +430,93 @@ module _ (limit : ℕ) (start : State) (m : Moment) (ms : List Moment) (A : All 
 
   -- a block that a put stores is the column
   put_column : (x : Job) (name bytes : List ℕ) (i o s : ℕ) (b : Option (List ℕ)) →
-      job_of (now start ms).jobs x.number ≡ Some x → next_action (now start ms) x ≡ Some (Store i o s) →
-      x.kind ≡ PutJob name bytes → o ≡ x.subject → b ≡ Some (block_to_store (now start ms) x x.kind i o s) →
-      b ≡ Some (columns (object_in (now start ms) x.profile o) ((now start ms).bytes o) i s)
+      job_of w.jobs x.number ≡ Some x → next_action w x ≡ Some (Store i o s) → x.kind ≡ PutJob name bytes →
+      o ≡ x.subject → b ≡ Some (block_to_store w x x.kind i o s) →
+      b ≡ Some (columns (object_in w x.profile o) (w.bytes o) i s)
   put_column x name bytes i o s b runs next_is kind o_is b_is =
-      (let place = store_place (now start ms) x name bytes i o s kind next_is in
-      let bytes_are : (now start ms).bytes o ≡ bytes = ap (now start ms).bytes o_is
-      ∙ I.kept x.number x name bytes runs kind place.0 in
-      b_is ∙ (ap (λ kd. Some (block_to_store (now start ms) x kd i o s)) kind
-      ∙ ap (λ l. Some (columns (object_in (now start ms) x.profile o) l i s)) (sym bytes_are)))
+      (let place = store_place w x name bytes i o s kind next_is in
+      let bytes_are : w.bytes o ≡ bytes = cc (I.kept x.number x name bytes runs kind place.0) in cc)
 
   -- the columns of a number that is started stay until its provider is replaced
-  started_on : (from p id i s : ℕ) (name : List ℕ) (b : Option (List ℕ)) →
-      ((scrub : Scrub) → (now start ms).alone ≡ Some (Scrubbing scrub) → ⊥) →
-      ((x : Job) (n bytes : List ℕ) → job_of (now start ms).jobs x.number ≡ Some x → x.kind ≡ PutJob n bytes →
-      4 ≤ x.place → x.subject ≡ id → x.profile ≡ p) →
-      started_as (now start ms).records id ≡ Some name → from ≤ length ms →
-      is_replaced_since from i (m ∷ ms) ≡ false →
-      ((c : Option (List ℕ)) → is_replaced_since from i ms ≡ false →
-      told_block (now start ms) i id s ≡ Some c → c
-      ≡ Some (columns (object_in (now start ms) p id) ((now start ms).bytes id) i s)) →
-      told_block m.state i id s ≡ Some b →
-      b ≡ Some (columns (object_in (now start ms) p id) ((now start ms).bytes id) i s)
+  started_on : (from p id i s : ℕ) (name : List ℕ) (b : Option (List ℕ)) → ((scrub : Scrub) →
+      w.alone ≡ Some (Scrubbing scrub) → ⊥) → ((x : Job) (n bytes : List ℕ) →
+      job_of w.jobs x.number ≡ Some x → x.kind ≡ PutJob n bytes → 4 ≤ x.place → x.subject ≡ id →
+      x.profile ≡ p) → started_as w.records id ≡ Some name → from ≤ length ms →
+      is_replaced_since from i (m ∷ ms) ≡ false → ((c : Option (List ℕ)) →
+      is_replaced_since from i ms ≡ false → told_block w i id s ≡ Some c →
+      c ≡ Some (columns (object_in w p id) (w.bytes id) i s)) → told_block m.state i id s ≡ Some b →
+      b ≡ Some (columns (object_in w p id) (w.bytes id) i s)
   started_on from p id i s name b no_scrub own started early none before told = elim (X.block i id s) [
     | Block_is.same e ↦ before b
         (elim (cases_Bool (is_replaced_since from i ms))
         [ inl t ↦ absurd (false≢true (sym none ∙ since_more from i m ms t)) | inr f ↦ f ]) (sym e ∙ told)
     | Block_is.replaced r ↦ absurd (false≢true (sym none ∙ since_now from i m ms r early))
     | Block_is.stored x runs next_is is ↦
-        (let b_is = some_told (block_to_store (now start ms) x x.kind i id s)
-        ((now start ms).providers i).held b (sym is ∙ told) in
-        let fair_x = is_fair (now start ms) x (Store i id s) next_is in
-        elim (store_kinds x x.kind i id s refl fair_x) [
-          | inl (n, bytes, kind, o_is) ↦
-              (let place = store_place (now start ms) x n bytes i id s kind next_is in
-              put_column x n bytes i id s b runs next_is kind o_is b_is
-              ∙ ap (λ q. Some (columns (object_in (now start ms) q id) ((now start ms).bytes id) i s))
-              (own x n bytes runs kind place.0 (sym o_is)))
+        (let b_is = some_told (block_to_store w x x.kind i id s) (w.providers i).held b (sym is ∙ told) in
+        let fair_x = is_fair w x (Store i id s) next_is in elim (store_kinds x x.kind i id s refl fair_x) [
+          | inl (n, bytes, kind, o_is) ↦ (let place = store_place w x n bytes i id s kind next_is in
+              cc (
+                put_column x n bytes i id s b runs next_is kind o_is b_is,
+                own x n bytes runs kind place.0 (sym o_is),
+              ))
           | inr (repairs, pin) ↦
               absurd (let q : HasPin x id = subst (λ kd. IsFair x kd (Store i id s)) repairs fair_x in
-              some-not-none (started_as (now start ms).records id) name started
-              (ap (started_as (now start ms).records) (sym q.id_is)
-              ∙ (A.pins.pins x.number x q.file runs q.pinned).1))
+              some-not-none (started_as w.records id) name started
+              (cc ((A.pins.pins x.number x q.file runs q.pinned).1)))
         ])
     | Block_is.scrubbed scrub rest at next_is is ↦ absurd (no_scrub scrub at)
     | Block_is.removed x runs next_is ↦
-        absurd (some-not-none (started_as (now start ms).records id) name started
-        (A.pins.older x.number x id runs
-        (remove_kinds x x.kind i id refl (is_fair (now start ms) x (Remove i id) next_is))).1)
+        absurd (some-not-none (started_as w.records id) name started (A.pins.older x.number x id runs
+        (remove_kinds x x.kind i id refl (is_fair w x (Remove i id) next_is))).1)
   ]
 
-  columns_on : (p id i s : ℕ) (b : Option (List ℕ)) → id < next_id (now start ms).records →
-      setup_in m.state ≡ setup_in (now start ms) → b
-      ≡ Some (columns (object_in (now start ms) p id) ((now start ms).bytes id) i s) →
+  columns_on : (p id i s : ℕ) (b : Option (List ℕ)) → id < next_id w.records → setup_in m.state ≡ setup_in w →
+      b ≡ Some (columns (object_in w p id) (w.bytes id) i s) →
       b ≡ Some (columns (object_in m.state p id) (m.state.bytes id) i s)
-  columns_on p id i s b below setup e = e
-      ∙ (ap (λ y. Some (columns (object_in (now start ms) p id) y i s)) (sym (X.bytes id below))
-      ∙ ap (λ t. Some (columns (object_of (profiled t p) id) (m.state.bytes id) i s)) (sym setup))
+  columns_on p id i s b below setup e = cc (X.bytes id below)
 
   -- while a job runs no scrub does
-  no_scrub : (x : Job) → job_of (now start ms).jobs x.number ≡ Some x → (scrub : Scrub) →
-      (now start ms).alone ≡ Some (Scrubbing scrub) → ⊥
-  no_scrub x runs scrub at =
-      found_none (now start ms).jobs x.number x (A.numbers.idle.lone (Scrubbing scrub) at) runs
+  no_scrub : (x : Job) → job_of w.jobs x.number ≡ Some x → (scrub : Scrub) →
+      w.alone ≡ Some (Scrubbing scrub) → ⊥
+  no_scrub x runs scrub at = found_none w.jobs x.number x (A.numbers.idle.lone (Scrubbing scrub) at) runs
 
   -- of the put whose record was in doubt before the event
-  pub put_right : (d : Doubt) (id size p i s : ℕ) (b : Option (List ℕ)) → (now start ms).doubt ≡ Some d →
-      IsEndOfPut (now start ms).records d.entry id size p → setup_in m.state ≡ setup_in (now start ms) →
-      i < (setup_in m.state).n → s < stripes_of (profiled (setup_in m.state) p) (length (m.state.bytes id)) →
+  pub put_right : (d : Doubt) (id size p i s : ℕ) (b : Option (List ℕ)) → w.doubt ≡ Some d →
+      IsEndOfPut w.records d.entry id size p → setup_in m.state ≡ setup_in w → i < (setup_in m.state).n →
+      s < stripes_of (profiled (setup_in m.state) p) (length (m.state.bytes id)) →
       is_replaced_since (begun_of d.maker) i (m ∷ ms) ≡ false → told_block m.state i id s ≡ Some b →
       b ≡ Some (columns (object_in m.state p id) (m.state.bytes id) i s)
   put_right d id size p i s b at e setup l k none told =
-      (let h = E.put_held d id at (ends_ended (now start ms).records d.entry id size p e) in
+      (let h = E.put_held d id at (ends_ended w.records d.entry id size p e) in
       let n = bounds p id i s setup h.below l k in
-      columns_on p id i s b h.below setup
-      (started_on (begun_of d.maker) p id i s h.name b (λ scrub lone. E.lone_sure scrub d lone at)
-      (λ x q bytes runs kind late own. E.put_own d id size p x.number x q bytes at e runs kind late own)
-      h.started h.early none (λ c none_c told_c. E.put_columns d id size p i s c at e n.0 n.1 none_c told_c)
-      told))
+      columns_on p id i s b h.below setup (started_on (begun_of d.maker) p id i s h.name b
+      (λ scrub lone. E.lone_sure scrub d lone at) (λ x q bytes runs kind late own. E.put_own d id size p
+      x.number x q bytes at e runs kind late own) h.started h.early none (λ c none_c told_c. E.put_columns d
+      id size p i s c at e n.0 n.1 none_c told_c) told))
 
   -- the same file ends, as records stay
-  ends_same : (d : Doubt) (id size p : ℕ) → m.state.records ≡ (now start ms).records →
-      IsEndOfPut m.state.records d.entry id size p → IsEndOfPut (now start ms).records d.entry id size p
+  ends_same : (d : Doubt) (id size p : ℕ) → m.state.records ≡ w.records →
+      IsEndOfPut m.state.records d.entry id size p → IsEndOfPut w.records d.entry id size p
   ends_same d id size p rec e = subst (λ rs. IsEndOfPut rs d.entry id size p) rec e
 
   -- the profile of the put whose record comes into doubt
   gated_profile : (job : Job) (a : Append) (d : Doubt) (name bytes : List ℕ) (id size p : ℕ) →
-      job_of (now start ms).jobs job.number ≡ Some job → (now start ms).append ≡ Some a → a.job ≡ job.number →
-      d.entry ≡ a.entry → job.kind ≡ PutJob name bytes → 4 ≤ job.place →
-      IsEndOfPut (now start ms).records d.entry id size p → job.profile ≡ p
+      job_of w.jobs job.number ≡ Some job → w.append ≡ Some a → a.job ≡ job.number → d.entry ≡ a.entry →
+      job.kind ≡ PutJob name bytes → 4 ≤ job.place → IsEndOfPut w.records d.entry id size p → job.profile ≡ p
   gated_profile job a d name bytes id size p runs flight mine entry_is kind late e =
-      (let g = E.profiles.ended a job name bytes flight
-      (subst (λ n. job_of (now start ms).jobs n ≡ Some job) (sym mine) runs) kind late in
-      same_profile (now start ms).records g.version e.version job.subject id (length bytes) size job.profile p
-      (sym g.entry_is ∙ (sym entry_is ∙ e.entry_is)) g.profiled e.profiled)
+      (let g = E.profiles.ended a job name bytes flight (cc) kind late in
+      same_profile w.records g.version e.version job.subject id (length bytes) size job.profile p (cc)
+      g.profiled e.profiled)
 
   -- two puts with one number are one
   one_put : (job : Job) (name bytes : List ℕ) (x : Job) (n more : List ℕ) →
-      job_of (now start ms).jobs job.number ≡ Some job → job.kind ≡ PutJob name bytes → 4 ≤ job.place →
-      job_of (now start ms).jobs x.number ≡ Some x → x.kind ≡ PutJob n more → 4 ≤ x.place →
-      x.subject ≡ job.subject → x.profile ≡ job.profile
+      job_of w.jobs job.number ≡ Some job → job.kind ≡ PutJob name bytes → 4 ≤ job.place →
+      job_of w.jobs x.number ≡ Some x → x.kind ≡ PutJob n more → 4 ≤ x.place → x.subject ≡ job.subject →
+      x.profile ≡ job.profile
   one_put job name bytes x n more runs kind late runs_x kind_x late_x e =
       (let k : x.number ≡ job.number = A.numbers.apart x.number job.number x job runs_x runs
       (put_number x n more kind_x late_x) (put_number job name bytes kind late) e in
-      let same : x ≡ job = same_value _ x job (subst (λ z. job_of (now start ms).jobs z ≡ Some x) k runs_x)
-      runs in ap (λ (y : Job). y.profile) same)
+      let same : x ≡ job = cc in cc)
 
   put_columns_step : (d : Doubt) (id size p i s : ℕ) (b : Option (List ℕ)) → m.state.doubt ≡ Some d →
       IsEndOfPut m.state.records d.entry id size p → i < (setup_in m.state).n →
@@ -576,67 +525,52 @@ module _ (limit : ℕ) (start : State) (m : Moment) (ms : List Moment) (A : All 
       b ≡ Some (columns (object_in m.state p id) (m.state.bytes id) i s)
   put_columns_step d id size p i s b h e l k none told = elim (T.doubt d h) [
     | Doubt_now.kept was rec ↦ put_right d id size p i s b was (ends_same d id size p rec e)
-        (setup_same m.state (now start ms) (ap setup_of rec)) l k none told
+        (setup_same m.state w (ap setup_of rec)) l k none told
     | Doubt_now.gated job a runs next_is flight mine entry_is maker rec on ↦
         (let old = ends_same d id size p rec e in
-        let g = gated_put job a id runs flight mine (ap put_ended (sym entry_is)
-        ∙ ends_ended (now start ms).records d.entry id size p old) in
-        by_put job runs next_is (setup_same m.state (now start ms) (ap setup_of rec))
-        (subst (λ (o : Option Job). is_replaced_since (begun_of o) i (m ∷ ms) ≡ false) maker none)
-        (gated_profile job a d g.0 g.1 id size p runs flight mine entry_is g.2 g.3 old) g)
+        let g = gated_put job a id runs flight mine (cc (ends_ended w.records d.entry id size p old)) in
+        by_put job runs next_is (setup_same m.state w (ap setup_of rec)) (cc) (gated_profile job a d g.0 g.1
+        id size p runs flight mine entry_is g.2 g.3 old) g)
     | Doubt_now.set_up t entry_is bare none_up closed ↦
-        absurd (let z : None ≡ Some id = sym (ap put_ended entry_is)
-        ∙ ends_ended m.state.records d.entry id size p e in cc)
+        absurd (let z : None ≡ Some id = cc (ends_ended m.state.records d.entry id size p e) in cc)
   ]
     where
-      by_put : (job : Job) → job_of (now start ms).jobs job.number ≡ Some job →
-          next_action (now start ms) job ≡ Some WriteGate → setup_in m.state ≡ setup_in (now start ms) →
-          is_replaced_since job.begun i (m ∷ ms) ≡ false → job.profile ≡ p →
-          (name : List ℕ) × (bytes : List ℕ) × (job.kind ≡ PutJob name bytes) × (4 ≤ job.place) ×
-          (job.subject ≡ id) → b ≡ Some (columns (object_in m.state p id) (m.state.bytes id) i s)
+      by_put : (job : Job) → job_of w.jobs job.number ≡ Some job → next_action w job ≡ Some WriteGate →
+          setup_in m.state ≡ setup_in w → is_replaced_since job.begun i (m ∷ ms) ≡ false → job.profile ≡ p →
+          (name : List ℕ) × (bytes : List ℕ) × (job.kind ≡ PutJob name bytes) × (4 ≤ job.place)
+          × (job.subject ≡ id) → b ≡ Some (columns (object_in m.state p id) (m.state.bytes id) i s)
       by_put job runs next_is setup none_job own (name, bytes, kind, late, subject) =
-          (let place = write_gate_place (now start ms) job name bytes kind next_is late in
-          let below : id < next_id (now start ms).records =
-          subst (λ o. o < next_id (now start ms).records) subject
-          (A.numbers.below job.number job runs (put_number job name bytes kind late)) in
+          (let place = write_gate_place w job name bytes kind next_is late in
+          let below : id < next_id w.records =
+          subst (λ o. o < next_id w.records) subject (A.numbers.below job.number job runs (put_number job name
+          bytes kind late)) in
           let started_job = A.pins.started job.number job name bytes runs kind late (omega arith) in
-          let started : started_as (now start ms).records id ≡ Some name =
-          ap (started_as (now start ms).records) (sym subject) ∙ started_job in
-          let bytes_are : (now start ms).bytes id ≡ bytes = ap (now start ms).bytes (sym subject)
-          ∙ I.kept job.number job name bytes runs kind late in
-          let n = bounds p id i s setup below l k in
-          let made = stored_before_gate (now start ms) job name bytes i s kind next_is late n.0
-          (subst (λ q. s < stripes_of (profiled (setup_in (now start ms)) q) (length bytes)) (sym own)
-          (subst (λ (y : List ℕ). s < stripes_of (profiled (setup_in (now start ms)) p) (length y))
-          bytes_are n.1)) in
-          columns_on p id i s b below setup
-          (started_on job.begun p id i s name b (no_scrub job runs)
-          (λ x q more runs_x kind_x late_x mine. one_put job name bytes x q more runs kind late runs_x
-          kind_x late_x (mine ∙ sym subject) ∙ own)
-          started (A.held.begun job.number job runs) none_job
+          let started : started_as w.records id ≡ Some name = cc in let bytes_are : w.bytes id ≡ bytes =
+          cc (I.kept job.number job name bytes runs kind late) in let n = bounds p id i s setup below l k in
+          let made = stored_before_gate w job name bytes i s kind next_is late n.0
+          (subst (λ q. s < stripes_of (profiled (setup_in w) q) (length bytes)) (sym own)
+          (subst (λ (y : List ℕ). s < stripes_of (profiled (setup_in w) p) (length y)) bytes_are n.1)) in
+          columns_on p id i s b below setup (started_on job.begun p id i s name b (no_scrub job runs)
+          (λ x q more runs_x kind_x late_x mine. one_put job name bytes x q more runs kind late runs_x kind_x
+          late_x (mine ∙ sym subject) ∙ own) started (A.held.begun job.number job runs) none_job
           (λ c none_c told_c. A.held.stored job.number job name bytes i job.subject s c runs kind started_job
-          made none_c (ap (λ o. told_block (now start ms) i o s) subject ∙ told_c)
-          ∙ (ap (λ o. Some (columns (object_in (now start ms) job.profile o) bytes i s)) subject
-          ∙ (ap (λ q. Some (columns (object_in (now start ms) q id) bytes i s)) own
-          ∙ ap (λ y. Some (columns (object_in (now start ms) p id) y i s)) (sym bytes_are)))) told))
+          made none_c (cc) ∙ (cc)) told))
 
   -- a put with a number had it before, where no record comes into effect
   record WasPut (k : ℕ) (x : Job) (name bytes : List ℕ) : Type 0 where
     before : Job
-    runs : job_of (now start ms).jobs k ≡ Some before
+    runs : job_of w.jobs k ≡ Some before
     kind : before.kind ≡ PutJob name bytes
     late : 4 ≤ before.place
     subject : x.subject ≡ before.subject
     profile : x.profile ≡ before.profile
 
   was_put : (k : ℕ) (x : Job) (name bytes : List ℕ) → job_of m.state.jobs k ≡ Some x →
-      x.kind ≡ PutJob name bytes → 4 ≤ x.place → m.state.records ≡ (now start ms).records →
-      WasPut k x name bytes
+      x.kind ≡ PutJob name bytes → 4 ≤ x.place → m.state.records ≡ w.records → WasPut k x name bytes
   was_put k x name bytes h kind late rec = elim (X.job k x h) [
     | Job_is.kept r grown ↦
         record { before = x; runs = r; kind = kind; late = late; subject = refl; profile = refl }
-    | Job_is.begun kd wish is k_is allowed rec2 ↦ absurd
-        (let e : x.place ≡ 0 = ap (λ (z : Job). z.place) is in omega arith)
+    | Job_is.begun kd wish is k_is allowed rec2 ↦ absurd (let e : x.place ≡ 0 = cc in omega arith)
     | Job_is.plain y action runs next_is is_plain goes rec2 st ↦
         (let ky : y.kind ≡ PutJob name bytes = sym goes.kind ∙ kind in
         record {
@@ -644,21 +578,17 @@ module _ (limit : ℕ) (start : State) (m : Moment) (ms : List Moment) (A : All 
           runs = runs;
           kind = ky;
           late = elim (cases_eq y.place 3) [
-            | inl three ↦ absurd (subst IsPlain
-                (same_value _ action SyncGate next_is
-                (at_three objects (now start ms) y (subst (Draws objects) (sym ky) tt) three)) is_plain)
+            | inl three ↦ absurd (subst IsPlain (same_value _ action SyncGate next_is (at_three objects w y
+                (cc) three)) is_plain)
             | inr other ↦ (let e = goes.place in omega arith)
           ];
           subject = goes.subject;
           profile = goes.profile;
         })
-    | Job_is.drew y runs next_is free is rec2 ↦
-        (let ky : y.kind ≡ PutJob name bytes = sym (ap (λ (z : Job). z.kind) is) ∙ kind in
-        let place : x.place ≡ y.place + 1 = ap (λ (z : Job). z.place) is in
-        let l : 4 ≤ y.place = elim (cases_eq y.place 3) [
+    | Job_is.drew y runs next_is free is rec2 ↦ (let ky : y.kind ≡ PutJob name bytes = cc in
+        let place : x.place ≡ y.place + 1 = cc in let l : 4 ≤ y.place = elim (cases_eq y.place 3) [
           | inl three ↦ absurd (let e : WriteBody ≡ SyncGate =
-              same_value _ WriteBody SyncGate next_is
-              (at_three objects (now start ms) y (subst (Draws objects) (sym ky) tt) three) in cc)
+              same_value _ WriteBody SyncGate next_is (at_three objects w y (cc) three) in cc)
           | inr other ↦ omega arith
         ] in
         record {
@@ -666,12 +596,11 @@ module _ (limit : ℕ) (start : State) (m : Moment) (ms : List Moment) (A : All 
           runs = runs;
           kind = ky;
           late = l;
-          subject = ap (λ (z : Job). z.subject) is
-              ∙ drawn_later (now start ms) y y.kind (first_above y l);
-          profile = ap (λ (z : Job). z.profile) is;
+          subject = cc (drawn_later w y y.kind (first_above y l));
+          profile = cc;
         })
     | Job_is.finished y a runs next_is flight mine is rec2 free ↦
-        absurd (let e : length (now start ms).records ≡ suc (length (now start ms).records) =
+        absurd (let e : length w.records ≡ suc (length w.records) =
         sym (ap length rec) ∙ ap length rec2 in omega arith)
   ]
 
@@ -683,18 +612,13 @@ module _ (limit : ℕ) (start : State) (m : Moment) (ms : List Moment) (A : All 
         y.profile ∙ E.put_own d id size p k y.before name bytes was
         (ends_same d id size p rec e) y.runs y.kind y.late (sym y.subject ∙ mine_x))
     | Doubt_now.gated job a runs next_is flight mine entry_is maker rec on ↦
-        (let y = was_put k x name bytes runs_on kind late rec in
-        let old = ends_same d id size p rec e in
-        let g = gated_put job a id runs flight mine (ap put_ended (sym entry_is)
-        ∙ ends_ended (now start ms).records d.entry id size p old) in
+        (let y = was_put k x name bytes runs_on kind late rec in let old = ends_same d id size p rec e in
+        let g = gated_put job a id runs flight mine (cc (ends_ended w.records d.entry id size p old)) in
         y.profile ∙ (one_put job g.0 g.1 y.before name bytes runs g.2 g.3
-        (subst (λ n. job_of (now start ms).jobs n ≡ Some y.before)
-        (sym (number_of (now start ms).jobs k y.before y.runs)) y.runs) y.kind y.late
-        (sym y.subject ∙ (mine_x ∙ sym g.4))
-        ∙ gated_profile job a d g.0 g.1 id size p runs flight mine entry_is g.2 g.3 old))
+        (cc (number_of w.jobs k y.before y.runs)) y.kind y.late (cc) ∙ gated_profile job a d g.0 g.1 id size p
+        runs flight mine entry_is g.2 g.3 old))
     | Doubt_now.set_up t entry_is bare none_up closed ↦
-        absurd (let z : None ≡ Some id = sym (ap put_ended entry_is)
-        ∙ ends_ended m.state.records d.entry id size p e in cc)
+        absurd (let z : None ≡ Some id = cc (ends_ended m.state.records d.entry id size p e) in cc)
   ]
 
   doubt_put_step : (d : Doubt) (job : Job) (id : ℕ) → m.state.doubt ≡ Some d → d.maker ≡ Some job →
@@ -702,11 +626,8 @@ module _ (limit : ℕ) (start : State) (m : Moment) (ms : List Moment) (A : All 
   doubt_put_step d job id h maker e = elim (T.doubt d h) [
     | Doubt_now.kept was rec ↦ E.doubt_put d job id was maker e
     | Doubt_now.gated x a runs next_is flight mine entry_is maker_is rec on ↦
-        (let g = gated_put x a id runs flight mine (ap put_ended (sym entry_is) ∙ e) in
-        let same : job ≡ advanced x = same_value d.maker job (advanced x) maker maker_is in
-        (g.0, g.1, ap (λ (y : Job). y.kind) same ∙ g.2))
-    | Doubt_now.set_up t entry_is bare none closed ↦
-        absurd (let z : None ≡ Some id = sym (ap put_ended entry_is) ∙ e in cc)
+        (let g = gated_put x a id runs flight mine (cc) in let same : job ≡ advanced x = cc in (g.0, g.1, cc))
+    | Doubt_now.set_up t entry_is bare none closed ↦ absurd (let z : None ≡ Some id = cc in cc)
   ]
 
   -- while a vault goes on, the job whose record is in doubt runs and makes its fourth move next
@@ -721,89 +642,83 @@ module _ (limit : ℕ) (start : State) (m : Moment) (ms : List Moment) (A : All 
         job = advanced job;
         maker = maker;
         runs = runs_on;
-        next = next_same m.state (now start ms) (advanced job) rec ∙ gate_next (now start ms) job next_is;
+        next = next_same m.state w (advanced job) rec ∙ gate_next w job next_is;
       }
     ]
     | Doubt_now.set_up t entry_is bare none closed ↦ absurd (false≢true (sym closed ∙ is_open))
   ]
     where
-      goes_on : m.state.records ≡ (now start ms).records → AtGate (now start ms) d → AtGate m.state d
+      goes_on : m.state.records ≡ w.records → AtGate w d → AtGate m.state d
       goes_on rec g = elim (T.stay g.job.number g.job g.runs) [
         | Stay_is.stayed runs_on ↦
             record {
               job = g.job;
               maker = g.maker;
               runs = runs_on;
-              next = next_same m.state (now start ms) g.job rec ∙ g.next;
+              next = next_same m.state w g.job rec ∙ g.next;
             }
-        | Stay_is.steps action next_is gate ↦
-            absurd (elim (gate (same_value (next_action (now start ms) g.job) action SyncGate next_is g.next)) [
-              | inl none ↦ some-not-none m.state.doubt d h none
-              | inr b ↦ false≢true (sym unbarred ∙ b)
-            ])
+        | Stay_is.steps action next_is gate ↦ absurd (elim (gate (cc)) [
+          | inl none ↦ some-not-none m.state.doubt d h none
+          | inr b ↦ false≢true (sym unbarred ∙ b)
+        ])
         | Stay_is.shut closed ↦ absurd (false≢true (sym closed ∙ is_open))
         | Stay_is.undoubted none ↦ absurd (some-not-none m.state.doubt d h none)
       ]
 
   -- the next object number does not fall
-  pub ids_grow : next_id (now start ms).records ≤ next_id m.state.records
-  ids_grow = next_of_records objects (now start ms) m.state A.numbers.written X.records
+  pub ids_grow : next_id w.records ≤ next_id m.state.records
+  ids_grow = next_of_records objects w m.state A.numbers.written X.records
 
   -- ---- the record that comes into effect
 
   -- where one record is added, that one came into effect
-  pub came_one : (rs : List Record) (r : Record) → m.state.records ≡ r ∷ rs → rs ≡ (now start ms).records →
-      came (now start ms) m.state ≡ Some r
-  came_one rs r rec e = cond_true (length m.state.records == suc (length (now start ms).records))
-      (newest m.state.records) None (eq-eqb _ _ (ap length rec ∙ ap (λ l. suc (length l)) e)) ∙ ap newest rec
+  pub came_one : (rs : List Record) (r : Record) → m.state.records ≡ r ∷ rs → rs ≡ w.records →
+      came w m.state ≡ Some r
+  came_one rs r rec e = cond_true (length m.state.records == suc (length w.records)) (newest m.state.records)
+      None (eq-eqb _ _ (cc)) ∙ ap newest rec
 
   -- where the records did not grow by one, none came into effect
-  pub came_none : (n : ℕ) → length m.state.records ≡ n → (n ≡ suc (length (now start ms).records) → ⊥) →
-      came (now start ms) m.state ≡ None
-  came_none n e other = cond_false (length m.state.records == suc (length (now start ms).records))
-      (newest m.state.records) None (ne_eqb _ _ (λ z. other (sym e ∙ z)))
+  pub came_none : (n : ℕ) → length m.state.records ≡ n → (n ≡ suc (length w.records) → ⊥) →
+      came w m.state ≡ None
+  came_none n e other = cond_false (length m.state.records == suc (length w.records)) (newest m.state.records)
+      None (ne_eqb _ _ (λ z. other (sym e ∙ z)))
 
   -- it was in doubt, or is a setup
   pub data Came_is : Type 0 where
-    no_record : came (now start ms) m.state ≡ None → Came_is
-    setup : (s : Setup) → came (now start ms) m.state ≡ Some (SetUp s) → Came_is
-    doubted : (d : Doubt) → (now start ms).doubt ≡ Some d →
-        m.state.records ≡ d.entry ∷ (now start ms).records → came (now start ms) m.state ≡ Some d.entry →
-        Came_is
+    no_record : came w m.state ≡ None → Came_is
+    setup : (s : Setup) → came w m.state ≡ Some (SetUp s) → Came_is
+    doubted : (d : Doubt) → w.doubt ≡ Some d → m.state.records ≡ d.entry ∷ w.records →
+        came w m.state ≡ Some d.entry → Came_is
 
   -- the record that comes into effect by an event, if one does, is a setup or was in doubt
   pub came_is : Came_is
   came_is = elim effect [
-    | nothing rec ↦ no_record
-        (came_none (length (now start ms).records) (ap length rec) (λ z. omega (arith, z)))
-    | entered d at rec ↦ doubted d at rec (came_one (now start ms).records d.entry rec refl)
+    | nothing rec ↦ no_record (came_none (length w.records) (ap length rec) (λ z. omega (arith, z)))
+    | entered d at rec ↦ doubted d at rec (came_one w.records d.entry rec refl)
     | set_up s rs rec none (inl e) ↦ setup s (came_one rs (SetUp s) rec e)
-    | set_up s rs rec none (inr (d, at, e)) ↦ no_record
-        (came_none (suc (suc (length (now start ms).records))) (ap length rec ∙ ap (λ l. suc (length l)) e)
+    | set_up s rs rec none (inr (d, at, e)) ↦ no_record (came_none (suc (suc (length w.records))) (cc)
         (λ z. omega (arith, z)))
   ]
 
   -- of a put's end
   pub record PutCame (r : Record) : Type 0 where
     pub doubt : Doubt
-    pub at : (now start ms).doubt ≡ Some doubt
+    pub at : w.doubt ≡ Some doubt
     pub entry : doubt.entry ≡ r
-    pub setup : setup_in m.state ≡ setup_in (now start ms)
+    pub setup : setup_in m.state ≡ setup_in w
 
   -- the record of a put's end that comes into effect was in doubt, and the setup stays
-  pub put_came : (r : Record) (id : ℕ) → put_ended r ≡ Some id → came (now start ms) m.state ≡ Some r →
-      PutCame r
+  pub put_came : (r : Record) (id : ℕ) → put_ended r ≡ Some id → came w m.state ≡ Some r → PutCame r
   put_came r id ends e = elim came_is [
-    | no_record none ↦ absurd (some-not-none (came (now start ms) m.state) r e none)
-    | setup s is ↦ absurd (no_setup s (same_value (came (now start ms) m.state) (SetUp s) r is e))
-    | doubted d at rec is ↦
-        (let entry_is : d.entry ≡ r = same_value (came (now start ms) m.state) d.entry r is e in
+    | no_record none ↦ absurd (some-not-none (came w m.state) r e none)
+    | setup s is ↦ absurd (no_setup s (cc))
+    | doubted d at rec is ↦ (let entry_is : d.entry ≡ r = cc in
         record {
           doubt = d;
           at = at;
           entry = entry_is;
-          setup = setup_same m.state (now start ms) (ap setup_of rec
-              ∙ setup_left d.entry (now start ms).records (λ s z. no_setup s (sym z ∙ entry_is)));
+          setup = setup_same m.state w (cc (setup_left d.entry w.records (λ s z. no_setup s (sym z
+              ∙ entry_is))));
         })
   ]
     where
@@ -812,129 +727,103 @@ module _ (limit : ℕ) (start : State) (m : Moment) (ms : List Moment) (A : All 
 
   -- ---- begins of audit numbers
 
-  audits_stay : (b : Append) → (now start ms).append ≡ Some b → m.state.audits ≡ (now start ms).audits
+  audits_stay : (b : Append) → w.append ≡ Some b → m.state.audits ≡ w.audits
   audits_stay b flight = elim T.audits [
     | Audits_are.undrawn e no_new ↦ e
-    | Audits_are.drew x runs free mine e ↦ absurd (some-not-none (now start ms).append b flight free)
+    | Audits_are.drew x runs free mine e ↦ absurd (some-not-none w.append b flight free)
   ]
 
   -- the next audit number does not fall
-  pub grows : next_audit (now start ms).records ≤ next_audit m.state.records
-  grows = next_of_records audits (now start ms) m.state A.numbers.written X.records
+  pub grows : next_audit w.records ≤ next_audit m.state.records
+  grows = next_of_records audits w m.state A.numbers.written X.records
 
   audit_fresh_step : (a : Append) (j : Job) → m.state.append ≡ Some a → job_of m.state.jobs a.job ≡ Some j →
       j.kind ≡ AuditJob → j.place < 4 → m.state.audits j.subject ≡ j.begun
   audit_fresh_step a j h hj kind small = elim (X.append a h) [
     | Append_is.kept b flight job_is entry rec ↦ elim (X.job a.job j hj) [
-      | Job_is.kept r grown ↦ carried b flight j refl refl kind small
-          (subst (λ n. job_of (now start ms).jobs n ≡ Some j) job_is r)
+      | Job_is.kept r grown ↦ carried b flight j refl refl kind small (cc)
       | Job_is.begun kd wish is k_is allowed rec2 ↦ absurd (let l = A.numbers.holder b flight in omega arith)
       | Job_is.plain x action runs next_is is_plain goes rec2 st ↦
           carried b flight x goes.subject goes.begun (sym goes.kind ∙ kind)
-          (let e = goes.place in omega arith) (subst (λ n. job_of (now start ms).jobs n ≡ Some x) job_is runs)
-      | Job_is.drew x runs next_is free is rec2 ↦ absurd (some-not-none (now start ms).append b flight free)
+          (let e = goes.place in omega arith) (cc)
+      | Job_is.drew x runs next_is free is rec2 ↦ absurd (some-not-none w.append b flight free)
       | Job_is.finished x c runs next_is flight_c mine is rec2 free ↦
           absurd (some-not-none m.state.append a h free)
     ]
-    | Append_is.drew x runs next_is mine writes found rec ↦
-        (let is = same_value _ j _ (subst (λ n. job_of m.state.jobs n ≡ Some j) mine hj) found in
-        let place : j.place ≡ x.place + 1 = ap (λ (z : Job). z.place) is in
-        let begun : j.begun ≡ x.begun = ap (λ (z : Job). z.begun) is in
-        let kx : x.kind ≡ AuditJob = sym (ap (λ (z : Job). z.kind) is) ∙ kind in
-        let first = first_below x (omega arith) in
-        let subject : j.subject ≡ next_audit (now start ms).records = ap (λ (z : Job). z.subject) is
-        ∙ drawn_first audits (now start ms) x x.kind (subst (Draws audits) (sym kx) tt) first in
-        let free = eff.drew_free limit start m ms X x _ runs next_is found refl in
-        elim T.audits [
+    | Append_is.drew x runs next_is mine writes found rec ↦ (let is = same_value _ j _ (cc) found in
+        let place : j.place ≡ x.place + 1 = cc in let begun : j.begun ≡ x.begun = cc in
+        let kx : x.kind ≡ AuditJob = cc in let first = first_below x (omega arith) in
+        let subject : j.subject ≡ next_audit w.records = cc in
+        let free = eff.drew_free limit start m ms X x _ runs next_is found refl in elim T.audits [
           | Audits_are.undrawn e no_new ↦ absurd (no_new a h free)
           | Audits_are.drew y runs_y free_y mine_y e ↦
-              (let same : y ≡ x = same_value _ y x
-              (subst (λ n. job_of (now start ms).jobs n ≡ Some y) (sym (mine_y a h) ∙ mine) runs_y) runs in
-              ap (λ f. f j.subject) e
-              ∙ (ap (λ (z : Job). audits_drawn (now start ms) z z.kind j.subject) same
-              ∙ (drawn_begun (now start ms) x x.kind j.subject kx first subject ∙ sym begun)))
+              (let same : y ≡ x = same_value _ y x (cc (mine_y a h)) runs in
+              cc (drawn_begun w x x.kind j.subject kx first subject))
         ])
   ]
     where
-      carried : (b : Append) → (now start ms).append ≡ Some b → (x : Job) → j.subject ≡ x.subject →
-          j.begun ≡ x.begun → x.kind ≡ AuditJob → x.place < 4 → job_of (now start ms).jobs b.job ≡ Some x →
-          m.state.audits j.subject ≡ j.begun
-      carried b flight x subject begun kx small_x runs = ap (λ f. f j.subject) (audits_stay b flight)
-          ∙ (ap (now start ms).audits subject ∙ (E.audit_fresh b x flight runs kx small_x ∙ sym begun))
+      carried : (b : Append) → w.append ≡ Some b → (x : Job) → j.subject ≡ x.subject → j.begun ≡ x.begun →
+          x.kind ≡ AuditJob → x.place < 4 → job_of w.jobs b.job ≡ Some x → m.state.audits j.subject ≡ j.begun
+      carried b flight x subject begun kx small_x runs =
+          cc (audits_stay b flight, E.audit_fresh b x flight runs kx small_x)
 
   audit_number : (job : Job) → job.kind ≡ AuditJob → 4 ≤ job.place → HasNumber audits job
-  audit_number job kind late = (subst (Draws audits) (sym kind) tt, late)
+  audit_number job kind late = (cc, late)
 
   audit_kept_step : (k : ℕ) (j : Job) → job_of m.state.jobs k ≡ Some j → j.kind ≡ AuditJob → 4 ≤ j.place →
       m.state.audits j.subject ≡ j.begun
   audit_kept_step k j h kind late = elim (X.job k j h) [
     | Job_is.kept r grown ↦ carried j r refl refl kind late
-    | Job_is.begun kd wish is k_is allowed rec ↦ absurd
-        (let e : j.place ≡ 0 = ap (λ (z : Job). z.place) is in omega arith)
+    | Job_is.begun kd wish is k_is allowed rec ↦ absurd (let e : j.place ≡ 0 = cc in omega arith)
     | Job_is.plain x action runs next_is is_plain goes rec st ↦
         (let kx : x.kind ≡ AuditJob = sym goes.kind ∙ kind in
         elim (cases_eq x.place 3) [
-          | inl three ↦ absurd (subst IsPlain
-              (same_value _ action SyncGate next_is
-              (at_three audits (now start ms) x (subst (Draws audits) (sym kx) tt) three)) is_plain)
+          | inl three ↦ absurd (subst IsPlain (same_value _ action SyncGate next_is (at_three audits w x (cc)
+              three)) is_plain)
           | inr other ↦ carried x runs goes.subject goes.begun kx (let e = goes.place in omega arith)
         ])
-    | Job_is.drew x runs next_is free is rec ↦
-        (let kx : x.kind ≡ AuditJob = sym (ap (λ (z : Job). z.kind) is) ∙ kind in
-        let place : j.place ≡ x.place + 1 = ap (λ (z : Job). z.place) is in
-        elim (cases_eq x.place 3) [
+    | Job_is.drew x runs next_is free is rec ↦ (let kx : x.kind ≡ AuditJob = cc in
+        let place : j.place ≡ x.place + 1 = cc in elim (cases_eq x.place 3) [
           | inl three ↦ absurd (let e : WriteBody ≡ SyncGate =
-              same_value _ WriteBody SyncGate next_is
-              (at_three audits (now start ms) x (subst (Draws audits) (sym kx) tt) three) in cc)
+              same_value _ WriteBody SyncGate next_is (at_three audits w x (cc) three) in cc)
           | inr other ↦ (let l : 4 ≤ x.place = omega arith in
-              carried x runs (ap (λ (z : Job). z.subject) is
-              ∙ drawn_later (now start ms) x x.kind (first_above x l))
-              (ap (λ (z : Job). z.begun) is) kx l)
+              carried x runs (cc (drawn_later w x x.kind (first_above x l))) (cc) kx l)
         ])
-    | Job_is.finished x a runs next_is flight mine is rec free ↦
-        (let kx : x.kind ≡ AuditJob = sym (ap (λ (z : Job). z.kind) is) ∙ kind in
-        let subject : j.subject ≡ x.subject = ap (λ (z : Job). z.subject) is in
-        let begun : j.begun ≡ x.begun = ap (λ (z : Job). z.begun) is in
+    | Job_is.finished x a runs next_is flight mine is rec free ↦ (let kx : x.kind ≡ AuditJob = cc in
+        let subject : j.subject ≡ x.subject = cc in let begun : j.begun ≡ x.begun = cc in
         elim (cases_lt x.place 4) [
-          | inl l ↦ ap (λ f. f j.subject) (audits_stay a flight)
-              ∙ (ap (now start ms).audits subject
-              ∙ (E.audit_fresh a x flight
-              (subst (λ n. job_of (now start ms).jobs n ≡ Some x) (sym mine) runs) kx l ∙ sym begun))
+          | inl l ↦ cc (
+            audits_stay a flight,
+            E.audit_fresh a x flight (subst (λ n. job_of w.jobs n ≡ Some x)
+                (sym mine) runs) kx l,
+          )
           | inr l ↦ carried x runs subject begun kx l
         ])
   ]
     where
-      carried : (x : Job) → job_of (now start ms).jobs k ≡ Some x → j.subject ≡ x.subject →
-          j.begun ≡ x.begun → x.kind ≡ AuditJob → 4 ≤ x.place → m.state.audits j.subject ≡ j.begun
+      carried : (x : Job) → job_of w.jobs k ≡ Some x → j.subject ≡ x.subject → j.begun ≡ x.begun →
+          x.kind ≡ AuditJob → 4 ≤ x.place → m.state.audits j.subject ≡ j.begun
       carried x runs subject begun kx l =
-          ap m.state.audits subject
-          ∙ (audits_below T x.subject (U.below k x runs (audit_number x kx l))
-          ∙ (E.audit_kept k x runs kx l ∙ sym begun))
+          cc (audits_below T x.subject (U.below k x runs (audit_number x kx l)), E.audit_kept k x runs kx l)
 
   audit_entry_step : (a : Append) (j : Job) (number u : ℕ) (c : List ℕ) → m.state.append ≡ Some a →
       job_of m.state.jobs a.job ≡ Some j → j.kind ≡ AuditJob → a.entry ≡ AuditDone number u c →
       (number ≡ j.subject) × (4 ≤ j.place)
   audit_entry_step a j number u c h hj kind e = elim (X.append a h) [
     | Append_is.kept b flight job_is entry rec ↦ elim (X.job a.job j hj) [
-      | Job_is.kept r grown ↦ E.audit_entry b j number u c flight
-          (subst (λ n. job_of (now start ms).jobs n ≡ Some j) job_is r) kind (sym entry ∙ e)
+      | Job_is.kept r grown ↦ E.audit_entry b j number u c flight (cc) kind (sym entry ∙ e)
       | Job_is.begun kd wish is k_is allowed rec2 ↦ absurd (let l = A.numbers.holder b flight in omega arith)
       | Job_is.plain x action runs next_is is_plain goes rec2 st ↦
-          (let g = E.audit_entry b x number u c flight
-          (subst (λ n. job_of (now start ms).jobs n ≡ Some x) job_is runs) (sym goes.kind ∙ kind)
-          (sym entry ∙ e) in
+          (let g = E.audit_entry b x number u c flight (cc) (sym goes.kind ∙ kind) (sym entry ∙ e) in
           (g.0 ∙ sym goes.subject, (let p = goes.place in let l = g.1 in omega arith)))
-      | Job_is.drew x runs next_is free is rec2 ↦ absurd (some-not-none (now start ms).append b flight free)
+      | Job_is.drew x runs next_is free is rec2 ↦ absurd (some-not-none w.append b flight free)
       | Job_is.finished x d runs next_is flight_d mine is rec2 free ↦
           absurd (some-not-none m.state.append a h free)
     ]
-    | Append_is.drew x runs next_is mine writes found rec ↦
-        (let is = same_value _ j _ (subst (λ n. job_of m.state.jobs n ≡ Some j) mine hj) found in
-        let place : j.place ≡ x.place + 1 = ap (λ (z : Job). z.place) is in
-        let kx : x.kind ≡ AuditJob = sym (ap (λ (z : Job). z.kind) is) ∙ kind in
-        let g = audit_writes (now start ms) x x.kind a.entry number u c kx writes e in (
-          g.0 ∙ sym (ap (λ (z : Job). z.subject) is
-              ∙ drawn_later (now start ms) x x.kind (first_above x g.1)),
+    | Append_is.drew x runs next_is mine writes found rec ↦ (let is = same_value _ j _ (cc) found in
+        let place : j.place ≡ x.place + 1 = cc in let kx : x.kind ≡ AuditJob = cc in
+        let g = audit_writes w x x.kind a.entry number u c kx writes e in (
+          cc (drawn_later w x x.kind (first_above x g.1)),
           (let l = g.1 in omega arith),
         ))
   ]
@@ -944,21 +833,16 @@ module _ (limit : ℕ) (start : State) (m : Moment) (ms : List Moment) (A : All 
       number ≡ j.subject
   repair_entry_step a j number h hj kind e = elim (X.append a h) [
     | Append_is.kept b flight job_is entry rec ↦ elim (X.job a.job j hj) [
-      | Job_is.kept r grown ↦ E.repair_entry b j number flight
-          (subst (λ n. job_of (now start ms).jobs n ≡ Some j) job_is r) kind (sym entry ∙ e)
+      | Job_is.kept r grown ↦ E.repair_entry b j number flight (cc) kind (sym entry ∙ e)
       | Job_is.begun kd wish is k_is allowed rec2 ↦ absurd (let l = A.numbers.holder b flight in omega arith)
       | Job_is.plain x action runs next_is is_plain goes rec2 st ↦
-          E.repair_entry b x number flight (subst (λ n. job_of (now start ms).jobs n ≡ Some x) job_is runs)
-          (sym goes.kind ∙ kind) (sym entry ∙ e) ∙ sym goes.subject
-      | Job_is.drew x runs next_is free is rec2 ↦ absurd (some-not-none (now start ms).append b flight free)
+          E.repair_entry b x number flight (cc) (sym goes.kind ∙ kind) (sym entry ∙ e) ∙ sym goes.subject
+      | Job_is.drew x runs next_is free is rec2 ↦ absurd (some-not-none w.append b flight free)
       | Job_is.finished x d runs next_is flight_d mine is rec2 free ↦
           absurd (some-not-none m.state.append a h free)
     ]
-    | Append_is.drew x runs next_is mine writes found rec ↦
-        (let is = same_value _ j _ (subst (λ n. job_of m.state.jobs n ≡ Some j) mine hj) found in
-        let kx : x.kind ≡ RepairJob = sym (ap (λ (z : Job). z.kind) is) ∙ kind in
-        repair_writes (now start ms) x x.kind a.entry number kx writes e
-        ∙ sym (ap (λ (z : Job). z.subject) is ∙ ap (subject_drawn (now start ms) x) kx))
+    | Append_is.drew x runs next_is mine writes found rec ↦ (let is = same_value _ j _ (cc) found in
+        let kx : x.kind ≡ RepairJob = cc in cc (repair_writes w x x.kind a.entry number kx writes e))
   ]
 
   pinned_step : (k : ℕ) (j : Job) (f : Pinned) → job_of m.state.jobs k ≡ Some j → In f j.pinned →
@@ -968,23 +852,19 @@ module _ (limit : ℕ) (start : State) (m : Moment) (ms : List Moment) (A : All 
         (let in_x = subst (In f) pinned in_f in E.pinned k x f runs in_x
         ∙ sym (X.bytes f.id (A.pins.pins k x f runs in_x).0))
     | Pins_is.new_one kd wish is k_is allowed rec ↦
-        (let st = pinned_stands (now start ms) kd f (subst (λ (x : Job). In f x.pinned) is in_f) in
-        let id_is : f.id ≡ st.file.id = ap (λ (x : Pinned). x.id) st.is in
-        ap (λ (x : Pinned). x.bytes) st.is
-        ∙ (ap (now start ms).bytes (sym id_is)
+        (let st = pinned_stands w kd f (subst (λ (x : Job). In f x.pinned) is in_f) in
+        let id_is : f.id ≡ st.file.id = cc in ap (λ (x : Pinned). x.bytes) st.is ∙ (ap w.bytes (sym id_is)
         ∙ sym (X.bytes f.id (let l = file_below A st.name st.file st.in_effect in omega arith))))
   ]
 
   -- files that jobs work on, or that are in effect, have one profile for one number
-  new_file : (j : Job) (kd : Kind) (wish : Option ℕ) (f : Pinned) →
-      j ≡ beginning (now start ms) (length ms) kd wish → In f j.pinned → Stands (now start ms) f
-  new_file j kd wish f is in_f =
-      pinned_stands (now start ms) kd f (subst (λ (x : Job). In f x.pinned) is in_f)
+  new_file : (j : Job) (kd : Kind) (wish : Option ℕ) (f : Pinned) → j ≡ beginning w (length ms) kd wish →
+      In f j.pinned → Stands w f
+  new_file j kd wish f is in_f = pinned_stands w kd f (subst (λ (x : Job). In f x.pinned) is in_f)
 
-  stands_file : (f : Pinned) (q : List ℕ) (g : File) → Stands (now start ms) f →
-      file_in (now start ms) q ≡ Some g → f.id ≡ g.id → f.profile ≡ g.profile
-  stands_file f q g st h e = ap (λ (x : Pinned). x.profile)
-      (stands_once (now start ms) A.pins.sound f (pinned_file (now start ms) g) st
+  stands_file : (f : Pinned) (q : List ℕ) (g : File) → Stands w f → file_in w q ≡ Some g → f.id ≡ g.id →
+      f.profile ≡ g.profile
+  stands_file f q g st h e = ap (λ (x : Pinned). x.profile) (stands_once w A.pins.sound f (pinned_file w g) st
       (record { name = q; file = g; in_effect = h; is = refl }) e)
 
   one_pin_step : (k l : ℕ) (j i : Job) (f g : Pinned) → job_of m.state.jobs k ≡ Some j →
@@ -994,22 +874,17 @@ module _ (limit : ℕ) (start : State) (m : Moment) (ms : List Moment) (A : All 
         elim (pins_is limit start m ms A.numbers A.pins X l i h2) [
           | Pins_is.had y runs_y pinned_y kind_y begun_y growth_y ↦
               E.one_pin k l x y f g runs runs_y (subst (In f) pinned in_f) (subst (In g) pinned_y in_g) e
-          | Pins_is.new_one kd wish is k_is allowed rec ↦
-              (let st = new_file i kd wish g is in_g in
-              E.pin_file k x f st.name st.file runs (subst (In f) pinned in_f) st.in_effect
-              (e ∙ ap (λ (z : Pinned). z.id) st.is) ∙ sym (ap (λ (z : Pinned). z.profile) st.is))
+          | Pins_is.new_one kd wish is k_is allowed rec ↦ (let st = new_file i kd wish g is in_g in
+              E.pin_file k x f st.name st.file runs (subst (In f) pinned in_f) st.in_effect (cc) ∙ sym (cc))
         ]
     | Pins_is.new_one kd wish is k_is allowed rec ↦
         elim (pins_is limit start m ms A.numbers A.pins X l i h2) [
-          | Pins_is.had y runs_y pinned_y kind_y begun_y growth_y ↦
-              (let st = new_file j kd wish f is in_f in
-              ap (λ (z : Pinned). z.profile) st.is
-              ∙ sym (E.pin_file l y g st.name st.file runs_y (subst (In g) pinned_y in_g) st.in_effect
-              (sym e ∙ ap (λ (z : Pinned). z.id) st.is)))
+          | Pins_is.had y runs_y pinned_y kind_y begun_y growth_y ↦ (let st = new_file j kd wish f is in_f in
+              cc (E.pin_file l y g st.name st.file runs_y (subst (In g) pinned_y in_g) st.in_effect (sym e
+              ∙ ap (λ (z : Pinned). z.id) st.is)))
           | Pins_is.new_one kd2 wish2 is2 k_is2 allowed2 rec2 ↦
-              ap (λ (z : Pinned). z.profile)
-              (stands_once (now start ms) A.pins.sound f g (new_file j kd wish f is in_f)
-              (new_file i kd2 wish2 g is2 in_g) e)
+              cc (stands_once w A.pins.sound f g (new_file j kd wish f is in_f) (new_file i kd2 wish2 g is2
+              in_g) e)
         ]
   ]
 
@@ -1022,13 +897,12 @@ module _ (limit : ℕ) (start : State) (m : Moment) (ms : List Moment) (A : All 
       | Pins_is.new_one kd wish is k_is allowed rec ↦ stands_file f q g (new_file j kd wish f is in_f) stood e
     ]
     | inr (d, at, ends) ↦
-        (let held = E.put_held d
-        g.id at (ends_ended (now start ms).records d.entry g.id g.size g.profile ends) in
-        absurd (some-not-none (started_as (now start ms).records g.id) held.name held.started
-        (ap (started_as (now start ms).records) (sym e) ∙ unstarted)))
+        (let held = E.put_held d g.id at (ends_ended w.records d.entry g.id g.size g.profile ends) in
+        absurd (some-not-none (started_as w.records g.id) held.name held.started (ap (started_as w.records)
+        (sym e) ∙ unstarted)))
   ]
     where
-      unstarted : started_as (now start ms).records f.id ≡ None
+      unstarted : started_as w.records f.id ≡ None
       unstarted = elim (pins_is limit start m ms A.numbers A.pins X k j h) [
         | Pins_is.had x runs pinned kind begun growth ↦ (A.pins.pins k x f runs (subst (In f) pinned in_f)).1
         | Pins_is.new_one kd wish is k_is allowed rec ↦
@@ -1038,27 +912,24 @@ module _ (limit : ℕ) (start : State) (m : Moment) (ms : List Moment) (A : All 
   -- ---- the begins of audits precede puts
 
   -- the begin of an audit number that is drawn stays such a moment
-  moved : (number : ℕ) → (number < next_audit (now start ms).records) ×
-      PrecedesPuts start ms ((now start ms).audits number) →
+  moved : (number : ℕ) → (number < next_audit w.records) × PrecedesPuts start ms (w.audits number) →
       (number < next_audit m.state.records) × PrecedesPuts start (m ∷ ms) (m.state.audits number)
   moved number P = (
     (let g = grows in let l = P.0 in omega (arith, l, g)),
-    subst (PrecedesPuts start (m ∷ ms)) (sym (audits_below T number P.0))
-        (before_on ((now start ms).audits number) P.1),
+    subst (PrecedesPuts start (m ∷ ms)) (sym (audits_below T number P.0)) (before_on (w.audits number) P.1),
   )
 
   -- that of an audit that has just begun
   audit_new : (k : ℕ) (j : Job) (wish : Option ℕ) → job_of m.state.jobs k ≡ Some j →
-      refusal_of_begin limit (now start ms) AuditJob wish ≡ None → PrecedesPuts start (m ∷ ms) (length ms)
+      refusal_of_begin limit w AuditJob wish ≡ None → PrecedesPuts start (m ∷ ms) (length ms)
   audit_new k j wish runs_on allowed = record { early = omega arith; puts = puts; doubts = doubts }
     where
       puts : (l : ℕ) (p : Job) (name bytes : List ℕ) → job_of m.state.jobs l ≡ Some p →
           p.kind ≡ PutJob name bytes → length ms ≤ p.begun
       puts l p name bytes h kind = elim (pins_is limit start m ms A.numbers A.pins X l p h) [
-        | Pins_is.had x runs pinned kind_x begun g ↦ absurd
-            (no_put limit (now start ms) wish allowed l x name bytes runs (sym kind_x ∙ kind))
-        | Pins_is.new_one kd own is k_is allowed_p rec_p ↦
-            (let e : p.begun ≡ length ms = ap (λ (x : Job). x.begun) is in omega arith)
+        | Pins_is.had x runs pinned kind_x begun g ↦ absurd (no_put limit w wish allowed l x name bytes runs
+            (sym kind_x ∙ kind))
+        | Pins_is.new_one kd own is k_is allowed_p rec_p ↦ (let e : p.begun ≡ length ms = cc in omega arith)
       ]
 
       open_now : m.state.is_open ≡ true
@@ -1072,14 +943,12 @@ module _ (limit : ℕ) (start : State) (m : Moment) (ms : List Moment) (A : All 
           d.entry ≡ done_record version id size profile → length ms ≤ begun_of d.maker
       doubts d version id size profile h e = absurd (elim (T.doubt d h) [
         | Doubt_now.kept was rec_d ↦ (let o = T.opened d h open_now in
-            let g = E.doubt_runs d o.0 (not_barred limit (now start ms) AuditJob wish allowed) was in
-            let p = E.doubt_put d g.job id was g.maker (ap put_ended e
-            ∙ done-ended version id size profile) in
-            no_put limit (now start ms) wish allowed g.job.number g.job p.0 p.1 g.runs p.2)
+            let g = E.doubt_runs d o.0 (not_barred limit w AuditJob wish allowed) was in
+            let p = E.doubt_put d g.job id was g.maker (cc (done-ended version id size profile)) in
+            no_put limit w wish allowed g.job.number g.job p.0 p.1 g.runs p.2)
         | Doubt_now.gated job a runs next_is flight mine entry_is maker rec_d on_ ↦
-            (let g = gated_put job a id runs flight mine
-            (ap put_ended (sym entry_is ∙ e) ∙ done-ended version id size profile) in
-            no_put limit (now start ms) wish allowed job.number job g.0 g.1 runs g.2)
+            (let g = gated_put job a id runs flight mine (cc (done-ended version id size profile)) in
+            no_put limit w wish allowed job.number job g.0 g.1 runs g.2)
         | Doubt_now.set_up t entry_is bare none closed ↦
             ends_other version id size profile (SetUp t) (sym e ∙ entry_is) refl
       ])
@@ -1090,32 +959,29 @@ module _ (limit : ℕ) (start : State) (m : Moment) (ms : List Moment) (A : All 
   audit_begins k j h kind = elim (pins_is limit start m ms A.numbers A.pins X k j h) [
     | Pins_is.had x runs pinned kind_x begun g ↦ subst (PrecedesPuts start (m ∷ ms)) (sym begun)
         (before_on x.begun (E.audit k x runs (sym kind_x ∙ kind)))
-    | Pins_is.new_one kd wish is k_is allowed rec ↦
-        (let kd_is : kd ≡ AuditJob = sym (ap (λ (x : Job). x.kind) is) ∙ kind in
-        subst (PrecedesPuts start (m ∷ ms)) (sym (ap (λ (x : Job). x.begun) is))
-        (audit_new k j wish h
-        (subst (λ kk. refusal_of_begin limit (now start ms) kk wish ≡ None) kd_is allowed)))
+    | Pins_is.new_one kd wish is k_is allowed rec ↦ (let kd_is : kd ≡ AuditJob = cc in
+        subst (PrecedesPuts start (m ∷ ms)) (cc) (audit_new k j wish h (cc)))
   ]
 
   -- the audit whose last record comes into doubt
   pub record AuditGated (job : Job) (number : ℕ) : Type 0 where
     pub kind : job.kind ≡ AuditJob
-    pub below : number < next_audit (now start ms).records
-    pub begins : (now start ms).audits number ≡ job.begun
+    pub below : number < next_audit w.records
+    pub begins : w.audits number ≡ job.begun
 
   -- an audit whose last record comes into doubt has this number, whose begin is its own
   pub audit_gated : (job : Job) (a : Append) (number u : ℕ) (c : List ℕ) →
-      job_of (now start ms).jobs job.number ≡ Some job → (now start ms).append ≡ Some a → a.job ≡ job.number →
+      job_of w.jobs job.number ≡ Some job → w.append ≡ Some a → a.job ≡ job.number →
       a.entry ≡ AuditDone number u c → AuditGated job number
   audit_gated job a number u c runs flight mine e =
-      (let at_job = subst (λ n. job_of (now start ms).jobs n ≡ Some job) (sym mine) runs in
+      (let at_job = subst (λ n. job_of w.jobs n ≡ Some job) (sym mine) runs in
       let kind = wrote_audit job job.kind a.entry number u c (A.pins.wrote a job flight at_job) e in
       let g = E.audit_entry a job number u c flight at_job kind e in
       record {
         kind = kind;
-        below = subst (λ n. n < next_audit (now start ms).records) (sym g.0)
-            (U.below job.number job runs (audit_number job kind g.1));
-        begins = ap (now start ms).audits g.0 ∙ E.audit_kept job.number job runs kind g.1;
+        below = subst (λ n. n < next_audit w.records) (sym g.0) (U.below job.number job runs (audit_number job
+            kind g.1));
+        begins = cc (E.audit_kept job.number job runs kind g.1);
       })
 
   -- the repair whose record comes into doubt
@@ -1124,11 +990,10 @@ module _ (limit : ℕ) (start : State) (m : Moment) (ms : List Moment) (A : All 
     pub subject : number ≡ job.subject
 
   -- a repair whose record comes into doubt has this number
-  pub repair_gated : (job : Job) (a : Append) (number : ℕ) →
-      job_of (now start ms).jobs job.number ≡ Some job → (now start ms).append ≡ Some a → a.job ≡ job.number →
-      a.entry ≡ RepairDone number → RepairGated job number
+  pub repair_gated : (job : Job) (a : Append) (number : ℕ) → job_of w.jobs job.number ≡ Some job →
+      w.append ≡ Some a → a.job ≡ job.number → a.entry ≡ RepairDone number → RepairGated job number
   repair_gated job a number runs flight mine e =
-      (let at_job = subst (λ n. job_of (now start ms).jobs n ≡ Some job) (sym mine) runs in
+      (let at_job = subst (λ n. job_of w.jobs n ≡ Some job) (sym mine) runs in
       let kind = wrote_repair job job.kind a.entry number (A.pins.wrote a job flight at_job) e in
       record { kind = kind; subject = E.repair_entry a job number flight at_job kind e })
 
@@ -1153,14 +1018,13 @@ module _ (limit : ℕ) (start : State) (m : Moment) (ms : List Moment) (A : All 
   due_begins u h = elim effect [
     | nothing rec ↦ moved u.number (E.due u (ap due_of (sym rec) ∙ h))
     | entered d at rec ↦ of_doubt d at (ap due_of (sym rec) ∙ h)
-    | set_up s rs rec none (inl e) ↦ moved u.number (E.due u (ap due_of (sym e) ∙ (ap due_of (sym rec) ∙ h)))
-    | set_up s rs rec none (inr (d, at, e)) ↦ of_doubt d at (ap due_of (sym e) ∙ (ap due_of (sym rec) ∙ h))
+    | set_up s rs rec none (inl e) ↦ moved u.number (E.due u (cc))
+    | set_up s rs rec none (inr (d, at, e)) ↦ of_doubt d at (cc)
   ]
     where
-      of_doubt : (d : Doubt) → (now start ms).doubt ≡ Some d →
-          due_of (d.entry ∷ (now start ms).records) ≡ Some u →
+      of_doubt : (d : Doubt) → w.doubt ≡ Some d → due_of (d.entry ∷ w.records) ≡ Some u →
           (u.number < next_audit m.state.records) × PrecedesPuts start (m ∷ ms) (m.state.audits u.number)
-      of_doubt d at g = elim (due_done d.entry (now start ms).records u (A.numbers.written.1 d at) g) [
+      of_doubt d at g = elim (due_done d.entry w.records u (A.numbers.written.1 d at) g) [
         | inl was ↦ moved u.number (E.due u was)
         | inr (und, e) ↦ moved u.number (E.audit_doubt d u.number und u.counts at e)
       ]
@@ -1170,23 +1034,16 @@ module _ (limit : ℕ) (start : State) (m : Moment) (ms : List Moment) (A : All 
       (j.subject < next_audit m.state.records) × PrecedesPuts start (m ∷ ms) (m.state.audits j.subject)
   repair_begins k j h kind = elim (X.job k j h) [
     | Job_is.kept r grown ↦ moved j.subject (E.repair k j r kind)
-    | Job_is.begun kd wish is k_is allowed rec ↦
-        (let kd_is : kd ≡ RepairJob = sym (ap (λ (x : Job). x.kind) is) ∙ kind in
-        let u = repair_due limit (now start ms) wish (due_of (now start ms).records) refl
-        (subst (λ kk. refusal_of_begin limit (now start ms) kk wish ≡ None) kd_is allowed) in
-        let new : j ≡ beginning (now start ms) (length ms) RepairJob wish = is
-        ∙ ap (λ kk. beginning (now start ms) (length ms) kk wish) kd_is in
-        as_number u.0.number (ap (λ (x : Job). x.subject) new ∙ ap due_number u.1)
-        (moved u.0.number (E.due u.0 u.1)))
+    | Job_is.begun kd wish is k_is allowed rec ↦ (let kd_is : kd ≡ RepairJob = cc in
+        let u = repair_due limit w wish (due_of w.records) refl (cc) in
+        let new : j ≡ beginning w (length ms) RepairJob wish = cc in
+        as_number u.0.number (cc) (moved u.0.number (E.due u.0 u.1)))
     | Job_is.plain x action runs next_is is_plain goes rec st ↦
         as_number x.subject goes.subject (moved x.subject (E.repair k x runs (sym goes.kind ∙ kind)))
-    | Job_is.drew x runs next_is free is rec ↦
-        (let kx : x.kind ≡ RepairJob = sym (ap (λ (y : Job). y.kind) is) ∙ kind in
-        as_number x.subject (ap (λ (y : Job). y.subject) is ∙ ap (subject_drawn (now start ms) x) kx)
-        (moved x.subject (E.repair k x runs kx)))
+    | Job_is.drew x runs next_is free is rec ↦ (let kx : x.kind ≡ RepairJob = cc in
+        as_number x.subject (cc) (moved x.subject (E.repair k x runs kx)))
     | Job_is.finished x a runs next_is flight mine is rec free ↦
-        as_number x.subject (ap (λ (y : Job). y.subject) is)
-        (moved x.subject (E.repair k x runs (sym (ap (λ (y : Job). y.kind) is) ∙ kind)))
+        as_number x.subject (cc) (moved x.subject (E.repair k x runs (cc)))
   ]
     where
       as_number : (n : ℕ) → j.subject ≡ n → (n < next_audit m.state.records) ×
@@ -1201,9 +1058,8 @@ module _ (limit : ℕ) (start : State) (m : Moment) (ms : List Moment) (A : All 
     | Doubt_now.kept was rec ↦ moved number (E.repair_doubt d number was e)
     | Doubt_now.gated job a runs next_is flight mine entry_is maker rec on ↦
         (let g = repair_gated job a number runs flight mine (sym entry_is ∙ e) in
-        moved number (subst (λ x. (x < next_audit (now start ms).records) ×
-        PrecedesPuts start ms ((now start ms).audits x)) (sym g.subject)
-        (E.repair job.number job runs g.kind)))
+        moved number (subst (λ x. (x < next_audit w.records) × PrecedesPuts start ms (w.audits x))
+        (sym g.subject) (E.repair job.number job runs g.kind)))
     | Doubt_now.set_up t entry_is bare none closed ↦
         absurd (let z : SetUp t ≡ RepairDone number = sym entry_is ∙ e in cc)
   ]
@@ -1216,17 +1072,16 @@ module _ (limit : ℕ) (start : State) (m : Moment) (ms : List Moment) (A : All 
     | doubted d at rec e ↦ as_came (Some d.entry) e (by_entry d at d.entry refl)
   ]
     where
-      as_came : (o : Option Record) → came (now start ms) m.state ≡ o →
-          PrecedesPuts start (m ∷ ms)
-          (mark_after m.state (settled_by (setup_in m.state).tolerance o) (since start ms)) →
-          PrecedesPuts start (m ∷ ms) (since start (m ∷ ms))
+      as_came : (o : Option Record) → came w m.state ≡ o →
+          PrecedesPuts start (m ∷ ms) (mark_after m.state (settled_by (setup_in m.state).tolerance o)
+          (since start ms)) → PrecedesPuts start (m ∷ ms) (since start (m ∷ ms))
       as_came o e P = subst
           (λ z. PrecedesPuts start (m ∷ ms)
           (mark_after m.state (settled_by (setup_in m.state).tolerance z) (since start ms))) (sym e) P
 
-      by_entry : (d : Doubt) → (now start ms).doubt ≡ Some d → (r : Record) → d.entry ≡ r →
-          PrecedesPuts start (m ∷ ms)
-          (mark_after m.state (settled_by (setup_in m.state).tolerance (Some r)) (since start ms))
+      by_entry : (d : Doubt) → w.doubt ≡ Some d → (r : Record) → d.entry ≡ r →
+          PrecedesPuts start (m ∷ ms) (mark_after m.state (settled_by (setup_in m.state).tolerance (Some r))
+          (since start ms))
       by_entry d at (AuditDone number u c) e = elim (cases_Bool (flags_some (setup_in m.state).tolerance c)) [
         | inl t ↦ subst (λ z. PrecedesPuts start (m ∷ ms) (mark_after m.state z (since start ms)))
             (sym (cond_true (flags_some (setup_in m.state).tolerance c) None (Some number) t))

@@ -41,14 +41,10 @@ module _ (old : State) where
   module _ (job : Job) where
     disk_moves : (action : Action) (flight : Option Append) (new : State) →
         Moves old job action flight (Ended answer.DiskFault) new → Rose old.disk_faults new.disk_faults
-    disk_moves WriteBody flight new (faults, low, rose, is) =
-        subst (Rose old.disk_faults) (sym (ap (λ (w : State). w.disk_faults) is)) rose
-    disk_moves SyncBody (Some a) new (at, (faults, low, rose, is)) =
-        subst (Rose old.disk_faults) (sym (ap (λ (w : State). w.disk_faults) is)) rose
-    disk_moves WriteGate (Some a) new (at, (faults, low, rose, is)) =
-        subst (Rose old.disk_faults) (sym (ap (λ (w : State). w.disk_faults) is)) rose
-    disk_moves SyncGate (Some a) new (at, (faults, low, rose, is)) =
-        subst (Rose old.disk_faults) (sym (ap (λ (w : State). w.disk_faults) is)) rose
+    disk_moves WriteBody flight new (faults, low, rose, is) = subst (Rose old.disk_faults) (cc) rose
+    disk_moves SyncBody (Some a) new (at, (faults, low, rose, is)) = subst (Rose old.disk_faults) (cc) rose
+    disk_moves WriteGate (Some a) new (at, (faults, low, rose, is)) = subst (Rose old.disk_faults) (cc) rose
+    disk_moves SyncGate (Some a) new (at, (faults, low, rose, is)) = subst (Rose old.disk_faults) (cc) rose
     disk_moves action flight new h = absurd h
 
     disk_acts : (action : Action) (new : State) → Acts old job action (Ended answer.DiskFault) new →
@@ -80,8 +76,7 @@ module _ (old : State) where
       Rose old.disk_faults new.disk_faults
   disk_packs pack (suc (suc (suc (suc zero)))) new h = absurd h
   disk_packs pack (suc (suc (suc (suc (suc moves))))) new h = absurd h
-  disk_packs pack moves new (faults, low, rose, is) =
-      subst (Rose old.disk_faults) (sym (ap (λ (w : State). w.disk_faults) is)) rose
+  disk_packs pack moves new (faults, low, rose, is) = subst (Rose old.disk_faults) (cc) rose
 
   disk_scrubs : (scrub : Scrub) (todo : List Action) (new : State) →
       StepsScrub old scrub todo (Ended answer.DiskFault) new → ⊥
@@ -148,13 +143,11 @@ module _ (old : State) where
     where
       by : (b : _) → InitsBy old s b (Refused refusal.DiskFault) new → Rose old.disk_faults new.disk_faults
       by false g = absurd g
-      by true (doubt, leaves_it, (faults, low, rose, is)) =
-          subst (Rose old.disk_faults) (sym (ap (λ (w : State). w.disk_faults) is)) rose
+      by true (doubt, leaves_it, (faults, low, rose, is)) = subst (Rose old.disk_faults) (cc) rose
 
   disk_reopens : (new : State) → Reopens old (Refused refusal.DiskFault) new →
       Rose old.disk_faults new.disk_faults
-  disk_reopens new (faults, low, rose, is) =
-      subst (Rose old.disk_faults) (sym (ap (λ (w : State). w.disk_faults) is)) rose
+  disk_reopens new (faults, low, rose, is) = subst (Rose old.disk_faults) (cc) rose
 
   disk_rose : (limit moment : ℕ) (e : Event) (r : Outcome) (new : State) → IsDiskFault e r →
       Happens limit moment old e r new → Rose old.disk_faults new.disk_faults
@@ -186,16 +179,16 @@ module _ (old : State) where
 
     fetch_rose : (o s : ℕ) → FetchStep old job j o s m.state → GaveAmiss old m job j (Fetch j o s) → Goal
     fetch_rose o s (block, (p, call, is)) amiss = elim call.gives [
-      | inl g ↦ absurd (amiss.1 block (ap (λ (w : State). job_of w.jobs job.number) is
-          ∙ found_itself old.jobs (advanced_with job (Fetched j o s block)) job runs) g)
+      | inl g ↦ absurd (amiss.1 block (cc (found_itself old.jobs (advanced_with job (Fetched j o s block)) job
+          runs)) g)
       | inr f ↦ with_call p (going_on old (advanced_with job (Fetched j o s block))) is f.1
     ]
 
     ask_rose : (o round : ℕ) → AskStep old job j o round m.state → GaveAmiss old m job j (Ask j o round) →
         Goal
     ask_rose o round (symbol, (p, call, is)) amiss = elim call.gives [
-      | inl g ↦ absurd (amiss.1 symbol (ap (λ (w : State). job_of w.jobs job.number) is
-          ∙ found_itself old.jobs (advanced_with job (Answered j o round symbol)) job runs) g)
+      | inl g ↦ absurd (amiss.1 symbol (cc (found_itself old.jobs (advanced_with job (Answered j o round
+          symbol)) job runs)) g)
       | inr f ↦ with_call p (going_on old (advanced_with job (Answered j o round symbol))) is f.1
     ]
 
@@ -203,8 +196,7 @@ module _ (old : State) where
         m.state ≡ record (going_on old (advanced job)) { providers = with_provider old.providers j p } →
         Removes o (old.providers j) p → GaveAmiss old m job j (Remove j o) → Goal
     remove_rose o p is (inl all) amiss =
-        absurd (amiss.1 (ap (λ (w : State). (w.providers j).held) is
-        ∙ (ap (λ (x : Provider). x.held) (at_one j p) ∙ all.held)))
+        absurd (amiss.1 (ap (λ (w : State). (w.providers j).held) is ∙ (cc (at_one j p))))
     remove_rose o p is (inr failed) amiss = with_call p (going_on old (advanced job)) is failed.cause
 
   module _ (j : ℕ) (m : Moment) (job : Job) (runs : job_of old.jobs job.number ≡ Some job) where

@@ -35,23 +35,29 @@ abbrev shape : List Action → List Bool
 shape l = map ends_append l
 
 shape_length : (p : ℕ) (k l : List Action) → shape k ≡ shape l → length (drop p k) ≡ length (drop p l)
-shape_length p k l e = sym (length-map (drop p k) ends_append)
-    ∙ (ap length (sym (drop-map ends_append p k))
-    ∙ (ap (λ s. length (drop p s)) e
-    ∙ (ap length (drop-map ends_append p l) ∙ length-map (drop p l) ends_append)))
+shape_length p k l e = cc (
+  length-map (drop p k) ends_append,
+  drop-map ends_append p k,
+  drop-map ends_append p l,
+  length-map (drop p l) ends_append,
+)
 
 count_shape : (l : List Action) → count_by ends_append l ≡ count_by (λ b. b) (shape l)
 count_shape [] = refl
-count_shape (x ∷ l) = count_cons ends_append x l
-    ∙ (ap (λ n. cond (ends_append x) 1 0 + n) (count_shape l)
-    ∙ sym (count_cons (λ b. b) (ends_append x) (shape l)))
+count_shape (x ∷ l) = cc (
+  count_cons ends_append x l,
+  count_shape l,
+  count_cons (λ b. b) (ends_append x) (shape l),
+)
 
 shape_count : (p : ℕ) (k l : List Action) → shape k ≡ shape l →
     count_by ends_append (drop p k) ≡ count_by ends_append (drop p l)
-shape_count p k l e = count_shape (drop p k)
-    ∙ (ap (count_by (λ b. b)) (sym (drop-map ends_append p k))
-    ∙ (ap (λ s. count_by (λ b. b) (drop p s)) e
-    ∙ (ap (count_by (λ b. b)) (drop-map ends_append p l) ∙ sym (count_shape (drop p l)))))
+shape_count p k l e = cc (
+  count_shape (drop p k),
+  drop-map ends_append p k,
+  drop-map ends_append p l,
+  count_shape (drop p l),
+)
 
 count_none : (l : List Action) → Each (λ a. ends_append a ≡ false) l → count_by ends_append l ≡ 0
 count_none [] h = refl
@@ -63,7 +69,7 @@ count_some : (l : List Action) (q p : ℕ) → slice_get l p ≡ Some SyncGate �
     0 < count_by ends_append (drop q l)
 count_some [] q p h k = (let e : None ≡ Some SyncGate = h in cc)
 count_some (x ∷ l) zero zero h k = (let e : Some x ≡ Some SyncGate = h in let f : x ≡ SyncGate = cc in
-    let g : one_if (ends_append x) ≡ one_if (ends_append SyncGate) = ap (λ y. one_if (ends_append y)) f in
+    let g : one_if (ends_append x) ≡ one_if (ends_append SyncGate) = cc in
     let c = count_cons ends_append x l in omega (arith, g, c))
 count_some (x ∷ l) zero (suc p) h k =
     (let r : 0 < count_by ends_append (drop 0 l) = count_some l 0 p h (omega arith) in
@@ -84,19 +90,13 @@ left_next : (t : Setup) (x j : Job) (action : Action) → slice_get (actions_of 
     j.place ≡ x.place + 1 → shape (actions_of t j) ≡ shape (actions_of t x) →
     (length (left_of t x) ≡ suc (length (left_of t j))) ×
     (count_by ends_append (left_of t x) ≡ cond (ends_append action) 1 0 + count_by ends_append (left_of t j))
-left_next t x j action at place same =
-    (let front = drop_here (actions_of t x) x.place action at in
+left_next t x j action at place same = (let front = drop_here (actions_of t x) x.place action at in
     let len : length (drop (x.place + 1) (actions_of t x)) ≡ length (left_of t j) =
-    sym (shape_length (x.place + 1) (actions_of t j) (actions_of t x) same)
-    ∙ ap (λ n. length (drop n (actions_of t j))) (sym place) in
-    let count : count_by ends_append (drop (x.place + 1) (actions_of t x))
-    ≡ count_by ends_append (left_of t j) =
-    sym (shape_count (x.place + 1) (actions_of t j) (actions_of t x) same)
-    ∙ ap (λ n. count_by ends_append (drop n (actions_of t j))) (sym place) in (
-      ap length front ∙ ap suc len,
-      ap (count_by ends_append) front
-          ∙ (count_cons ends_append action (drop (x.place + 1) (actions_of t x))
-          ∙ ap (λ n. cond (ends_append action) 1 0 + n) count),
+    cc (shape_length (x.place + 1) (actions_of t j) (actions_of t x) same) in
+    let count : count_by ends_append (drop (x.place + 1) (actions_of t x)) ≡ count_by ends_append
+    (left_of t j) = cc (shape_count (x.place + 1) (actions_of t j) (actions_of t x) same) in (
+      cc,
+      cc (count_cons ends_append action (drop (x.place + 1) (actions_of t x))),
     ))
 
 -- an action that ends no append
@@ -109,13 +109,8 @@ plain_falls t x j action at place kind same no_gate =
     (let e = l.1 in let f = one_if-false (ends_append action) no_gate in omega (arith, e, f)) in
     let one : (n : ℕ) → suc (length (left_of t j)) + n ≡ suc (length (left_of t j) + n) =
     (λ n. omega arith) in (
-      ap (λ n. most_by t x.kind n (count_by ends_append (left_of t x))) l.0
-          ∙ (ap (λ n. most_by t x.kind (suc (length (left_of t j))) n) count
-          ∙ (ap (λ k. most_by t k (suc (length (left_of t j))) (count_by ends_append (left_of t j))) kind
-          ∙ one (cond (removes_older (aim_of j.kind) && nat_lt 0 (count_by ends_append (left_of t j))) t.n
-          0))),
-      ap (λ n. removes_older (aim_of x.kind) && nat_lt 0 n) count
-          ∙ ap (λ k. removes_older (aim_of k) && nat_lt 0 (count_by ends_append (left_of t j))) kind,
+      cc (one (cond (removes_older (aim_of j.kind) && nat_lt 0 (count_by ends_append (left_of t j))) t.n 0)),
+      cc,
     ))
 
 -- an append of a job that takes nothing away, or a first append
@@ -127,21 +122,15 @@ gate_falls t x j at place kind same which =
     (let l = left_next t x j SyncGate at place same in
     let some : removes_older (aim_of j.kind) && nat_lt 0 (count_by ends_append (left_of t x))
     ≡ removes_older (aim_of j.kind) && nat_lt 0 (count_by ends_append (left_of t j)) = elim which [
-      | inl none ↦ ap (λ b. b && nat_lt 0 (count_by ends_append (left_of t x))) none
-          ∙ sym (ap (λ b. b && nat_lt 0 (count_by ends_append (left_of t j))) none)
+      | inl none ↦ cc
       | inr more ↦ (let lots : 0 < count_by ends_append (left_of t x) =
-          (let e = l.1 in omega (arith, e, more)) in
-          ap (λ b. removes_older (aim_of j.kind) && b)
-          (lt-ltb 0 (count_by ends_append (left_of t x)) lots
-          ∙ sym (lt-ltb 0 (count_by ends_append (left_of t j)) more)))
-    ] in
-    let one : (n : ℕ) → suc (length (left_of t j)) + n ≡ suc (length (left_of t j) + n) =
+          (let e = l.1 in omega (arith, e, more)) in cc (
+            lt-ltb 0 (count_by ends_append (left_of t x)) lots,
+            lt-ltb 0 (count_by ends_append (left_of t j)) more,
+          ))
+    ] in let one : (n : ℕ) → suc (length (left_of t j)) + n ≡ suc (length (left_of t j) + n) =
     (λ n. omega arith) in
-    ap (λ n. most_by t x.kind n (count_by ends_append (left_of t x))) l.0
-    ∙ (ap (λ k. most_by t k (suc (length (left_of t j))) (count_by ends_append (left_of t x))) kind
-    ∙ (ap (λ b. suc (length (left_of t j)) + cond b t.n 0) some
-    ∙ one (cond (removes_older (aim_of j.kind) && nat_lt 0 (count_by ends_append (left_of t j))) t.n
-    0))))
+    cc (one (cond (removes_older (aim_of j.kind) && nat_lt 0 (count_by ends_append (left_of t j))) t.n 0)))
 
 -- ---- a job that decides which object it takes away
 
@@ -161,7 +150,7 @@ tail_length t l = length-append (removes_by t l) (End ∷ [])
 
 few_length : (t : Setup) (l : List ℕ) → FewOlder l →
     ((l ≡ []) × (length (removes_by t l) ≡ 0)) ⊎ (length (removes_by t l) ≡ t.n)
-few_length t l (inl e) = inl (e, ap (λ k. length (removes_by t k)) e)
+few_length t l (inl e) = inl (e, cc)
 few_length t l (inr (o, e)) =
     inr (ap (λ k. length (removes_by t k)) e
     ∙ (length-append (on_each_provider t (λ j. Remove j o)) []
@@ -178,17 +167,11 @@ decides : (t : Setup) (x j : Job) → removes_older (aim_of x.kind) ≡ true →
     left_of t j ≡ remove_actions t j ++ End ∷ [] → FewOlder j.older →
     is_undecided t x ≡ true → is_undecided t j ≡ false → FallsBy t x j
 decides t x j removes left none left_j few undecided decided =
-    (let lx : left_of t x ≡ SyncGate ∷ End ∷ [] = left
-    ∙ ap (λ l. SyncGate ∷ (removes_by t l ++ End ∷ [])) none in
-    let mx : most_left t x ≡ 2 + t.n = ap (λ l. most_by t x.kind (length l) (count_by ends_append l)) lx
-    ∙ ap (λ b. 2 + cond (b && true) t.n 0) removes in
-    let gj : count_by ends_append (left_of t j) ≡ 0 = ap (count_by ends_append) left_j ∙ no_gate_tail t j in
-    let lj : length (left_of t j) ≡ length (removes_by t j.older) + 1 = ap length left_j
-    ∙ tail_length t j.older in
+    (let lx : left_of t x ≡ SyncGate ∷ End ∷ [] = cc in let mx : most_left t x ≡ 2 + t.n = cc in
+    let gj : count_by ends_append (left_of t j) ≡ 0 = cc (no_gate_tail t j) in
+    let lj : length (left_of t j) ≡ length (removes_by t j.older) + 1 = cc (tail_length t j.older) in
     let mj : most_left t j ≡ length (removes_by t j.older) + 1 =
-    ap (λ n. most_by t j.kind n (count_by ends_append (left_of t j))) lj
-    ∙ (ap (λ n. most_by t j.kind (length (removes_by t j.older) + 1) n) gj
-    ∙ none_decided (removes_older (aim_of j.kind)) (length (removes_by t j.older) + 1)) in
+    cc (none_decided (removes_older (aim_of j.kind)) (length (removes_by t j.older) + 1)) in
     elim (few_length t j.older few) [
       | inl e ↦ inr (
         record { undecided = undecided; decided = decided; none = e.0 },
@@ -204,8 +187,8 @@ decides t x j removes left none left_j few undecided decided =
 removable_few : (w : State) (f : Option File) → FewOlder (removable w f)
 removable_few w None = inl refl
 removable_few w (Some f) = elim (cases_Bool (is_pinned w f.id)) [
-  | inl t ↦ inl (cond_true (is_pinned w f.id) [] (f.id ∷ []) t)
-  | inr e ↦ inr (f.id, cond_false (is_pinned w f.id) [] (f.id ∷ []) e)
+  | inl t ↦ inl (cc)
+  | inr e ↦ inr (f.id, cc)
 ]
 
 -- ---- the fourth move of an append
@@ -250,8 +233,7 @@ undecided_now t x removes at =
 
 decided_then : (t : Setup) (j : Job) → left_of t j ≡ remove_actions t j ++ End ∷ [] →
     is_undecided t j ≡ true → ⊥
-decided_then t j left h =
-    (let none : count_by ends_append (left_of t j) ≡ 0 = ap (count_by ends_append) left ∙ no_gate_tail t j in
+decided_then t j left h = (let none : count_by ends_append (left_of t j) ≡ 0 = cc (no_gate_tail t j) in
     let some : nat_lt 0 (count_by ends_append (left_of t j)) ≡ true =
     (and_parts (removes_older (aim_of j.kind)) (nat_lt 0 (count_by ends_append (left_of t j))) h).1 in
     let l = ltb-true 0 (count_by ends_append (left_of t j)) some in omega (arith, none, l))
@@ -274,7 +256,7 @@ module _ (w : State) (x : Job) (next_at : slice_get (actions_of (setup_in w) x) 
       ]
     where
       removes : removes_older (aim_of x.kind) ≡ true
-      removes = ap (λ k. removes_older (aim_of k)) kind
+      removes = cc
 
       none : x.older ≡ []
       none = settled (undecided_now t x removes next_at)
@@ -286,13 +268,10 @@ module _ (w : State) (x : Job) (next_at : slice_get (actions_of (setup_in w) x) 
       lists_j = actions_are t (with_older x l) (PutJob name bytes) kind
 
       at_first : x.place ≡ 3 → Falls t x (with_older x l)
-      at_first three =
-          (let empty : l ≡ [] = is
-          ∙ cond_true (is_first_append x) [] (removable w (file_in w name))
-          (first_below x (omega (arith, three))) in
+      at_first three = (let empty : l ≡ [] = cc in
           let same : actions_of t (with_older x l) ≡ actions_of t x = lists_j
-          ∙ (ap (λ o. append_actions ++ (store_actions t x
-          bytes ++ (append_actions ++ (removes_by t o ++ End ∷ [])))) (empty ∙ sym none) ∙ sym lists) in
+          ∙ (ap (λ o. append_actions ++ (store_actions t x bytes ++ (append_actions ++ (removes_by t o ++ End
+          ∷ [])))) (empty ∙ sym none) ∙ sym lists) in
           let more : 0 < count_by ends_append (left_of t (with_older x l)) =
           count_some (actions_of t (with_older x l)) (x.place + 1) (7 + length (store_actions t x bytes))
           (ap (λ k. slice_get k (7 + length (store_actions t x bytes))) lists_j
@@ -300,20 +279,15 @@ module _ (w : State) (x : Job) (next_at : slice_get (actions_of (setup_in w) x) 
           (inl (gate_falls t x (with_older x l) next_at refl refl (ap shape same) (inr more)), λ h. empty))
 
       at_second : x.place ≡ 7 + length (store_actions t x bytes) → Falls t x (with_older x l)
-      at_second far =
-          (let eight : x.place + 1 ≡ 8 + length (store_actions t x bytes) = omega (arith, far) in
+      at_second far = (let eight : x.place + 1 ≡ 8 + length (store_actions t x bytes) = omega (arith, far) in
           let tail_j : left_of t (with_older x l) ≡ remove_actions t (with_older x l) ++ End ∷ [] =
-          ap (λ k. drop (x.place + 1) k) lists_j
-          ∙ (ap (λ n. drop n (actions_by t (with_older x l) (PutJob name bytes))) eight
-          ∙ drop_tail (store_actions t x bytes) (removes_by t l ++ End ∷ [])) in
-          let tail_x : left_of t x ≡ SyncGate ∷ (removes_by t x.older ++ End ∷ []) =
+          ap (λ k. drop (x.place + 1) k) lists_j ∙ (cc (drop_tail (store_actions t x bytes) (removes_by t l ++
+          End ∷ []))) in let tail_x : left_of t x ≡ SyncGate ∷ (removes_by t x.older ++ End ∷ []) =
           drop_here (actions_of t x) x.place SyncGate next_at
           ∙ ap (λ k. SyncGate ∷ k) (ap (λ k. drop (x.place + 1) k) lists
-          ∙ (ap (λ n. drop n (actions_by t x (PutJob name bytes))) eight
-          ∙ drop_tail (store_actions t x bytes) (removes_by t x.older ++ End ∷ []))) in
+          ∙ (cc (drop_tail (store_actions t x bytes) (removes_by t x.older ++ End ∷ [])))) in
           let few : FewOlder l =
-          subst FewOlder (sym (is
-          ∙ cond_false (is_first_append x) [] (removable w (file_in w name))
+          subst FewOlder (sym (is ∙ cond_false (is_first_append x) [] (removable w (file_in w name))
           (first_above x (omega (arith, far))))) (removable_few w (file_in w name)) in (
             decides t x (with_older x l) removes tail_x none tail_j few (undecided_now t x removes next_at)
                 (decided_now t (with_older x l) tail_j),
@@ -332,21 +306,15 @@ module _ (w : State) (x : Job) (next_at : slice_get (actions_of (setup_in w) x) 
 
   finish_drop : (name l : List ℕ) → x.kind ≡ DropJob name → l ≡ taken_out w x (DropJob name) →
       Falls t x (with_older x l)
-  finish_drop name l kind is =
-      (let removes : removes_older (aim_of x.kind) ≡ true = ap (λ k. removes_older (aim_of k)) kind in
+  finish_drop name l kind is = (let removes : removes_older (aim_of x.kind) ≡ true = cc in
       let none : x.older ≡ [] = settled (undecided_now t x removes next_at) in
       let lists : actions_of t x ≡ actions_by t x (DropJob name) = actions_are t x (DropJob name) kind in
       let lists_j : actions_of t (with_older x l) ≡ actions_by t (with_older x l) (DropJob name) =
       actions_are t (with_older x l) (DropJob name) kind in
       let three = drop_gate_at name (by_kind t x (DropJob name) x.place SyncGate kind next_at) in
       let four : x.place + 1 ≡ 4 = omega (arith, three) in
-      let tail_j : left_of t (with_older x l) ≡ remove_actions t (with_older x l) ++ End ∷ [] =
-      ap (λ k. drop (x.place + 1) k) lists_j
-      ∙ ap (λ n. drop n (actions_by t (with_older x l) (DropJob name))) four in
-      let tail_x : left_of t x ≡ SyncGate ∷ (removes_by t x.older ++ End ∷ []) =
-      drop_here (actions_of t x) x.place SyncGate next_at
-      ∙ ap (λ k. SyncGate ∷ k) (ap (λ k. drop (x.place + 1) k) lists
-      ∙ ap (λ n. drop n (actions_by t x (DropJob name))) four) in (
+      let tail_j : left_of t (with_older x l) ≡ remove_actions t (with_older x l) ++ End ∷ [] = cc in
+      let tail_x : left_of t x ≡ SyncGate ∷ (removes_by t x.older ++ End ∷ []) = cc in (
         decides t x (with_older x l) removes tail_x none tail_j
             (subst FewOlder (sym is) (removable_few w (file_in w name))) (undecided_now t x removes next_at)
             (decided_now t (with_older x l) tail_j),
@@ -355,14 +323,11 @@ module _ (w : State) (x : Job) (next_at : slice_get (actions_of (setup_in w) x) 
 
   finish_rest : (kind : Kind) (l : List ℕ) → x.kind ≡ kind → removes_older (aim_of kind) ≡ false →
       actions_by t (with_older x l) kind ≡ actions_by t x kind → Falls t x (with_older x l)
-  finish_rest kind l is none same =
-      (let lists : actions_of t (with_older x l) ≡ actions_of t x = actions_are t (with_older x l) kind is
-      ∙ (same ∙ sym (actions_are t x kind is)) in
-      let no_older : removes_older (aim_of x.kind) ≡ false = ap (λ k. removes_older (aim_of k)) is ∙ none in (
+  finish_rest kind l is none same = (let lists : actions_of t (with_older x l) ≡ actions_of t x =
+      cc (actions_are t (with_older x l) kind is, actions_are t x kind is) in
+      let no_older : removes_older (aim_of x.kind) ≡ false = cc in (
         inl (gate_falls t x (with_older x l) next_at refl refl (ap shape lists) (inl no_older)),
-        λ h. absurd (false≢true
-            (sym no_older ∙ (and_parts (removes_older (aim_of x.kind))
-            (nat_lt 0 (count_by ends_append (left_of t (with_older x l)))) h).0)),
+        λ h. absurd (false≢true (cc)),
       ))
 
   finish : (kind : Kind) (l : List ℕ) → x.kind ≡ kind → l ≡ taken_out w x kind → Falls t x (with_older x l)
@@ -375,15 +340,17 @@ module _ (w : State) (x : Job) (next_at : slice_get (actions_of (setup_in w) x) 
 flat_shape : (f g : ℕ → List Action) (us : List ℕ) → ((u : ℕ) → shape (f u) ≡ shape (g u)) →
     shape (flat_map f us) ≡ shape (flat_map g us)
 flat_shape f g [] h = refl
-flat_shape f g (u ∷ us) h = map-append ends_append (f u) (flat_map f us)
-    ∙ (ap (λ a. a ++ shape (flat_map f us)) (h u)
-    ∙ (ap (λ b. shape (g u) ++ b) (flat_shape f g us h)
-    ∙ sym (map-append ends_append (g u) (flat_map g us))))
+flat_shape f g (u ∷ us) h = cc (
+  map-append ends_append (f u) (flat_map f us),
+  h u,
+  flat_shape f g us h,
+  map-append ends_append (g u) (flat_map g us),
+)
 
 store_shape : (n m stripe : ℕ) (us : List ℕ) → shape (map (λ j. Store j n stripe) us)
     ≡ shape (map (λ j. Store j m stripe) us)
 store_shape n m stripe [] = refl
-store_shape n m stripe (u ∷ us) = ap (λ l. false ∷ l) (store_shape n m stripe us)
+store_shape n m stripe (u ∷ us) = cc (store_shape n m stripe us)
 
 stores_shape : (t : Setup) (p n m : ℕ) (bytes : List ℕ) (rest : List Action) →
     shape (on_each_stripe (profiled t p) (length bytes)
@@ -391,23 +358,25 @@ stores_shape : (t : Setup) (p n m : ℕ) (bytes : List ℕ) (rest : List Action)
     ≡ shape (on_each_stripe (profiled t p) (length bytes)
     (λ stripe. on_each_provider t (λ j. Store j m stripe)) ++ rest)
 stores_shape t p n m bytes rest =
-    (let k = on_each_stripe (profiled t p) (length bytes)
-    (λ stripe. on_each_provider t (λ j. Store j n stripe)) in
-    let l = on_each_stripe (profiled t p) (length bytes)
-    (λ stripe. on_each_provider t (λ j. Store j m stripe)) in
-    map-append ends_append k rest ∙ (ap (λ a. a ++ shape rest)
-    (flat_shape (λ stripe. on_each_provider t (λ j. Store j n stripe))
-    (λ stripe. on_each_provider t (λ j. Store j m stripe))
-    (upto (stripes_of (profiled t p) (length bytes))) (λ stripe. store_shape n m stripe (upto t.n)))
-    ∙ sym (map-append ends_append l rest)))
+    (let k = on_each_stripe (profiled t p) (length bytes) (λ stripe. on_each_provider t
+    (λ j. Store j n stripe)) in
+    let l = on_each_stripe (profiled t p) (length bytes) (λ stripe. on_each_provider t
+    (λ j. Store j m stripe)) in
+    cc (
+      map-append ends_append k rest,
+      flat_shape (λ stripe. on_each_provider t (λ j. Store j n stripe))
+          (λ stripe. on_each_provider t (λ j. Store j m stripe)) (upto (stripes_of (profiled t p) (length bytes)))
+          (λ stripe. store_shape n m stripe (upto t.n)),
+      map-append ends_append l rest,
+    ))
 
 abbrev with_subject : Job → ℕ → Job
 with_subject x n = record (advanced x) { subject = n }
 
 subject_shape : (t : Setup) (x : Job) (n : ℕ) (kind : Kind) →
     shape (actions_by t (with_subject x n) kind) ≡ shape (actions_by t x kind)
-subject_shape t x n (PutJob name bytes) = ap (λ l. false ∷ false ∷ false ∷ true ∷ l)
-    (stores_shape t x.profile n x.subject bytes (append_actions ++ (remove_actions t x ++ End ∷ [])))
+subject_shape t x n (PutJob name bytes) = cc (stores_shape t x.profile n x.subject bytes (append_actions ++
+    (remove_actions t x ++ End ∷ [])))
 subject_shape t x n kind = refl
 
 -- ---- a step that goes on
@@ -440,15 +409,13 @@ one_step old x action new j next_is settled passed = go passed
         ends_append action ≡ false → Falls (setup_in old) x j
     plain y is place kind older same no_gate = subst (Falls (setup_in old) x) (sym is)
         (let f = plain_falls (setup_in old) x y action at place kind
-        (ap shape (actions_are (setup_in old) y x.kind (sym kind))
-        ∙ (same ∙ ap shape (sym (list_is (setup_in old) x)))) no_gate in
+        (cc (actions_are (setup_in old) y x.kind (sym kind), list_is (setup_in old) x)) no_gate in
         (inl f.0, λ h. sym older ∙ settled (f.1 ∙ h)))
 
     go : Passed old x action new j → Falls (setup_in old) x j
-    go (Passed.silent quiet is rec) = plain (advanced x) is refl refl refl
-        (ap shape (actions_by-advanced (setup_in old) x x.kind)) (silent_plain action quiet)
-    go (Passed.gave gift is_gift is rec) = plain (advanced_with x gift) is refl refl refl
-        (ap shape (same_given (setup_in old) x gift x.kind)) (gift_plain old x new action gift is_gift)
+    go (Passed.silent quiet is rec) = plain (advanced x) is refl refl refl (cc) (silent_plain action quiet)
+    go (Passed.gave gift is_gift is rec) = plain (advanced_with x gift) is refl refl refl (cc)
+        (gift_plain old x new action gift is_gift)
     go (Passed.drew act is rec) = plain (with_subject x (subject_drawn old x x.kind)) is refl refl refl
         (subject_shape (setup_in old) x (subject_drawn old x x.kind) x.kind) (ap ends_append act)
     go (Passed.finished a act flight mine is rec) =
@@ -511,21 +478,23 @@ pub record Facts (start : State) (ms : List Moment) : Type 0 where
 module _ (limit : ℕ) (start : State) (m : Moment) (ms : List Moment) (A : All start ms) (F : Facts start ms)
     (X : Changes limit (length ms) (now start ms) m.event m.outcome m.state)
     (W : Walked (length ms) (now start ms) m.event m.outcome m.state) where
+  -- the state after these moments
+  abbrev w : State
+  w = now start ms
+
   within_step : (k : ℕ) (j : Job) → job_of m.state.jobs k ≡ Some j →
       j.place < length (actions_of (setup_in m.state) j)
   within_step k j h = subst (λ t. j.place < length (actions_of t j))
       (sym (setup_stays limit start m ms A.numbers A.pins X k j h)) (elim (W.job k j h) [
         | Went.kept r apart ↦ F.within k j r
-        | Went.begun kind wish is k_is rec ↦
-            (let e : j.place ≡ 0 = ap (λ (x : Job). x.place) is in
-            let l = (goes_within (setup_in (now start ms)) j).0 in omega (arith, e, l))
-        | Went.went x action g ↦
-            (let at : slice_get (actions_of (setup_in (now start ms)) j) x.place ≡ Some action =
-            list_before (now start ms) x action m.state j x.place g.next g.passed (omega arith)
-            ∙ list_now (now start ms) x action m.state j g.next g.passed in
-            let place = passed_place (now start ms) x action m.state j g.passed in
-            elim ((goes_within (setup_in (now start ms)) j).1 x.place action at) [
-              | inl e ↦ absurd (passed_not_end (now start ms) x action m.state j g.passed e)
+        | Went.begun kind wish is k_is rec ↦ (let e : j.place ≡ 0 = cc in
+            let l = (goes_within (setup_in w) j).0 in omega (arith, e, l))
+        | Went.went x action g ↦ (let at : slice_get (actions_of (setup_in w) j) x.place ≡ Some action =
+            list_before w x action m.state j x.place g.next g.passed (omega arith)
+            ∙ list_now w x action m.state j g.next g.passed in
+            let place = passed_place w x action m.state j g.passed in
+            elim ((goes_within (setup_in w) j).1 x.place action at) [
+              | inl e ↦ absurd (passed_not_end w x action m.state j g.passed e)
               | inr l ↦ omega (arith, l, place)
             ])
       ])
@@ -534,14 +503,12 @@ module _ (limit : ℕ) (start : State) (m : Moment) (ms : List Moment) (A : All 
       j.older ≡ []
   older_step k j h undecided = elim (W.job k j h) [
     | Went.kept r apart ↦ F.older k j r open_old
-    | Went.begun kind wish is k_is rec ↦ ap (λ (x : Job). x.older) is
-    | Went.went x action g ↦
-        (one_step (now start ms) x action m.state j g.next (F.older k x g.runs) g.passed).1 open_old
+    | Went.begun kind wish is k_is rec ↦ cc
+    | Went.went x action g ↦ (one_step w x action m.state j g.next (F.older k x g.runs) g.passed).1 open_old
   ]
     where
-      open_old : is_undecided (setup_in (now start ms)) j ≡ true
-      open_old = subst (λ t. is_undecided t j ≡ true)
-          (setup_stays limit start m ms A.numbers A.pins X k j h) undecided
+      open_old : is_undecided (setup_in w) j ≡ true
+      open_old = cc (setup_stays limit start m ms A.numbers A.pins X k j h)
 
   step_facts : Facts start (m ∷ ms)
   step_facts = record {
@@ -551,35 +518,31 @@ module _ (limit : ℕ) (start : State) (m : Moment) (ms : List Moment) (A : All 
   }
 
   -- a job that ran before and runs after stayed, or went on
-  pub stayed : (k : ℕ) (before job : Job) → job_of (now start ms).jobs k ≡ Some before →
-      job_of m.state.jobs k ≡ Some job → (m.event ≡ Step k → m.outcome ≡ More → ⊥) →
-      most_left (setup_in m.state) job ≡ most_left (setup_in (now start ms)) before
+  pub stayed : (k : ℕ) (before job : Job) → job_of w.jobs k ≡ Some before → job_of m.state.jobs k ≡ Some job →
+      (m.event ≡ Step k → m.outcome ≡ More → ⊥) → most_left (setup_in m.state) job ≡ most_left (setup_in w)
+      before
   stayed k before job runs h other = ap (λ t. most_left t job)
       (setup_stays limit start m ms A.numbers A.pins X k job h) ∙ elim (W.job k job h) [
-        | Went.kept r apart ↦ ap (most_left (setup_in (now start ms))) (same_value _ job before r runs)
+        | Went.kept r apart ↦ cc
         | Went.begun kind wish is k_is rec ↦
             absurd (let l = A.numbers.jobs_below k before runs in omega (arith, l, k_is))
         | Went.went x action g ↦ absurd (other g.event g.outcome)
       ]
 
   -- by a step that a job makes its steps left fall by one, or also by the removals that it then skips
-  pub fell : (k : ℕ) (before job : Job) → job_of (now start ms).jobs k ≡ Some before →
-      job_of m.state.jobs k ≡ Some job → m.event ≡ Step k → m.outcome ≡ More →
-      (most_left (setup_in (now start ms)) before ≡ suc (most_left (setup_in m.state) job))
-      ⊎ (SkipsRemovals (setup_in m.state) before job ×
-      (most_left (setup_in (now start ms)) before ≡ suc
+  pub fell : (k : ℕ) (before job : Job) → job_of w.jobs k ≡ Some before → job_of m.state.jobs k ≡ Some job →
+      m.event ≡ Step k → m.outcome ≡ More → (most_left (setup_in w) before ≡ suc (most_left (setup_in m.state)
+      job)) ⊎ (SkipsRemovals (setup_in m.state) before job × (most_left (setup_in w) before ≡ suc
       (most_left (setup_in m.state) job + (setup_in m.state).n)))
   fell k before job runs h event outcome =
-      subst (λ t. (most_left (setup_in (now start ms)) before ≡ suc (most_left t job)) ⊎
-      (SkipsRemovals t before job ×
-      (most_left (setup_in (now start ms)) before ≡ suc (most_left t job + t.n))))
-      (sym (setup_stays limit start m ms A.numbers A.pins X k job h)) (elim (W.job k job h) [
+      subst (λ t. (most_left (setup_in w) before ≡ suc (most_left t job)) ⊎ (SkipsRemovals t before job
+      × (most_left (setup_in w) before ≡ suc (most_left t job + t.n)))) (sym (setup_stays limit start m ms
+      A.numbers A.pins X k job h)) (elim (W.job k job h) [
         | Went.kept r apart ↦ absurd (apart event outcome)
         | Went.begun kind wish is k_is rec ↦
             absurd (let l = A.numbers.jobs_below k before runs in omega (arith, l, k_is))
-        | Went.went x action g ↦ subst (λ (y : Job). FallsBy (setup_in (now start ms)) y job)
-            (same_value _ x before g.runs runs)
-            (one_step (now start ms) x action m.state job g.next (F.older k x g.runs) g.passed).0
+        | Went.went x action g ↦ subst (λ (y : Job). FallsBy (setup_in w) y job) (cc) (one_step w x action
+            m.state job g.next (F.older k x g.runs) g.passed).0
       ])
 
 -- in every run a job that runs is before its end, and takes nothing away until it has decided on it

@@ -6,8 +6,7 @@ use Rattle.std.proofs.Common.{◌≡◌, ℕ, Bool, false, List, [], ◌∷◌, 
 named_put : (b : Bool) (name : List ℕ) (k size profile : ℕ) (rest : Option File) (f : File) →
     cond b (Some (file_as name k size profile)) rest ≡ Some f → (rest ≡ Some f → f.name ≡ name) →
     f.name ≡ name
-named_put true name k size profile rest f h old =
-    (let same : file_as name k size profile ≡ f = cc in sym (ap (λ (x : File). x.name) same))
+named_put true name k size profile rest f h old = (let same : file_as name k size profile ≡ f = cc in cc)
 named_put false name k size profile rest f h old = old h
 
 -- a file in effect has the name
@@ -19,9 +18,8 @@ file_named (PutDone k size ∷ rs) name f h =
     named_put (is_start_of name (started_as rs k)) name k size (profile_in (setup_of rs)) (file_of rs name) f
     h (file_named rs name f)
 file_named (Drop n ∷ rs) name f h = elim (cases_Bool (is_same_name n name)) [
-  | inl t ↦ absurd (some-not-none (file_of (Drop n ∷ rs) name) f h
-      (cond_true (is_same_name n name) None (file_of rs name) t))
-  | inr o ↦ file_named rs name f (sym (cond_false (is_same_name n name) None (file_of rs name) o) ∙ h)
+  | inl t ↦ absurd (some-not-none (file_of (Drop n ∷ rs) name) f h (cc))
+  | inr o ↦ file_named rs name f (cc)
 ]
 file_named (AuditStart number ∷ rs) name f h = file_named rs name f h
 file_named (AuditDone number undecided counts ∷ rs) name f h = file_named rs name f h
@@ -62,7 +60,7 @@ without_old (f ∷ fs) n g h other = elim (cases_Bool (is_same_name f.name n)) [
   | inl t ↦ subst (λ l. In g l)
       (sym (cond_true (is_same_name f.name n) (without_file fs n) (f ∷ without_file fs n) t))
       (elim h [
-        | inl e ↦ absurd (false≢true (sym other ∙ (ap (λ (x : File). is_same_name x.name n) e ∙ t)))
+        | inl e ↦ absurd (false≢true (cc))
         | inr i ↦ without_old fs n g i other
       ])
   | inr o ↦ subst (λ l. In g l)
@@ -72,7 +70,7 @@ without_old (f ∷ fs) n g h other = elim (cases_Bool (is_same_name f.name n)) [
 
 apart : (n name : List ℕ) → is_same_name n name ≡ false → is_same_name name n ≡ false
 apart n name o = elim (cases_Bool (is_same_name name n)) [
-  | inl t ↦ absurd (false≢true (sym o ∙ (ap (λ x. is_same_name n x) (same-eq name n t) ∙ same-refl n)))
+  | inl t ↦ absurd (false≢true (cc (same-eq name n t, same-refl n)))
   | inr f ↦ f
 ]
 
@@ -88,10 +86,9 @@ in_put fs (Some n) name k size profile rest f h named old = by_name (is_same_nam
         In f (with_file (without_file fs n) (file_as n k size profile))
     by_name true t e = (let same : file_as name k size profile ≡ f = cc in
         subst (λ (x : File). In x (with_file (without_file fs n) (file_as n k size profile)))
-        (ap (λ (l : List ℕ). file_as l k size profile) (same-eq n name t) ∙ same)
-        (with_new (without_file fs n) (file_as n k size profile)))
-    by_name false o e = with_old (without_file fs n) (file_as n k size profile) f
-        (without_old fs n f (old e) (ap (λ x. is_same_name x n) (named e) ∙ apart n name o))
+        (cc (same-eq n name t)) (with_new (without_file fs n) (file_as n k size profile)))
+    by_name false o e = with_old (without_file fs n) (file_as n k size profile) f (without_old fs n f (old e)
+        (cc (named e, apart n name o)))
 
 in_files : (rs : List Record) (name : List ℕ) (f : File) → file_of rs name ≡ Some f → In f (files_of rs)
 in_files [] name f h = absurd (some-not-none None f h refl)
@@ -101,11 +98,9 @@ in_files (PutDone k size ∷ rs) name f h =
     in_put (files_of rs) (started_as rs k) name k size (profile_in (setup_of rs)) (file_of rs name) f h
     (file_named rs name f) (in_files rs name f)
 in_files (Drop n ∷ rs) name f h = elim (cases_Bool (is_same_name n name)) [
-  | inl t ↦ absurd (some-not-none (file_of (Drop n ∷ rs) name) f h
-      (cond_true (is_same_name n name) None (file_of rs name) t))
-  | inr o ↦ (let old = sym (cond_false (is_same_name n name) None (file_of rs name) o) ∙ h in
-      without_old (files_of rs) n f (in_files rs name f old)
-      (ap (λ x. is_same_name x n) (file_named rs name f old) ∙ apart n name o))
+  | inl t ↦ absurd (some-not-none (file_of (Drop n ∷ rs) name) f h (cc))
+  | inr o ↦ (let old = sym (cc) ∙ h in
+      without_old (files_of rs) n f (in_files rs name f old) (cc (file_named rs name f old, apart n name o)))
 ]
 in_files (AuditStart number ∷ rs) name f h = in_files rs name f h
 in_files (AuditDone number undecided counts ∷ rs) name f h = in_files rs name f h

@@ -131,9 +131,7 @@ final_put t x y id size profile (PutJob name bytes) a h = (
   h.1,
   sym a.profile ∙ h.2,
   (let e : length (stores_by t y.profile y.subject bytes) ≡ length (stores_by t x.profile x.subject bytes) =
-      ap (λ n. length (stores_by t y.profile n bytes)) (sym a.subject) ∙ ap (λ p. length (stores_by t p x.subject bytes)) (sym a.profile) in let l =
-      h.3 in let p = a.place in
-      subst (λ k. 4 + k ≤ y.place) (sym e) (omega (arith, l, p))),
+      cc in let l = h.3 in let p = a.place in subst (λ k. 4 + k ≤ y.place) (sym e) (omega (arith, l, p))),
 )
 final_put t x y id size profile kind a h = h
 
@@ -141,8 +139,7 @@ final_audit : (t : Setup) (x y : Job) (id undecided : ℕ) (counts : List ℕ) (
     Alike t x y → FinalAudit t x id undecided counts kind → FinalAudit t y id undecided counts kind
 final_audit t x y id undecided counts AuditJob is a h = (
   sym a.subject ∙ h.0,
-  (let e : length (asks_by t y.pinned) ≡ length (asks_by t x.pinned) =
-      ap (λ p. length (asks_by t p)) (sym a.pinned) in let l = h.1 in let p = a.place in
+  (let e : length (asks_by t y.pinned) ≡ length (asks_by t x.pinned) = cc in let l = h.1 in let p = a.place in
       subst (λ k. 4 + k ≤ y.place) (sym e) (omega (arith, l, p))),
   sums_same t x y (record { counts = counts; undecided = undecided }) a.pinned a.subject
       (a.given id undecided counts AuditJob h is) h.2,
@@ -153,11 +150,8 @@ final_repair : (t : Setup) (x y : Job) (id : ℕ) (kind : Kind) → Alike t x y 
     FinalRepair t y id kind
 final_repair t x y id RepairJob a h = (
   sym a.subject ∙ h.0,
-  (let e : length (repairs_by t y.pinned y.flagged) ≡ length (repairs_by t x.pinned x.flagged) =
-      ap (λ p. length (repairs_by t p y.flagged)) (sym a.pinned)
-      ∙ ap (λ f. length (repairs_by t x.pinned f)) (sym a.flagged) in
-      let l = h.1 in let p = a.place in
-      subst (λ k. k ≤ y.place) (sym e) (omega (arith, l, p))),
+  (let e : length (repairs_by t y.pinned y.flagged) ≡ length (repairs_by t x.pinned x.flagged) = cc in
+      let l = h.1 in let p = a.place in subst (λ k. k ≤ y.place) (sym e) (omega (arith, l, p))),
 )
 final_repair t x y id kind a h = h
 
@@ -218,8 +212,7 @@ final_on old x action new j b flight free next_is (Passed.finished a act at mine
       given = λ n u c kind f k. refl;
     }) h
 final_on old x action new j b flight free next_is (Passed.drew act is rec) h =
-    absurd (let e : Some b.job ≡ None = sym (ap (λ (f : Option Append). holder_of f WriteBody) flight)
-    ∙ (ap (holder_of old.append) (sym act) ∙ free) in cc)
+    absurd (let e : Some b.job ≡ None = cc in cc)
 final_on old x action new j b flight free next_is (Passed.gave gift is_gift is rec) h =
     final_is (setup_in old) x (advanced_with x gift) j b.entry is refl (record {
       subject = refl;
@@ -242,17 +235,14 @@ writes_final : (w : State) (x : Job) (kind : Kind) (entry : Record) →
     x.profile ≡ (setup_in w).profile) → x.kind ≡ kind → next_action w x ≡ Some WriteBody →
     Writes w x kind entry → Final (setup_in w) (drawn w x) entry kind
 writes_final w x (PutJob name bytes) entry plain is next_is h = elim (cases_lt x.place 4) [
-  | inl l ↦ subst (λ r. Final (setup_in w) (drawn w x) r (PutJob name bytes))
-      (sym (h ∙ cond_true (is_first_append x) (PutStart (next_id w.records) name)
-      (done_record (version_of w.records) x.subject (length bytes) x.profile) (first_below x l))) tt
+  | inl l ↦ cc (cond_true (is_first_append x) (PutStart (next_id w.records) name)
+      (done_record (version_of w.records) x.subject (length bytes) x.profile) (first_below x l))
   | inr l ↦ (let first = first_above x l in
       let same : (drawn w x).subject ≡ x.subject = drawn_later w x x.kind first in
       let late = put_late w x name bytes WriteBody is next_is l (λ z. z) (λ e. cc) in
-      subst (λ r. Final (setup_in w) (drawn w x) r (PutJob name bytes))
-      (sym (h ∙ cond_false (is_first_append x) (PutStart (next_id w.records) name)
-      (done_record (version_of w.records) x.subject (length bytes) x.profile) first))
-      (done_final (setup_in w) (drawn w x) (version_of w.records) x.subject (length bytes) x.profile
-      (PutJob name bytes) (plain name bytes refl) (
+      subst (λ r. Final (setup_in w) (drawn w x) r (PutJob name bytes)) (cc) (done_final (setup_in w)
+      (drawn w x) (version_of w.records) x.subject (length bytes) x.profile (PutJob name bytes)
+      (plain name bytes refl) (
         same,
         refl,
         refl,
@@ -261,8 +251,7 @@ writes_final w x (PutJob name bytes) entry plain is next_is h = elim (cases_lt x
       )))
 ]
 writes_final w x (GetJob name) entry plain is next_is h = absurd h
-writes_final w x (DropJob name) entry plain is next_is h =
-    subst (λ r. Final (setup_in w) (drawn w x) r (DropJob name)) (sym h) tt
+writes_final w x (DropJob name) entry plain is next_is h = cc
 writes_final w x AuditJob entry plain is next_is h = elim (cases_lt x.place 4) [
   | inl l ↦ subst (λ r. Final (setup_in w) (drawn w x) r AuditJob)
       (sym (let g = rw (first_below x l) at h in g)) tt
@@ -276,11 +265,8 @@ writes_final w x AuditJob entry plain is next_is h = elim (cases_lt x.place 4) [
 ]
 writes_final w x RepairJob entry plain is next_is h =
     (let late = move_behind (setup_in w) x x.place WriteBody is (next_stands w x WriteBody next_is (λ e. cc))
-    (λ z. z) in
-    subst (λ r. Final (setup_in w) (drawn w x) r RepairJob) (sym h)
-    (ap (subject_drawn w x) is, omega (arith, late)))
-writes_final w x UpgradeJob entry plain is next_is h =
-    subst (λ r. Final (setup_in w) (drawn w x) r UpgradeJob) (sym h) tt
+    (λ z. z) in subst (λ r. Final (setup_in w) (drawn w x) r RepairJob) (sym h) (cc, omega (arith, late)))
+writes_final w x UpgradeJob entry plain is next_is h = cc
 
 -- ---- at each moment of a run
 
@@ -298,19 +284,17 @@ flight_step limit start m ms A V M F X W a j h hj =
     (elim (X.append a h) [
       | Append_is.kept b flight job_is entry rec ↦ subst (λ r. Final (setup_in (now start ms)) j r j.kind)
           (sym entry) (elim (W.job a.job j hj) [
-            | Went.kept r apart ↦ F b j flight (subst (λ n. job_of (now start ms).jobs n ≡ Some j) job_is r)
+            | Went.kept r apart ↦ F b j flight (cc)
             | Went.begun kind wish is k_is rec2 ↦
                 absurd (let l = A.numbers.holder b flight in omega (arith, l, k_is, job_is))
             | Went.went x action g ↦
                 final_on (now start ms) x action m.state j b flight g.unheld g.next g.passed
-                (F b x flight (subst (λ n. job_of (now start ms).jobs n ≡ Some x) job_is g.runs))
+                (F b x flight (cc))
           ])
-      | Append_is.drew x runs next_is mine writes found rec ↦
-          (let is = same_value _ j _ (subst (λ n. job_of m.state.jobs n ≡ Some j) mine hj) found in
+      | Append_is.drew x runs next_is mine writes found rec ↦ (let is = same_value _ j _ (cc) found in
           subst (λ (z : Job). Final (setup_in (now start ms)) z a.entry z.kind) (sym is)
-          (writes_final (now start ms) x x.kind a.entry
-          (λ name bytes kind first. V.plain x.number x name bytes runs kind first
-          ∙ sym (setup_profile (now start ms))) refl next_is writes))
+          (writes_final (now start ms) x x.kind a.entry (λ name bytes kind first. V.plain x.number x name
+          bytes runs kind first ∙ sym (setup_profile (now start ms))) refl next_is writes))
     ])
 
 -- at a start no append is in flight

@@ -43,8 +43,7 @@ module _ (moment : ℕ) (old new : State) (lone : IsLone old) (scrub : Scrub)
       StepsMine old number (Scrubbing scrub) mine (Ended (answer.Scrubbed a xs ys)) new →
       HasEnded old new scrub
   steps_mine number true h = steps_scrub scrub.todo refl h
-  steps_mine number false h =
-      no_job (job_of old.jobs number) (ap (λ l. job_of l number) (lone (Scrubbing scrub) at)) h
+  steps_mine number false h = no_job (job_of old.jobs number) (cc (lone (Scrubbing scrub) at)) h
 
   steps_open : (number : ℕ) (is_barred : Bool) →
       StepsOpen old number is_barred (Ended (answer.Scrubbed a xs ys)) new → HasEnded old new scrub
@@ -127,6 +126,10 @@ module _ (limit : ℕ) (start : State) (m : Moment) (ms : List Moment) (clean : 
     (tell : AllTell start) (run : IsRun limit start (m ∷ ms)) (calm : IsCalm relies (scrubbed start) ms)
     (calm_scrubs : AreScrubsCalm (scrubbed start) ms)
     (W : Sweep start ms) where
+  -- the state after these moments
+  abbrev here : State
+  here = now start ms
+
   marked : IsMarkedRun limit (scrubbed start) start ms
   marked = record { clean = clean; tell = tell; run = run.2; calm = calm; marks = W.marks }
 
@@ -136,47 +139,43 @@ module _ (limit : ℕ) (start : State) (m : Moment) (ms : List Moment) (clean : 
     owns_stay limit (scrubbed start) start m ms marked calm_scrubs run (scrubbed start ms) moment.before W.owns,
   ))
 
-  lone : IsLone (now start ms)
+  lone : IsLone here
   lone = (all limit start clean ms run.2).numbers.idle.lone
 
-  finished : (scrub : Scrub) → (now start ms).alone ≡ Some (Scrubbing scrub) →
-      HasEnded (now start ms) m.state scrub → Since start (m ∷ ms) scrub.begun
+  finished : (scrub : Scrub) → here.alone ≡ Some (Scrubbing scrub) → HasEnded here m.state scrub →
+      Since start (m ∷ ms) scrub.begun
   finished scrub at H = (
     record {
       before = record {
         early = (let l = (W.scrubs scrub at).begun in omega arith);
-        puts = λ number job name bytes runs kind. absurd
-            (found_none m.state.jobs number job (ap (λ (w : State). w.jobs) H.is
-            ∙ lone (Scrubbing scrub) at) runs);
-        doubts = λ d version id size profile in_doubt e. absurd
-            ((always limit start clean ms run.2).lone_sure scrub d at (sym (ap (λ (w : State). w.doubt) H.is)
-            ∙ in_doubt));
+        puts = λ number job name bytes runs kind. absurd (found_none m.state.jobs number job
+            (cc (lone (Scrubbing scrub) at)) runs);
+        doubts = λ d version id size profile in_doubt e. absurd ((always limit start clean ms run.2).lone_sure
+            scrub d at (cc));
       };
       clear = λ q f i s h l k bad. clear q f i s (stood q f h) (within i l) (below f s k)
-          (bad_same (now start ms) f.profile f.id i s
-          (subst (λ (w : State). IsBad w f.profile f.id i s) H.is bad));
+          (bad_same here f.profile f.id i s (subst (λ (w : State). IsBad w f.profile f.id i s) H.is bad));
     },
     λ q f i s block h l k unreplaced told. elim (swept q f i s block (stood q f h) (within i l) (below f s k)
-        (subst (λ (w : State). told_block w i f.id s ≡ Some block) H.is told)) [
-          | inl own ↦ subst (λ (w : State). block ≡ Some (columns (file_object w f) (w.bytes f.id) i s))
-              (sym H.is) (own_same (now start ms) f i s block own)
-          | inr r ↦ absurd (false≢true (sym unreplaced ∙ since_more scrub.begun i m ms r))
+        (cc)) [
+          | inl own ↦ cc (own_same here f i s block own)
+          | inr r ↦ absurd (false≢true (cc (since_more scrub.begun i m ms r)))
         ],
   )
     where
       C : Swept start ms scrub
       C = W.swept scrub at
 
-      stood : (q : List ℕ) (f : File) → file_in m.state q ≡ Some f → file_in (now start ms) q ≡ Some f
-      stood q f h = sym (ap (λ (w : State). file_in w q) H.is) ∙ h
+      stood : (q : List ℕ) (f : File) → file_in m.state q ≡ Some f → file_in here q ≡ Some f
+      stood q f h = cc
 
-      within : (i : ℕ) → i < (setup_in m.state).n → i < (setup_in (now start ms)).n
-      within i l = below_same (now start ms) i (subst (λ (w : State). i < (setup_in w).n) H.is l)
+      within : (i : ℕ) → i < (setup_in m.state).n → i < (setup_in here).n
+      within i l = below_same here i (subst (λ (w : State). i < (setup_in w).n) H.is l)
 
       below : (f : File) (s : ℕ) → s < stripes (file_object m.state f) (length (m.state.bytes f.id)) →
-          s < pinned_stripes (setup_in (now start ms)) (pinned_file (now start ms) f)
-      below f s k = stripe_same (now start ms) f s
-          (subst (λ (w : State). s < stripes (file_object w f) (length (w.bytes f.id))) H.is k)
+          s < pinned_stripes (setup_in here) (pinned_file here f)
+      below f s k = stripe_same here f s (subst (λ (w : State). s < stripes (file_object w f)
+          (length (w.bytes f.id))) H.is k)
 
       none_left : (x : Action) → (x ≡ End → ⊥) → In x scrub.todo → ⊥
       none_left x other h = elim (subst (In x) H.todo h) [
@@ -185,43 +184,37 @@ module _ (limit : ℕ) (start : State) (m : Moment) (ms : List Moment) (clean : 
       ]
 
       -- nothing is left to do: each block is the provider's own column, or its provider was replaced
-      swept : (q : List ℕ) (f : File) (i s : ℕ) (block : Option (List ℕ)) →
-          file_in (now start ms) q ≡ Some f → i < (setup_in (now start ms)).n →
-          s < pinned_stripes (setup_in (now start ms)) (pinned_file (now start ms) f) →
-          told_block (now start ms) i f.id s ≡ Some block →
-          (block ≡ Some (columns (file_object (now start ms) f) ((now start ms).bytes f.id) i s)) ⊎
-          IsReplaced scrub.begun i ms
-      swept q f i s block h l k told =
-          elim (C.left (pinned_file (now start ms) f) i s block (C.all q f h) l k told) [
-            | inl own ↦ inl own
-            | inr (inl r) ↦ inr r
-            | inr (inr (inl w)) ↦
-                absurd (none_left (Work f.id s) (λ e. (let z : Work f.id s ≡ End = e in cc)) w)
-            | inr (inr (inr st)) ↦ absurd
-                (none_left (Store i f.id s) (λ e. (let z : Store i f.id s ≡ End = e in cc)) st)
-          ]
+      swept : (q : List ℕ) (f : File) (i s : ℕ) (block : Option (List ℕ)) → file_in here q ≡ Some f →
+          i < (setup_in here).n → s < pinned_stripes (setup_in here) (pinned_file here f) →
+          told_block here i f.id s ≡ Some block → (block ≡ Some (columns (file_object here f)
+          (here.bytes f.id) i s)) ⊎ IsReplaced scrub.begun i ms
+      swept q f i s block h l k told = elim (C.left (pinned_file here f) i s block (C.all q f h) l k told) [
+        | inl own ↦ inl own
+        | inr (inl r) ↦ inr r
+        | inr (inr (inl w)) ↦
+            absurd (none_left (Work f.id s) (λ e. (let z : Work f.id s ≡ End = e in cc)) w)
+        | inr (inr (inr st)) ↦ absurd
+            (none_left (Store i f.id s) (λ e. (let z : Store i f.id s ≡ End = e in cc)) st)
+      ]
 
-      clear : (q : List ℕ) (f : File) (i s : ℕ) → file_in (now start ms) q ≡ Some f →
-          i < (setup_in (now start ms)).n →
-          s < pinned_stripes (setup_in (now start ms)) (pinned_file (now start ms) f) →
-          IsBad (now start ms) f.profile f.id i s → IsReplaced scrub.begun i (m ∷ ms) ⊎ ⊥
+      clear : (q : List ℕ) (f : File) (i s : ℕ) → file_in here q ≡ Some f → i < (setup_in here).n →
+          s < pinned_stripes (setup_in here) (pinned_file here f) → IsBad here f.profile f.id i s →
+          IsReplaced scrub.begun i (m ∷ ms) ⊎ ⊥
       clear q f i s h l k (block, told, wrong) = elim (swept q f i s block h l k told) [
-        | inl own ↦ absurd (right_block (file_object (now start ms) f) ((now start ms).bytes f.id) i s
-            (subst (λ y. is_wrong_block (file_object (now start ms) f) ((now start ms).bytes f.id) i s y
-            ≡ true) own wrong))
+        | inl own ↦ absurd (right_block (file_object here f) (here.bytes f.id) i s (cc))
         | inr r ↦ inl (since_more scrub.begun i m ms r)
       ]
 
-  by_alone : (x : Option Alone) → (now start ms).alone ≡ x → (a : ℕ) (xs ys : List ℕ) →
+  by_alone : (x : Option Alone) → here.alone ≡ x → (a : ℕ) (xs ys : List ℕ) →
       m.outcome ≡ Ended (answer.Scrubbed a xs ys) → Since start (m ∷ ms) (scrub_begun x (scrubbed start ms))
-  by_alone (Some (Scrubbing scrub)) at a xs ys is = finished scrub at
-      (scrub_ends (length ms) (now start ms) m.state lone scrub at a xs ys limit m.event
-      (subst (λ r. Happens limit (length ms) (now start ms) m.event r m.state) is run.1))
+  by_alone (Some (Scrubbing scrub)) at a xs ys is =
+      finished scrub at (scrub_ends (length ms) here m.state lone scrub at a xs ys limit m.event
+      (subst (λ r. Happens limit (length ms) here m.event r m.state) is run.1))
   by_alone x at a xs ys is = stays
 
-  by_outcome : (r : Outcome) → m.outcome ≡ r →
-      Since start (m ∷ ms) (mark_scrubbed (now start ms).alone r (scrubbed start ms))
-  by_outcome (Ended (answer.Scrubbed a xs ys)) is = by_alone (now start ms).alone refl a xs ys is
+  by_outcome : (r : Outcome) → m.outcome ≡ r → Since start (m ∷ ms) (mark_scrubbed here.alone r
+      (scrubbed start ms))
+  by_outcome (Ended (answer.Scrubbed a xs ys)) is = by_alone here.alone refl a xs ys is
   by_outcome r is = stays
 
   sweep_step : Sweep start (m ∷ ms)
@@ -231,9 +224,8 @@ module _ (limit : ℕ) (start : State) (m : Moment) (ms : List Moment) (clean : 
     scrubs = scrub_on limit (scrubbed start) start m ms clean tell run calm_scrubs
         (mark_now (scrubbed start) start ms W.marks) W.scrubs;
     swept = swept_step limit (scrubbed start) start m ms A (eff.facts limit start ms clean run.2)
-        (changes limit (length ms) (now start ms) m.event m.outcome m.state A.numbers.idle run.1)
-        (all_tell limit start ms tell run.2)
-        W.scrubs W.swept (calm_scrub (scrubbed start) start clean ms calm_scrubs)
+        (changes limit (length ms) here m.event m.outcome m.state A.numbers.idle run.1) (all_tell limit start
+        ms tell run.2) W.scrubs W.swept (calm_scrub (scrubbed start) start clean ms calm_scrubs)
         (scrub_was limit start m ms clean run);
   })
 
@@ -301,10 +293,9 @@ exact_by_scrubs limit start later before clean tell run h q f i s in_effect l k 
         ((now start (later ++ before)).bytes f.id) i s))
     by_told None is some = absurd (false≢true some)
     by_told (Some held) is some =
-        (let told : told_block (now start (later ++ before)) i f.id s ≡ Some (held f.id s) =
-        ap (option_map (λ (y : Held). y f.id s)) is in
-        told ∙ ap Some ((owns_later limit start clean tell before later run h.jobs h.scrubs).1 q f i s
-        (held f.id s) in_effect l k unreplaced told))
+        (let told : told_block (now start (later ++ before)) i f.id s ≡ Some (held f.id s) = cc in
+        cc ((owns_later limit start clean tell before later run h.jobs h.scrubs).1 q f i s (held f.id s)
+        in_effect l k unreplaced told))
 
 -- ---- where no scrub begins
 

@@ -37,7 +37,7 @@ flags_now tolerance ps start [] h = h
 flags_now tolerance ps start (m ∷ ms) h = h.0
 
 is_audit : (kind : Kind) → kind ≡ AuditJob → IsAudit kind
-is_audit kind is = subst IsAudit (sym is) tt
+is_audit kind is = cc
 
 up_some : (o : Option Setup) → is_some o ≡ true → (s : Setup) × (o ≡ Some s)
 up_some None h = absurd (false≢true h)
@@ -164,18 +164,14 @@ module _ (limit : ℕ) (start : State) (clean : IsStart start) (tolerance : ℕ)
     -- what comes into doubt meanwhile has the counts with which the audit ends
     meanwhile : (front part : List Moment) → auditing ≡ front ++ part → (n u : ℕ) (c : List ℕ) →
         Gates start (part ++ b ∷ older) n u c → Flags tolerance ps c
-    meanwhile front part is n u c g =
-        (let ms = part ++ b ∷ older in
-        let whole : auditing ++ b ∷ older ≡ front ++ ms =
-        ap (λ l. l ++ b ∷ older) is ∙ append_assoc front part (b ∷ older) in
+    meanwhile front part is n u c g = (let ms = part ++ b ∷ older in
+        let whole : auditing ++ b ∷ older ≡ front ++ ms = cc (append_assoc front part (b ∷ older)) in
         let run_whole = subst (IsRun limit start) whole run.2 in
         let run_ms = run_back limit start front ms run_whole in
         let none = none_part front part (subst (NoneBeganFor IsAudit) is none_beside) in
         let out = only_its IsAudit limit start part older b run_ms none_at none g.job.number g.job g.runs
-        (is_audit g.job.kind g.kind) in
-        let same : g.job.number ≡ k = number_is (sym out ∙ begun) in
-        let runs : job_of (now start ms).jobs k ≡ Some g.job =
-        subst (λ i. job_of (now start ms).jobs i ≡ Some g.job) same g.runs in
+        (is_audit g.job.kind g.kind) in let same : g.job.number ≡ k = number_is (sym out ∙ begun) in
+        let runs : job_of (now start ms).jobs k ≡ Some g.job = cc in
         let at_job = subst (λ i. job_of (now start ms).jobs i ≡ Some g.job) (sym g.mine) g.runs in
         let E = always limit start clean ms run_ms in
         let entry = E.audit_entry g.append g.job n u c g.flies at_job g.kind g.entry in
@@ -188,20 +184,17 @@ module _ (limit : ℕ) (start : State) (clean : IsStart start) (tolerance : ℕ)
         (subst (λ hs. job_of (now start hs).jobs k ≡ Some x.0) whole x.1) in
         let s = setup_in (now start ms) in
         let whole_setup : setup_in (now start (auditing ++ b ∷ older)) ≡ s =
-        ap (λ hs. setup_in (now start hs)) whole ∙ setup_same (now start (front ++ ms)) (now start ms)
-        (setups_stay limit start front ms up.0 clean run_whole up.1 ∙ sym up.1) in
-        let own = audit_running limit start clean ms run_ms g.append g.job g.job.number n u c g.flies g.runs g.mine
-        g.entry in
-        let mine : HasSums s x.0 (record { counts = c; undecided = u }) =
+        cc (setup_same (now start (front ++ ms)) (now start ms) (setups_stay limit start front ms up.0 clean
+        run_whole up.1 ∙ sym up.1)) in
+        let own = audit_running limit start clean ms run_ms g.append g.job g.job.number n u c g.flies g.runs
+        g.mine g.entry in let mine : HasSums s x.0 (record { counts = c; undecided = u }) =
         sums_same s g.job x.0 (record { counts = c; undecided = u }) (sym L.pinned) (sym L.subject) L.given
-        own.sums in
-        let its : HasSums s x.0 (record { counts = counts; undecided = undecided }) =
+        own.sums in let its : HasSums s x.0 (record { counts = counts; undecided = undecided }) =
         subst (λ t. HasSums t x.0 (record { counts = counts; undecided = undecided })) whole_setup
         (subst (λ kd. Ends (now start (auditing ++ b ∷ older)) x.0 kd (Audited number undecided counts)) x.3
-        x_end.1).1 in
-        let one = sums-one s x.0
-        (shape_in (now start ms) (λ t e. valid_shape t (I.setup t e)) (ap is_some up.1))
-        (record { counts = counts; undecided = undecided }) (record { counts = c; undecided = u }) its mine in
+        x_end.1).1 in let one = sums-one s x.0 (shape_in (now start ms) (λ t e. valid_shape t (I.setup t e))
+        (ap is_some up.1)) (record { counts = counts; undecided = undecided })
+        (record { counts = c; undecided = u }) its mine in
         subst (Flags tolerance ps) (ap (λ (y : Sums). y.counts) one) flags)
       where
         number_is : {i : ℕ} → Begun i ≡ Begun k → i ≡ k
@@ -212,11 +205,10 @@ module _ (limit : ℕ) (start : State) (clean : IsStart start) (tolerance : ℕ)
     while front [] is = quiet b older run_b none_at (before older run_b.2 none_older)
     while front (m ∷ part) is =
         (let is_more : auditing ≡ (front ++ m ∷ []) ++ part = is ∙ sym (append_assoc front (m ∷ []) part) in
-        let run_m = run_back limit start front (m ∷ (part ++ b ∷ older))
-        (subst (IsRun limit start)
-        (ap (λ l. l ++ b ∷ older) is ∙ append_assoc front (m ∷ part) (b ∷ older)) run.2) in
-        step m (part ++ b ∷ older) run_m (while (front ++ m ∷ []) part is_more)
-        (meanwhile (front ++ m ∷ []) part is_more))
+        let run_m = run_back limit start front (m ∷ (part ++ b ∷ older)) (subst (IsRun limit start)
+        (cc (append_assoc front (m ∷ part) (b ∷ older))) run.2) in
+        step m (part ++ b ∷ older) run_m (while (front ++ m ∷ []) part is_more) (meanwhile (front ++ m ∷ [])
+        part is_more))
 
     at_end : FlagsEver tolerance ps start (e ∷ (auditing ++ b ∷ older))
     at_end = step e (auditing ++ b ∷ older) run (while [] auditing refl) (meanwhile [] auditing refl)
@@ -238,11 +230,10 @@ module _ (limit : ℕ) (start : State) (clean : IsStart start) (tolerance : ℕ)
 first_split : (k : ℕ) (ms : List Moment) → (later : List Moment) × (ms ≡ later ++ first_moments k ms)
 first_split k [] = ([], refl)
 first_split k (m ∷ ms) = elim (cases_Bool (nat_le (length (m ∷ ms)) k)) [
-  | inl t ↦ ([], sym (cond_true (nat_le (length (m ∷ ms)) k) (m ∷ ms) (first_moments k ms) t))
+  | inl t ↦ ([], cc)
   | inr f ↦ (let p = first_split k ms in (
     m ∷ p.0,
-    ap (λ l. m ∷ l) p.1
-        ∙ ap (λ l. m ∷ (p.0 ++ l)) (sym (cond_false (nat_le (length (m ∷ ms)) k) (m ∷ ms) (first_moments k ms) f)),
+    cc,
   ))
 ]
 
@@ -288,22 +279,19 @@ module _ (limit : ℕ) (start : State) (clean : IsStart start) (tell : AllTell s
           among_all ps hs 0 j only_hs
               (clears_all start hs 0 (in_run limit (λ moments. 0) start hs h).moment.clear name file j in_effect
               (subst (λ (t : Setup). j < t.n) setup l) wrong),
-          f.1 ∙ sym (ap (λ (t : Setup). t.tolerance) setup),
+          cc,
         ))
       ])
 
   missed_none : (ms : List Moment) → IsRun limit start ms → DamagesOnly ps ms →
       Fits tolerance ps (now start ms) → (counts : List ℕ) → Flags tolerance ps counts → (begun j : ℕ) →
       Misses start ms counts begun j → ⊥
-  missed_none ms run only fits counts flags begun j miss =
-      (let p = first_split begun ms in
+  missed_none ms run only fits counts flags begun j miss = (let p = first_split begun ms in
       let w = wrong_among p.0 (first_moments begun ms) (subst (IsRun limit start) p.1 run)
       (subst (DamagesOnly ps) p.1 only) (subst (λ hs. Fits tolerance ps (now start hs)) p.1 fits) miss.name
-      miss.file j miss.in_effect (subst (λ hs. j < (setup_in (now start hs)).n) p.1 miss.provider) miss.wrong in
-      let tolerance_is : tolerance ≡ (setup_in (now start ms)).tolerance =
-      w.1 ∙ ap (λ hs. (setup_in (now start hs)).tolerance) (sym p.1) in
-      false≢true (sym miss.unflagged
-      ∙ (ap (λ t. is_flagged t counts j) (sym tolerance_is) ∙ flags j w.0)))
+      miss.file j miss.in_effect (subst (λ hs. j < (setup_in (now start hs)).n) p.1 miss.provider) miss.wrong
+      in let tolerance_is : tolerance ≡ (setup_in (now start ms)).tolerance = cc in
+      false≢true (cc (flags j w.0)))
 
   misses : (m : Moment) (ms : List Moment) → IsRun limit start (m ∷ ms) → DamagesOnly ps ms →
       Fits tolerance ps (now start ms) → FlagsNow tolerance ps (now start ms) →
@@ -350,7 +338,7 @@ unaudited_misses_none limit start (m ∷ ms) clean run none = (
     go : (r : Option Record) → came (now start ms) m.state ≡ r → MissesNone start ms m.state r
     go None is = tt
     go (Some (AuditDone n u c)) is = λ j miss. (let d = came_doubt limit start m ms clean run n u c is in
-        let flags = flags_now (setup_in (now start ms)).tolerance (j ∷ []) start ms
-        (before limit start clean (setup_in (now start ms)).tolerance (j ∷ []) ms run.2 none.1) in
-        false≢true (sym miss.unflagged ∙ flags d.0 n u c d.1 d.2 j (inl refl)))
+        let flags = flags_now (setup_in (now start ms)).tolerance (j ∷ []) start ms (before limit start clean
+        (setup_in (now start ms)).tolerance (j ∷ []) ms run.2 none.1) in
+        false≢true (cc (flags d.0 n u c d.1 d.2 j (inl refl))))
     go (Some r) is = tt

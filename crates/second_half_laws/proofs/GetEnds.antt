@@ -18,34 +18,24 @@ module _ (limit : ℕ) (start : State) (m : Moment) (ms : List Moment) (A : All 
     (F : HaveFiles start ms) (X : Changes limit (length ms) (now start ms) m.event m.outcome m.state) where
   file_step : HaveFiles start (m ∷ ms)
   file_step k j name h kind = elim (pins_is limit start m ms A.numbers A.pins X k j h) [
-    | Pins_is.had x runs pinned kind_x begun g ↦
-        (let f = F k x name runs (sym kind_x ∙ kind) in
+    | Pins_is.had x runs pinned kind_x begun g ↦ (let f = F k x name runs (sym kind_x ∙ kind) in
         let same : begin_of start ms x ≡ begin_of start (m ∷ ms) j =
-        ap (now start) (sym (ap (λ n. first_moments n (m ∷ ms)) begun
-        ∙ first_more x.begun m ms (A.held.begun k x runs))) in
+        cc (first_more x.begun m ms (A.held.begun k x runs)) in
         record {
           file = f.file;
-          in_effect = ap (λ (b : State). file_in b name) (sym same) ∙ f.in_effect;
-          pinned = pinned ∙ (f.pinned ∙ ap (λ (b : State). pinned_file b f.file ∷ []) same);
-          setup = setup_kept limit start m ms A.numbers A.pins X k j h
-              ∙ (f.setup ∙ ap (λ (b : State). setup_of b.records) same);
+          in_effect = cc;
+          pinned = cc;
+          setup = cc (setup_kept limit start m ms A.numbers A.pins X k j h);
         })
-    | Pins_is.new_one kd wish is k_is allowed rec ↦
-        (let kd_is : kd ≡ GetJob name = sym (ap (λ (x : Job). x.kind) is) ∙ kind in
-        let g = get_file limit (now start ms) name wish (file_in (now start ms) name) refl
-        (subst (λ kk. refusal_of_begin limit (now start ms) kk wish ≡ None) kd_is allowed) in
-        let begun : j.begun ≡ length ms = ap (λ (x : Job). x.begun) is in
-        let same : now start ms ≡ begin_of start (m ∷ ms) j =
-        ap (now start) (sym (ap (λ n. first_moments n (m ∷ ms)) begun
-        ∙ (first_more (length ms) m ms (omega arith) ∙ first_all ms))) in
+    | Pins_is.new_one kd wish is k_is allowed rec ↦ (let kd_is : kd ≡ GetJob name = cc in
+        let g = get_file limit (now start ms) name wish (file_in (now start ms) name) refl (cc) in
+        let begun : j.begun ≡ length ms = cc in let same : now start ms ≡ begin_of start (m ∷ ms) j =
+        cc (first_more (length ms) m ms (omega arith), first_all ms) in
         record {
           file = g.0;
-          in_effect = ap (λ (b : State). file_in b name) (sym same) ∙ g.1;
-          pinned = ap (λ (x : Job). x.pinned) is
-              ∙ (ap (λ kk. pinned_for (now start ms) kk) kd_is
-              ∙ (ap (pin_found (pinned_file (now start ms))) g.1
-              ∙ ap (λ (b : State). pinned_file b g.0 ∷ []) same));
-          setup = ap setup_of rec ∙ ap (λ (b : State). setup_of b.records) same;
+          in_effect = cc;
+          pinned = ap (λ (x : Job). x.pinned) is ∙ (cc);
+          setup = cc;
         })
   ]
 
@@ -78,9 +68,7 @@ of_get t f = each_append (IsOfGet f.id) (read_actions t (f ∷ [])) (End ∷ [])
 get_next : (w : State) (job : Job) (name : List ℕ) (f : Pinned) → job.kind ≡ GetJob name →
     job.pinned ≡ f ∷ [] →
     next_action w job ≡ slice_get (read_actions (setup_in w) (f ∷ []) ++ End ∷ []) job.place
-get_next w job name f kind pinned =
-    next_is_by w job ∙ (ap (λ kd. next_by w job kd job.place) kind
-    ∙ ap (λ p. slice_get (read_actions (setup_in w) p ++ End ∷ []) job.place) pinned)
+get_next w job name f kind pinned = cc (next_is_by w job)
 
 is_of_get : (w : State) (job : Job) (name : List ℕ) (f : Pinned) (action : Action) → job.kind ≡ GetJob name →
     job.pinned ≡ f ∷ [] → next_action w job ≡ Some action → IsOfGet f.id action
@@ -117,14 +105,11 @@ module _ (old : State) (job : Job) (name : List ℕ) (f : Pinned) (new : State) 
   at_work : (o s : ℕ) → o ≡ f.id → next_action old job ≡ Some (Work o s) → (how : Answer) →
       Acts old job (Work o s) (Ended how) new → Get_ends old job f how
   at_work o s o_is next_is (answer.Lost t row) (t_is, lost, is) =
-      Get_ends.is_lost t row refl
-      (next_is ∙ (ap (λ n. Some (Work n s)) o_is ∙ ap (λ n. Some (Work f.id n)) (sym t_is)))
-      (subst (λ n. LosesRow (pinned_object old f) n (blocks_given job.given (setup_in old).n f.id n) row)
-      (sym t_is)
-      (subst (λ n. LosesRow (object_in old f.profile n) s (blocks_given job.given (setup_in old).n n s) row)
-      o_is
-      (subst (λ p. LosesRow (object_in old p o) s (blocks_given job.given (setup_in old).n o s) row)
-      (own_profile (setup_in old).profile job.pinned f o pinned o_is) lost)))
+      Get_ends.is_lost t row refl (cc) (subst (λ n. LosesRow (pinned_object old f) n (blocks_given job.given
+      (setup_in old).n f.id n) row) (sym t_is) (subst (λ n. LosesRow (object_in old f.profile n) s
+      (blocks_given job.given (setup_in old).n n s) row) o_is (subst (λ p. LosesRow (object_in old p o) s
+      (blocks_given job.given (setup_in old).n o s) row) (own_profile (setup_in old).profile job.pinned f o
+      pinned o_is) lost)))
   at_work o s o_is next_is how h = absurd h
 
   at_fetch : (i o s : ℕ) (how : Answer) → Acts old job (Fetch i o s) (Ended how) new → ⊥
@@ -193,11 +178,9 @@ few_seen : (o : Object) (bytes : List ℕ) (given : List Given) (object stripe :
     count_of (λ j. is_wrong_block o bytes j stripe (block_at (blocks_given given o.shape.n object stripe) j))
     (upto o.shape.n) ≤ o.shape.b
 few_seen o bytes given object stripe few =
-    (let w = count_of-within
-    (λ j. is_wrong_block o bytes j stripe (block_at (blocks_given given o.shape.n object stripe) j))
-    (λ j. is_wrong_block o bytes j stripe (block_given given object stripe j)) 0 o.shape.n
-    (λ j l h. ap (is_wrong_block o bytes j stripe)
-    (sym (block_at-given given o.shape.n object stripe j (omega (arith, l)))) ∙ h) in
+    (let w = count_of-within (λ j. is_wrong_block o bytes j stripe (block_at (blocks_given given o.shape.n
+    object stripe) j)) (λ j. is_wrong_block o bytes j stripe (block_given given object stripe j)) 0 o.shape.n
+    (λ j l h. cc (block_at-given given o.shape.n object stripe j (omega (arith, l)))) in
     omega (arith, w, few))
 
 module _ (limit : ℕ) (start : State) (m : Moment) (ms : List Moment) (job : Job) (name : List ℕ)
@@ -216,48 +199,41 @@ module _ (limit : ℕ) (start : State) (m : Moment) (ms : List Moment) (job : Jo
       ((stripe : ℕ) → stripe < stripes (file_object (begin_of start ms job) file)
       (length ((begin_of start ms job).bytes file.id)) →
       IsFewWrong (begin_of start ms job) file job stripe) → bytes ≡ (begin_of start ms job).bytes file.id
-  few_give bytes outcome few =
-      (let got = got_is_opened limit start m ms job name bytes clean run
+  few_give bytes outcome few = (let got = got_is_opened limit start m ms job name bytes clean run
       (record { event = event; outcome = outcome; runs = runs; kind = kind }) in
-      let same : got.file ≡ file = same_value _ got.file file got.in_effect in_effect in
+      let same : got.file ≡ file = cc in
       by_file got.file same got.opens)
     where
       by_file : (g : File) → g ≡ file →
           OpensFile (file_object b g) (length (b.bytes g.id))
           (blocks_given (given_to job.number (heard_by (Some job))) (setup_in b).n g.id) bytes →
           bytes ≡ b.bytes file.id
-      by_file g same opens_g =
-          (let o = file_object b file in
-          let own = b.bytes file.id in
-          let shape = shape_of_file limit start (first_moments job.begun ms) name file clean run_b
-          in_effect in
-          let opens : OpensFile o (length own)
-          (blocks_given (given_to job.number (heard_by (Some job))) (setup_in b).n file.id) bytes =
+      by_file g same opens_g = (let o = file_object b file in let own = b.bytes file.id in
+          let shape = shape_of_file limit start (first_moments job.begun ms) name file clean run_b in_effect
+          in let opens : OpensFile o (length own) (blocks_given (given_to job.number (heard_by (Some job)))
+          (setup_in b).n file.id) bytes =
           subst (λ (x : File). OpensFile (file_object b x) (length (b.bytes x.id))
-          (blocks_given (given_to job.number (heard_by (Some job))) (setup_in b).n x.id) bytes) same
-          opens_g in
-          opens.cut
-          ∙ (ap (take (length own))
-          (flat_map-range_same (λ s. bytes_of_symbols (opens.symbols s))
-          (λ s. bytes_of_symbols (symbols_in o own s)) 0 (stripes o (length own))
-          (λ s l. ap bytes_of_symbols
-          (symbols-right o own file.profile s (blocks_given job.given (setup_in b).n file.id s)
-          (opens.symbols s) refl shape (few_seen o own job.given file.id s (few s (omega (arith, l))))
-          (subst (λ seen. GivesSymbols o s seen (opens.symbols s))
-          (heard_blocks job name (setup_in b).n file.id s kind) (opens.given s (omega (arith, l)))))))
-          ∙ bytes_back o own shape.2 (some_kept file.profile)
-          (held_file limit start (first_moments job.begun ms) name file clean run_b in_effect).bytes))
+          (blocks_given (given_to job.number (heard_by (Some job))) (setup_in b).n x.id) bytes) same opens_g
+          in cc (
+            flat_map-range_same (λ s. bytes_of_symbols (opens.symbols s)) (λ s. bytes_of_symbols
+                (symbols_in o own s)) 0 (stripes o (length own)) (λ s l. ap bytes_of_symbols (symbols-right o own
+                file.profile s (blocks_given job.given (setup_in b).n file.id s) (opens.symbols s) refl shape
+                (few_seen o own job.given file.id s (few s (omega (arith, l))))
+                (subst (λ seen. GivesSymbols o s seen (opens.symbols s)) (heard_blocks job name (setup_in b).n
+                file.id s kind) (opens.given s (omega (arith, l)))))),
+            bytes_back o own shape.2 (some_kept file.profile) (held_file limit start (first_moments job.begun
+                ms) name file clean run_b in_effect).bytes,
+          ))
 
   -- a get to which at most b providers gave a wrong block of a stripe is not lost there
   pub few_not_lost : (stripe row : ℕ) → m.outcome ≡ Ended (answer.Lost stripe row) →
       IsFewWrong (begin_of start ms job) file job stripe → ⊥
   few_not_lost stripe row outcome few =
       (let H = have_files limit start clean ms run.2 job.number job name runs kind in
-      let same : H.file ≡ file = same_value _ H.file file H.in_effect in_effect in
-      by_end (setup_same (now start ms) b H.setup)
-      (get_ends limit start m ms job name (pinned_file b file) (answer.Lost stripe row)
-      (all limit start clean ms run.2).numbers.idle.lone run event outcome runs kind
-      (H.pinned ∙ ap (λ (x : File). pinned_file b x ∷ []) same)))
+      let same : H.file ≡ file = cc in
+      by_end (setup_same (now start ms) b H.setup) (get_ends limit start m ms job name (pinned_file b file)
+      (answer.Lost stripe row) (all limit start clean ms run.2).numbers.idle.lone run event outcome runs
+      kind (cc)))
     where
       by_end : setup_in (now start ms) ≡ setup_in b →
           Get_ends (now start ms) job (pinned_file b file) (answer.Lost stripe row) → ⊥

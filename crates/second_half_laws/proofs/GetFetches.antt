@@ -17,20 +17,15 @@ pub got_fetched : (limit : ℕ) (start : State) (m : Moment) (ms : List Moment) 
     WasFetched start ms job j file.id stripe (block_given job.given file.id stripe j)
 got_fetched limit start m ms job name bytes file j stripe clean run event outcome runs kind in_effect k l =
     (let H = have_files limit start clean ms run.2 job.number job name runs kind in
-    let b : State = begin_of start ms job in
-    let same : H.file ≡ file = same_value _ H.file file H.in_effect in_effect in
-    let pinned : job.pinned ≡ pinned_file b file ∷ [] = H.pinned
-    ∙ ap (λ (x : File). pinned_file b x ∷ []) same in
-    let t = setup_same (now start ms) b H.setup in
-    let few : stripe < stripes_of (profiled (setup_in (now start ms)) file.profile)
-    (length (b.bytes file.id)) =
-    subst (λ (u : Setup). stripe < stripes_of (profiled u file.profile) (length (b.bytes file.id)))
-    (sym t) l in
-    let F = facts limit start clean ms run.2 in
-    let made = fetched_before_end (now start ms) job name (pinned_file b file) stripe j kind
-    (event_end limit (length ms) (now start ms) m.event m.outcome m.state job (Got bytes)
-    (λ h. h) event outcome runs run.1).0 (subst (In (pinned_file b file)) (sym pinned) (inl refl)) few
-    k in
+    let b : State = begin_of start ms job in let same : H.file ≡ file = cc in
+    let pinned : job.pinned ≡ pinned_file b file ∷ [] = cc in let t = setup_same (now start ms) b H.setup in
+    let few : stripe < stripes_of (profiled (setup_in (now start ms)) file.profile) (length (b.bytes file.id))
+    =
+    subst (λ (u : Setup). stripe < stripes_of (profiled u file.profile) (length (b.bytes file.id))) (sym t) l
+    in let F = facts limit start clean ms run.2 in
+    let made = fetched_before_end (now start ms) job name (pinned_file b file) stripe j kind (event_end limit
+    (length ms) (now start ms) m.event m.outcome m.state job (Got bytes) (λ h. h) event outcome runs run.1).0
+    (subst (In (pinned_file b file)) (sym pinned) (inl refl)) few k in
     let g = (F.made job.number job made.place (Fetch j file.id stripe) runs made.made made.action).1 in
     F.came job.number job (Fetched j file.id stripe (block_given job.given file.id stripe j)) runs
     (given_block job.given j file.id stripe g.0 g.1))
@@ -44,19 +39,15 @@ pub lost_fetched : (limit : ℕ) (start : State) (m : Moment) (ms : List Moment)
     WasFetched start ms job j file.id stripe (block_given job.given file.id stripe j)
 lost_fetched limit start m ms job name file j stripe row clean run event outcome runs kind in_effect k =
     (let H = have_files limit start clean ms run.2 job.number job name runs kind in
-    let b : State = begin_of start ms job in
-    let same : H.file ≡ file = same_value _ H.file file H.in_effect in_effect in
-    by_end (get_ends limit start m ms job name (pinned_file b file) (Lost stripe row)
-    (all limit start clean ms run.2).numbers.idle.lone run event outcome runs kind
-    (H.pinned ∙ ap (λ (x : File). pinned_file b x ∷ []) same)))
+    let b : State = begin_of start ms job in let same : H.file ≡ file = cc in
+    by_end (get_ends limit start m ms job name (pinned_file b file) (Lost stripe row) (all limit start clean
+    ms run.2).numbers.idle.lone run event outcome runs kind (cc)))
   where
     at_work : (s : ℕ) → s ≡ stripe → next_action (now start ms) job ≡ Some (Work file.id s) →
         WasFetched start ms job j file.id stripe (block_given job.given file.id stripe j)
     at_work s is next_is =
         fetched_at start ms (facts limit start clean ms run.2) job.number job job.place j file.id stripe runs
-        (omega arith)
-        (next_stands (now start ms) job (Work file.id stripe)
-        (subst (λ n. next_action (now start ms) job ≡ Some (Work file.id n)) is next_is) (λ e. cc)) k
+        (omega arith) (next_stands (now start ms) job (Work file.id stripe) (cc) (λ e. cc)) k
 
     by_end : Get_ends (now start ms) job (pinned_file (begin_of start ms job) file) (Lost stripe row) →
         WasFetched start ms job j file.id stripe (block_given job.given file.id stripe j)

@@ -10,21 +10,15 @@ pub stored_got : (limit : ℕ) (mark : Mark) (start : State) (ms gaps : List Mom
     (name bytes : List ℕ) (how : Answer) → IsMarkedRun limit mark start (g ∷ (gaps ++ c ∷ ms)) →
     Stored ms name bytes → GetEnds c gaps g get name how →
     (how ≡ Got bytes) ⊎ IsLostByFaults (now start ms) g.state how
-stored_got limit mark start ms gaps c g get name bytes how h S G =
-    (let all = gaps ++ c ∷ ms in
+stored_got limit mark start ms gaps c g get name bytes how h S G = (let all = gaps ++ c ∷ ms in
     let q = ended_of_kind limit start gaps ms g c (GetJob name) get how h.clean h.run (inl G.begin_event)
-    G.begun G.none G.end_event G.ended in
-    let job = q.0 in
-    let runs : job_of (now start all).jobs job.number ≡ Some job =
-    ap (job_of (now start all).jobs) q.2 ∙ q.1 in
-    let first : first_moments job.begun all ≡ ms =
-    ap (λ n. first_moments n all) q.4 ∙ first_behind gaps c ms in
-    let k = stored_is_kept limit start ms name bytes h.clean
-    (run_back limit start (g ∷ gaps) (c ∷ ms) h.run).2 S in
-    let ends : GivesOrIsLost (now start (first_moments job.begun all)) g.state name how =
-    get_sharply limit mark start g all h.clean h.run h.calm.1
-    (marked_facts limit mark start h.clean h.tell all h.run.2 h.calm.1 h.marks.1) job name how runs q.3
-    (G.end_event ∙ ap Step (sym q.2)) G.ended in
+    G.begun G.none G.end_event G.ended in let job = q.0 in
+    let runs : job_of (now start all).jobs job.number ≡ Some job = cc in
+    let first : first_moments job.begun all ≡ ms = cc (first_behind gaps c ms) in
+    let k = stored_is_kept limit start ms name bytes h.clean (run_back limit start (g ∷ gaps) (c ∷ ms)
+    h.run).2 S in let ends : GivesOrIsLost (now start (first_moments job.begun all)) g.state name how =
+    get_sharply limit mark start g all h.clean h.run h.calm.1 (marked_facts limit mark start h.clean h.tell
+    all h.run.2 h.calm.1 h.marks.1) job name how runs q.3 (cc) G.ended in
     gives (subst (λ hs. GivesOrIsLost (now start hs) g.state name how) first ends) k.file k.kept.in_effect
     k.bytes_are)
   where
@@ -32,8 +26,7 @@ stored_got limit mark start ms gaps c g get name bytes how h S G =
         file_in (now start ms) name ≡ Some file → (now start ms).bytes file.id ≡ bytes →
         (how ≡ Got bytes) ⊎ IsLostByFaults (now start ms) g.state how
     gives e file in_effect bytes_are = elim e.gives [
-      | inl got ↦ inl (got ∙ ap (λ (f : File). Got ((now start ms).bytes f.id))
-          (same_value (file_in (now start ms) name) e.file file e.in_effect in_effect) ∙ ap Got bytes_are)
+      | inl got ↦ inl (cc)
       | inr lost ↦ inr lost
     ]
 

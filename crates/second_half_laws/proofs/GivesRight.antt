@@ -23,8 +23,7 @@ none_pass p a (suc n) h =
 
 block_at_own : (o : Object) (bytes : List ℕ) (stripe j : ℕ) → j < o.shape.n →
     block_at (own_blocks o bytes stripe) j ≡ Some (columns o bytes j stripe)
-block_at_own o bytes stripe j l = ap (λ (b : Option SeenBlock). option_and_then (λ (c : SeenBlock). c) b)
-    (get_map_upto (λ i. Some (columns o bytes i stripe)) o.shape.n j l)
+block_at_own o bytes stripe j l = cc (get_map_upto (λ i. Some (columns o bytes i stripe)) o.shape.n j l)
 
 -- so they give them
 pub own_give : (o : Object) (bytes : List ℕ) (number stripe : ℕ) → o.profile ≡ profile_of number →
@@ -40,6 +39,7 @@ own_give o bytes number stripe is shape = given-right o bytes number stripe (own
     few : count_of (λ j. is_wrong_block o bytes j stripe (block_at (own_blocks o bytes stripe) j))
         (upto o.shape.n) ≤ o.shape.b
     few = (let e = none_pass (λ j. is_wrong_block o bytes j stripe (block_at (own_blocks o bytes stripe) j)) 0
-        o.shape.n
-        (λ j l. ap (is_wrong_block o bytes j stripe) (block_at_own o bytes stripe j (omega (arith, l)))
-        ∙ column-right o bytes j stripe) in omega (arith, e))
+        o.shape.n (λ j l. cc (
+          block_at_own o bytes stripe j (omega (arith, l)),
+          column-right o bytes j stripe,
+        )) in omega (arith, e))

@@ -36,48 +36,43 @@ module _ (limit : ℕ) (start : State) (m : Moment) (ms : List Moment) (A : All 
     (Q : IsAtRest (now start ms) → (i o s : ℕ) →
     (told_block m.state i o s ≡ told_block (now start ms) i o s) ⊎
     (is_replacement m.event m.outcome i ≡ true)) where
+  -- the state after these moments
+  abbrev w : State
+  w = now start ms
+
   -- a file of a running audit
-  running_block : (x : Job) (f : Pinned) (i s : ℕ) → job_of (now start ms).jobs x.number ≡ Some x →
-      x.kind ≡ AuditJob → In f x.pinned →
-      (told_block m.state i f.id s ≡ told_block (now start ms) i f.id s) ⊎
-      (is_replacement m.event m.outcome i ≡ true)
+  running_block : (x : Job) (f : Pinned) (i s : ℕ) → job_of w.jobs x.number ≡ Some x → x.kind ≡ AuditJob →
+      In f x.pinned → (told_block m.state i f.id s ≡ told_block w i f.id s) ⊎ (is_replacement m.event
+      m.outcome i ≡ true)
   running_block x f i s runs kind in_f = elim (X.block i f.id s) [
     | Block_is.same e ↦ inl e
     | Block_is.replaced r ↦ inr r
     | Block_is.stored y runs_y next_y is ↦
-        absurd (elim (store_kinds y y.kind i f.id s refl (is_fair (now start ms) y (Store i f.id s) next_y)) [
+        absurd (elim (store_kinds y y.kind i f.id s refl (is_fair w y (Store i f.id s) next_y)) [
           | inl (name, bytes, kind_y, o_is) ↦
-              (let place = store_place (now start ms) y name bytes i f.id s kind_y next_y in
-              some-not-none (started_as (now start ms).records f.id) name
-              (ap (started_as (now start ms).records) o_is
+              (let place = store_place w y name bytes i f.id s kind_y next_y in
+              some-not-none (started_as w.records f.id) name (ap (started_as w.records) o_is
               ∙ A.pins.started y.number y name bytes runs_y kind_y place.0
               (let l = place.1 in omega arith)) (A.pins.pins x.number x f runs in_f).1)
           | inr (repairs, pin) ↦
-              (let n : y.number ≡ x.number = A.pins.checks y.number x.number y x runs_y runs
-              (ap (λ kd. is_check (aim_of kd)) repairs) (ap (λ kd. is_check (aim_of kd)) kind) in
-              let e : y ≡ x = same_value _ y x (subst (λ z. job_of (now start ms).jobs z ≡ Some y) n runs_y)
-              runs in
-              let z : RepairJob ≡ AuditJob = sym repairs ∙ (ap (λ (q : Job). q.kind) e ∙ kind) in cc)
+              (let n : y.number ≡ x.number = A.pins.checks y.number x.number y x runs_y runs (cc) (cc) in
+              let e : y ≡ x = cc in let z : RepairJob ≡ AuditJob = cc in cc)
         ])
-    | Block_is.scrubbed scrub rest at next_is is ↦ absurd
-        (found_none (now start ms).jobs x.number x (A.numbers.idle.lone (Scrubbing scrub) at) runs)
+    | Block_is.scrubbed scrub rest at next_is is ↦ absurd (found_none w.jobs x.number x (A.numbers.idle.lone
+        (Scrubbing scrub) at) runs)
     | Block_is.removed y runs_y next_y ↦
-        absurd (A.pins.older_free y.number x.number y x f.id f runs_y
-        (remove_kinds y y.kind i f.id refl (is_fair (now start ms) y (Remove i f.id) next_y)) runs in_f
-        refl)
+        absurd (A.pins.older_free y.number x.number y x f.id f runs_y (remove_kinds y y.kind i f.id refl
+        (is_fair w y (Remove i f.id) next_y)) runs in_f refl)
   ]
 
   -- a file of the audit whose record was in doubt before the event
-  doubted_block : (d : Doubt) (job : Job) (f : Pinned) (i s : ℕ) → (now start ms).doubt ≡ Some d →
-      d.maker ≡ Some job → job.kind ≡ AuditJob → In f job.pinned →
-      (told_block m.state i f.id s ≡ told_block (now start ms) i f.id s) ⊎
-      (is_replacement m.event m.outcome i ≡ true)
-  doubted_block d job f i s at maker kind in_f = elim (at_rest_or (now start ms)) [
+  doubted_block : (d : Doubt) (job : Job) (f : Pinned) (i s : ℕ) → w.doubt ≡ Some d → d.maker ≡ Some job →
+      job.kind ≡ AuditJob → In f job.pinned → (told_block m.state i f.id s ≡ told_block w i f.id s)
+      ⊎ (is_replacement m.event m.outcome i ≡ true)
+  doubted_block d job f i s at maker kind in_f = elim (at_rest_or w) [
     | inr rest ↦ Q rest i f.id s
-    | inl (open_, unbarred) ↦ (let g = E.doubt_runs d open_ unbarred at in
-        let e : g.job ≡ job = same_value d.maker g.job job g.maker maker in
-        running_block job f i s (subst (λ (y : Job). job_of (now start ms).jobs y.number ≡ Some y) e g.runs)
-        kind in_f)
+    | inl (open_, unbarred) ↦ (let g = E.doubt_runs d open_ unbarred at in let e : g.job ≡ job = cc in
+        running_block job f i s (cc) kind in_f)
   ]
 
   begun_step : (d : Doubt) (job : Job) → m.state.doubt ≡ Some d → d.maker ≡ Some job →
@@ -85,8 +80,7 @@ module _ (limit : ℕ) (start : State) (m : Moment) (ms : List Moment) (A : All 
   begun_step d job h maker = elim (T.doubt d h) [
     | Doubt_now.kept was rec ↦ (let l = K.begun d job was maker in omega arith)
     | Doubt_now.gated x a runs next_is flight mine entry_is maker_is rec on ↦
-        (let e : job ≡ advanced x = same_value d.maker job (advanced x) maker maker_is in
-        let b : job.begun ≡ x.begun = ap (λ (y : Job). y.begun) e in
+        (let e : job ≡ advanced x = cc in let b : job.begun ≡ x.begun = cc in
         let l = A.held.begun x.number x runs in omega arith)
     | Doubt_now.set_up t entry_is bare none closed ↦ absurd (some-not-none d.maker job maker bare)
   ]
@@ -97,7 +91,7 @@ module _ (limit : ℕ) (start : State) (m : Moment) (ms : List Moment) (A : All 
     | Doubt_now.kept was rec ↦
         (let l = K.below d job f was maker in_f in let e = ap next_id rec in omega arith)
     | Doubt_now.gated x a runs next_is flight mine entry_is maker_is rec on ↦
-        (let e : job ≡ advanced x = same_value d.maker job (advanced x) maker maker_is in
+        (let e : job ≡ advanced x = cc in
         let l = (A.pins.pins x.number x f runs (subst (λ (y : Job). In f y.pinned) e in_f)).0 in
         let r = ap next_id rec in omega arith)
     | Doubt_now.set_up t entry_is bare none closed ↦ absurd (some-not-none d.maker job maker bare)
@@ -112,24 +106,20 @@ module _ (limit : ℕ) (start : State) (m : Moment) (ms : List Moment) (A : All 
         (doubted_block d job f i s was maker kind in_f)
         (K.audited d job f i s was maker kind in_f (replaced_before job.begun i m ms none))
     | Doubt_now.gated x a runs next_is flight mine entry_is maker_is rec on ↦
-        (let e : job ≡ advanced x = same_value d.maker job (advanced x) maker maker_is in
-        let begun : job.begun ≡ x.begun = ap (λ (y : Job). y.begun) e in
-        let kx : x.kind ≡ AuditJob = sym (ap (λ (y : Job). y.kind) e) ∙ kind in
-        let in_x = subst (λ (y : Job). In f y.pinned) e in_f in
+        (let e : job ≡ advanced x = cc in let begun : job.begun ≡ x.begun = cc in
+        let kx : x.kind ≡ AuditJob = cc in let in_x = subst (λ (y : Job). In f y.pinned) e in_f in
         behind (let l = A.held.begun x.number x runs in omega arith) (running_block x f i s runs kx in_x)
-        (A.held.audited x.number x f i s runs kx in_x
-        (subst (λ n. is_replaced_since n i ms ≡ false) begun (replaced_before job.begun i m ms none))
-        ∙ ap (λ n. told_block (now start (first_moments n ms)) i f.id s) (sym begun)))
+        (cc (A.held.audited x.number x f i s runs kx in_x (subst (λ n. is_replaced_since n i ms ≡ false) begun
+        (replaced_before job.begun i m ms none)))))
     | Doubt_now.set_up t entry_is bare none_up closed ↦ absurd (some-not-none d.maker job maker bare)
   ]
     where
-      behind : job.begun ≤ length ms → (told_block m.state i f.id s ≡ told_block (now start ms) i f.id s) ⊎
-          (is_replacement m.event m.outcome i ≡ true) →
-          told_block (now start ms) i f.id s ≡ told_block (now start (first_moments job.begun ms)) i f.id s →
-          told_block m.state i f.id s ≡ told_block (now start (first_moments job.begun (m ∷ ms))) i f.id s
+      behind : job.begun ≤ length ms → (told_block m.state i f.id s ≡ told_block w i f.id s) ⊎ (is_replacement
+          m.event m.outcome i ≡ true) → told_block w i f.id s ≡ told_block (now start (first_moments job.begun
+          ms)) i f.id s → told_block m.state i f.id s ≡ told_block (now start (first_moments job.begun
+          (m ∷ ms))) i f.id s
       behind l block before = elim block [
-        | inl e ↦ e ∙ (before
-            ∙ ap (λ hs. told_block (now start hs) i f.id s) (sym (first_more job.begun m ms l)))
+        | inl e ↦ cc (first_more job.begun m ms l)
         | inr r ↦ absurd (false≢true (sym none ∙ since_now job.begun i m ms r l))
       ]
 
@@ -165,7 +155,7 @@ made_alike : (t u : Setup) (job : Job) (i o s : ℕ) → t ≡ u → HasMadeStor
 made_alike t u job i o s same made = record {
   place = made.place;
   made = made.made;
-  action = ap (λ v. slice_get (actions_of v job) made.place) (sym same) ∙ made.action;
+  action = cc;
 }
 
 -- the stores of a repair before its third move were made before
@@ -174,21 +164,20 @@ made_before : (t : Setup) (w : State) (x job : Job) (i o s : ℕ) → t ≡ setu
 made_before t w x job i o s setup e next_is made = record { place = made.place; made = early; action = at_x }
   where
     at_x : slice_get (actions_of (setup_in w) x) made.place ≡ Some (Store i o s)
-    at_x = ap (λ l. slice_get l made.place)
-        (sym (ap (λ (y : Job). actions_of t y) e ∙ (ap (λ u. actions_of u (advanced x)) setup
-        ∙ (actions_are (setup_in w) (advanced x) x.kind refl
-        ∙ (actions_by-advanced (setup_in w) x x.kind ∙ sym (actions_are (setup_in w) x x.kind refl))))))
-        ∙ made.action
+    at_x = cc (
+      actions_are (setup_in w) (advanced x) x.kind refl,
+      actions_by-advanced (setup_in w) x x.kind,
+      actions_are (setup_in w) x x.kind refl,
+    )
 
     early : made.place < x.place
-    early = (let l = made.made in let p : job.place ≡ x.place + 1 = ap (λ (y : Job). y.place) e in
-        elim (cases_lt made.place x.place) [
-          | inl k ↦ k
-          | inr k ↦ absurd (let here : made.place ≡ x.place = omega arith in
-              let z : WriteGate ≡ Store i o s = same_value _ WriteGate (Store i o s)
-              (next_stands w x WriteGate next_is (λ q. cc))
-              (subst (λ n. slice_get (actions_of (setup_in w) x) n ≡ Some (Store i o s)) here at_x) in cc)
-        ])
+    early = (let l = made.made in let p : job.place ≡ x.place + 1 = cc in elim (cases_lt made.place x.place) [
+      | inl k ↦ k
+      | inr k ↦ absurd (let here : made.place ≡ x.place = omega arith in
+          let z : WriteGate ≡ Store i o s = same_value _ WriteGate (Store i o s)
+          (next_stands w x WriteGate next_is (λ q. cc))
+          (subst (λ n. slice_get (actions_of (setup_in w) x) n ≡ Some (Store i o s)) here at_x) in cc)
+    ])
 
 -- what a repair stored whose record is in doubt is the file's own, but for replacements
 pub rewritten : (limit : ℕ) (mark : Mark) (start : State) → IsStart start → AllTell start →
@@ -237,10 +226,7 @@ rewritten limit mark start clean tell (m ∷ ms) run calm marks =
               ((kept limit start clean ms run.2).below d job p.file was maker p.pinned) in
               on below setup (elim (at_rest_or (now start ms)) [
                 | inl (open_, unbarred) ↦ (let g = E.doubt_runs d open_ unbarred was in
-                    let e : g.job ≡ job = same_value d.maker g.job job g.maker maker in
-                    while_running job i o s b
-                    (subst (λ (y : Job). job_of (now start ms).jobs y.number ≡ Some y) e g.runs) kind old none
-                    told)
+                    let e : g.job ≡ job = cc in while_running job i o s b (cc) kind old none told)
                 | inr rest ↦ elim (quiet_blocks (now start ms) limit
                     (length ms) m.event m.outcome m.state rest run.1 i o s) [
                       | inl e ↦ before d job i o s b was maker kind old
@@ -253,26 +239,19 @@ rewritten limit mark start clean tell (m ∷ ms) run calm marks =
               ]))
           | Doubt_now.gated x a runs next_is flight mine entry_is maker_is rec on_ ↦
               (let setup = setup_same m.state (now start ms) (ap setup_of rec) in
-              let e : job ≡ advanced x = same_value d.maker job (advanced x) maker maker_is in
-              let begun : job.begun ≡ x.begun = ap (λ (y : Job). y.begun) e in
-              let kx : x.kind ≡ RepairJob = sym (ap (λ (y : Job). y.kind) e) ∙ kind in
+              let e : job ≡ advanced x = cc in let begun : job.begun ≡ x.begun = cc in
+              let kx : x.kind ≡ RepairJob = cc in
               let old = made_before (setup_in m.state) (now start ms) x job i o s setup e next_is made in
               let p = rd.made_pin (setup_in (now start ms)) x i o s kx old in
               let below : o < next_id (now start ms).records =
-              subst (λ n. n < next_id (now start ms).records) p.id_is
-              (A.pins.pins x.number x p.file runs p.pinned).0 in
-              on below setup (while_running x i o s b runs kx old
-              (subst (λ n. is_replaced_since n i (m ∷ ms) ≡ false) begun none) told
-              ∙ ap (λ ps. Some (columns (object_among (now start ms) ps o) ((now start ms).bytes o) i s))
-              (sym (ap (λ (y : Job). y.pinned) e))))
+              subst (λ n. n < next_id (now start ms).records) p.id_is (A.pins.pins x.number x p.file runs
+              p.pinned).0 in
+              on below setup (cc (while_running x i o s b runs kx old (subst (λ n. is_replaced_since n i
+              (m ∷ ms) ≡ false) begun none) told)))
           | Doubt_now.set_up t entry_is bare none_up closed ↦ absurd (some-not-none d.maker job maker bare)
         ]
       where
         on : o < next_id (now start ms).records → setup_in m.state ≡ setup_in (now start ms) →
             b ≡ Some (columns (worked_object (now start ms) job o) ((now start ms).bytes o) i s) →
             b ≡ Some (columns (worked_object m.state job o) (m.state.bytes o) i s)
-        on below setup e = e ∙ (ap (λ y. Some (columns (worked_object (now start ms) job o) y i s))
-            (sym (X.bytes o below))
-            ∙ ap (λ (t : Setup). Some
-            (columns (object_of (profiled t (pinned_profile t.profile job.pinned o)) o)
-            (m.state.bytes o) i s)) (sym setup))
+        on below setup e = cc (X.bytes o below)

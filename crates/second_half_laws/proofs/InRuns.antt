@@ -58,9 +58,8 @@ wrong_bad w f j h = by_told (w.providers j).held refl h
     by_told : (x : Option Held) → (w.providers j).held ≡ x → is_wrong_told w f j x ≡ true →
         (s : ℕ) × (s < stripes (file_object w f) (length (w.bytes f.id))) × IsBad w f.profile f.id j s
     by_told None is e = absurd (false≢true e)
-    by_told (Some held) is e =
-        (let q = wrong_stripe (file_object w f) (w.bytes f.id) j (held f.id) e in
-        (q.0, q.1, (held f.id q.0, ap (option_map (λ (y : Held). y f.id q.0)) is, q.2)))
+    by_told (Some held) is e = (let q = wrong_stripe (file_object w f) (w.bytes f.id) j (held f.id) e in
+        (q.0, q.1, (held f.id q.0, cc, q.2)))
 
 -- where files are clear since a moment, a provider that is wrong for one was replaced since, or is exempt at
 -- some stripe

@@ -5,7 +5,7 @@ use Rattle.second_half_laws.proofs.Doubts.{setups_stay}
 
 inits_by : (old : State) (s : Setup) (good : Bool) (new : State) → InitsBy old s good Ready new →
     setup_of new.records ≡ Some s
-inits_by old s true new (mid, settles, nothing, (faults, low, is)) = ap (λ (w : State). setup_of w.records) is
+inits_by old s true new (mid, settles, nothing, (faults, low, is)) = cc
 inits_by old s false new h = absurd h
 
 inits : (old : State) (s : Setup) (is_open : Bool) (new : State) → Inits old s is_open Ready new →

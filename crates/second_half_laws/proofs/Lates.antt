@@ -26,24 +26,26 @@ module _ (limit : ℕ) (start : State) (clean : IsStart start) (ms : List Moment
     (up : setup_of (now start ms).records ≡ Some s) (k : ℕ) (j : Job)
     (runs : job_of (now start ms).jobs k ≡ Some j) (kind : j.kind ≡ AuditJob)
     (late : 4 + length (ask_actions (setup_in (now start ms)) j) ≤ j.place) where
-  setup_later : (l : List Moment) → IsRun limit start (l ++ ms) →
-      setup_in (now start (l ++ ms)) ≡ setup_in (now start ms)
-  setup_later l run = setup_same (now start (l ++ ms)) (now start ms)
-      (setups_stay limit start l ms s clean run up ∙ sym up)
+  -- the state after these moments
+  abbrev here : State
+  here = now start ms
+
+  setup_later : (l : List Moment) → IsRun limit start (l ++ ms) → setup_in (now start (l ++ ms)) ≡ setup_in
+      here
+  setup_later l run = setup_same (now start (l ++ ms)) here (setups_stay limit start l ms s clean run up
+      ∙ sym up)
 
   -- the next action of a later state is mute
   next_mute : (l : List Moment) → IsRun limit start (l ++ ms) → (x : Job) (action : Action) → Later j x →
       next_action (now start (l ++ ms)) x ≡ Some action → IsMute action
-  next_mute l run x action L next_is =
-      (let w = now start (l ++ ms) in
+  next_mute l run x action L next_is = (let w = now start (l ++ ms) in
       let x_kind : x.kind ≡ AuditJob = L.kind ∙ kind in
       let listed : slice_get (actions_by (setup_in w) x AuditJob) x.place ≡ Some action =
-      subst (λ kd. next_by w x kd x.place ≡ Some action) x_kind (sym (next_is_by w x) ∙ next_is) in
-      let asks : length (ask_actions (setup_in w) x) ≡ length (ask_actions (setup_in (now start ms)) j) =
-      asks_same (setup_in w) (setup_in (now start ms)) x j (setup_later l run) L.pinned in
-      let place = L.place in
-      audit_mute (setup_in w) x x.place action x_kind
-      (of_kind (setup_in w) x AuditJob x.place action x_kind listed) (omega arith))
+      cc (next_is_by w x) in
+      let asks : length (ask_actions (setup_in w) x) ≡ length (ask_actions (setup_in here) j) =
+      asks_same (setup_in w) (setup_in here) x j (setup_later l run) L.pinned in let place = L.place in
+      audit_mute (setup_in w) x x.place action x_kind (of_kind (setup_in w) x AuditJob x.place action x_kind
+      listed) (omega arith))
     where
       asks_same : (t u : Setup) (x y : Job) → t ≡ u → x.pinned ≡ y.pinned →
           length (ask_actions t x) ≡ length (ask_actions u y)
@@ -54,11 +56,11 @@ module _ (limit : ℕ) (start : State) (clean : IsStart start) (ms : List Moment
   -- at each later moment at which it runs it is such
   pub same_late : (l : List Moment) → IsRun limit start (l ++ ms) → NoneBegan k l → (x : Job) →
       job_of (now start (l ++ ms)).jobs k ≡ Some x → Later j x
-  same_late [] run none x h = (let e = same_value (job_of (now start ms).jobs k) x j h runs in record {
-    given = ap (λ (y : Job). y.given) e;
-    pinned = ap (λ (y : Job). y.pinned) e;
-    subject = ap (λ (y : Job). y.subject) e;
-    kind = ap (λ (y : Job). y.kind) e;
+  same_late [] run none x h = (let e = same_value (job_of here.jobs k) x j h runs in record {
+    given = cc;
+    pinned = cc;
+    subject = cc;
+    kind = cc;
     place = (let p = ap (λ (y : Job). y.place) e in omega arith);
   })
   same_late (m ∷ l) run none x h =
@@ -79,27 +81,26 @@ module _ (limit : ℕ) (start : State) (clean : IsStart start) (ms : List Moment
           let mute = next_mute l run.2 before action L next_is in record {
             given = mute_gave (now start (l ++ ms)) before action x mute goes.gave ∙ L.given;
             pinned = goes.pinned ∙ L.pinned;
-            subject = goes.subject ∙ L.subject;
+            subject = cc;
             kind = goes.kind ∙ L.kind;
             place = (let p = goes.place in let q = L.place in omega arith);
           })
       by_change so y at (Job_is.drew before was next_is none_ is rec) =
           (let L = so before was in
           let p = L.place in record {
-            given = ap (λ (z : Job). z.given) is ∙ L.given;
-            pinned = ap (λ (z : Job). z.pinned) is ∙ L.pinned;
-            subject = ap (λ (z : Job). z.subject) is
-                ∙ (drawn_later (now start (l ++ ms)) before before.kind (first_above before (omega arith))
-                ∙ L.subject);
-            kind = ap (λ (z : Job). z.kind) is ∙ L.kind;
+            given = cc;
+            pinned = cc;
+            subject = cc (drawn_later (now start (l ++ ms)) before before.kind (first_above before
+                (omega arith)));
+            kind = cc;
             place = (let q = ap (λ (z : Job). z.place) is in omega arith);
           })
       by_change so y at (Job_is.finished before a was next_is flies mine is rec landed) =
           (let L = so before was in
           let p = L.place in record {
-            given = ap (λ (z : Job). z.given) is ∙ L.given;
-            pinned = ap (λ (z : Job). z.pinned) is ∙ L.pinned;
-            subject = ap (λ (z : Job). z.subject) is ∙ L.subject;
-            kind = ap (λ (z : Job). z.kind) is ∙ L.kind;
+            given = cc;
+            pinned = cc;
+            subject = cc;
+            kind = cc;
             place = (let q = ap (λ (z : Job). z.place) is in omega arith);
           })

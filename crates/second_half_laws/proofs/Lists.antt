@@ -22,7 +22,7 @@ stands_right xs ys x h = (length xs + h.0, get_behind xs ys h.0 x h.1)
 -- what a function makes of an element stands in the list of all that it makes
 pub stands_map : {A X : Type 0} (f : A → X) (as_ : List A) (a : A) → In a as_ → Stands (f a) (map f as_)
 stands_map f [] a i = absurd i
-stands_map f (b ∷ as_) a (inl e) = (0, ap (λ c. Some (f c)) (sym e))
+stands_map f (b ∷ as_) a (inl e) = (0, cc)
 stands_map f (b ∷ as_) a (inr i) = (let r = stands_map f as_ a i in (suc r.0, r.1))
 
 -- what stands in the list made of an element stands in all such lists put together

@@ -18,16 +18,11 @@ pub given_block : (given : List Given) (i o s : ℕ) (block : Option (List ℕ))
     In (Fetched i o s block) given → In (Fetched i o s (block_given given o s i)) given
 given_block [] i o s block h = absurd h
 given_block (Fetched k p t c ∷ more) i o s block h = elim (cases_Bool (((k == i) && (p == o)) && (t == s))) [
-  | inl b ↦ (let u = and_parts ((k == i) && (p == o)) (t == s) b in
-      let v = and_parts (k == i) (p == o) u.0 in
-      let e : block_given (Fetched k p t c ∷ more) o s i ≡ c =
-      cond_true (((k == i) && (p == o)) && (t == s)) c (block_given more o s i) b in
-      let x = eqb-true k i v.0 in
-      let y = eqb-true p o v.1 in
-      let z = eqb-true t s u.1 in
+  | inl b ↦ (let u = and_parts ((k == i) && (p == o)) (t == s) b in let v = and_parts (k == i) (p == o) u.0 in
+      let e : block_given (Fetched k p t c ∷ more) o s i ≡ c = cc in let x = eqb-true k i v.0 in
+      let y = eqb-true p o v.1 in let z = eqb-true t s u.1 in
       inl (let f : Fetched i o s (block_given (Fetched k p t c ∷ more) o s i) ≡ Fetched k p t c = cc in f))
-  | inr b ↦ (let e : block_given (Fetched k p t c ∷ more) o s i ≡ block_given more o s i =
-      cond_false (((k == i) && (p == o)) && (t == s)) c (block_given more o s i) b in
+  | inr b ↦ (let e : block_given (Fetched k p t c ∷ more) o s i ≡ block_given more o s i = cc in
       inr (subst (λ x. In (Fetched i o s x) more) (sym e) (given_block more i o s block (later h b))))
 ]
   where
@@ -52,16 +47,11 @@ given_answer (Answered k p t c ∷ more) i o s symbol h =
     elim (cases_Bool (((k == i) && (p == o)) && (t == s))) [
       | inl b ↦ (let u = and_parts ((k == i) && (p == o)) (t == s) b in
           let v = and_parts (k == i) (p == o) u.0 in
-          let e : answer_given (Answered k p t c ∷ more) o s i ≡ c =
-          cond_true (((k == i) && (p == o)) && (t == s)) c (answer_given more o s i) b in
-          let x = eqb-true k i v.0 in
-          let y = eqb-true p o v.1 in
-          let z = eqb-true t s u.1 in
+          let e : answer_given (Answered k p t c ∷ more) o s i ≡ c = cc in let x = eqb-true k i v.0 in
+          let y = eqb-true p o v.1 in let z = eqb-true t s u.1 in
           inl (let f : Answered i o s (answer_given (Answered k p t c ∷ more) o s i) ≡ Answered k p t c =
-          cc in
-          f))
-      | inr b ↦ (let e : answer_given (Answered k p t c ∷ more) o s i ≡ answer_given more o s i =
-          cond_false (((k == i) && (p == o)) && (t == s)) c (answer_given more o s i) b in
+          cc in f))
+      | inr b ↦ (let e : answer_given (Answered k p t c ∷ more) o s i ≡ answer_given more o s i = cc in
           inr (subst (λ x. In (Answered i o s x) more) (sym e) (given_answer more i o s symbol (later h b))))
     ]
   where
@@ -83,14 +73,10 @@ pub given_symbols : (given : List Given) (o s : ℕ) (symbols : List ℕ) → In
     In (Worked o s (symbols_given given o s)) given
 given_symbols [] o s symbols h = absurd h
 given_symbols (Worked p t c ∷ more) o s symbols h = elim (cases_Bool ((p == o) && (t == s))) [
-  | inl b ↦ (let v = and_parts (p == o) (t == s) b in
-      let e : symbols_given (Worked p t c ∷ more) o s ≡ c =
-      cond_true ((p == o) && (t == s)) c (symbols_given more o s) b in
-      let y = eqb-true p o v.0 in
-      let z = eqb-true t s v.1 in
+  | inl b ↦ (let v = and_parts (p == o) (t == s) b in let e : symbols_given (Worked p t c ∷ more) o s ≡ c =
+      cc in let y = eqb-true p o v.0 in let z = eqb-true t s v.1 in
       inl (let f : Worked o s (symbols_given (Worked p t c ∷ more) o s) ≡ Worked p t c = cc in f))
-  | inr b ↦ (let e : symbols_given (Worked p t c ∷ more) o s ≡ symbols_given more o s =
-      cond_false ((p == o) && (t == s)) c (symbols_given more o s) b in
+  | inr b ↦ (let e : symbols_given (Worked p t c ∷ more) o s ≡ symbols_given more o s = cc in
       inr (subst (λ x. In (Worked o s x) more) (sym e) (given_symbols more o s symbols (later h b))))
 ]
   where
@@ -147,10 +133,9 @@ passed_gift : (old : State) (x : Job) (action : Action) (new : State) (j : Job) 
     HasGift action j.given
 passed_gift old x action new j (Passed.silent quiet is rec) = silent_gift action j.given quiet
 passed_gift old x action new j (Passed.gave gift is_gift is rec) =
-    subst (HasGift action) (sym (ap (λ (y : Job). y.given) is)) (gift_now old x action new gift is_gift)
-passed_gift old x action new j (Passed.drew act is rec) = subst (λ a. HasGift a j.given) (sym act) tt
-passed_gift old x action new j (Passed.finished a act flight mine is rec) =
-    subst (λ a. HasGift a j.given) (sym act) tt
+    subst (HasGift action) (cc) (gift_now old x action new gift is_gift)
+passed_gift old x action new j (Passed.drew act is rec) = cc
+passed_gift old x action new j (Passed.finished a act flight mine is rec) = cc
 
 -- ---- further on
 
@@ -180,9 +165,9 @@ made_on start m ms x j action l c = record {
   makes = c.makes;
   went_on = c.went_on;
   after = c.after;
-  after_is = subst (λ n. job_of c.moment.state.jobs n ≡ Some c.after) l.number c.after_is;
+  after_is = cc;
   given = l.more ++ c.given;
-  given_is = l.given ∙ (ap (λ g. l.more ++ g) c.given_is ∙ sym (append_assoc l.more c.given c.after.given));
+  given_is = cc (append_assoc l.more c.given c.after.given);
 }
 
 fetched_on : (start : State) (m : Moment) (ms : List Moment) (x j : Job) (i o s : ℕ)
@@ -333,24 +318,23 @@ fetched_at start ms F k j p i o s h l at n =
 module _ (limit : ℕ) (start : State) (m : Moment) (ms : List Moment) (A : All start ms) (F : Facts start ms)
     (X : Changes limit (length ms) (now start ms) m.event m.outcome m.state)
     (W : Walked (length ms) (now start ms) m.event m.outcome m.state) where
+  -- the state after these moments
+  abbrev w : State
+  w = now start ms
+
   begun_step : (k : ℕ) (j : Job) → job_of m.state.jobs k ≡ Some j → j.begun < suc (length ms)
   begun_step k j h = elim (W.job k j h) [
     | Went.kept r apart ↦ (let l = F.begun k j r in omega (arith, l))
-    | Went.begun kind wish is k_is rec ↦
-        (let e : j.begun ≡ length ms = ap (λ (x : Job). x.begun) is in omega (arith, e))
-    | Went.went x action g ↦
-        (let l = F.begun k x g.runs in
-        let e = (passed_later (now start ms) x action m.state j g.passed).begun in omega (arith, l, e))
+    | Went.begun kind wish is k_is rec ↦ (let e : j.begun ≡ length ms = cc in omega (arith, e))
+    | Went.went x action g ↦ (let l = F.begun k x g.runs in
+        let e = (passed_later w x action m.state j g.passed).begun in omega (arith, l, e))
   ]
 
   -- this job made this action now
-  made_now : (k : ℕ) (x j : Job) (action : Action) →
-      Goes (now start ms) m.event m.outcome m.state k x action j → job_of m.state.jobs k ≡ Some j →
-      WasMade start (m ∷ ms) j action
-  made_now k x j action g h =
-      (let l = passed_later (now start ms) x action m.state j g.passed in
-      let b = F.begun k x g.runs in
-      let e = l.begun in
+  made_now : (k : ℕ) (x j : Job) (action : Action) → Goes w m.event m.outcome m.state k x action j →
+      job_of m.state.jobs k ≡ Some j → WasMade start (m ∷ ms) j action
+  made_now k x j action g h = (let l = passed_later w x action m.state j g.passed in
+      let b = F.begun k x g.runs in let e = l.begun in
       record {
         later = [];
         moment = m;
@@ -362,14 +346,14 @@ module _ (limit : ℕ) (start : State) (m : Moment) (ms : List Moment) (A : All 
         makes = makes_now k x j action g;
         went_on = g.outcome;
         after = j;
-        after_is = subst (λ n. job_of m.state.jobs n ≡ Some j) (sym g.number ∙ l.number) h;
+        after_is = cc;
         given = [];
         given_is = refl;
       })
     where
-      earlier_now : (x j : Job) (action : Action) → Passed (now start ms) x action m.state j → IsEarlier x j
-      earlier_now x j action passed = (let l = passed_later (now start ms) x action m.state j passed in
-          let p = passed_place (now start ms) x action m.state j passed in
+      earlier_now : (x j : Job) (action : Action) → Passed w x action m.state j → IsEarlier x j
+      earlier_now x j action passed = (let l = passed_later w x action m.state j passed in
+          let p = passed_place w x action m.state j passed in
           record {
             number = l.number;
             kind = l.kind;
@@ -381,15 +365,15 @@ module _ (limit : ℕ) (start : State) (m : Moment) (ms : List Moment) (A : All 
             place = omega (arith, p);
           })
 
-      makes_now : (k : ℕ) (x j : Job) (action : Action) →
-          Goes (now start ms) m.event m.outcome m.state k x action j → Makes (now start ms) m x action
+      makes_now : (k : ℕ) (x j : Job) (action : Action) → Goes w m.event m.outcome m.state k x action j →
+          Makes w m x action
       makes_now k x j action g =
           record {
-            event = g.event ∙ ap Step (sym g.number);
+            event = cc;
             is_open = g.is_open;
             unbarred = g.unbarred;
             none_alone = g.none_alone;
-            runs = subst (λ n. job_of (now start ms).jobs n ≡ Some x) (sym g.number) g.runs;
+            runs = cc;
             next = g.next;
             unheld = g.unheld;
           }
@@ -400,38 +384,33 @@ module _ (limit : ℕ) (start : State) (m : Moment) (ms : List Moment) (A : All 
   made_step k j p action h l at = elim (W.job k j h) [
     | Went.kept r apart ↦
         (let f = F.made k j p action r l at_old in (made_on start m ms j j action (later_same j) f.0, f.1))
-    | Went.begun kind wish is k_is rec ↦
-        absurd (let e : j.place ≡ 0 = ap (λ (x : Job). x.place) is in omega (arith, l, e))
+    | Went.begun kind wish is k_is rec ↦ absurd (let e : j.place ≡ 0 = cc in omega (arith, l, e))
     | Went.went x act g ↦ went_on x act g
   ]
     where
-      at_old : slice_get (actions_of (setup_in (now start ms)) j) p ≡ Some action
-      at_old = subst (λ t. slice_get (actions_of t j) p ≡ Some action)
-          (setup_stays limit start m ms A.numbers A.pins X k j h) at
+      at_old : slice_get (actions_of (setup_in w) j) p ≡ Some action
+      at_old = cc (setup_stays limit start m ms A.numbers A.pins X k j h)
 
-      went_on : (x : Job) (act : Action) → Goes (now start ms) m.event m.outcome m.state k x act j →
+      went_on : (x : Job) (act : Action) → Goes w m.event m.outcome m.state k x act j →
           WasMade start (m ∷ ms) j action × HasGift action j.given
-      went_on x act g = (let later = passed_later (now start ms) x act m.state j g.passed in
-          let place = passed_place (now start ms) x act m.state j g.passed in
-          let at_x = sym (list_before (now start ms) x act m.state j p g.next g.passed
-          (omega (arith, place, l))) ∙ at_old in
-          elim (cases_lt p x.place) [
+      went_on x act g = (let later = passed_later w x act m.state j g.passed in
+          let place = passed_place w x act m.state j g.passed in
+          let at_x = sym (list_before w x act m.state j p g.next g.passed (omega (arith, place, l)))
+          ∙ at_old in elim (cases_lt p x.place) [
             | inl e ↦ (let f = F.made k x p action g.runs e at_x in (
               made_on start m ms x j action later f.0,
               gift_more action later.more x.given j.given later.given f.1,
             ))
             | inr e ↦ (let here : p ≡ x.place = omega (arith, place, l, e) in
-                let same : act ≡ action = same_value _ act action
-                (list_now (now start ms) x act m.state j g.next g.passed)
-                (subst (λ n. slice_get (actions_of (setup_in (now start ms)) x) n ≡ Some action) here at_x) in
-                subst (λ (a : Action). WasMade start (m ∷ ms) j a × HasGift a j.given) same
-                (made_now k x j act g h, passed_gift (now start ms) x act m.state j g.passed))
+                let same : act ≡ action = same_value _ act action (list_now w x act m.state j g.next g.passed)
+                (cc) in subst (λ (a : Action). WasMade start (m ∷ ms) j a × HasGift a j.given) same
+                (made_now k x j act g h, passed_gift w x act m.state j g.passed))
           ])
 
   -- what was given now
   came_now : (k : ℕ) (x j : Job) (action : Action) (gift : Given) →
-      Goes (now start ms) m.event m.outcome m.state k x action j → job_of m.state.jobs k ≡ Some j →
-      IsGift (now start ms) x m.state action gift → CameBy start (m ∷ ms) j gift
+      Goes w m.event m.outcome m.state k x action j → job_of m.state.jobs k ≡ Some j →
+      IsGift w x m.state action gift → CameBy start (m ∷ ms) j gift
   unfolding made_now
   came_now k x j (Fetch i o s) gift g h (block, is, held) = subst (CameBy start (m ∷ ms) j) (sym is)
       (let c = made_now k x j (Fetch i o s) g h in
@@ -444,12 +423,11 @@ module _ (limit : ℕ) (start : State) (m : Moment) (ms : List Moment) (A : All 
         maker = x;
         same = c.same;
         makes = c.makes;
-        held = subst (λ fs. IsHeldThen (now start ms) m.state fs i o s block)
-            (passed_later (now start ms) x (Fetch i o s) m.state j g.passed).pinned held;
+        held = subst (λ fs. IsHeldThen w m.state fs i o s block) (passed_later w x (Fetch i o s) m.state j
+            g.passed).pinned held;
       })
   came_now k x j (Ask i o r) gift g h (symbol, is, held) = subst (CameBy start (m ∷ ms) j) (sym is)
-      (let c = made_now k x j (Ask i o r) g h in
-      let l = passed_later (now start ms) x (Ask i o r) m.state j g.passed in
+      (let c = made_now k x j (Ask i o r) g h in let l = passed_later w x (Ask i o r) m.state j g.passed in
       record {
         later = [];
         moment = m;
@@ -459,26 +437,22 @@ module _ (limit : ℕ) (start : State) (m : Moment) (ms : List Moment) (A : All 
         maker = x;
         same = c.same;
         makes = c.makes;
-        answered = answered_on (now start ms) m.state x j (now start ms) m.state i o r symbol
-            (setup_stays limit start m ms A.numbers A.pins X k j h)
-            (l.subject (ask_late (now start ms) x i o r g.next)) l.pinned held;
+        answered = answered_on w m.state x j w m.state i o r symbol (setup_stays limit start m ms A.numbers
+            A.pins X k j h) (l.subject (ask_late w x i o r g.next)) l.pinned held;
       })
   came_now k x j (Work o s) gift g h (symbols, is, gives) = subst (CameBy start (m ∷ ms) j) (sym is)
-      (let l = passed_later (now start ms) x (Work o s) m.state j g.passed in
+      (let l = passed_later w x (Work o s) m.state j g.passed in
       let setup = setup_stays limit start m ms A.numbers A.pins X k j h in
-      let at = next_stands (now start ms) x (Work o s) g.next (λ e. cc) in
+      let at = next_stands w x (Work o s) g.next (λ e. cc) in
       record {
-        blocks = blocks_given x.given (setup_in (now start ms)).n o s;
-        opens = subst (λ t. Gives t j.pinned o s (blocks_given x.given (setup_in (now start ms)).n o s)
-            symbols) (sym setup)
-            (subst (λ fs. Gives (setup_in (now start ms)) fs o s
-            (blocks_given x.given (setup_in (now start ms)).n o s) symbols) l.pinned gives);
-        fetched = λ i n.
-            (let n_old : i < (setup_in (now start ms)).n = subst (λ (t : Setup). i < t.n) setup n in
+        blocks = blocks_given x.given (setup_in w).n o s;
+        opens = subst (λ t. Gives t j.pinned o s (blocks_given x.given (setup_in w).n o s) symbols)
+            (sym setup) (subst (λ fs. Gives (setup_in w) fs o s (blocks_given x.given (setup_in w).n o s)
+            symbols) l.pinned gives);
+        fetched = λ i n. (let n_old : i < (setup_in w).n = subst (λ (t : Setup). i < t.n) setup n in
             let c = fetched_at start ms F k x x.place i o s g.runs (omega arith) at n_old in
-            subst (WasFetched start (m ∷ ms) j i o s)
-            (sym (block_at-given x.given (setup_in (now start ms)).n o s i n_old))
-            (fetched_on start m ms x j i o s (block_given x.given o s i) l c));
+            subst (WasFetched start (m ∷ ms) j i o s) (sym (block_at-given x.given (setup_in w).n o s i
+            n_old)) (fetched_on start m ms x j i o s (block_given x.given o s i) l c));
       })
   came_now k x j action gift g h is_gift = absurd is_gift
 
@@ -491,30 +465,25 @@ module _ (limit : ℕ) (start : State) (m : Moment) (ms : List Moment) (A : All 
     | Went.went x action g ↦ by_passed x action g g.passed
   ]
     where
-      carried : (x : Job) (action : Action) → Goes (now start ms) m.event m.outcome m.state k x action j →
+      carried : (x : Job) (action : Action) → Goes w m.event m.outcome m.state k x action j →
           In gift x.given → CameBy start (m ∷ ms) j gift
-      carried x action g i_x = came_on start m ms x j gift
-          (setup_stays limit start m ms A.numbers A.pins X k j h)
-          (passed_later (now start ms) x action m.state j g.passed) (F.came k x gift g.runs i_x)
+      carried x action g i_x = came_on start m ms x j gift (setup_stays limit start m ms A.numbers A.pins X k
+          j h) (passed_later w x action m.state j g.passed) (F.came k x gift g.runs i_x)
 
-      given_now : (x : Job) (action : Action) (new_gift : Given) →
-          Goes (now start ms) m.event m.outcome m.state k x action j →
-          IsGift (now start ms) x m.state action new_gift → In gift (new_gift ∷ x.given) →
-          CameBy start (m ∷ ms) j gift
+      given_now : (x : Job) (action : Action) (new_gift : Given) → Goes w m.event m.outcome m.state k x action
+          j → IsGift w x m.state action new_gift → In gift (new_gift ∷ x.given) → CameBy start (m ∷ ms) j gift
       given_now x action new_gift g is_gift (inl e) =
           subst (CameBy start (m ∷ ms) j) (sym e) (came_now k x j action new_gift g h is_gift)
       given_now x action new_gift g is_gift (inr i_x) = carried x action g i_x
 
-      by_passed : (x : Job) (action : Action) → Goes (now start ms) m.event m.outcome m.state k x action j →
-          Passed (now start ms) x action m.state j → CameBy start (m ∷ ms) j gift
-      by_passed x action g (Passed.silent quiet is rec) =
-          carried x action g (subst (In gift) (ap (λ (y : Job). y.given) is) i)
+      by_passed : (x : Job) (action : Action) → Goes w m.event m.outcome m.state k x action j →
+          Passed w x action m.state j → CameBy start (m ∷ ms) j gift
+      by_passed x action g (Passed.silent quiet is rec) = carried x action g (subst (In gift) (cc) i)
       by_passed x action g (Passed.gave new_gift is_gift is rec) =
           given_now x action new_gift g is_gift (subst (In gift) (ap (λ (y : Job). y.given) is) i)
-      by_passed x action g (Passed.drew act is rec) =
-          carried x action g (subst (In gift) (ap (λ (y : Job). y.given) is) i)
+      by_passed x action g (Passed.drew act is rec) = carried x action g (subst (In gift) (cc) i)
       by_passed x action g (Passed.finished a act flight mine is rec) =
-          carried x action g (subst (In gift) (ap (λ (y : Job). y.given) is) i)
+          carried x action g (subst (In gift) (cc) i)
 
   -- an event keeps it that jobs made what is before their place, and that their gifts came of it
   pub step_facts : Facts start (m ∷ ms)

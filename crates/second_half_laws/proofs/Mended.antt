@@ -23,7 +23,7 @@ audit_past w job kind h = elim (split_get append_actions
     ]
   where
     listed : slice_get (actions_by (setup_in w) job AuditJob) job.place ≡ Some End
-    listed = subst (λ kd. next_by w job kd job.place ≡ Some End) kind (sym (next_is_by w job) ∙ h)
+    listed = cc (next_is_by w job)
 
 -- a repair that ends has made each of its stores
 repair_past : (w : State) (job : Job) → job.kind ≡ RepairJob → next_action w job ≡ Some End →
@@ -34,7 +34,7 @@ repair_past w job kind h p i o s at =
     let early = store_within (setup_in w) job p i o s kind at in omega arith)
   where
     listed : slice_get (actions_by (setup_in w) job RepairJob) job.place ≡ Some End
-    listed = subst (λ kd. next_by w job kd job.place ≡ Some End) kind (sym (next_is_by w job) ∙ h)
+    listed = cc (next_is_by w job)
 
 -- ---- numbers of audits
 
@@ -91,33 +91,29 @@ mended : (limit : ℕ) (start : State) (repairing between auditing older : List 
     rb.outcome ≡ Begun repair → NoneBegan repair repairing → r.event ≡ Step repair →
     r.outcome ≡ Ended (Repaired number) →
     IsMark start (r ∷ (repairing ++ rb ∷ (between ++ e ∷ (auditing ++ b ∷ older)))) (length older)
-mended limit start repairing between auditing older r rb e b number undecided audit repair counts h b_event b_begun
-    none e_step e_over rb_event rb_begun none_repair r_step r_over =
-    (let old = auditing ++ b ∷ older in
-    let mid = between ++ e ∷ old in
-    let rest = repairing ++ rb ∷ mid in
+mended limit start repairing between auditing older r rb e b number undecided audit repair counts h b_event
+    b_begun none e_step e_over rb_event rb_begun none_repair r_step r_over =
+    (let old = auditing ++ b ∷ older in let mid = between ++ e ∷ old in let rest = repairing ++ rb ∷ mid in
     let run_rb = run_back limit start repairing (rb ∷ mid) h.run.2 in
     let run_e = run_back limit start between (e ∷ old) run_rb.2 in
     let x = ended_of_kind limit start auditing older e b AuditJob audit (Audited number undecided counts)
     h.clean run_e (inl b_event) b_begun none e_step e_over in
     let y = ended_of_kind limit start repairing mid r rb RepairJob repair (Repaired number) h.clean h.run
     (inl rb_event) rb_begun none_repair r_step r_over in
-    let x_end = ends limit start e old x.0 (Audited number undecided counts) (λ z. z) run_e audit x.1 x.2 e_step
-    e_over in
+    let x_end = ends limit start e old x.0 (Audited number undecided counts) (λ z. z) run_e audit x.1 x.2
+    e_step e_over in
     let y_end = ends limit start r rest y.0 (Repaired number) (λ z. z) h.run repair y.1 y.2 r_step r_over in
     let x_sums = subst (λ kd. Ends (now start old) x.0 kd (Audited number undecided counts)) x.3 x_end.1 in
     let y_number = subst (λ kd. Ends (now start rest) y.0 kd (Repaired number)) y.3 y_end.1 in
     let past = audit_past (now start old) x.0 x.3 x_end.0 in
     let kept = (always limit start h.clean old run_e.2).audit_kept audit x.0 x.1 x.3 past in
-    let below = (num.facts audits limit start h.clean old run_e.2).below audit x.0 x.1
-    (subst (Draws audits) (sym x.3) tt, past) in
+    let below = (num.facts audits limit start h.clean old run_e.2).below audit x.0 x.1 (cc, past) in
     let s = audits_stay limit start h.clean (e ∷ []) old x.0.subject run_e below in
     let t = audits_stay limit start h.clean between (e ∷ old) x.0.subject run_rb.2 s.1 in
     let u = audits_stay limit start h.clean (rb ∷ []) mid x.0.subject run_rb t.1 in
     let v = audits_stay limit start h.clean repairing (rb ∷ mid) x.0.subject h.run.2 u.1 in
     let subject : y.0.subject ≡ x.0.subject = sym y_number ∙ x_sums.0 in
-    let is : (now start rest).audits y.0.subject ≡ length older =
-    ap (now start rest).audits subject ∙ (v.0 ∙ (u.0 ∙ (t.0 ∙ (s.0 ∙ (kept ∙ x.4))))) in
+    let is : (now start rest).audits y.0.subject ≡ length older = cc in
     let calm = calm_before limit start r rest h in
     let moment = subst (IsMark start rest) is (at_end limit start rest repair y.0 calm y.1 y.3 y_end.0) in
     mark_stays limit (since start) start r rest (calm_marked limit start rest calm) h.scrubs.1 h.run
@@ -127,8 +123,7 @@ mended limit start repairing between auditing older r rb e b number undecided au
         (HasFailed how → ⊥) → IsRun limit start (m ∷ ms) → (k : ℕ) → job_of (now start ms).jobs k ≡ Some job →
         job.number ≡ k → m.event ≡ Step k → m.outcome ≡ Ended how → IsItsEnd (now start ms) job how
     ends limit start m ms job how good run k runs number event over =
-        event_end limit (length ms) (now start ms) m.event m.outcome m.state job how good
-        (event ∙ ap Step (sym number)) over (ap (job_of (now start ms).jobs) number ∙ runs) run.1
+        event_end limit (length ms) (now start ms) m.event m.outcome m.state job how good (cc) over (cc) run.1
 
 -- at the end of a repair the begin of its audit is a mark
 pub mended_mark : (limit : ℕ) (start : State) (older ms : List Moment) → IsCalmRun limit start ms →

@@ -114,18 +114,12 @@ repair_list_is t job = refl
 pub same_actions : (t : Setup) (x j : Job) → x.kind ≡ RepairJob → j.kind ≡ RepairJob → j.pinned ≡ x.pinned →
     j.flagged ≡ x.flagged → actions_of t j ≡ actions_of t x
 same_actions t x j kx kj pinned flagged =
-    actions_are t j RepairJob kj
-    ∙ (repair_list_is t j
-    ∙ (ap (λ g. repair_list t g j.pinned) flagged
-    ∙ (ap (repair_list t x.flagged) pinned
-    ∙ sym (actions_are t x RepairJob kx ∙ repair_list_is t x))))
+    cc (actions_are t j RepairJob kj, repair_list_is t j, actions_are t x RepairJob kx, repair_list_is t x)
 
 -- the next action of a repair is the one at its place
 pub next_repairs : (w : State) (job : Job) → job.kind ≡ RepairJob →
     next_action w job ≡ slice_get (actions_of (setup_in w) job) job.place
-next_repairs w job is = next_is_by w job
-    ∙ (ap (λ kd. next_by w job kd job.place) is
-    ∙ ap (λ l. slice_get l job.place) (sym (actions_are (setup_in w) job RepairJob is)))
+next_repairs w job is = cc
 
 -- ---- a third move is followed by a fourth
 
@@ -183,28 +177,23 @@ not_idle w job kind = refl
 -- behind a third move comes the fourth
 pub gate_next : (w : State) (job : Job) → next_action w job ≡ Some WriteGate →
     next_action w (advanced job) ≡ Some SyncGate
-gate_next w job h =
-    (let here : slice_get (actions_by (setup_in w) job job.kind) job.place ≡ Some WriteGate =
+gate_next w job h = (let here : slice_get (actions_by (setup_in w) job job.kind) job.place ≡ Some WriteGate =
     by_kind (setup_in w) job job.kind job.place WriteGate refl (next_stands w job WriteGate h (λ e. cc)) in
     let one : suc job.place ≡ job.place + 1 = omega arith in
-    next_is_by w (advanced job)
-    ∙ (cond_false (is_idle_drop w (advanced job) job.kind) (Some End)
-    (slice_get (actions_by (setup_in w) (advanced job) job.kind) (job.place + 1)) (not_idle w job job.kind)
-    ∙ (ap (λ l. slice_get l (job.place + 1)) (actions_by-advanced (setup_in w) job job.kind)
-    ∙ subst (λ n. slice_get (actions_by (setup_in w) job job.kind) n ≡ Some SyncGate) one
-    (followed_by (setup_in w) job job.kind job.place here))))
+    cc (
+      next_is_by w (advanced job),
+      cond_false (is_idle_drop w (advanced job) job.kind) (Some End)
+          (slice_get (actions_by (setup_in w) (advanced job) job.kind) (job.place + 1)) (not_idle w job job.kind),
+      actions_by-advanced (setup_in w) job job.kind,
+      followed_by (setup_in w) job job.kind job.place here,
+    ))
 
 -- the next action hangs on the records alone
 same_by : (v w : State) (job : Job) (kind : Kind) (place : ℕ) → v.records ≡ w.records →
     next_by v job kind place ≡ next_by w job kind place
-same_by v w job (DropJob name) place e =
-    ap (λ rs. cond ((job.place == 0) && not (is_some (file_of rs name))) (Some End)
-    (slice_get (actions_by (setup_in v) job (DropJob name)) place)) e
-    ∙ ap (λ t. cond ((job.place == 0) && not (is_some (file_in w name))) (Some End)
-    (slice_get (actions_by t job (DropJob name)) place)) (setup_same v w (ap setup_of e))
+same_by v w job (DropJob name) place e = cc (setup_same v w (ap setup_of e))
 same_by v w job UpgradeJob place e = refl
-same_by v w job kind place e =
-    ap (λ t. slice_get (actions_by t job kind) place) (setup_same v w (ap setup_of e))
+same_by v w job kind place e = cc (setup_same v w (ap setup_of e))
 
 -- a job has the same next action wherever the records are the same
 pub next_same : (v w : State) (job : Job) → v.records ≡ w.records → next_action v job ≡ next_action w job

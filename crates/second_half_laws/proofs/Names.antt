@@ -26,21 +26,20 @@ started_named : (rs : List Record) (id : ℕ) (name : List ℕ) → AreNamed rs 
 started_named [] id name named h = let e : None ≡ Some name = h in cc
 started_named (SetUp s ∷ rs) id name named h = started_named rs id name named.1 h
 started_named (PutStart k n ∷ rs) id name named h = elim (cases_Bool (k == id)) [
-  | inl t ↦ (let e : n ≡ name = same_value _ n name (cond_true (k == id) (Some n) (started_as rs id) t) h in
-      subst (λ x. is_name x ≡ true) e named.0)
-  | inr f ↦ started_named rs id name named.1 (sym (cond_false (k == id) (Some n) (started_as rs id) f) ∙ h)
+  | inl t ↦ (let e : n ≡ name = cc in cc)
+  | inr f ↦ started_named rs id name named.1 (cc)
 ]
 started_named (PutDone k size ∷ rs) id name named h = elim (cases_Bool (k == id)) [
-  | inl t ↦ (let e : None ≡ Some name = sym (cond_true (k == id) None (started_as rs id) t) ∙ h in cc)
-  | inr f ↦ started_named rs id name named.1 (sym (cond_false (k == id) None (started_as rs id) f) ∙ h)
+  | inl t ↦ (let e : None ≡ Some name = cc in cc)
+  | inr f ↦ started_named rs id name named.1 (cc)
 ]
 started_named (Drop n ∷ rs) id name named h = started_named rs id name named.1 h
 started_named (AuditStart number ∷ rs) id name named h = started_named rs id name named.1 h
 started_named (AuditDone number undecided counts ∷ rs) id name named h = started_named rs id name named.1 h
 started_named (RepairDone number ∷ rs) id name named h = started_named rs id name named.1 h
 started_named (PutDoneIn k size profile ∷ rs) id name named h = elim (cases_Bool (k == id)) [
-  | inl t ↦ (let e : None ≡ Some name = sym (cond_true (k == id) None (started_as rs id) t) ∙ h in cc)
-  | inr f ↦ started_named rs id name named.1 (sym (cond_false (k == id) None (started_as rs id) f) ∙ h)
+  | inl t ↦ (let e : None ≡ Some name = cc in cc)
+  | inr f ↦ started_named rs id name named.1 (cc)
 ]
 started_named (Version ∷ rs) id name named h = started_named rs id name named.1 h
 started_named (Resume next audit ∷ rs) id name named h = started_named rs id name named.1 h
@@ -50,7 +49,7 @@ started_named (RepairDue number counts ∷ rs) id name named h = started_named r
 start_named : (o : Option (List ℕ)) (name : List ℕ) → is_start_of name o ≡ true →
     ((x : List ℕ) → o ≡ Some x → is_name x ≡ true) → is_name name ≡ true
 start_named None name h f = absurd (false≢true h)
-start_named (Some x) name h f = subst (λ y. is_name y ≡ true) (same-eq x name h) (f x refl)
+start_named (Some x) name h f = cc (same-eq x name h, f x refl)
 
 file_named : (rs : List Record) (name : List ℕ) (file : File) → AreNamed rs → file_of rs name ≡ Some file →
     is_name name ≡ true
@@ -59,14 +58,11 @@ file_named (SetUp s ∷ rs) name file named h = file_named rs name file named.1 
 file_named (PutStart k n ∷ rs) name file named h = file_named rs name file named.1 h
 file_named (PutDone k size ∷ rs) name file named h = elim (cases_Bool (is_start_of name (started_as rs k))) [
   | inl t ↦ start_named (started_as rs k) name t (λ x e. started_named rs k x named.1 e)
-  | inr f ↦ file_named rs name file named.1
-      (sym (cond_false (is_start_of name (started_as rs k)) _ (file_of rs name) f) ∙ h)
+  | inr f ↦ file_named rs name file named.1 (cc)
 ]
 file_named (Drop n ∷ rs) name file named h = elim (cases_Bool (is_same_name n name)) [
-  | inl t ↦ (let e : None ≡ Some file = sym (cond_true (is_same_name n name) None (file_of rs name) t) ∙ h in
-      cc)
-  | inr f ↦ file_named rs name file named.1 (sym (cond_false (is_same_name n name) None (file_of rs name) f)
-      ∙ h)
+  | inl t ↦ (let e : None ≡ Some file = cc in cc)
+  | inr f ↦ file_named rs name file named.1 (cc)
 ]
 file_named (AuditStart number ∷ rs) name file named h = file_named rs name file named.1 h
 file_named (AuditDone number undecided counts ∷ rs) name file named h = file_named rs name file named.1 h
@@ -74,16 +70,14 @@ file_named (RepairDone number ∷ rs) name file named h = file_named rs name fil
 file_named (PutDoneIn k size profile ∷ rs) name file named h =
     elim (cases_Bool (is_start_of name (started_as rs k))) [
       | inl t ↦ start_named (started_as rs k) name t (λ x e. started_named rs k x named.1 e)
-      | inr f ↦ file_named rs name file named.1
-          (sym (cond_false (is_start_of name (started_as rs k)) _ (file_of rs name) f) ∙ h)
+      | inr f ↦ file_named rs name file named.1 (cc)
     ]
 file_named (Version ∷ rs) name file named h = file_named rs name file named.1 h
 file_named (Resume next audit ∷ rs) name file named h = file_named rs name file named.1 h
 file_named (InEffect k size profile kept ∷ rs) name file named h =
     elim (cases_Bool (is_same_name kept name)) [
-      | inl t ↦ subst (λ x. is_name x ≡ true) (same-eq kept name t) named.0
-      | inr f ↦ file_named rs name file named.1
-          (sym (cond_false (is_same_name kept name) _ (file_of rs name) f) ∙ h)
+      | inl t ↦ cc (same-eq kept name t)
+      | inr f ↦ file_named rs name file named.1 (cc)
     ]
 file_named (RepairDue number counts ∷ rs) name file named h = file_named rs name file named.1 h
 
@@ -93,17 +87,15 @@ writes_named w job (PutJob name bytes) entry named h = elim (cases_Bool (is_firs
   | inl t ↦ subst IsNamed
       (sym (h ∙ cond_true (is_first_append job) (PutStart (next_id w.records) name)
       (done_record (version_of w.records) job.subject (length bytes) job.profile) t)) named
-  | inr f ↦ subst IsNamed
-      (sym (h ∙ cond_false (is_first_append job) (PutStart (next_id w.records) name)
-      (done_record (version_of w.records) job.subject (length bytes) job.profile) f))
-      (by_version (version_of w.records) job.subject (length bytes) job.profile IsNamed tt tt)
+  | inr f ↦ subst IsNamed (cc) (by_version (version_of w.records) job.subject (length bytes) job.profile
+      IsNamed tt tt)
 ]
 writes_named w job (GetJob name) entry named h = absurd h
 writes_named w job AuditJob entry named h = elim (cases_Bool (is_first_append job)) [
   | inl t ↦ subst IsNamed (sym (let g = rw t at h in g)) tt
-  | inr f ↦ (let g = rw f at h in subst IsNamed (sym g.2) tt)
+  | inr f ↦ (let g = rw f at h in cc)
 ]
-writes_named w job kind entry named h = subst IsNamed (sym h) tt
+writes_named w job kind entry named h = cc
 
 -- a refusal that comes is not the none of a begin
 some_none : {X : Type 0} (o : Option X) (x : X) → o ≡ None → o ≡ Some x → ⊥
@@ -161,12 +153,12 @@ step_facts limit moment old e r new F X = record {
   doubt = λ d h. elim (X.doubt d h) [
     | Doubt_is.kept before rec ↦ F.doubt d before
     | Doubt_is.gated a flight entry rec ↦ subst IsNamed (sym entry) (F.append a flight)
-    | Doubt_is.set_up s entry ↦ subst IsNamed (sym entry) tt
+    | Doubt_is.set_up s entry ↦ cc
   ];
 }
 
 first_named : (rs : List Record) → AreFirst rs → AreNamed rs
-first_named rs (inl e) = subst AreNamed (sym e) tt
+first_named rs (inl e) = cc
 first_named rs (inr p) = subst AreNamed (sym p.2) (tt, tt)
 
 facts : (limit : ℕ) (start : State) (ms : List Moment) → IsStart start → IsRun limit start ms →
@@ -191,9 +183,9 @@ stored_named limit start ms name file clean run h =
 -- why a get of a name that is a name and in effect is refused
 get_refusal : (limit : ℕ) (w : State) (name : List ℕ) (file : File) (why : Refusal) → is_name name ≡ true →
     file_in w name ≡ Some file → begin_refusal limit w (GetJob name) ≡ Some why → IsGetRefusal why
-get_refusal limit w name file why named h e = go w.is_barred
-    (is_busy limit (sight_of w) (aim_of (GetJob name))) (is_name name) (is_stored (sight_of w) name) named
-    (stored-file w name ∙ ap is_some h) e
+get_refusal limit w name file why named h e =
+    go w.is_barred (is_busy limit (sight_of w) (aim_of (GetJob name))) (is_name name) (is_stored (sight_of w)
+    name) named (cc (stored-file w name)) e
   where
     go : (barred busy ok there : Bool) → ok ≡ true → there ≡ true →
         cond barred (Some refusal.MustReopen)

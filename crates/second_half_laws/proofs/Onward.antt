@@ -19,7 +19,7 @@ stands p = record { tells = λ h. h; stores = omega arith; others = omega arith 
 
 mapped : (f : Held → Held) (old new : Option Held) → new ≡ option_map f old → IsSome old → IsSome new
 mapped f None new e h = absurd (false≢true h)
-mapped f (Some x) new e h = subst IsSome (sym e) refl
+mapped f (Some x) new e h = cc
 
 lost_part : (object : ℕ) (old new : Option Held) → Goes (LosesPart object) old new → IsSome old → IsSome new
 lost_part object (Some x) (Some y) g h = refl
@@ -119,10 +119,10 @@ module _ (old : State) where
       ]
         where
           hit : (n : ℕ) → (n == j) ≡ true → with_provider old.providers j p n ≡ p
-          hit n t = cond_true (n == j) p (old.providers n) t
+          hit n t = cc
 
           miss : (n : ℕ) → (n == j) ≡ false → with_provider old.providers j p n ≡ old.providers n
-          miss n f = cond_false (n == j) p (old.providers n) f
+          miss n f = cc
 
   not_stored : (j : ℕ) (p : Provider) (how : Answer) → IsUnstored (old.providers j) p j how →
       Onward (old.providers j) p

@@ -20,36 +20,28 @@ Gifts old new = (k : ℕ) (j : Job) → job_of new.jobs k ≡ Some j → Gift_is
 
 module _ (old : State) where
   same_jobs : (new : State) → new.jobs ≡ old.jobs → Gifts old new
-  same_jobs new jobs k j h = Gift_is.had j (ap (λ l. job_of l k) (sym jobs) ∙ h) refl refl refl
+  same_jobs new jobs k j h = Gift_is.had j (cc) refl refl refl
 
   no_jobs : (new : State) → new.jobs ≡ [] → Gifts old new
   no_jobs new jobs k j h = absurd (found_none new.jobs k j jobs h)
 
   module _ (job : Job) (runs : job_of old.jobs job.number ≡ Some job) where
     ends : (new : State) → new.jobs ≡ without_job old.jobs job.number → Gifts old new
-    ends new jobs k j h =
-        Gift_is.had j (found_without old.jobs job.number k j (ap (λ l. job_of l k) (sym jobs) ∙ h)).1 refl
-        refl refl
+    ends new jobs k j h = Gift_is.had j (found_without old.jobs job.number k j (cc)).1 refl refl refl
 
     goes_on : (new : State) (y : Job) → new.jobs ≡ with_job old.jobs y → y.number ≡ job.number →
         y.given ≡ job.given → y.begun ≡ job.begun → y.pinned ≡ job.pinned → Gifts old new
-    goes_on new y jobs number given begun pinned k j h =
-        elim (found_with old.jobs y k j (ap (λ l. job_of l k) (sym jobs) ∙ h)) [
-          | inl p ↦ Gift_is.had job (subst (λ n. job_of old.jobs n ≡ Some job) (sym (p.0 ∙ number)) runs)
-              (ap (λ (x : Job). x.given) p.1 ∙ given) (ap (λ (x : Job). x.begun) p.1 ∙ begun)
-              (ap (λ (x : Job). x.pinned) p.1 ∙ pinned)
-          | inr q ↦ Gift_is.had j q.1 refl refl refl
-        ]
+    goes_on new y jobs number given begun pinned k j h = elim (found_with old.jobs y k j (cc)) [
+      | inl p ↦ Gift_is.had job (cc) (cc) (cc) (cc)
+      | inr q ↦ Gift_is.had j q.1 refl refl refl
+    ]
 
     is_given : (new : State) (gift : Given) → new.jobs ≡ with_job old.jobs (advanced_with job gift) →
         IsFound old new job.pinned gift → Gifts old new
-    is_given new gift jobs found k j h =
-        elim (found_with old.jobs (advanced_with job gift) k j (ap (λ l. job_of l k) (sym jobs) ∙ h)) [
-          | inl p ↦ Gift_is.one job gift (subst (λ n. job_of old.jobs n ≡ Some job) (sym p.0) runs)
-              (ap (λ (x : Job). x.given) p.1) (ap (λ (x : Job). x.begun) p.1)
-              (ap (λ (x : Job). x.pinned) p.1) found
-          | inr q ↦ Gift_is.had j q.1 refl refl refl
-        ]
+    is_given new gift jobs found k j h = elim (found_with old.jobs (advanced_with job gift) k j (cc)) [
+      | inl p ↦ Gift_is.one job gift (cc) (cc) (cc) (cc) found
+      | inr q ↦ Gift_is.had j q.1 refl refl refl
+    ]
 
     -- a fetch gave what its provider held, or none
     pub found_by : (j o s : ℕ) (block : Option (List ℕ)) (p : Provider) (new : State) →
@@ -86,8 +78,8 @@ module _ (old : State) where
   begun : (moment : ℕ) (kind : Kind) (profile : Option ℕ) (new : State) →
       new.jobs ≡ old.jobs ++ beginning old moment kind profile ∷ [] → Gifts old new
   begun moment kind profile new jobs k j h =
-      elim (found_more old.jobs (beginning old moment kind profile) k j (ap (λ l. job_of l k) (sym jobs) ∙ h)) [
-        | inl p ↦ Gift_is.none (ap (λ (x : Job). x.given) p.1)
+      elim (found_more old.jobs (beginning old moment kind profile) k j (cc)) [
+        | inl p ↦ Gift_is.none (cc)
         | inr q ↦ Gift_is.had j q refl refl refl
       ]
 

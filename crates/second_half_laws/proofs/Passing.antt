@@ -62,10 +62,10 @@ passed_later old x action new j (Passed.finished a act flight mine is rec) =
 -- a job that has made an action stands at the next place
 pub passed_place : (old : State) (x : Job) (action : Action) (new : State) (j : Job) →
     Passed old x action new j → j.place ≡ x.place + 1
-passed_place old x action new j (Passed.silent quiet is rec) = ap (λ (y : Job). y.place) is
-passed_place old x action new j (Passed.gave gift is_gift is rec) = ap (λ (y : Job). y.place) is
-passed_place old x action new j (Passed.drew act is rec) = ap (λ (y : Job). y.place) is
-passed_place old x action new j (Passed.finished a act flight mine is rec) = ap (λ (y : Job). y.place) is
+passed_place old x action new j (Passed.silent quiet is rec) = cc
+passed_place old x action new j (Passed.gave gift is_gift is rec) = cc
+passed_place old x action new j (Passed.drew act is rec) = cc
+passed_place old x action new j (Passed.finished a act flight mine is rec) = cc
 
 -- an end is not passed
 pub passed_not_end : (old : State) (x : Job) (action : Action) (new : State) (j : Job) →
@@ -124,7 +124,7 @@ subject_same : (s : Setup) (x : Job) (n p : ℕ) (kind : Kind) → n ≡ x.subje
     slice_get (actions_by s (with_subject x n) kind) p ≡ slice_get (actions_by s x kind) p
 subject_same s x n p kind e =
     subst (λ m. slice_get (actions_by s (with_subject x m) kind) p ≡ slice_get (actions_by s x kind) p)
-    (sym e) (ap (λ l. slice_get l p) (actions_by-advanced s x kind))
+    (sym e) (cc)
 
 older_first : (s : Setup) (x : Job) (l : List ℕ) (p : ℕ) (kind : Kind) → p < 4 →
     slice_get (actions_by s (with_older x l) kind) p ≡ slice_get (actions_by s x kind) p
@@ -177,26 +177,22 @@ list_is s x = actions_are s x x.kind refl
 list_of : (s : Setup) (x y j : Job) (p : ℕ) → j ≡ y →
     slice_get (actions_of s y) p ≡ slice_get (actions_of s x) p →
     slice_get (actions_of s j) p ≡ slice_get (actions_of s x) p
-list_of s x y j p is h = ap (λ (z : Job). slice_get (actions_of s z) p) is ∙ h
+list_of s x y j p is h = cc
 
 by_lists : (s : Setup) (x y : Job) (p : ℕ) → y.kind ≡ x.kind →
     slice_get (actions_by s y x.kind) p ≡ slice_get (actions_by s x x.kind) p →
     slice_get (actions_of s y) p ≡ slice_get (actions_of s x) p
-by_lists s x y p is h =
-    ap (λ l. slice_get l p) (actions_are s y x.kind is) ∙ (h ∙ ap (λ l. slice_get l p) (sym (list_is s x)))
+by_lists s x y p is h = cc (actions_are s y x.kind is, list_is s x)
 
 -- up to the place of what it has just made, the list is as before
 pub list_before : (old : State) (x : Job) (action : Action) (new : State) (j : Job) (p : ℕ) →
     next_action old x ≡ Some action → Passed old x action new j → p ≤ x.place →
     slice_get (actions_of (setup_in old) j) p ≡ slice_get (actions_of (setup_in old) x) p
 list_before old x action new j p next_is (Passed.silent quiet is rec) l =
-    list_of (setup_in old) x (advanced x) j p is
-    (by_lists (setup_in old) x (advanced x) p refl
-    (ap (λ l. slice_get l p) (actions_by-advanced (setup_in old) x x.kind)))
+    list_of (setup_in old) x (advanced x) j p is (by_lists (setup_in old) x (advanced x) p refl (cc))
 list_before old x action new j p next_is (Passed.gave gift is_gift is rec) l =
-    list_of (setup_in old) x (advanced_with x gift) j p is
-    (by_lists (setup_in old) x (advanced_with x gift) p refl
-    (ap (λ l. slice_get l p) (same_given (setup_in old) x gift x.kind)))
+    list_of (setup_in old) x (advanced_with x gift) j p is (by_lists (setup_in old) x (advanced_with x gift) p
+    refl (cc))
 list_before old x action new j p next_is (Passed.drew act is rec) l =
     list_of (setup_in old) x (with_subject x (subject_drawn old x x.kind)) j p is
     (by_lists (setup_in old) x (with_subject x (subject_drawn old x x.kind)) p refl (elim (cases_lt p 4) [

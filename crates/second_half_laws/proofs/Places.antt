@@ -6,12 +6,12 @@ use Rattle.second_half_laws.proofs.Lists.{only, Stands, stands_left, stands_righ
 -- what stands at a place of a job's list stands there in the list of its kind
 pub by_kind : (s : Setup) (job : Job) (kind : Kind) (p : ℕ) (action : Action) → job.kind ≡ kind →
     slice_get (actions_of s job) p ≡ Some action → slice_get (actions_by s job kind) p ≡ Some action
-by_kind s job kind p action is h = ap (λ l. slice_get l p) (sym (actions_are s job kind is)) ∙ h
+by_kind s job kind p action is h = cc (actions_are s job kind is)
 
 -- what stands at a place of the list of a job's kind stands there in the job's list
 pub of_kind : (s : Setup) (job : Job) (kind : Kind) (p : ℕ) (action : Action) → job.kind ≡ kind →
     slice_get (actions_by s job kind) p ≡ Some action → slice_get (actions_of s job) p ≡ Some action
-of_kind s job kind p action is h = ap (λ l. slice_get l p) (actions_are s job kind is) ∙ h
+of_kind s job kind p action is h = cc (actions_are s job kind is)
 
 -- ---- kinds of actions
 
@@ -57,8 +57,8 @@ open_behind t id st i o s l p h =
           let same : Fetch i id st ≡ Fetch i o s = (let a : id ≡ o = cc in let b : st ≡ s = cc in cc) in (
             at.0,
             omega arith,
-            get_left (on_each_provider t (λ j. Fetch j id st)) (Work id st ∷ []) at.0
-                (Fetch i id st) at.1 ∙ ap Some same,
+            cc (get_left (on_each_provider t (λ j. Fetch j id st)) (Work id st ∷ []) at.0 (Fetch i id st)
+                at.1),
           ))
     ]
 
@@ -108,8 +108,7 @@ piece_stores t job id st i o s p h =
           let same : Work id st ≡ Work o s = (let a = of.0 in let b = of.1 in cc) in (
             at.0,
             omega arith,
-            get_left (open_actions t id st) (rewrite_actions t job id st) at.0 (Work id st) at.1
-                ∙ ap Some same,
+            cc (get_left (open_actions t id st) (rewrite_actions t job id st) at.0 (Work id st) at.1),
           ))
     ]
 
@@ -236,9 +235,7 @@ fetch_stands t job name f s i in_f l k = stands_flat
 -- the next action of a get is the one at its place
 get_stands : (w : State) (job : Job) (name : List ℕ) (action : Action) → job.kind ≡ GetJob name →
     next_action w job ≡ Some action → slice_get (actions_of (setup_in w) job) job.place ≡ Some action
-get_stands w job name action kind h =
-    sym (cond_false (is_idle_drop w job job.kind) (Some End)
-    (slice_get (actions_of (setup_in w) job) job.place) (ap (is_idle_drop w job) kind)) ∙ h
+get_stands w job name action kind h = cc
 
 -- a get that comes to its end has fetched each stripe of its file from each provider
 pub fetched_before_end : (w : State) (job : Job) (name : List ℕ) (f : Pinned) (s i : ℕ) →
@@ -323,16 +320,13 @@ repair_calls t job = repairs_all t job IsCall (λ f st in_f l. (λ j. tt, tt, λ
 -- each store of its files on a flagged provider is among those of a repair
 pub store_in_repair : (t : Setup) (job : Job) (f : Pinned) (i s : ℕ) → In f job.pinned →
     job.flagged i ≡ true → i < t.n → s < pinned_stripes t f → Stands (Store i f.id s) (repair_actions t job)
-store_in_repair t job f i s in_f flag k l = stands_flat
-    (λ (g : Pinned). on_each_stripe (profiled t g.profile) (length g.bytes)
-    (λ stripe. open_actions t g.id stripe ++ rewrite_actions t job g.id stripe)) job.pinned f
-    (Store i f.id s) in_f
-    (stands_flat (λ stripe. open_actions t f.id stripe ++ rewrite_actions t job f.id stripe)
-    (upto (pinned_stripes t f)) s (Store i f.id s) (in_upto (pinned_stripes t f) s l)
+store_in_repair t job f i s in_f flag k l = stands_flat (λ (g : Pinned). on_each_stripe (profiled t g.profile)
+    (length g.bytes) (λ stripe. open_actions t g.id stripe ++ rewrite_actions t job g.id stripe)) job.pinned f
+    (Store i f.id s) in_f (stands_flat (λ stripe. open_actions t f.id stripe ++ rewrite_actions t job f.id
+    stripe) (upto (pinned_stripes t f)) s (Store i f.id s) (in_upto (pinned_stripes t f) s l)
     (stands_right (open_actions t f.id s) (rewrite_actions t job f.id s) (Store i f.id s)
     (stands_flat (λ j. cond (job.flagged j) (Store j f.id s ∷ []) []) (upto t.n) i (Store i f.id s)
-    (in_upto t.n i k)
-    (0, ap (λ l. slice_get l 0) (cond_true (job.flagged i) (Store i f.id s ∷ []) [] flag)))))
+    (in_upto t.n i k) (0, cc))))
 
 -- each store of its files on a flagged provider stands in a repair's list of actions
 pub store_stands : (t : Setup) (job : Job) (f : Pinned) (i s : ℕ) → job.kind ≡ RepairJob → In f job.pinned →

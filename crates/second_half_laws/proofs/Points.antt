@@ -67,66 +67,59 @@ module _ (limit : ℕ) (mark : Mark) (start : State) (m : Moment) (ms : List Mom
     (I : eff.Facts (now start ms))
     (E : Always start ms) (X : Changes limit (length ms) (now start ms) m.event m.outcome m.state)
     (T : Turns (now start ms) m.state) where
+  -- the state after these moments
+  abbrev here : State
+  here = now start ms
+
   -- a block that is wrong after an event was so before, where setup and bytes are the same
-  pub wrong_old : (p o i s : ℕ) (b : Option (List ℕ)) → setup_in m.state ≡ setup_in (now start ms) →
-      m.state.bytes o ≡ (now start ms).bytes o →
-      is_wrong_block (object_in m.state p o) (m.state.bytes o) i s b ≡ true →
-      is_wrong_block (object_in (now start ms) p o) ((now start ms).bytes o) i s b ≡ true
-  wrong_old p o i s b setup bytes h =
-      subst (λ t. is_wrong_block (object_of (profiled t p) o) ((now start ms).bytes o) i s b ≡ true) setup
-      (subst (λ l. is_wrong_block (object_in m.state p o) l i s b ≡ true) bytes h)
+  pub wrong_old : (p o i s : ℕ) (b : Option (List ℕ)) → setup_in m.state ≡ setup_in here →
+      m.state.bytes o ≡ here.bytes o → is_wrong_block (object_in m.state p o) (m.state.bytes o) i s b ≡ true →
+      is_wrong_block (object_in here p o) (here.bytes o) i s b ≡ true
+  wrong_old p o i s b setup bytes h = cc
 
   -- a number under which a running put stores is started
-  pub unstored : (x : Job) (name bytes : List ℕ) (i o s : ℕ) → job_of (now start ms).jobs x.number ≡ Some x →
-      x.kind ≡ PutJob name bytes → next_action (now start ms) x ≡ Some (Store i o s) → o ≡ x.subject →
-      started_as (now start ms).records o ≡ None → ⊥
+  pub unstored : (x : Job) (name bytes : List ℕ) (i o s : ℕ) → job_of here.jobs x.number ≡ Some x →
+      x.kind ≡ PutJob name bytes → next_action here x ≡ Some (Store i o s) → o ≡ x.subject →
+      started_as here.records o ≡ None → ⊥
   unstored x name bytes i o s runs kind next_is o_is none =
-      (let place = store_place (now start ms) x name bytes i o s kind next_is in
-      some-not-none (started_as (now start ms).records o) name
-      (ap (started_as (now start ms).records) o_is
+      (let place = store_place here x name bytes i o s kind next_is in
+      some-not-none (started_as here.records o) name (ap (started_as here.records) o_is
       ∙ A.pins.started x.number x name bytes runs kind place.0 (let l = place.1 in omega arith)) none)
 
   -- a block that a repair stores is the column
-  pub stored_column : RowsRight (now start ms) → (x : Job) (i o s : ℕ) (b : Option (List ℕ)) →
-      job_of (now start ms).jobs x.number ≡ Some x → next_action (now start ms) x ≡ Some (Store i o s) →
-      x.kind ≡ RepairJob → b ≡ Some (block_to_store (now start ms) x x.kind i o s) →
-      b ≡ Some (columns (worked_object (now start ms) x o) ((now start ms).bytes o) i s)
+  pub stored_column : RowsRight here → (x : Job) (i o s : ℕ) (b : Option (List ℕ)) →
+      job_of here.jobs x.number ≡ Some x → next_action here x ≡ Some (Store i o s) → x.kind ≡ RepairJob →
+      b ≡ Some (block_to_store here x x.kind i o s) →
+      b ≡ Some (columns (worked_object here x o) (here.bytes o) i s)
   stored_column W x i o s b runs next_is repairs b_is =
-      (let g = made_work_gave limit start clean ms run x.number x o s runs
-      (worked_before_store (now start ms) x i o s repairs next_is).0 in
-      let rows = W x o s (symbols_given x.given o s) runs (ap relies repairs)
-      (given_symbols x.given o s g.0 g.1) in
-      b_is ∙ (ap (λ kd. Some (block_to_store (now start ms) x kd i o s)) repairs
-      ∙ ap (λ l. Some (column_of_symbols (worked_object (now start ms) x o) l i s)) rows))
+      (let g = made_work_gave limit start clean ms run x.number x o s runs (worked_before_store here x i o s
+      repairs next_is).0 in
+      let rows = W x o s (symbols_given x.given o s) runs (ap relies repairs) (given_symbols x.given o s g.0
+      g.1) in cc)
 
   -- so it is right, of a number that is not started and whose file has this profile
-  pub stored_right : RowsRight (now start ms) → (p : ℕ) (x : Job) (i o s : ℕ) (b : Option (List ℕ)) →
-      job_of (now start ms).jobs x.number ≡ Some x → next_action (now start ms) x ≡ Some (Store i o s) →
-      started_as (now start ms).records o ≡ None → ((f : Pinned) → In f x.pinned → f.id ≡ o → f.profile ≡ p) →
-      b ≡ Some (block_to_store (now start ms) x x.kind i o s) →
-      is_wrong_block (object_in (now start ms) p o) ((now start ms).bytes o) i s b ≡ true → ⊥
+  pub stored_right : RowsRight here → (p : ℕ) (x : Job) (i o s : ℕ) (b : Option (List ℕ)) →
+      job_of here.jobs x.number ≡ Some x → next_action here x ≡ Some (Store i o s) →
+      started_as here.records o ≡ None → ((f : Pinned) → In f x.pinned → f.id ≡ o → f.profile ≡ p) →
+      b ≡ Some (block_to_store here x x.kind i o s) → is_wrong_block (object_in here p o) (here.bytes o) i s b
+      ≡ true → ⊥
   stored_right W p x i o s b runs next_is none own b_is wrong =
-      elim (store_kinds x x.kind i o s refl (is_fair (now start ms) x (Store i o s) next_is)) [
+      elim (store_kinds x x.kind i o s refl (is_fair here x (Store i o s) next_is)) [
         | inl (name, bytes, kind, o_is) ↦ unstored x name bytes i o s runs kind next_is o_is none
-        | inr (repairs, pin) ↦
-            (let column = stored_column W x i o s b runs next_is repairs b_is in
+        | inr (repairs, pin) ↦ (let column = stored_column W x i o s b runs next_is repairs b_is in
             let object = worked_is start ms E x o runs pin
-            ∙ ap (λ q. object_in (now start ms) q o) (own pin.file pin.pinned pin.id_is) in
-            right_block (object_in (now start ms) p o) ((now start ms).bytes o) i s
-            (subst (λ y. is_wrong_block (object_in (now start ms) p o) ((now start ms).bytes o) i s y ≡ true)
-            (column ∙ ap (λ ob. Some (columns ob ((now start ms).bytes o) i s)) object) wrong))
+            ∙ ap (λ q. object_in here q o) (own pin.file pin.pinned pin.id_is) in
+            right_block (object_in here p o) (here.bytes o) i s (cc))
       ]
 
   -- a block that is bad was so before, or its provider is replaced now
-  bad_before : RowsRight (now start ms) → (p o i s : ℕ) → setup_in m.state ≡ setup_in (now start ms) →
-      o < next_id (now start ms).records → started_as (now start ms).records o ≡ None →
-      ((x : Job) (f : Pinned) → job_of (now start ms).jobs x.number ≡ Some x → In f x.pinned → f.id ≡ o →
-      f.profile ≡ p) →
-      ((x : Job) → job_of (now start ms).jobs x.number ≡ Some x → In o x.older → ⊥) →
-      ((scrub : Scrub) (rest : List Action) → (now start ms).alone ≡ Some (Scrubbing scrub) →
-      scrub.todo ≡ Store i o s ∷ rest → block_to_scrub (now start ms) scrub i o s
-      ≡ columns (object_in (now start ms) p o) ((now start ms).bytes o) i s) →
-      IsBad m.state p o i s → IsBad (now start ms) p o i s ⊎ (is_replacement m.event m.outcome i ≡ true)
+  bad_before : RowsRight here → (p o i s : ℕ) → setup_in m.state ≡ setup_in here → o < next_id here.records →
+      started_as here.records o ≡ None → ((x : Job) (f : Pinned) → job_of here.jobs x.number ≡ Some x →
+      In f x.pinned → f.id ≡ o → f.profile ≡ p) → ((x : Job) → job_of here.jobs x.number ≡ Some x →
+      In o x.older → ⊥) → ((scrub : Scrub) (rest : List Action) → here.alone ≡ Some (Scrubbing scrub) →
+      scrub.todo ≡ Store i o s ∷ rest → block_to_scrub here scrub i o s ≡ columns (object_in here p o)
+      (here.bytes o) i s) → IsBad m.state p o i s → IsBad here p o i s ⊎ (is_replacement m.event m.outcome i
+      ≡ true)
   bad_before W p o i s setup below none own no_older scrubs (b, told, wrong) =
       (let w = wrong_old p o i s b setup (X.bytes o below) wrong in
       elim (X.block i o s) [
@@ -134,29 +127,27 @@ module _ (limit : ℕ) (mark : Mark) (start : State) (m : Moment) (ms : List Mom
         | Block_is.replaced r ↦ inr r
         | Block_is.stored x runs next_is is ↦
             absurd (stored_right W p x i o s b runs next_is none (λ f in_f e. own x f runs in_f e)
-            (some_told (block_to_store (now start ms) x x.kind i o s) ((now start ms).providers i).held b
-            (sym is ∙ told)) w)
+            (some_told (block_to_store here x x.kind i o s) (here.providers i).held b (sym is ∙ told)) w)
         | Block_is.scrubbed scrub rest at next_is is ↦
-            absurd (right_block (object_in (now start ms) p o) ((now start ms).bytes o) i s
-            (subst (λ y. is_wrong_block (object_in (now start ms) p o) ((now start ms).bytes o) i s y ≡ true)
-            (some_told (block_to_scrub (now start ms) scrub i o s) ((now start ms).providers i).held b
-            (sym is ∙ told) ∙ ap Some (scrubs scrub rest at next_is)) w))
+            absurd (right_block (object_in here p o) (here.bytes o) i s
+            (cc (
+              some_told (block_to_scrub here scrub i o s) (here.providers i).held b (sym is ∙ told),
+              scrubs scrub rest at next_is,
+            )))
         | Block_is.removed x runs next_is ↦
-            absurd (no_older x runs
-            (remove_kinds x x.kind i o refl (is_fair (now start ms) x (Remove i o) next_is)))
+            absurd (no_older x runs (remove_kinds x x.kind i o refl (is_fair here x (Remove i o) next_is)))
       ])
 
   -- while a job runs no scrub does
-  pub no_scrub : (k : ℕ) (x : Job) → job_of (now start ms).jobs k ≡ Some x → {B : Type 0} → (scrub : Scrub) →
-      (now start ms).alone ≡ Some (Scrubbing scrub) → B
+  pub no_scrub : (k : ℕ) (x : Job) → job_of here.jobs k ≡ Some x → {B : Type 0} → (scrub : Scrub) →
+      here.alone ≡ Some (Scrubbing scrub) → B
   no_scrub k x runs scrub at =
-      absurd (found_none (now start ms).jobs k x (A.numbers.idle.lone (Scrubbing scrub) at) runs)
+      absurd (found_none here.jobs k x (A.numbers.idle.lone (Scrubbing scrub) at) runs)
 
   -- of a file that a running job works on
-  pub pinned_bad : RowsRight (now start ms) → (k : ℕ) (x : Job) (f : Pinned) (i s : ℕ) →
-      job_of (now start ms).jobs k ≡ Some x → In f x.pinned → setup_in m.state ≡ setup_in (now start ms) →
-      IsBad m.state f.profile f.id i s → IsBad (now start ms) f.profile f.id i s ⊎
-      (is_replacement m.event m.outcome i ≡ true)
+  pub pinned_bad : RowsRight here → (k : ℕ) (x : Job) (f : Pinned) (i s : ℕ) → job_of here.jobs k ≡ Some x →
+      In f x.pinned → setup_in m.state ≡ setup_in here → IsBad m.state f.profile f.id i s →
+      IsBad here f.profile f.id i s ⊎ (is_replacement m.event m.outcome i ≡ true)
   pinned_bad W k x f i s runs in_x setup bad =
       (let quiet = A.pins.pins k x f runs in_x in
       bad_before W f.profile f.id i s setup quiet.0 quiet.1
@@ -165,10 +156,9 @@ module _ (limit : ℕ) (mark : Mark) (start : State) (m : Moment) (ms : List Mom
       (λ scrub rest at. no_scrub k x runs scrub at) bad)
 
   -- of a file in effect
-  pub file_bad : RowsRight (now start ms) → ScrubsRight (now start ms) → (q : List ℕ) (f : File) (i s : ℕ) →
-      file_in (now start ms) q ≡ Some f → setup_in m.state ≡ setup_in (now start ms) →
-      IsBad m.state f.profile f.id i s → IsBad (now start ms) f.profile f.id i s ⊎
-      (is_replacement m.event m.outcome i ≡ true)
+  pub file_bad : RowsRight here → ScrubsRight here → (q : List ℕ) (f : File) (i s : ℕ) →
+      file_in here q ≡ Some f → setup_in m.state ≡ setup_in here → IsBad m.state f.profile f.id i s →
+      IsBad here f.profile f.id i s ⊎ (is_replacement m.event m.outcome i ≡ true)
   file_bad W R q f i s stood setup bad =
       bad_before W f.profile f.id i s setup (file_below A q f stood)
       (A.pins.sound.file q f stood).1 (λ y g runs_y in_g e. E.pin_file y.number y g q f runs_y in_g stood e)
@@ -176,29 +166,26 @@ module _ (limit : ℕ) (mark : Mark) (start : State) (m : Moment) (ms : List Mom
       (λ scrub rest at next_is. R scrub rest i s q f at next_is stood) bad
 
   -- of the put whose record was in doubt
-  put_bad : (d : Doubt) (id size p i s : ℕ) → (now start ms).doubt ≡ Some d →
-      IsEndOfPut (now start ms).records d.entry id size p → setup_in m.state ≡ setup_in (now start ms) →
-      i < (setup_in m.state).n → s < stripes_of (profiled (setup_in m.state) p) (length (m.state.bytes id)) →
-      IsBad m.state p id i s → IsReplaced (begun_of d.maker) i (m ∷ ms)
+  put_bad : (d : Doubt) (id size p i s : ℕ) → here.doubt ≡ Some d → IsEndOfPut here.records d.entry id size p
+      → setup_in m.state ≡ setup_in here → i < (setup_in m.state).n →
+      s < stripes_of (profiled (setup_in m.state) p) (length (m.state.bytes id)) → IsBad m.state p id i s →
+      IsReplaced (begun_of d.maker) i (m ∷ ms)
   put_bad d id size p i s at e setup l k (b, told, wrong) =
       elim (cases_Bool (is_replaced_since (begun_of d.maker) i (m ∷ ms))) [
         | inl t ↦ t
         | inr f ↦ absurd (right_block (object_in m.state p id) (m.state.bytes id) i s
-            (subst (λ y. is_wrong_block (object_in m.state p id) (m.state.bytes id) i s y ≡ true)
-            (ev.put_right limit start m ms A U I E X T d id size p i s b at e setup l k f told) wrong))
+            (cc (ev.put_right limit start m ms A U I E X T d id size p i s b at e setup l k f told)))
       ]
 
   -- files stay clear since a moment before which no put began that works
-  pub clear_on : RowsRight (now start ms) → ScrubsRight (now start ms) →
-      (from : ℕ) (Old New : ℕ → ℕ → ℕ → Type 0) → PrecedesPuts start ms from → IsClear start ms from Old →
-      ((q : List ℕ) (f : File) (i s : ℕ) → file_in (now start ms) q ≡ Some f → file_in m.state q ≡ Some f →
-      setup_in m.state ≡ setup_in (now start ms) → i < (setup_in m.state).n →
-      s < stripes_of (profiled (setup_in m.state) f.profile) (length (m.state.bytes f.id)) →
-      IsBad m.state f.profile f.id i s → Old i f.id s → IsReplaced from i (m ∷ ms) ⊎ New i f.id s) →
-      IsClear start (m ∷ ms) from New
+  pub clear_on : RowsRight here → ScrubsRight here → (from : ℕ) (Old New : ℕ → ℕ → ℕ → Type 0) →
+      PrecedesPuts start ms from → IsClear start ms from Old → ((q : List ℕ) (f : File) (i s : ℕ) →
+      file_in here q ≡ Some f → file_in m.state q ≡ Some f → setup_in m.state ≡ setup_in here →
+      i < (setup_in m.state).n → s < stripes_of (profiled (setup_in m.state) f.profile)
+      (length (m.state.bytes f.id)) → IsBad m.state f.profile f.id i s → Old i f.id s →
+      IsReplaced from i (m ∷ ms) ⊎ New i f.id s) → IsClear start (m ∷ ms) from New
   clear_on W R from Old New P clear more q f i s h l k bad =
-      (let c = ev.comes limit start m ms A U I E X T q f h in
-      let setup = setup_same m.state (now start ms) c.setup in
+      (let c = ev.comes limit start m ms A U I E X T q f h in let setup = setup_same m.state here c.setup in
       elim c.how [
         | inl stood ↦
             (let below = file_below A q f stood in
@@ -215,7 +202,7 @@ module _ (limit : ℕ) (mark : Mark) (start : State) (m : Moment) (ms : List Mom
       ])
 
   -- an event keeps a mark: damage of files in effect is still new since then
-  pub mark_on : RowsRight (now start ms) → ScrubsRight (now start ms) → (from : ℕ) → IsMark start ms from →
+  pub mark_on : RowsRight here → ScrubsRight here → (from : ℕ) → IsMark start ms from →
       IsMark start (m ∷ ms) from
   mark_on W R from P = record {
     before = ev.before_on limit start m ms A U I E X T from P.before;

@@ -14,11 +14,8 @@ told p o s = option_map (λ held. held o s) p.held
 -- an alteration or a loss that found nothing leaves what is held
 nothing_held : (IsThere : Held → Type 0) (change : Held → Held) (held : Option Held) (p q : Provider)
     (o s : ℕ) → p.held ≡ held → Replaces IsThere change false p q → told q o s ≡ told p o s
-nothing_held IsThere change None p q o s is h =
-    (let k = rw is at h in ap (option_map (λ (y : Held). y o s)) (k.0 ∙ sym is))
-nothing_held IsThere change (Some x) p q o s is h =
-    (let k = rw is at h in ap (λ (y : Provider). told y o s) k.1
-    ∙ ap (option_map (λ (y : Held). y o s)) (sym is))
+nothing_held IsThere change None p q o s is h = (let k = rw is at h in cc)
+nothing_held IsThere change (Some x) p q o s is h = (let k = rw is at h in cc)
 
 module _ (old : State) where
   abbrev Quiet : Event → Outcome → State → Type 0
@@ -32,13 +29,10 @@ module _ (old : State) where
     | inl t ↦
         (let i_is : i ≡ j = eqb-true i j t in
         elim (at o s) [
-          | inl k ↦ inl (ap (λ g. told (g i) o s) (ap (λ (w : State). w.providers) is)
-              ∙ (ap (λ (q : Provider). told q o s) (cond_true (i == j) p (old.providers i) t)
-              ∙ (k ∙ ap (λ n. told (old.providers n) o s) (sym i_is))))
-          | inr k ↦ inr (ap (is_replacement e r) i_is ∙ k)
+          | inl k ↦ inl (cc)
+          | inr k ↦ inr (cc)
         ])
-    | inr f ↦ inl (ap (λ g. told (g i) o s) (ap (λ (w : State). w.providers) is)
-        ∙ ap (λ (q : Provider). told q o s) (cond_false (i == j) p (old.providers i) f))
+    | inr f ↦ inl (cc)
   ]
 
   module _ (rest : IsAtRest old) where

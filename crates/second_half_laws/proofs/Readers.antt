@@ -36,13 +36,10 @@ block_in (Fetched k p t b ∷ more) o s i block h = by_test (block_in more o s i
         In (Fetched i o s (Some block)) (Fetched k p t b ∷ more)
     by_test rest = elim (cases_Bool (((k == i) && (p == o)) && (t == s))) [
       | inl same ↦ (let q = and_parts ((k == i) && (p == o)) (t == s) same in
-          let r = and_parts (k == i) (p == o) q.0 in
-          let b_is : b ≡ Some block =
-          sym (cond_true (((k == i) && (p == o)) && (t == s)) b (block_given more o s i) same) ∙ h in
+          let r = and_parts (k == i) (p == o) q.0 in let b_is : b ≡ Some block = cc in
           inl (λ z. Fetched (sym (eqb-true k i r.0) z) (sym (eqb-true p o r.1) z) (sym (eqb-true t s q.1) z)
           (sym b_is z)))
-      | inr other ↦ inr (rest
-          (sym (cond_false (((k == i) && (p == o)) && (t == s)) b (block_given more o s i) other) ∙ h))
+      | inr other ↦ inr (rest (cc))
     ]
 block_in (Answered k p r symbol ∷ more) o s i block h = inr (block_in more o s i block h)
 block_in (Worked p t symbols ∷ more) o s i block h = inr (block_in more o s i block h)
@@ -56,13 +53,10 @@ pub few_of : (w : State) (ms : List Moment) (from : ℕ) (given : List Given) (f
     count_of (λ i. is_wrong_seen (pinned_object w f) (w.bytes f.id) i s
     (block_at (blocks_given given (setup_in w).n f.id s) i)) (upto (setup_in w).n) ≤ (setup_in w).b
 few_of w ms from given f s calm gave =
-    (let c = count_of-within
-    (λ i. is_wrong_seen (pinned_object w f) (w.bytes f.id) i s
+    (let c = count_of-within (λ i. is_wrong_seen (pinned_object w f) (w.bytes f.id) i s
     (block_at (blocks_given given (setup_in w).n f.id s) i)) (λ i. is_replaced_since from i ms) 0
-    (setup_in w).n
-    (λ i l wrong. one i (omega (arith, l))
-    (subst (λ y. is_wrong_seen (pinned_object w f) (w.bytes f.id) i s y ≡ true)
-    (block_at-given given (setup_in w).n f.id s i (omega (arith, l))) wrong)) in
+    (setup_in w).n (λ i l wrong. one i (omega (arith, l)) (cc (block_at-given given (setup_in w).n f.id s i
+    (omega (arith, l))))) in
     let d : count_of (λ i. is_replaced_since from i ms) (upto (setup_in w).n) ≤ (setup_in w).b = calm in
     omega (arith, c, d))
   where
@@ -110,15 +104,18 @@ module _ (limit : ℕ) (mark : Mark) (start : State) (m : Moment) (ms : List Mom
     (O : AllOnward (now start ms) m.state) (tell : AllTell (now start ms))
     (calm : (k : ℕ) (j : Job) → job_of (now start ms).jobs k ≡ Some j → IsTrue (relies j.kind) →
     replaced_count (now start ms) (mark_of mark ms j) ms ≤ (setup_in (now start ms)).b) where
+  -- the state after these moments
+  abbrev u : State
+  u = now start ms
+
   -- ---- the mark and the state at the begin of a job
 
   first_had : (j x : Job) → j.begun ≡ x.begun → x.begun ≤ length ms →
       first_moments j.begun (m ∷ ms) ≡ first_moments x.begun ms
-  first_had j x begun l = ap (λ n. first_moments n (m ∷ ms)) begun ∙ first_more x.begun m ms l
+  first_had j x begun l = cc (first_more x.begun m ms l)
 
   first_new : (j : Job) → j.begun ≡ length ms → first_moments j.begun (m ∷ ms) ≡ ms
-  first_new j begun = ap (λ n. first_moments n (m ∷ ms)) begun
-      ∙ (first_more (length ms) m ms (omega arith) ∙ first_all ms)
+  first_new j begun = cc (first_more (length ms) m ms (omega arith), first_all ms)
 
   -- after an event the mark at the begin of a running job is still not after now
   pub marked_step : (k : ℕ) (j : Job) → job_of m.state.jobs k ≡ Some j →
@@ -128,8 +125,7 @@ module _ (limit : ℕ) (mark : Mark) (start : State) (m : Moment) (ms : List Mom
         (let e = ap mark (first_had j x begun (A.held.begun k x runs)) in let l = F.marked k x runs in
         omega arith)
     | Pins_is.new_one kd wish is k_is allowed rec ↦
-        (let e = ap mark (first_new j (ap (λ (x : Job). x.begun) is)) in let l = F.moment.before.early in
-        omega arith)
+        (let e = ap mark (first_new j (cc)) in let l = F.moment.before.early in omega arith)
   ]
 
   -- after an event each provider with a bad block for a running job was replaced since the job's mark
@@ -138,29 +134,26 @@ module _ (limit : ℕ) (mark : Mark) (start : State) (m : Moment) (ms : List Mom
       s < stripes_of (profiled (setup_in m.state) f.profile) (length (m.state.bytes f.id)) →
       IsBad m.state f.profile f.id i s → IsReplaced (mark_of mark (m ∷ ms) j) i (m ∷ ms)
   reads_step k j f i s h in_f l b bad = elim (pins_is limit start m ms A.numbers A.pins X k j h) [
-    | Pins_is.had x runs pinned kind begun g ↦
-        (let in_x = subst (In f) pinned in_f in
+    | Pins_is.had x runs pinned kind begun g ↦ (let in_x = subst (In f) pinned in_f in
         let below = (A.pins.pins k x f runs in_x).0 in
         let n = ev.bounds limit start m ms A U I E X T f.profile f.id i s setup below l b in
-        subst (λ z. IsReplaced z i (m ∷ ms)) (sym (ap mark (first_had j x begun (A.held.begun k x runs))))
-        (elim (pt.pinned_bad limit mark start m ms clean run A U I E X T
-        (rows_right mark start ms F) k x f i s runs in_x setup bad) [
+        subst (λ z. IsReplaced z i (m ∷ ms)) (cc (first_had j x begun (A.held.begun k x runs)))
+        (elim (pt.pinned_bad limit mark start m ms clean run A U I E X T (rows_right mark start ms F) k x f i
+        s runs in_x setup bad) [
           | inl old ↦ since_more (mark_of mark ms x) i m ms (F.reads k x f i s runs in_x n.0 n.1 old)
           | inr r ↦ since_now (mark_of mark ms x) i m ms r (F.marked k x runs)
         ]))
     | Pins_is.new_one kd wish is k_is allowed rec ↦
-        (let st = pinned_stands (now start ms) kd f (subst (λ (x : Job). In f x.pinned) is in_f) in
+        (let st = pinned_stands u kd f (subst (λ (x : Job). In f x.pinned) is in_f) in
         let b_file = subst (λ (x : Pinned). s < stripes_of (profiled (setup_in m.state) x.profile)
         (length (m.state.bytes x.id))) st.is b in
         let bad_file = subst (λ (x : Pinned). IsBad m.state x.profile x.id i s) st.is bad in
         let n = ev.bounds limit start m ms A U I E X T st.file.profile st.file.id i s setup
         (file_below A st.name st.file st.in_effect) l b_file in
-        subst (λ z. IsReplaced z i (m ∷ ms)) (sym (ap mark (first_new j (ap (λ (x : Job). x.begun) is))))
+        subst (λ z. IsReplaced z i (m ∷ ms)) (sym (ap mark (first_new j (cc))))
         (elim (pt.file_bad limit mark start m ms clean run A U I E X T (rows_right mark start ms F)
-        (λ scrub rest i2 s2 q g at. absurd
-        (some-not-none (now start ms).alone
-        (Scrubbing scrub) at (none_lone limit (now start ms) kd wish allowed)))
-        st.name st.file i s st.in_effect setup bad_file) [
+        (λ scrub rest i2 s2 q g at. absurd (some-not-none u.alone (Scrubbing scrub) at (none_lone limit u kd
+        wish allowed))) st.name st.file i s st.in_effect setup bad_file) [
           | inl old ↦ elim (F.moment.clear st.name st.file i s st.in_effect n.0 n.1 old) [
             | inl r ↦ since_more (mark ms) i m ms r
             | inr never ↦ absurd never
@@ -169,7 +162,7 @@ module _ (limit : ℕ) (mark : Mark) (start : State) (m : Moment) (ms : List Mom
         ]))
   ]
     where
-      setup : setup_in m.state ≡ setup_in (now start ms)
+      setup : setup_in m.state ≡ setup_in u
       setup = setup_stays limit start m ms A.numbers A.pins X k j h
 
   -- after an event no provider's count is below that at the begin of a running job
@@ -181,8 +174,8 @@ module _ (limit : ℕ) (mark : Mark) (start : State) (m : Moment) (ms : List Mom
         (first_had j x begun (A.held.begun k x runs)) in let l = F.counts k x i runs in
         let n = (O.provider i).others in omega arith)
     | Pins_is.new_one kd wish is k_is allowed rec ↦
-        (let e = ap (λ hs. ((now start hs).providers i).other_faults)
-        (first_new j (ap (λ (x : Job). x.begun) is)) in let n = (O.provider i).others in omega arith)
+        (let e = ap (λ hs. ((now start hs).providers i).other_faults) (first_new j (cc)) in let n =
+        (O.provider i).others in omega arith)
   ]
 
   -- ---- what was fetched
@@ -191,11 +184,10 @@ module _ (limit : ℕ) (mark : Mark) (start : State) (m : Moment) (ms : List Mom
   Excused hs j i block = IsReplaced (mark_of mark hs j) i hs ⊎
       ((block ≡ None) × RoseSince (begin_of start hs j) (now start hs) i)
 
-  excused_on : (k : ℕ) (x j : Job) (i : ℕ) (block : Option (List ℕ)) → job_of (now start ms).jobs k ≡ Some x →
+  excused_on : (k : ℕ) (x j : Job) (i : ℕ) (block : Option (List ℕ)) → job_of u.jobs k ≡ Some x →
       j.begun ≡ x.begun → Excused ms x i block → Excused (m ∷ ms) j i block
-  excused_on k x j i block runs begun (inl r) = inl
-      (subst (λ z. IsReplaced z i (m ∷ ms)) (sym (ap mark (first_had j x begun (A.held.begun k x runs))))
-      (since_more (mark_of mark ms x) i m ms r))
+  excused_on k x j i block runs begun (inl r) =
+      inl (cc (first_had j x begun (A.held.begun k x runs), since_more (mark_of mark ms x) i m ms r))
   excused_on k x j i block runs begun (inr (none, rose)) = inr (
     none,
     subst (λ hs. RoseSince (now start hs) m.state i) (sym (first_had j x begun (A.held.begun k x runs)))
@@ -203,41 +195,34 @@ module _ (limit : ℕ) (mark : Mark) (start : State) (m : Moment) (ms : List Mom
   )
 
   -- the object of a number among those that a job works on
-  object_is : (k : ℕ) (x : Job) (f : Pinned) → job_of (now start ms).jobs k ≡ Some x → In f x.pinned →
-      worked_object (now start ms) x f.id ≡ pinned_object (now start ms) f
-  object_is k x f runs in_x = ev.worked_is start ms E x f.id
-      (subst (λ n. job_of (now start ms).jobs n ≡ Some x) (sym (number_of (now start ms).jobs k x runs)) runs)
+  object_is : (k : ℕ) (x : Job) (f : Pinned) → job_of u.jobs k ≡ Some x → In f x.pinned →
+      worked_object u x f.id ≡ pinned_object u f
+  object_is k x f runs in_x = ev.worked_is start ms E x f.id (cc (number_of u.jobs k x runs))
       (record { file = f; pinned = in_x; id_is = refl })
 
   -- a block that a fetch gives is wrong where what is held is, or a count rose
   fetched_now : (k : ℕ) (x j : Job) (f : Pinned) (i s : ℕ) (block : Option (List ℕ)) →
-      job_of (now start ms).jobs k ≡ Some x → j.begun ≡ x.begun → In f x.pinned →
-      i < (setup_in (now start ms)).n →
-      s < stripes_of (profiled (setup_in (now start ms)) f.profile) (length ((now start ms).bytes f.id)) →
-      is_wrong_block (pinned_object (now start ms) f) ((now start ms).bytes f.id) i s block ≡ true →
-      IsHeldThen (now start ms) m.state x.pinned i f.id s block → Excused (m ∷ ms) j i block
+      job_of u.jobs k ≡ Some x → j.begun ≡ x.begun → In f x.pinned → i < (setup_in u).n →
+      s < stripes_of (profiled (setup_in u) f.profile) (length (u.bytes f.id)) →
+      is_wrong_block (pinned_object u f) (u.bytes f.id) i s block ≡ true →
+      IsHeldThen u m.state x.pinned i f.id s block → Excused (m ∷ ms) j i block
   fetched_now k x j f i s block runs begun in_x l b wrong (inr (none, rose)) = inr (
     none,
     subst (λ hs. RoseSince (now start hs) m.state i) (sym (first_had j x begun (A.held.begun k x runs)))
         (rose_since _ _ _ (F.counts k x i runs) rose (O.provider i).others),
   )
   fetched_now k x j f i s block runs begun in_x l b wrong (inl g) =
-      by_told ((now start ms).providers i).held refl (tell i)
-      (subst (λ (ob : Object). FetchGives ob.profile.size f.id s ((now start ms).providers i).held block)
-      (object_is k x f runs in_x) g)
+      by_told (u.providers i).held refl (tell i) (subst (λ (ob : Object). FetchGives ob.profile.size f.id s
+      (u.providers i).held block) (object_is k x f runs in_x) g)
     where
-      by_told : (held : Option Held) → ((now start ms).providers i).held ≡ held → IsSome held →
-          FetchGives (pinned_object (now start ms) f).profile.size f.id s held block →
-          Excused (m ∷ ms) j i block
+      by_told : (held : Option Held) → (u.providers i).held ≡ held → IsSome held →
+          FetchGives (pinned_object u f).profile.size f.id s held block → Excused (m ∷ ms) j i block
       by_told None is some gives = absurd (false≢true some)
       by_told (Some held) is some gives =
           excused_on k x j i block runs begun (inl (F.reads k x f i s runs in_x l b (
             held f.id s,
-            ap (option_map (λ (y : Held). y f.id s)) is,
-            sized_wrong (pinned_object (now start ms) f) ((now start ms).bytes f.id) i s (held f.id s)
-                (subst (λ y. is_wrong_block (pinned_object (now start ms) f) ((now start ms).bytes f.id) i s y
-                ≡ true)
-                gives wrong),
+            cc,
+            sized_wrong (pinned_object u f) (u.bytes f.id) i s (held f.id s) (cc),
           )))
 
   -- a wrong block that a running job was given is of a provider replaced since its mark, or one failed
@@ -254,10 +239,10 @@ module _ (limit : ℕ) (mark : Mark) (start : State) (m : Moment) (ms : List Mom
     | Went.went x action goes ↦ by_passed x action goes.runs goes.passed
   ]
     where
-      setup : setup_in m.state ≡ setup_in (now start ms)
+      setup : setup_in m.state ≡ setup_in u
       setup = setup_stays limit start m ms A.numbers A.pins X k j h
 
-      before : (x : Job) → job_of (now start ms).jobs k ≡ Some x → j.begun ≡ x.begun → j.pinned ≡ x.pinned →
+      before : (x : Job) → job_of u.jobs k ≡ Some x → j.begun ≡ x.begun → j.pinned ≡ x.pinned →
           In (Fetched i f.id s block) x.given → Excused (m ∷ ms) j i block
       before x runs begun pinned in_given =
           (let in_x = subst (In f) pinned in_f in
@@ -269,51 +254,43 @@ module _ (limit : ℕ) (mark : Mark) (start : State) (m : Moment) (ms : List Mom
           (X.bytes f.id below) wrong)))
 
       -- what a fetch of this event gave
-      found : (x : Job) (action : Action) (gift : Given) → IsGift (now start ms) x m.state action gift →
-          gift ≡ Fetched i f.id s block → IsHeldThen (now start ms) m.state x.pinned i f.id s block
+      found : (x : Job) (action : Action) (gift : Given) → IsGift u x m.state action gift →
+          gift ≡ Fetched i f.id s block → IsHeldThen u m.state x.pinned i f.id s block
       found x (Fetch p o t) gift (c, is, held) e =
           (let z : Fetched p o t c ≡ Fetched i f.id s block = sym is ∙ e in
           let pi : p ≡ i = cc in let of : o ≡ f.id = cc in let ts : t ≡ s = cc in let cb : c ≡ block = cc in
           now_held p o t c pi of ts cb held)
         where
           now_held : (p o t : ℕ) (c : Option (List ℕ)) → p ≡ i → o ≡ f.id → t ≡ s → c ≡ block →
-              IsHeldThen (now start ms) m.state x.pinned p o t c →
-              IsHeldThen (now start ms) m.state x.pinned i f.id s block
+              IsHeldThen u m.state x.pinned p o t c → IsHeldThen u m.state x.pinned i f.id s block
           now_held p o t c pi of ts cb held =
-              subst (λ n. IsHeldThen (now start ms) m.state x.pinned n f.id s block) pi
-              (subst (λ n. IsHeldThen (now start ms) m.state x.pinned p n s block) of
-              (subst (λ n. IsHeldThen (now start ms) m.state x.pinned p o n block) ts
-              (subst (IsHeldThen (now start ms) m.state x.pinned p o t) cb held)))
+              subst (λ n. IsHeldThen u m.state x.pinned n f.id s block) pi (subst (λ n. IsHeldThen u m.state
+              x.pinned p n s block) of (subst (λ n. IsHeldThen u m.state x.pinned p o n block) ts
+              (subst (IsHeldThen u m.state x.pinned p o t) cb held)))
       found x (Ask p o r) gift (c, is, answered) e =
           absurd (let z : Answered p o r c ≡ Fetched i f.id s block = sym is ∙ e in cc)
       found x (Work o t) gift (c, is, gives) e =
           absurd (let z : Worked o t c ≡ Fetched i f.id s block = sym is ∙ e in cc)
       found x action gift g e = absurd g
 
-      by_passed : (x : Job) (action : Action) → job_of (now start ms).jobs k ≡ Some x →
-          Passed (now start ms) x action m.state j → Excused (m ∷ ms) j i block
+      by_passed : (x : Job) (action : Action) → job_of u.jobs k ≡ Some x → Passed u x action m.state j →
+          Excused (m ∷ ms) j i block
       by_passed x action runs (Passed.silent quiet is rec) =
-          before x runs (ap (λ (y : Job). y.begun) is) (ap (λ (y : Job). y.pinned) is)
-          (subst (λ (y : Job). In (Fetched i f.id s block) y.given) is given)
+          before x runs (cc) (cc) (subst (λ (y : Job). In (Fetched i f.id s block) y.given) is given)
       by_passed x action runs (Passed.gave gift is_gift is rec) =
           elim (subst (λ (y : Job). In (Fetched i f.id s block) y.given) is given) [
-            | inl e ↦
-                (let in_x = subst (λ (y : Job). In f y.pinned) is in_f in
+            | inl e ↦ (let in_x = subst (λ (y : Job). In f y.pinned) is in_f in
                 let below = (A.pins.pins k x f runs in_x).0 in
                 let n = ev.bounds limit start m ms A U I E X T f.profile f.id i s setup below l b in
-                fetched_now k x j f i s block runs (ap (λ (y : Job). y.begun) is) in_x n.0 n.1
-                (pt.wrong_old limit mark start m ms clean run A U I E X T f.profile f.id i s block setup
-                (X.bytes f.id below) wrong)
+                fetched_now k x j f i s block runs (cc) in_x n.0 n.1 (pt.wrong_old limit mark start m ms clean
+                run A U I E X T f.profile f.id i s block setup (X.bytes f.id below) wrong)
                 (found x action gift is_gift (sym e)))
-            | inr in_given ↦ before x runs (ap (λ (y : Job). y.begun) is)
-                (ap (λ (y : Job). y.pinned) is) in_given
+            | inr in_given ↦ before x runs (cc) (cc) in_given
           ]
       by_passed x action runs (Passed.drew act is rec) =
-          before x runs (ap (λ (y : Job). y.begun) is) (ap (λ (y : Job). y.pinned) is)
-          (subst (λ (y : Job). In (Fetched i f.id s block) y.given) is given)
+          before x runs (cc) (cc) (subst (λ (y : Job). In (Fetched i f.id s block) y.given) is given)
       by_passed x action runs (Passed.finished a act flight mine is rec) =
-          before x runs (ap (λ (y : Job). y.begun) is) (ap (λ (y : Job). y.pinned) is)
-          (subst (λ (y : Job). In (Fetched i f.id s block) y.given) is given)
+          before x runs (cc) (cc) (subst (λ (y : Job). In (Fetched i f.id s block) y.given) is given)
 
   -- ---- what the work of a get or a repair gave
 
@@ -321,33 +298,27 @@ module _ (limit : ℕ) (mark : Mark) (start : State) (m : Moment) (ms : List Mom
   abbrev Right : State → List Pinned → ℕ → ℕ → List ℕ → Type 0
   Right w files o s symbols = symbols ≡ symbols_in (object_among w files o) (w.bytes o) s
 
-  rows_now : (k : ℕ) (x : Job) (o s : ℕ) (symbols : List ℕ) → job_of (now start ms).jobs k ≡ Some x →
-      relies x.kind ≡ true → next_action (now start ms) x ≡ Some (Work o s) →
-      GivesSymbols (worked_object (now start ms) x o) s
-      (blocks_given x.given (setup_in (now start ms)).n o s) symbols →
-      (o < next_id (now start ms).records) × Right (now start ms) x.pinned o s symbols
+  rows_now : (k : ℕ) (x : Job) (o s : ℕ) (symbols : List ℕ) → job_of u.jobs k ≡ Some x →
+      relies x.kind ≡ true → next_action u x ≡ Some (Work o s) →
+      GivesSymbols (worked_object u x o) s (blocks_given x.given (setup_in u).n o s) symbols →
+      (o < next_id u.records) × Right u x.pinned o s symbols
   rows_now k x o s symbols runs kind next_is gives =
-      by_file (works_within (now start ms) x o s x.kind refl kind next_is)
+      by_file (works_within u x o s x.kind refl kind next_is)
     where
-      by_file : (f : Pinned) × In f x.pinned × (f.id ≡ o) × (s < pinned_stripes (setup_in (now start ms)) f) →
-          (o < next_id (now start ms).records) × Right (now start ms) x.pinned o s symbols
+      by_file : (f : Pinned) × In f x.pinned × (f.id ≡ o) × (s < pinned_stripes (setup_in u) f) →
+          (o < next_id u.records) × Right u x.pinned o s symbols
       by_file (f, in_x, id_is, l) =
-          (let b : s < stripes_of (profiled (setup_in (now start ms)) f.profile)
-          (length ((now start ms).bytes f.id)) = subst
-          (λ (y : List ℕ). s < stripes_of (profiled (setup_in (now start ms)) f.profile) (length y))
-          (E.pinned k x f runs in_x) l in
-          let object = object_is k x f runs in_x in
-          subst (λ n. (n < next_id (now start ms).records) × Right (now start ms) x.pinned n s symbols) id_is (
+          (let b : s < stripes_of (profiled (setup_in u) f.profile) (length (u.bytes f.id)) =
+          subst (λ (y : List ℕ). s < stripes_of (profiled (setup_in u) f.profile) (length y))
+          (E.pinned k x f runs in_x) l in let object = object_is k x f runs in_x in
+          subst (λ n. (n < next_id u.records) × Right u x.pinned n s symbols) id_is (
             (A.pins.pins k x f runs in_x).0,
-            own_symbols (pinned_object (now start ms) f) ((now start ms).bytes f.id) f.profile s
-                (blocks_given x.given (setup_in (now start ms)).n f.id s) symbols refl
-                (runs_shape limit start ms clean run k x runs) b
+            cc (own_symbols (pinned_object u f) (u.bytes f.id) f.profile s (blocks_given x.given
+                (setup_in u).n f.id s) symbols refl (runs_shape limit start ms clean run k x runs) b
                 (few_there mark start ms F calm k x f s runs kind in_x b)
-                (subst (λ (ob : Object). GivesSymbols ob s
-                (blocks_given x.given (setup_in (now start ms)).n f.id s) symbols) object
-                (subst (λ n. GivesSymbols (worked_object (now start ms) x n) s
-                (blocks_given x.given (setup_in (now start ms)).n n s) symbols) (sym id_is) gives))
-                ∙ ap (λ (ob : Object). symbols_in ob ((now start ms).bytes f.id) s) (sym object),
+                (subst (λ (ob : Object). GivesSymbols ob s (blocks_given x.given (setup_in u).n f.id s)
+                symbols) object (subst (λ n. GivesSymbols (worked_object u x n) s (blocks_given x.given
+                (setup_in u).n n s) symbols) (sym id_is) gives))),
           ))
 
   -- after an event the symbols that gets and repairs worked out are the files' own
@@ -359,34 +330,29 @@ module _ (limit : ℕ) (mark : Mark) (start : State) (m : Moment) (ms : List Mom
     | Job_is.begun kd wish is k_is allowed rec ↦ absurd
         (subst (λ (x : Job). In (Worked o s symbols) x.given) is given)
     | Job_is.plain x action runs next_is is_plain goes rec st ↦
-        rows_on x goes.pinned (by_gave x action runs next_is (ap relies (sym goes.kind) ∙ kind) goes.gave)
-    | Job_is.drew x runs next_is free is rec ↦ rows_on x (ap (λ (y : Job). y.pinned) is)
-        (F.rows k x o s symbols runs (ap relies (sym (ap (λ (y : Job). y.kind) is)) ∙ kind)
+        rows_on x goes.pinned (by_gave x action runs next_is (cc) goes.gave)
+    | Job_is.drew x runs next_is free is rec ↦ rows_on x (cc) (F.rows k x o s symbols runs (cc)
         (subst (λ (y : Job). In (Worked o s symbols) y.given) is given))
     | Job_is.finished x a runs next_is flight mine is rec free ↦
-        rows_on x (ap (λ (y : Job). y.pinned) is)
-        (F.rows k x o s symbols runs (ap relies (sym (ap (λ (y : Job). y.kind) is)) ∙ kind)
-        (subst (λ (y : Job). In (Worked o s symbols) y.given) is given))
+        rows_on x (cc) (F.rows k x o s symbols runs (cc) (subst (λ (y : Job). In (Worked o s symbols) y.given)
+        is given))
   ]
     where
-      setup : setup_in m.state ≡ setup_in (now start ms)
+      setup : setup_in m.state ≡ setup_in u
       setup = setup_stays limit start m ms A.numbers A.pins X k j h
 
-      rows_on : (x : Job) → j.pinned ≡ x.pinned → (o < next_id (now start ms).records) ×
-          Right (now start ms) x.pinned o s symbols → (o < next_id m.state.records) ×
-          Right m.state j.pinned o s symbols
+      rows_on : (x : Job) → j.pinned ≡ x.pinned → (o < next_id u.records) × Right u x.pinned o s symbols →
+          (o < next_id m.state.records) × Right m.state j.pinned o s symbols
       rows_on x pinned r = (
         (let g = ev.ids_grow limit start m ms A U I E X T in let l = r.0 in omega arith),
-        r.1 ∙ (ap (λ ps. symbols_in (object_among (now start ms) ps o) ((now start ms).bytes o) s)
-            (sym pinned)
-            ∙ (ap (λ y. symbols_in (object_among (now start ms) j.pinned o) y s) (sym (X.bytes o r.0))
+        r.1 ∙ (ap (λ ps. symbols_in (object_among u ps o) (u.bytes o) s) (sym pinned)
+            ∙ (ap (λ y. symbols_in (object_among u j.pinned o) y s) (sym (X.bytes o r.0))
             ∙ ap (λ (t : Setup). symbols_in (object_of (profiled t (pinned_profile t.profile j.pinned o)) o)
             (m.state.bytes o) s) (sym setup))),
       )
 
-      by_gave : (x : Job) (action : Action) → job_of (now start ms).jobs k ≡ Some x →
-          next_action (now start ms) x ≡ Some action → relies x.kind ≡ true → Gave (now start ms) x action j →
-          (o < next_id (now start ms).records) × Right (now start ms) x.pinned o s symbols
+      by_gave : (x : Job) (action : Action) → job_of u.jobs k ≡ Some x → next_action u x ≡ Some action →
+          relies x.kind ≡ true → Gave u x action j → (o < next_id u.records) × Right u x.pinned o s symbols
       by_gave x action runs next_is kx (Gave.nothing quiet g) =
           F.rows k x o s symbols runs kx (subst (In (Worked o s symbols)) g given)
       by_gave x action runs next_is kx (Gave.fetched i p t block act g) =
@@ -409,16 +375,12 @@ module _ (limit : ℕ) (mark : Mark) (start : State) (m : Moment) (ms : List Mom
           ]
         where
           now_worked : (p t : ℕ) (found : List ℕ) → p ≡ o → t ≡ s → found ≡ symbols →
-              next_action (now start ms) x ≡ Some (Work p t) →
-              GivesSymbols (worked_object (now start ms) x p) t
-              (blocks_given x.given (setup_in (now start ms)).n p t) found →
-              (o < next_id (now start ms).records) × Right (now start ms) x.pinned o s symbols
+              next_action u x ≡ Some (Work p t) → GivesSymbols (worked_object u x p) t (blocks_given x.given
+              (setup_in u).n p t) found → (o < next_id u.records) × Right u x.pinned o s symbols
           now_worked p t found po ts fs next_w gives_w =
               (let r = rows_now k x p t found runs kx next_w gives_w in (
-                subst (λ n. n < next_id (now start ms).records) po r.0,
-                sym fs
-                    ∙ (r.1 ∙ (λ z. symbols_in (object_among (now start ms) x.pinned (po z))
-                    ((now start ms).bytes (po z)) (ts z))),
+                subst (λ n. n < next_id u.records) po r.0,
+                cc,
               ))
 
   -- ---- what a repair has stored
@@ -429,46 +391,43 @@ module _ (limit : ℕ) (mark : Mark) (start : State) (m : Moment) (ms : List Mom
       [ inl t ↦ absurd (false≢true (sym none ∙ since_more from i m ms t)) | inr f ↦ f ]
 
   -- the objects of one number among the files of two jobs are one
-  objects_are : (x y : Job) (o : ℕ) → job_of (now start ms).jobs x.number ≡ Some x →
-      job_of (now start ms).jobs y.number ≡ Some y → HasPin x o → HasPin y o →
-      worked_object (now start ms) y o ≡ worked_object (now start ms) x o
+  objects_are : (x y : Job) (o : ℕ) → job_of u.jobs x.number ≡ Some x → job_of u.jobs y.number ≡ Some y →
+      HasPin x o → HasPin y o → worked_object u y o ≡ worked_object u x o
   objects_are x y o runs runs_y p q =
-      ev.worked_is start ms E y o runs_y q
-      ∙ (ap (λ n. object_in (now start ms) n o)
-      (E.one_pin y.number x.number y x q.file p.file runs_y runs q.pinned p.pinned
-      (q.id_is ∙ sym p.id_is)) ∙ sym (ev.worked_is start ms E x o runs p))
+      cc (
+        ev.worked_is start ms E y o runs_y q,
+        E.one_pin y.number x.number y x q.file p.file runs_y runs
+            q.pinned p.pinned (q.id_is ∙ sym p.id_is),
+        ev.worked_is start ms E x o runs p,
+      )
 
   -- what a repair stored before an event is still the file's own after it, but for replacements
-  pub carry : (k : ℕ) (x : Job) (i o s : ℕ) (b : Option (List ℕ)) → job_of (now start ms).jobs k ≡ Some x →
-      x.kind ≡ RepairJob → HasMadeStore (setup_in (now start ms)) x i o s →
-      is_replaced_since x.begun i (m ∷ ms) ≡ false → told_block m.state i o s ≡ Some b →
-      b ≡ Some (columns (worked_object (now start ms) x o) ((now start ms).bytes o) i s)
+  pub carry : (k : ℕ) (x : Job) (i o s : ℕ) (b : Option (List ℕ)) → job_of u.jobs k ≡ Some x →
+      x.kind ≡ RepairJob → HasMadeStore (setup_in u) x i o s → is_replaced_since x.begun i (m ∷ ms) ≡ false →
+      told_block m.state i o s ≡ Some b → b ≡ Some (columns (worked_object u x o) (u.bytes o) i s)
   carry k x i o s b runs kind made none told = elim (X.block i o s) [
     | Block_is.same e ↦ F.rewrote k x i o s b runs kind made (replaced_less x.begun i none) (sym e ∙ told)
     | Block_is.replaced r ↦
         absurd (false≢true (sym none ∙ since_now x.begun i m ms r (A.held.begun k x runs)))
     | Block_is.stored y runs_y next_y is ↦
-        (let b_is = some_told (block_to_store (now start ms) y y.kind i o s)
-        ((now start ms).providers i).held b (sym is ∙ told) in
-        let p = made_pin (setup_in (now start ms)) x i o s kind made in
-        let at_x = subst (λ n. job_of (now start ms).jobs n ≡ Some x)
-        (sym (number_of (now start ms).jobs k x runs)) runs in
-        elim (store_kinds y y.kind i o s refl (is_fair (now start ms) y (Store i o s) next_y)) [
+        (let b_is = some_told (block_to_store u y y.kind i o s) (u.providers i).held b (sym is ∙ told) in
+        let p = made_pin (setup_in u) x i o s kind made in
+        let at_x = subst (λ n. job_of u.jobs n ≡ Some x) (sym (number_of u.jobs k x runs)) runs in
+        elim (store_kinds y y.kind i o s refl (is_fair u y (Store i o s) next_y)) [
           | inl (name, bytes, kind_y, o_is) ↦
               absurd (pt.unstored limit mark start m ms clean run A U I E X T y name bytes i o s runs_y kind_y
-              next_y o_is
-              (ap (started_as (now start ms).records) (sym p.id_is)
-              ∙ (A.pins.pins k x p.file runs p.pinned).1))
-          | inr (repairs, q) ↦ pt.stored_column limit mark start m ms clean run A U I E X T
-              (rows_right mark start ms F) y i o s b runs_y next_y repairs b_is
-              ∙ ap (λ (ob : Object). Some (columns ob ((now start ms).bytes o) i s))
-              (objects_are x y o at_x runs_y p q)
+              next_y o_is (cc ((A.pins.pins k x p.file runs p.pinned).1)))
+          | inr (repairs, q) ↦ cc (
+            pt.stored_column limit mark start m ms clean run A U I E X T
+                (rows_right mark start ms F) y i o s b runs_y next_y repairs b_is,
+            objects_are x y o at_x runs_y p q,
+          )
         ])
     | Block_is.scrubbed scrub rest at next_is is ↦
         pt.no_scrub limit mark start m ms clean run A U I E X T k x runs scrub at
-    | Block_is.removed y runs_y next_y ↦ absurd (let p = made_pin (setup_in (now start ms)) x i o s kind made in
-        A.pins.older_free y.number k y x o p.file runs_y
-        (remove_kinds y y.kind i o refl (is_fair (now start ms) y (Remove i o) next_y)) runs p.pinned p.id_is)
+    | Block_is.removed y runs_y next_y ↦ absurd (let p = made_pin (setup_in u) x i o s kind made in
+        A.pins.older_free y.number k y x o p.file runs_y (remove_kinds y y.kind i o refl
+        (is_fair u y (Remove i o) next_y)) runs p.pinned p.id_is)
   ]
 
   -- after an event what a running repair stored is the file's own, but for replacements
@@ -477,75 +436,56 @@ module _ (limit : ℕ) (mark : Mark) (start : State) (m : Moment) (ms : List Mom
       is_replaced_since j.begun i (m ∷ ms) ≡ false →
       told_block m.state i o s ≡ Some b → b ≡ Some (columns (worked_object m.state j o) (m.state.bytes o) i s)
   rewrote_step k j i o s b h kind made none told = elim (X.job k j h) [
-    | Job_is.kept r grown ↦
-        (let old : HasMadeStore (setup_in (now start ms)) j i o s =
+    | Job_is.kept r grown ↦ (let old : HasMadeStore (setup_in u) j i o s =
         record { place = made.place; made = made.made; action = at_old } in
-        columns_on k j refl r (made_pin (setup_in (now start ms)) j i o s kind old)
-        (carry k j i o s b r kind old none told))
+        columns_on k j refl r (made_pin (setup_in u) j i o s kind old) (carry k j i o s b r kind old none
+        told))
     | Job_is.begun kd wish is k_is allowed rec ↦ absurd
-        (let e : j.place ≡ 0 = ap (λ (x : Job). x.place) is in let l = made.made in omega arith)
+        (let e : j.place ≡ 0 = cc in let l = made.made in omega arith)
     | Job_is.plain x action runs next_is is_plain goes rec st ↦
-        by_place x action runs next_is (sym goes.kind
-        ∙ kind) goes.pinned goes.flagged goes.begun goes.place st
-    | Job_is.drew x runs next_is free is rec ↦ by_place x WriteBody runs next_is
-        (sym (ap (λ (y : Job). y.kind) is) ∙ kind) (ap (λ (y : Job). y.pinned) is)
-        (ap (λ (y : Job). y.flagged) is) (ap (λ (y : Job). y.begun) is) (ap (λ (y : Job). y.place) is)
+        by_place x action runs next_is (cc) goes.pinned goes.flagged goes.begun goes.place st
+    | Job_is.drew x runs next_is free is rec ↦ by_place x WriteBody runs next_is (cc) (cc) (cc) (cc) (cc)
         (λ p q r c e t. absurd (let z : WriteBody ≡ Store p q r = e in cc))
     | Job_is.finished x a runs next_is flight mine is rec free ↦
-        by_place x SyncGate runs next_is (sym (ap (λ (y : Job). y.kind) is) ∙ kind)
-        (ap (λ (y : Job). y.pinned) is) (ap (λ (y : Job). y.flagged) is) (ap (λ (y : Job). y.begun) is)
-        (ap (λ (y : Job). y.place) is) (λ p q r c e t. absurd (let z : SyncGate ≡ Store p q r = e in cc))
+        by_place x SyncGate runs next_is (cc) (cc) (cc) (cc) (cc) (λ p q r c e t. absurd (let z : SyncGate
+        ≡ Store p q r = e in cc))
   ]
     where
-      setup : setup_in m.state ≡ setup_in (now start ms)
+      setup : setup_in m.state ≡ setup_in u
       setup = setup_stays limit start m ms A.numbers A.pins X k j h
 
-      at_old : slice_get (actions_of (setup_in (now start ms)) j) made.place ≡ Some (Store i o s)
+      at_old : slice_get (actions_of (setup_in u) j) made.place ≡ Some (Store i o s)
       at_old = ap (λ t. slice_get (actions_of t j) made.place) (sym setup) ∙ made.action
 
-      columns_on : (l : ℕ) (x : Job) → j.pinned ≡ x.pinned → job_of (now start ms).jobs l ≡ Some x →
-          HasPin x o → b ≡ Some (columns (worked_object (now start ms) x o) ((now start ms).bytes o) i s) →
+      columns_on : (l : ℕ) (x : Job) → j.pinned ≡ x.pinned → job_of u.jobs l ≡ Some x → HasPin x o →
+          b ≡ Some (columns (worked_object u x o) (u.bytes o) i s) →
           b ≡ Some (columns (worked_object m.state j o) (m.state.bytes o) i s)
-      columns_on l x pinned runs p e =
-          (let below : o < next_id (now start ms).records =
-          subst (λ n. n < next_id (now start ms).records) p.id_is (A.pins.pins l x p.file runs p.pinned).0 in
-          e ∙ (ap (λ ps. Some (columns (object_among (now start ms) ps o) ((now start ms).bytes o) i s))
-          (sym pinned)
-          ∙ (ap (λ y. Some (columns (object_among (now start ms) j.pinned o) y i s)) (sym (X.bytes o below))
-          ∙ ap (λ (t : Setup). Some
-          (columns (object_of (profiled t (pinned_profile t.profile j.pinned o)) o)
+      columns_on l x pinned runs p e = (let below : o < next_id u.records =
+          subst (λ n. n < next_id u.records) p.id_is (A.pins.pins l x p.file runs p.pinned).0 in
+          e ∙ (ap (λ ps. Some (columns (object_among u ps o) (u.bytes o) i s)) (sym pinned)
+          ∙ (ap (λ y. Some (columns (object_among u j.pinned o) y i s)) (sym (X.bytes o below))
+          ∙ ap (λ (t : Setup). Some (columns (object_of (profiled t (pinned_profile t.profile j.pinned o)) o)
           (m.state.bytes o) i s)) (sym setup))))
 
-      by_place : (x : Job) (action : Action) → job_of (now start ms).jobs k ≡ Some x →
-          next_action (now start ms) x ≡ Some action → x.kind ≡ RepairJob → j.pinned ≡ x.pinned →
-          j.flagged ≡ x.flagged → j.begun ≡ x.begun → j.place ≡ x.place + 1 →
-          ((p q r : ℕ) (c : Option (List ℕ)) → action ≡ Store p q r → told_block m.state p q r ≡ Some c →
-          c ≡ Some (block_to_store (now start ms) x x.kind p q r)) →
+      by_place : (x : Job) (action : Action) → job_of u.jobs k ≡ Some x → next_action u x ≡ Some action →
+          x.kind ≡ RepairJob → j.pinned ≡ x.pinned → j.flagged ≡ x.flagged → j.begun ≡ x.begun →
+          j.place ≡ x.place + 1 → ((p q r : ℕ) (c : Option (List ℕ)) → action ≡ Store p q r →
+          told_block m.state p q r ≡ Some c → c ≡ Some (block_to_store u x x.kind p q r)) →
           b ≡ Some (columns (worked_object m.state j o) (m.state.bytes o) i s)
       by_place x action runs next_is kx pinned flagged begun place stores =
-          (let at_x : slice_get (actions_of (setup_in (now start ms)) x) made.place ≡ Some (Store i o s) =
-          ap (λ l. slice_get l made.place)
-          (sym (same_actions (setup_in (now start ms)) x j kx kind pinned flagged)) ∙ at_old in
-          elim (cases_lt made.place x.place) [
-            | inl l ↦ (let old : HasMadeStore (setup_in (now start ms)) x i o s =
+          (let at_x : slice_get (actions_of (setup_in u) x) made.place ≡ Some (Store i o s) =
+          ap (λ l. slice_get l made.place) (sym (same_actions (setup_in u) x j kx kind pinned flagged))
+          ∙ at_old in elim (cases_lt made.place x.place) [
+            | inl l ↦ (let old : HasMadeStore (setup_in u) x i o s =
                 record { place = made.place; made = l; action = at_x } in
-                columns_on k x pinned runs (made_pin (setup_in (now start ms)) x i o s kx old)
-                (carry k x i o s b runs kx old
-                (subst (λ n. is_replaced_since n i (m ∷ ms) ≡ false) begun none) told))
-            | inr l ↦
-                (let here : made.place ≡ x.place = (let g = made.made in omega arith) in
-                let act : action ≡ Store i o s = same_value (next_action (now start ms) x) action
-                (Store i o s) next_is
-                (next_repairs (now start ms) x kx
-                ∙ subst (λ n. slice_get (actions_of (setup_in (now start ms)) x) n ≡ Some (Store i o s))
-                here at_x) in
-                let next_store : next_action (now start ms) x ≡ Some (Store i o s) = next_is ∙ ap Some act in
-                let pin : HasPin x o = subst (λ kd. IsFair x kd (Store i o s)) kx
-                (is_fair (now start ms) x (Store i o s) next_store) in
-                columns_on k x pinned runs pin
-                (pt.stored_column limit mark start m ms clean run A U I E X T
-                (rows_right mark start ms F) x i o s b
-                (subst (λ n. job_of (now start ms).jobs n ≡ Some x)
-                (sym (number_of (now start ms).jobs k x runs)) runs) next_store kx
+                columns_on k x pinned runs (made_pin (setup_in u) x i o s kx old) (carry k x i o s b runs kx
+                old (cc) told))
+            | inr l ↦ (let here : made.place ≡ x.place = (let g = made.made in omega arith) in
+                let act : action ≡ Store i o s = cc in
+                let next_store : next_action u x ≡ Some (Store i o s) = next_is ∙ ap Some act in
+                let pin : HasPin x o = subst (λ kd. IsFair x kd (Store i o s)) kx (is_fair u x (Store i o s)
+                next_store) in
+                columns_on k x pinned runs pin (pt.stored_column limit mark start m ms clean run A U I E X T
+                (rows_right mark start ms F) x i o s b (cc (number_of u.jobs k x runs)) next_store kx
                 (stores i o s b act told)))
           ])

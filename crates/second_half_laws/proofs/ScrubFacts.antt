@@ -80,39 +80,37 @@ pub record Scrubbed (mark : Mark) (start : State) (ms : List Moment) (scrub : Sc
   pub todo : Each (Ready (setup_in (now start ms)) scrub.files scrub.given) scrub.todo
 
 own_bytes : (w : State) (f : Pinned) → Stands w f → f.bytes ≡ w.bytes f.id
-own_bytes w f st = ap (λ (x : Pinned). x.bytes) st.is ∙ ap w.bytes (sym (ap (λ (x : Pinned). x.id) st.is))
+own_bytes w f st = cc
 
 module _ (mark : Mark) (start : State) (ms : List Moment) (A : All start ms) (scrub : Scrub)
     (K : Scrubbed mark start ms scrub) where
+  -- the state after these moments
+  abbrev w : State
+  w = now start ms
+
   -- the object of a file that a scrub works on
-  pub object_is : (f : Pinned) → In f scrub.files →
-      scrubbed_object (now start ms) scrub f.id ≡ pinned_object (now start ms) f
-  object_is f in_f = ap (λ p. object_in (now start ms) p f.id)
-      (profile_of (setup_in (now start ms)).profile scrub.files f in_f
-      (λ g i e. ap (λ (x : Pinned). x.profile)
-      (stands_once (now start ms) A.pins.sound g f (K.stands g i) (K.stands f in_f) e)))
+  pub object_is : (f : Pinned) → In f scrub.files → scrubbed_object w scrub f.id ≡ pinned_object w f
+  object_is f in_f = cc (profile_of (setup_in w).profile scrub.files f in_f
+      (λ g i e. ap (λ (x : Pinned). x.profile) (stands_once w A.pins.sound g f (K.stands g i)
+      (K.stands f in_f) e)))
 
   -- a scrub stores the provider's own column
   pub right : (f : Pinned) (rest : List Action) (i s : ℕ) → In f scrub.files →
-      scrub.todo ≡ Store i f.id s ∷ rest → block_to_scrub (now start ms) scrub i f.id s
-      ≡ columns (pinned_object (now start ms) f) ((now start ms).bytes f.id) i s
+      scrub.todo ≡ Store i f.id s ∷ rest → block_to_scrub w scrub i f.id s ≡ columns (pinned_object w f)
+      (w.bytes f.id) i s
   right f rest i s in_f next_is =
-      (let head = (subst (Each (Ready (setup_in (now start ms)) scrub.files scrub.given)) next_is K.todo).0 in
-      let rows = K.rows f s (symbols_given scrub.given f.id s) in_f
-      (given_symbols scrub.given f.id s head.3.0 head.3.1) in
-      ap (λ (ob : Object). column_of_symbols ob (symbols_given scrub.given f.id s) i s) (object_is f in_f)
-      ∙ ap (λ l. column_of_symbols (pinned_object (now start ms) f) l i s) rows)
+      (let head = (subst (Each (Ready (setup_in w) scrub.files scrub.given)) next_is K.todo).0 in
+      let rows = K.rows f s (symbols_given scrub.given f.id s) in_f (given_symbols scrub.given f.id s head.3.0
+      head.3.1) in cc (object_is f in_f))
 
   right_in_effect : (rest : List Action) (i s : ℕ) (q : List ℕ) (f : File) →
-      scrub.todo ≡ Store i f.id s ∷ rest → file_in (now start ms) q ≡ Some f →
-      block_to_scrub (now start ms) scrub i f.id s ≡ columns
-      (pinned_object (now start ms) (pinned_file (now start ms) f)) ((now start ms).bytes f.id) i s
+      scrub.todo ≡ Store i f.id s ∷ rest → file_in w q ≡ Some f → block_to_scrub w scrub i f.id s ≡ columns
+      (pinned_object w (pinned_file w f)) (w.bytes f.id) i s
   right_in_effect rest i s q f next_is in_effect =
-      (let head = (subst (Each (Ready (setup_in (now start ms)) scrub.files scrub.given)) next_is K.todo).0 in
-      let same = stands_once (now start ms) A.pins.sound head.0 (pinned_file (now start ms) f)
-      (K.stands head.0 head.1) (record { name = q; file = f; in_effect = in_effect; is = refl }) head.2 in
-      right (pinned_file (now start ms) f) rest i s (subst (λ (x : Pinned). In x scrub.files) same head.1)
-      next_is)
+      (let head = (subst (Each (Ready (setup_in w) scrub.files scrub.given)) next_is K.todo).0 in
+      let same = stands_once w A.pins.sound head.0 (pinned_file w f) (K.stands head.0 head.1)
+      (record { name = q; file = f; in_effect = in_effect; is = refl }) head.2 in
+      right (pinned_file w f) rest i s (subst (λ (x : Pinned). In x scrub.files) same head.1) next_is)
 
 -- where what holds of the running scrub does, its next store is of the provider's own column
 pub scrubs_right : (mark : Mark) (start : State) (ms : List Moment) → All start ms →
@@ -135,9 +133,7 @@ pub stores_own : (mark : Mark) (start : State) (ms : List Moment) (A : All start
     ((now start ms).bytes f.id) i s
 stores_own mark start ms A scrub at K f i s in_f other rest at_other next_is =
     (let same = same_scrub (now start ms) scrub other at at_other in
-    subst (λ (x : Scrub). block_to_scrub (now start ms) x i f.id s
-    ≡ columns (pinned_object (now start ms) f) ((now start ms).bytes f.id) i s) same
-    (right mark start ms A scrub K f rest i s in_f (ap (λ (x : Scrub). x.todo) same ∙ next_is)))
+    cc (right mark start ms A scrub K f rest i s in_f (ap (λ (x : Scrub). x.todo) same ∙ next_is)))
 
 -- what a fetch gave stands for its place under each name of that place
 pub gives_there : (w : State) (scrub : Scrub) (i o s : ℕ) (block : Option (List ℕ)) (f : Pinned) (j t : ℕ)
@@ -159,64 +155,62 @@ module _ (limit : ℕ) (mark : Mark) (start : State) (m : Moment) (ms : List Mom
     (I : eff.Facts (now start ms)) (X : Changes limit (length ms) (now start ms) m.event m.outcome m.state)
     (tell : AllTell (now start ms))
     (none : (now start ms).jobs ≡ []) (b : Beside (now start ms) m.state) where
-  setup : setup_in m.state ≡ setup_in (now start ms)
-  setup = setup_same m.state (now start ms) (ap setup_of b.records)
+  -- the state after these moments
+  abbrev here : State
+  here = now start ms
 
-  bytes_are : (o : ℕ) → m.state.bytes o ≡ (now start ms).bytes o
+  setup : setup_in m.state ≡ setup_in here
+  setup = setup_same m.state here (ap setup_of b.records)
+
+  bytes_are : (o : ℕ) → m.state.bytes o ≡ here.bytes o
   bytes_are o = ap (λ g. g o) b.bytes
 
-  stands_on : (f : Pinned) → Stands (now start ms) f → Stands m.state f
+  stands_on : (f : Pinned) → Stands here f → Stands m.state f
   stands_on f st = record {
     name = st.name;
     file = st.file;
-    in_effect = ap (λ rs. file_of rs st.name) b.records ∙ st.in_effect;
-    is = st.is ∙ ap (λ l. record { id = st.file.id; profile = st.file.profile; bytes = l })
-        (sym (bytes_are st.file.id));
+    in_effect = cc;
+    is = st.is ∙ ap (λ l. record { id = st.file.id; profile = st.file.profile; bytes = l }) (cc);
   }
 
   -- beside a scrub a block that is wrong after an event was so before
-  pub wrong_old : (f : Pinned) (i s : ℕ) (block : Option (List ℕ)) →
-      is_wrong_block (pinned_object m.state f) (m.state.bytes f.id) i s block ≡ true →
-      is_wrong_block (pinned_object (now start ms) f) ((now start ms).bytes f.id) i s block ≡ true
+  pub wrong_old : (f : Pinned) (i s : ℕ) (block : Option (List ℕ)) → is_wrong_block (pinned_object m.state f)
+      (m.state.bytes f.id) i s block ≡ true → is_wrong_block (pinned_object here f) (here.bytes f.id) i s
+      block ≡ true
   wrong_old f i s block h =
-      subst (λ t. is_wrong_block (object_of (profiled t f.profile) f.id) ((now start ms).bytes f.id) i s block
-      ≡ true) setup
-      (subst (λ l. is_wrong_block (pinned_object m.state f) l i s block ≡ true) (bytes_are f.id) h)
+      subst (λ t. is_wrong_block (object_of (profiled t f.profile) f.id) (here.bytes f.id) i s block ≡ true)
+      setup (cc)
 
   -- a block that is bad was so before, or its provider is replaced now
-  pub bad_was : (f : Pinned) (i s : ℕ) →
-      ((scrub : Scrub) (rest : List Action) → (now start ms).alone ≡ Some (Scrubbing scrub) →
-      scrub.todo ≡ Store i f.id s ∷ rest →
-      block_to_scrub (now start ms) scrub i f.id s ≡ columns (pinned_object (now start ms) f)
-      ((now start ms).bytes f.id) i s) →
-      IsBad m.state f.profile f.id i s → IsBad (now start ms) f.profile f.id i s ⊎
-      (is_replacement m.event m.outcome i ≡ true)
+  pub bad_was : (f : Pinned) (i s : ℕ) → ((scrub : Scrub) (rest : List Action) →
+      here.alone ≡ Some (Scrubbing scrub) → scrub.todo ≡ Store i f.id s ∷ rest →
+      block_to_scrub here scrub i f.id s ≡ columns (pinned_object here f) (here.bytes f.id) i s) →
+      IsBad m.state f.profile f.id i s → IsBad here f.profile f.id i s ⊎ (is_replacement m.event m.outcome i
+      ≡ true)
   bad_was f i s scrubs (block, told, wrong) =
       (let w = wrong_old f i s block wrong in
       elim (X.block i f.id s) [
         | Block_is.same e ↦ inl (block, sym e ∙ told, w)
         | Block_is.replaced r ↦ inr r
-        | Block_is.stored x runs next_is is ↦ absurd (found_none (now start ms).jobs x.number x none runs)
+        | Block_is.stored x runs next_is is ↦ absurd (found_none here.jobs x.number x none runs)
         | Block_is.scrubbed scrub rest at next_is is ↦
-            absurd (right_block (pinned_object (now start ms) f) ((now start ms).bytes f.id) i s
-            (subst (λ y. is_wrong_block (pinned_object (now start ms) f) ((now start ms).bytes f.id) i s y
-            ≡ true)
-            (some_told (block_to_scrub (now start ms) scrub i f.id s) ((now start ms).providers i).held block
-            (sym is ∙ told) ∙ ap Some (scrubs scrub rest at next_is)) w))
-        | Block_is.removed x runs next_is ↦ absurd (found_none (now start ms).jobs x.number x none runs)
+            absurd (right_block (pinned_object here f) (here.bytes f.id) i s
+            (cc (
+              some_told (block_to_scrub here scrub i f.id s) (here.providers i).held block (sym is ∙ told),
+              scrubs scrub rest at next_is,
+            )))
+        | Block_is.removed x runs next_is ↦ absurd (found_none here.jobs x.number x none runs)
       ])
 
   -- a scrub that ran before
-  module _ (scrub : Scrub) (at : (now start ms).alone ≡ Some (Scrubbing scrub))
-      (K : Scrubbed mark start ms scrub) where
+  module _ (scrub : Scrub) (at : here.alone ≡ Some (Scrubbing scrub)) (K : Scrubbed mark start ms scrub) where
     on : (next : Scrub) → next.files ≡ scrub.files → next.begun ≡ scrub.begun →
-        ((f : Pinned) (i s : ℕ) (block : List ℕ) → In f scrub.files → i < (setup_in (now start ms)).n →
-        s < pinned_stripes (setup_in (now start ms)) f → In (Fetched i f.id s (Some block)) next.given →
-        is_wrong_block (pinned_object (now start ms) f) ((now start ms).bytes f.id) i s (Some block) ≡ true →
-        IsReplaced (scrub_mark mark ms scrub) i ms) →
-        ((f : Pinned) (s : ℕ) (symbols : List ℕ) → In f scrub.files → In (Worked f.id s symbols) next.given →
-        symbols ≡ symbols_in (pinned_object (now start ms) f) ((now start ms).bytes f.id) s) →
-        Each (Ready (setup_in (now start ms)) scrub.files next.given) next.todo →
+        ((f : Pinned) (i s : ℕ) (block : List ℕ) → In f scrub.files → i < (setup_in here).n →
+        s < pinned_stripes (setup_in here) f → In (Fetched i f.id s (Some block)) next.given →
+        is_wrong_block (pinned_object here f) (here.bytes f.id) i s (Some block) ≡ true →
+        IsReplaced (scrub_mark mark ms scrub) i ms) → ((f : Pinned) (s : ℕ) (symbols : List ℕ) →
+        In f scrub.files → In (Worked f.id s symbols) next.given → symbols ≡ symbols_in (pinned_object here f)
+        (here.bytes f.id) s) → Each (Ready (setup_in here) scrub.files next.given) next.todo →
         Scrubbed mark start (m ∷ ms) next
     on next files begun gave rows todo = record {
       begun = (let e = begun in let l = K.begun in omega arith);
@@ -230,15 +224,15 @@ module _ (limit : ℕ) (mark : Mark) (start : State) (m : Moment) (ms : List Mom
           (subst (λ (t : Setup). s < pinned_stripes t f) setup k) given
           (wrong_old f i s (Some block) wrong)));
       rows = λ f s symbols in_f given. rows f s symbols (subst (In f) files in_f) given
-          ∙ (ap (λ y. symbols_in (pinned_object (now start ms) f) y s) (sym (bytes_are f.id))
+          ∙ (ap (λ y. symbols_in (pinned_object here f) y s) (sym (bytes_are f.id))
           ∙ ap (λ (t : Setup). symbols_in (object_of (profiled t f.profile) f.id) (m.state.bytes f.id) s)
           (sym setup));
       todo = subst (λ (t : Setup). Each (Ready t next.files next.given) next.todo) (sym setup)
-          (subst (λ fs. Each (Ready (setup_in (now start ms)) fs next.given) next.todo) (sym files) todo);
+          (subst (λ fs. Each (Ready (setup_in here) fs next.given) next.todo) (sym files) todo);
     }
       where
         mark_is : scrub_mark mark (m ∷ ms) next ≡ scrub_mark mark ms scrub
-        mark_is = ap mark (ap (λ n. first_moments n (m ∷ ms)) begun ∙ first_more scrub.begun m ms K.begun)
+        mark_is = cc (first_more scrub.begun m ms K.begun)
 
         read : (f : Pinned) (i s : ℕ) → In f scrub.files → i < (setup_in m.state).n →
             s < pinned_stripes (setup_in m.state) f → IsBad m.state f.profile f.id i s →
@@ -252,99 +246,81 @@ module _ (limit : ℕ) (mark : Mark) (start : State) (m : Moment) (ms : List Mom
             ]
 
     -- what a fetch gave is wrong where what is held is
-    fetched_wrong : (f : Pinned) (i s : ℕ) (block : List ℕ) → In f scrub.files →
-        i < (setup_in (now start ms)).n → s < pinned_stripes (setup_in (now start ms)) f →
-        FetchGives (scrubbed_object (now start ms) scrub f.id).profile.size f.id s
-        ((now start ms).providers i).held (Some block) →
-        is_wrong_block (pinned_object (now start ms) f) ((now start ms).bytes f.id) i s (Some block) ≡ true →
-        IsReplaced (scrub_mark mark ms scrub) i ms
-    fetched_wrong f i s block in_f l k gives wrong = by_told ((now start ms).providers i).held refl (tell i)
-        (subst (λ (ob : Object). FetchGives ob.profile.size f.id s ((now start ms).providers i).held
-        (Some block)) (object_is mark start ms A scrub K f in_f) gives)
+    fetched_wrong : (f : Pinned) (i s : ℕ) (block : List ℕ) → In f scrub.files → i < (setup_in here).n →
+        s < pinned_stripes (setup_in here) f → FetchGives (scrubbed_object here scrub f.id).profile.size f.id
+        s (here.providers i).held (Some block) → is_wrong_block (pinned_object here f) (here.bytes f.id) i s
+        (Some block) ≡ true → IsReplaced (scrub_mark mark ms scrub) i ms
+    fetched_wrong f i s block in_f l k gives wrong = by_told (here.providers i).held refl (tell i)
+        (subst (λ (ob : Object). FetchGives ob.profile.size f.id s (here.providers i).held (Some block))
+        (object_is mark start ms A scrub K f in_f) gives)
       where
-        by_told : (held : Option Held) → ((now start ms).providers i).held ≡ held → IsSome held →
-            FetchGives (pinned_object (now start ms) f).profile.size f.id s held (Some block) →
+        by_told : (held : Option Held) → (here.providers i).held ≡ held → IsSome held →
+            FetchGives (pinned_object here f).profile.size f.id s held (Some block) →
             IsReplaced (scrub_mark mark ms scrub) i ms
         by_told None is some g = absurd (false≢true some)
         by_told (Some held) is some g = K.reads f i s in_f l k (
           held f.id s,
-          ap (option_map (λ (y : Held). y f.id s)) is,
-          sized_wrong (pinned_object (now start ms) f) ((now start ms).bytes f.id) i s (held f.id s)
-              (subst (λ y. is_wrong_block (pinned_object (now start ms) f) ((now start ms).bytes f.id) i s y
-              ≡ true) g wrong),
+          cc,
+          sized_wrong (pinned_object here f) (here.bytes f.id) i s (held f.id s) (cc),
         )
 
     -- a stripe opens to the file's own symbols
-    pub opened_right : replaced_count (now start ms)
-        (scrub_mark mark ms scrub) ms ≤ (setup_in (now start ms)).b →
-        (f : Pinned) (s : ℕ) (symbols : List ℕ) → In f scrub.files →
-        s < pinned_stripes (setup_in (now start ms)) f →
-        GivesSymbols (scrubbed_object (now start ms) scrub f.id) s
-        (blocks_given scrub.given (setup_in (now start ms)).n f.id s) symbols →
-        symbols ≡ symbols_in (pinned_object (now start ms) f) ((now start ms).bytes f.id) s
-    opened_right calm f s symbols in_f k gives =
-        (let st = K.stands f in_f in
-        own_symbols (pinned_object (now start ms) f) ((now start ms).bytes f.id) f.profile s
-        (blocks_given scrub.given (setup_in (now start ms)).n f.id s) symbols refl shape
-        (subst (λ (y : List ℕ). s < stripes_of (profiled (setup_in (now start ms)) f.profile) (length y))
-        (own_bytes (now start ms) f st) k)
-        (few_of (now start ms) ms (scrub_mark mark ms scrub) scrub.given f s calm
-        (λ i block l given wrong. K.gave f i s block in_f l k given wrong))
-        (subst (λ (ob : Object). GivesSymbols ob s
-        (blocks_given scrub.given (setup_in (now start ms)).n f.id s) symbols)
-        (object_is mark start ms A scrub K f in_f) gives))
+    pub opened_right : replaced_count here (scrub_mark mark ms scrub) ms ≤ (setup_in here).b →
+        (f : Pinned) (s : ℕ) (symbols : List ℕ) → In f scrub.files → s < pinned_stripes (setup_in here) f →
+        GivesSymbols (scrubbed_object here scrub f.id) s (blocks_given scrub.given (setup_in here).n f.id s)
+        symbols → symbols ≡ symbols_in (pinned_object here f) (here.bytes f.id) s
+    opened_right calm f s symbols in_f k gives = (let st = K.stands f in_f in
+        own_symbols (pinned_object here f) (here.bytes f.id) f.profile s (blocks_given scrub.given
+        (setup_in here).n f.id s) symbols refl shape (subst (λ (y : List ℕ). s < stripes_of
+        (profiled (setup_in here) f.profile) (length y)) (own_bytes here f st) k)
+        (few_of here ms (scrub_mark mark ms scrub) scrub.given f s calm (λ i block l given wrong. K.gave f i s
+        block in_f l k given wrong)) (subst (λ (ob : Object). GivesSymbols ob s (blocks_given scrub.given
+        (setup_in here).n f.id s) symbols) (object_is mark start ms A scrub K f in_f) gives))
       where
-        shape : IsShape (setup_in (now start ms)).n (setup_in (now start ms)).l (setup_in (now start ms)).b
-        shape = shape_in (now start ms) (λ t e. valid_shape t (I.setup t e))
-            (I.files (K.stands f in_f).name (K.stands f in_f).file (K.stands f in_f).in_effect).up
+        shape : IsShape (setup_in here).n (setup_in here).l (setup_in here).b
+        shape = shape_in here (λ t e. valid_shape t (I.setup t e)) (I.files (K.stands f in_f).name
+            (K.stands f in_f).file (K.stands f in_f).in_effect).up
 
-    went : replaced_count (now start ms) (scrub_mark mark ms scrub) ms ≤ (setup_in (now start ms)).b →
-        (next : Scrub) → Scrub_goes (now start ms) m.state scrub next → Scrubbed mark start (m ∷ ms) next
+    went : replaced_count here (scrub_mark mark ms scrub) ms ≤ (setup_in here).b → (next : Scrub) →
+        Scrub_goes here m.state scrub next → Scrubbed mark start (m ∷ ms) next
     went calm next (Scrub_goes.stored i o s rest todo is told) =
-        subst (λ (x : Scrub). Scrubbed mark start (m ∷ ms) x) (sym is)
-        (on (record scrub { todo = rest }) refl refl K.gave K.rows
-        (subst (Each (Ready (setup_in (now start ms)) scrub.files scrub.given)) todo K.todo).1)
+        subst (λ (x : Scrub). Scrubbed mark start (m ∷ ms) x) (sym is) (on (record scrub { todo = rest }) refl
+        refl K.gave K.rows (subst (Each (Ready (setup_in here) scrub.files scrub.given)) todo K.todo).1)
     went calm next (Scrub_goes.fetched i o s rest block todo is got) =
         subst (λ (x : Scrub). Scrubbed mark start (m ∷ ms) x) (sym is)
         (on (record scrub { todo = rest; given = Fetched i o s block ∷ scrub.given }) refl refl gave rows
-        (all_more (setup_in (now start ms)) scrub.files scrub.given (Fetched i o s block) rest
-        (subst (Each (Ready (setup_in (now start ms)) scrub.files scrub.given)) todo K.todo).1))
+        (all_more (setup_in here) scrub.files scrub.given (Fetched i o s block) rest
+        (subst (Each (Ready (setup_in here) scrub.files scrub.given)) todo K.todo).1))
       where
-        gave : (f : Pinned) (j t : ℕ) (c : List ℕ) → In f scrub.files → j < (setup_in (now start ms)).n →
-            t < pinned_stripes (setup_in (now start ms)) f →
-            In (Fetched j f.id t (Some c)) (Fetched i o s block ∷ scrub.given) →
-            is_wrong_block (pinned_object (now start ms) f) ((now start ms).bytes f.id) j t (Some c) ≡ true →
+        gave : (f : Pinned) (j t : ℕ) (c : List ℕ) → In f scrub.files → j < (setup_in here).n →
+            t < pinned_stripes (setup_in here) f → In (Fetched j f.id t (Some c)) (Fetched i o s block ∷
+            scrub.given) → is_wrong_block (pinned_object here f) (here.bytes f.id) j t (Some c) ≡ true →
             IsReplaced (scrub_mark mark ms scrub) j ms
         gave f j t c in_f l k (inl e) wrong = (let z : Fetched j f.id t (Some c) ≡ Fetched i o s block = e in
             let ji : j ≡ i = cc in let fo : f.id ≡ o = cc in let ts : t ≡ s = cc in
             let cb : Some c ≡ block = cc in
-            fetched_wrong f j t c in_f l k
-            (gives_there (now start ms) scrub i o s block f j t c ji fo ts cb got) wrong)
+            fetched_wrong f j t c in_f l k (gives_there here scrub i o s block f j t c ji fo ts cb got) wrong)
         gave f j t c in_f l k (inr old) wrong = K.gave f j t c in_f l k old wrong
 
         rows : (f : Pinned) (t : ℕ) (symbols : List ℕ) → In f scrub.files →
             In (Worked f.id t symbols) (Fetched i o s block ∷ scrub.given) →
-            symbols ≡ symbols_in (pinned_object (now start ms) f) ((now start ms).bytes f.id) t
+            symbols ≡ symbols_in (pinned_object here f) (here.bytes f.id) t
         rows f t symbols in_f (inl e) = absurd (let z : Worked f.id t symbols ≡ Fetched i o s block = e in cc)
         rows f t symbols in_f (inr old) = K.rows f t symbols in_f old
     went calm next (Scrub_goes.worked o s rest symbols todo gives is) =
-        subst (λ (x : Scrub). Scrubbed mark start (m ∷ ms) x) (sym is)
-        (on (opened_scrub (now start ms) scrub o s rest symbols) refl refl gave rows
-        (each_append (Ready (setup_in (now start ms)) scrub.files (Worked o s symbols ∷ scrub.given))
-        (scrub_stores (now start ms) scrub o s symbols) rest
-        (ready_stores (now start ms) scrub (setup_in (now start ms))
-        (Worked o s symbols ∷ scrub.given) o s symbols
-        (λ j. (head.0, head.1, head.2, (symbols, inl refl))))
-        (all_more (setup_in (now start ms)) scrub.files scrub.given (Worked o s symbols) rest
-        (subst (Each (Ready (setup_in (now start ms)) scrub.files scrub.given)) todo K.todo).1)))
+        subst (λ (x : Scrub). Scrubbed mark start (m ∷ ms) x) (sym is) (on (opened_scrub here scrub o s rest
+        symbols) refl refl gave rows (each_append (Ready (setup_in here) scrub.files (Worked o s symbols ∷
+        scrub.given)) (scrub_stores here scrub o s symbols) rest (ready_stores here scrub (setup_in here)
+        (Worked o s symbols ∷ scrub.given) o s symbols (λ j. (head.0, head.1, head.2, (symbols, inl refl))))
+        (all_more (setup_in here) scrub.files scrub.given (Worked o s symbols) rest
+        (subst (Each (Ready (setup_in here) scrub.files scrub.given)) todo K.todo).1)))
       where
-        head : (f : Pinned) × In f scrub.files × (f.id ≡ o) × (s < pinned_stripes (setup_in (now start ms)) f)
-        head = (subst (Each (Ready (setup_in (now start ms)) scrub.files scrub.given)) todo K.todo).0
+        head : (f : Pinned) × In f scrub.files × (f.id ≡ o) × (s < pinned_stripes (setup_in here) f)
+        head = (subst (Each (Ready (setup_in here) scrub.files scrub.given)) todo K.todo).0
 
-        gave : (f : Pinned) (j t : ℕ) (c : List ℕ) → In f scrub.files → j < (setup_in (now start ms)).n →
-            t < pinned_stripes (setup_in (now start ms)) f →
-            In (Fetched j f.id t (Some c)) (Worked o s symbols ∷ scrub.given) →
-            is_wrong_block (pinned_object (now start ms) f) ((now start ms).bytes f.id) j t (Some c) ≡ true →
+        gave : (f : Pinned) (j t : ℕ) (c : List ℕ) → In f scrub.files → j < (setup_in here).n →
+            t < pinned_stripes (setup_in here) f → In (Fetched j f.id t (Some c)) (Worked o s symbols ∷
+            scrub.given) → is_wrong_block (pinned_object here f) (here.bytes f.id) j t (Some c) ≡ true →
             IsReplaced (scrub_mark mark ms scrub) j ms
         gave f j t c in_f l k (inl e) wrong =
             absurd (let z : Fetched j f.id t (Some c) ≡ Worked o s symbols = e in cc)
@@ -352,61 +328,55 @@ module _ (limit : ℕ) (mark : Mark) (start : State) (m : Moment) (ms : List Mom
 
         -- the file that was opened is that of its number
         opened : (f : Pinned) (t : ℕ) (found : List ℕ) → In f scrub.files → f.id ≡ o → t ≡ s →
-            found ≡ symbols → found ≡ symbols_in (pinned_object (now start ms) f)
-            ((now start ms).bytes f.id) t
+            found ≡ symbols → found ≡ symbols_in (pinned_object here f) (here.bytes f.id) t
         opened f t found in_f fo ts fs =
-            (let same = stands_once (now start ms) A.pins.sound head.0 f (K.stands head.0 head.1)
-            (K.stands f in_f) (head.2 ∙ sym fo) in
-            let k : s < pinned_stripes (setup_in (now start ms)) f =
-            subst (λ (x : Pinned). s < pinned_stripes (setup_in (now start ms)) x) same head.3 in
-            fs ∙ (opened_right calm f s symbols in_f k
-            (subst (λ n. GivesSymbols (scrubbed_object (now start ms) scrub n) s
-            (blocks_given scrub.given (setup_in (now start ms)).n n s) symbols) (sym fo) gives)
-            ∙ ap (symbols_in (pinned_object (now start ms) f) ((now start ms).bytes f.id)) (sym ts)))
+            (let same = stands_once here A.pins.sound head.0 f (K.stands head.0 head.1) (K.stands f in_f)
+            (head.2 ∙ sym fo) in let k : s < pinned_stripes (setup_in here) f =
+            subst (λ (x : Pinned). s < pinned_stripes (setup_in here) x) same head.3 in
+            cc (opened_right calm f s symbols in_f k (subst (λ n. GivesSymbols (scrubbed_object here scrub n)
+            s (blocks_given scrub.given (setup_in here).n n s) symbols) (sym fo) gives)))
 
         rows : (f : Pinned) (t : ℕ) (found : List ℕ) → In f scrub.files →
             In (Worked f.id t found) (Worked o s symbols ∷ scrub.given) →
-            found ≡ symbols_in (pinned_object (now start ms) f) ((now start ms).bytes f.id) t
+            found ≡ symbols_in (pinned_object here f) (here.bytes f.id) t
         rows f t found in_f (inl e) =
             (let z : Worked f.id t found ≡ Worked o s symbols = e in let fo : f.id ≡ o = cc in
             let ts : t ≡ s = cc in let fs : found ≡ symbols = cc in opened f t found in_f fo ts fs)
         rows f t found in_f (inr old) = K.rows f t found in_f old
 
   -- a scrub that has just begun
-  begun_now : IsMark start ms (mark ms) → (now start ms).alone ≡ None → (next : Scrub) →
-      next ≡ new_scrub (now start ms) (length ms) → Scrubbed mark start (m ∷ ms) next
+  begun_now : IsMark start ms (mark ms) → here.alone ≡ None → (next : Scrub) →
+      next ≡ new_scrub here (length ms) → Scrubbed mark start (m ∷ ms) next
   begun_now moment alone next is = subst (λ (x : Scrub). Scrubbed mark start (m ∷ ms) x) (sym is) (record {
     begun = omega arith;
     marked = (let e = mark_is in let l = moment.before.early in omega arith);
-    stands = λ f in_f. stands_on f (in_effect_all (now start ms) f in_f);
+    stands = λ f in_f. stands_on f (in_effect_all here f in_f);
     reads = λ f i s in_f l k bad. subst (λ z. IsReplaced z i (m ∷ ms)) (sym mark_is)
-        (read f i s (in_effect_all (now start ms) f in_f) l k bad);
+        (read f i s (in_effect_all here f in_f) l k bad);
     gave = λ f i s block in_f l k given wrong. absurd given;
     rows = λ f s symbols in_f given. absurd given;
-    todo = subst (λ (t : Setup). Each (Ready t (new_scrub (now start ms) (length ms)).files [])
-        (new_scrub (now start ms) (length ms)).todo) (sym setup)
-        (ready_first (setup_in (now start ms)) (new_scrub (now start ms) (length ms)).files);
+    todo = subst (λ (t : Setup). Each (Ready t (new_scrub here (length ms)).files [])
+        (new_scrub here (length ms)).todo) (sym setup) (ready_first (setup_in here)
+        (new_scrub here (length ms)).files);
   })
     where
-      mark_is : scrub_mark mark (m ∷ ms) (new_scrub (now start ms) (length ms)) ≡ mark ms
+      mark_is : scrub_mark mark (m ∷ ms) (new_scrub here (length ms)) ≡ mark ms
       mark_is = ap mark (first_more (length ms) m ms (omega arith) ∙ first_all ms)
 
-      read : (f : Pinned) (i s : ℕ) → Stands (now start ms) f → i < (setup_in m.state).n →
+      read : (f : Pinned) (i s : ℕ) → Stands here f → i < (setup_in m.state).n →
           s < pinned_stripes (setup_in m.state) f → IsBad m.state f.profile f.id i s →
           IsReplaced (mark ms) i (m ∷ ms)
       read f i s st l k bad =
-          elim (bad_was f i s (λ other rest at next_is. absurd
-          (some-not-none (now start ms).alone (Scrubbing other) at alone)) bad) [
+          elim (bad_was f i s (λ other rest at next_is. absurd (some-not-none here.alone (Scrubbing other) at
+          alone)) bad) [
             | inl old ↦
-                (let n : s < stripes_of (profiled (setup_in (now start ms)) f.profile)
-                (length ((now start ms).bytes f.id)) =
-                subst (λ (y : List ℕ). s < stripes_of (profiled (setup_in (now start ms)) f.profile)
-                (length y))
-                (own_bytes (now start ms) f st) (subst (λ (t : Setup). s < pinned_stripes t f) setup k) in
+                (let n : s < stripes_of (profiled (setup_in here) f.profile) (length (here.bytes f.id)) =
+                subst (λ (y : List ℕ). s < stripes_of (profiled (setup_in here) f.profile) (length y))
+                (own_bytes here f st) (subst (λ (t : Setup). s < pinned_stripes t f) setup k) in
                 elim (moment.clear st.name st.file i s st.in_effect (subst (λ (t : Setup). i < t.n) setup l)
-                (subst (λ (x : Pinned). s < stripes_of (profiled (setup_in (now start ms)) x.profile)
-                (length ((now start ms).bytes x.id))) st.is n)
-                (subst (λ (x : Pinned). IsBad (now start ms) x.profile x.id i s) st.is old)) [
+                (subst (λ (x : Pinned). s < stripes_of (profiled (setup_in here) x.profile)
+                (length (here.bytes x.id))) st.is n) (subst (λ (x : Pinned). IsBad here x.profile x.id i s)
+                st.is old)) [
                   | inl r ↦ since_more (mark ms) i m ms r
                   | inr never ↦ absurd never
                 ])

@@ -44,19 +44,16 @@ scrub_of a b h = cc
 stored_told : (providers : ℕ → Provider) (i o s : ℕ) (block : List ℕ) (p : Provider) →
     Stores o s block (providers i) p → (b : Option (List ℕ)) →
     option_map (λ (h : Held). h o s) (with_provider providers i p i).held ≡ Some b → b ≡ Some block
-stored_told providers i o s block p call b told = by_held (providers i).held call.held
-    (sym (ap (λ (q : Provider). option_map (λ (h : Held). h o s) q.held)
-    (cond_true (i == i) p (providers i) (eq-eqb i i refl))) ∙ told)
+stored_told providers i o s block p call b told =
+    by_held (providers i).held call.held (cc (cond_true (i == i) p (providers i) (eq-eqb i i refl)))
   where
     by_held : (held : Option Held) → p.held ≡ option_map (with_block o s block) held →
         option_map (λ (h : Held). h o s) p.held ≡ Some b → b ≡ Some block
-    by_held None is t = (let z : None ≡ Some b = sym (ap (option_map (λ (h : Held). h o s)) is) ∙ t in cc)
-    by_held (Some held) is t =
-        (let z : Some (with_block o s block held o s) ≡ Some b =
-        sym (ap (option_map (λ (h : Held). h o s)) is) ∙ t in
+    by_held None is t = (let z : None ≡ Some b = cc in cc)
+    by_held (Some held) is t = (let z : Some (with_block o s block held o s) ≡ Some b = cc in
         let y : with_block o s block held o s ≡ b = cc in
-        sym y ∙ cond_true ((o == o) && (s == s)) (Some block) (held o s)
-        (and_from (o == o) (s == s) (eq-eqb o o refl) (eq-eqb s s refl)))
+        sym y ∙ cond_true ((o == o) && (s == s)) (Some block) (held o s) (and_from (o == o) (s == s)
+        (eq-eqb o o refl) (eq-eqb s s refl)))
 
 module _ (moment : ℕ) (old : State) (lone : IsLone old)
     (opened : (scrub : Scrub) → old.alone ≡ Some (Scrubbing scrub) → old.is_open ≡ true) where
@@ -79,19 +76,17 @@ module _ (moment : ℕ) (old : State) (lone : IsLone old)
         subst (Result e) (sym is) (λ next h. Scrub_is.went scrub at
         (Scrub_goes.worked o s rest symbols todo gives (sym (scrub_of _ _ h)))
         (record { jobs = refl; records = refl; bytes = refl; doubt = refl; is_open = refl }))
-    scrubs scrub (Work o s) rest (Ended (answer.Lost t row)) new at todo (t_is, lost, is) =
-        none e new (ap (λ (w : State). w.alone) is)
+    scrubs scrub (Work o s) rest (Ended (answer.Lost t row)) new at todo (t_is, lost, is) = none e new (cc)
     scrubs scrub (Store i o s) rest More new at todo (p, call, is) =
         subst (Result e) (sym is) (λ next h. Scrub_is.went scrub at
         (Scrub_goes.stored i o s rest todo (sym (scrub_of _ _ h))
         (λ c told. stored_told old.providers i o s (block_to_scrub old scrub i o s) p call c told))
         (record { jobs = refl; records = refl; bytes = refl; doubt = refl; is_open = refl }))
     scrubs scrub (Store i o s) rest (Ended (answer.ProviderFault k)) new at todo (k_is, (p, call, is)) =
-        none e new (ap (λ (w : State). w.alone) is)
-    scrubs scrub (Store i o s) rest (Ended answer.Memory) new at todo (p, call, is) =
-        none e new (ap (λ (w : State). w.alone) is)
+        none e new (cc)
+    scrubs scrub (Store i o s) rest (Ended answer.Memory) new at todo (p, call, is) = none e new (cc)
     scrubs scrub End rest (Ended (answer.Scrubbed stripes symbols blocks)) new at todo (a, b, c, is) =
-        none e new (ap (λ (w : State). w.alone) is)
+        none e new (cc)
     scrubs scrub action rest r new at todo h = absurd h
 
     steps_scrub : (scrub : Scrub) (todo : List Action) (r : Outcome) (new : State) →
@@ -106,23 +101,19 @@ module _ (moment : ℕ) (old : State) (lone : IsLone old)
     packs : (pack : Pack) (moves : ℕ) (r : Outcome) (new : State) → old.alone ≡ Some (Packing pack) →
         Packs old pack moves r new → Result e new
     packs pack zero More new at (faults, low, is) = packed new _ (ap (λ (w : State). w.alone) is)
-    packs pack zero (Ended answer.DiskFault) new at (faults, low, rose, is) =
-        none e new (ap (λ (w : State). w.alone) is)
-    packs pack zero (Ended answer.Memory) new at is = none e new (ap (λ (w : State). w.alone) is)
+    packs pack zero (Ended answer.DiskFault) new at (faults, low, rose, is) = none e new (cc)
+    packs pack zero (Ended answer.Memory) new at is = none e new (cc)
     packs pack (suc zero) More new at (faults, low, is) = packed new _ (ap (λ (w : State). w.alone) is)
-    packs pack (suc zero) (Ended answer.DiskFault) new at (faults, low, rose, is) =
-        none e new (ap (λ (w : State). w.alone) is)
+    packs pack (suc zero) (Ended answer.DiskFault) new at (faults, low, rose, is) = none e new (cc)
     packs pack (suc (suc zero)) More new at (faults, low, is) = packed new _ (ap (λ (w : State). w.alone) is)
-    packs pack (suc (suc zero)) (Ended answer.DiskFault) new at (faults, low, rose, is) =
-        none e new (ap (λ (w : State). w.alone) is)
-    packs pack (suc (suc zero)) (Ended answer.Memory) new at is =
-        none e new (ap (λ (w : State). w.alone) is)
+    packs pack (suc (suc zero)) (Ended answer.DiskFault) new at (faults, low, rose, is) = none e new (cc)
+    packs pack (suc (suc zero)) (Ended answer.Memory) new at is = none e new (cc)
     packs pack (suc (suc (suc zero))) More new at (faults, low, is) =
         packed new _ (ap (λ (w : State). w.alone) is)
     packs pack (suc (suc (suc zero))) (Ended answer.DiskFault) new at (faults, low, rose, is) =
-        none e new (ap (λ (w : State). w.alone) is)
+        none e new (cc)
     packs pack (suc (suc (suc (suc zero)))) (Ended (answer.Packed before after)) new at (b, a, is) =
-        none e new (ap (λ (w : State). w.alone) is)
+        none e new (cc)
     packs pack moves r new at h = absurd h
 
     steps_alone : (x : Alone) (r : Outcome) (new : State) → old.alone ≡ Some x → StepsAlone old x r new →

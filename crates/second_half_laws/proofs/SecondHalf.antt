@@ -221,64 +221,58 @@ some_rose w v (suc n) = elim (some_rose w v n) [
 
 module _ (limit : ℕ) (mark : Mark) (start : State) (m : Moment) (ms : List Moment) (clean : IsStart start)
     (run : IsRun limit start (m ∷ ms)) (calm : IsCalm relies mark ms) (F : Facts mark start ms) where
-  module _ (job : Job) (name : List ℕ) (runs : job_of (now start ms).jobs job.number ≡ Some job)
-      (kind : job.kind ≡ GetJob name) (file : File)
-      (in_effect : file_in (begin_of start ms job) name ≡ Some file)
-      (pinned : job.pinned ≡ pinned_file (begin_of start ms job) file ∷ [])
-      (setup : setup_in (now start ms) ≡ setup_in (begin_of start ms job)) where
+  -- the state after these moments
+  abbrev here : State
+  here = now start ms
+
+  module _ (job : Job) (name : List ℕ) (runs : job_of here.jobs job.number ≡ Some job) (kind : job.kind
+      ≡ GetJob name) (file : File) (in_effect : file_in (begin_of start ms job) name ≡ Some file)
+      (pinned : job.pinned ≡ pinned_file (begin_of start ms job) file ∷ []) (setup : setup_in here ≡ setup_in
+      (begin_of start ms job)) where
     abbrev b : State
     b = begin_of start ms job
 
-    lone : IsLone (now start ms)
+    lone : IsLone here
     lone = (all limit start clean ms run.2).numbers.idle.lone
 
     in_file : In (pinned_file (begin_of start ms job) file) job.pinned
     in_file = subst (In (pinned_file (begin_of start ms job) file)) (sym pinned) (inl refl)
 
-    own_bytes : (begin_of start ms job).bytes file.id ≡ (now start ms).bytes file.id
+    own_bytes : (begin_of start ms job).bytes file.id ≡ here.bytes file.id
     own_bytes = (always limit start clean ms run.2).pinned job.number job
         (pinned_file (begin_of start ms job) file) runs in_file
 
     -- where no count rose, few providers gave a wrong block of a stripe of which all were asked
-    few : ((i : ℕ) → i < (setup_in (begin_of start ms job)).n →
-        RoseSince (begin_of start ms job) (now start ms) i → ⊥) → (stripe : ℕ) →
-        stripe < stripes (file_object (begin_of start ms job) file)
-        (length ((begin_of start ms job).bytes file.id)) →
-        ((i : ℕ) → i < (setup_in (now start ms)).n →
-        HasMade (setup_in (now start ms)) job (Fetch i file.id stripe)) →
-        IsFewWrong (begin_of start ms job) file job stripe
+    few : ((i : ℕ) → i < (setup_in (begin_of start ms job)).n → RoseSince (begin_of start ms job) here i →
+        ⊥) → (stripe : ℕ) → stripe < stripes (file_object (begin_of start ms job) file)
+        (length ((begin_of start ms job).bytes file.id)) → ((i : ℕ) → i < (setup_in here).n →
+        HasMade (setup_in here) job (Fetch i file.id stripe)) → IsFewWrong (begin_of start ms job) file job
+        stripe
     few none stripe below asked =
         (let w = count_of-within (is_wrong_given (begin_of start ms job) file job stripe)
         (λ i. is_replaced_since (mark_of mark ms job) i ms) 0 (setup_in (begin_of start ms job)).n
         (λ i l wrong. one i (omega (arith, l)) wrong) in
-        let c = calm_now mark start clean ms calm job.number job runs
-        (subst (λ (kd : Kind). IsTrue (relies kd)) (sym kind) refl) in
+        let c = calm_now mark start clean ms calm job.number job runs (cc) in
         let d : count_of (λ i. is_replaced_since (mark_of mark ms job) i ms)
         (upto (setup_in (begin_of start ms job)).n) ≤ (setup_in (begin_of start ms job)).b =
         subst (λ (t : Setup). count_of (λ i. is_replaced_since (mark_of mark ms job) i ms) (upto t.n) ≤ t.b)
-        setup c in
-        omega (arith, w, d))
+        setup c in omega (arith, w, d))
       where
         one : (i : ℕ) → i < (setup_in (begin_of start ms job)).n →
             is_wrong_given (begin_of start ms job) file job stripe i ≡ true →
             is_replaced_since (mark_of mark ms job) i ms ≡ true
-        one i l wrong =
-            (let k : i < (setup_in (now start ms)).n = subst (λ (t : Setup). i < t.n) (sym setup) l in
+        one i l wrong = (let k : i < (setup_in here).n = subst (λ (t : Setup). i < t.n) (sym setup) l in
             let g = made_fetch_gave limit start clean ms run.2 job.number job i file.id stripe runs
-            (asked i k) in
-            let given = given_block job.given i file.id stripe g.0 g.1 in
-            let s : stripe < stripes_of (profiled (setup_in (now start ms)) file.profile)
-            (length ((now start ms).bytes file.id)) =
-            subst (λ (t : Setup). stripe < stripes_of (profiled t file.profile)
-            (length ((now start ms).bytes file.id))) (sym setup)
-            (subst (λ (y : List ℕ). stripe < stripes_of
-            (profiled (setup_in (begin_of start ms job)) file.profile) (length y)) own_bytes
-            below) in
-            let now_wrong : is_wrong_block (file_object (now start ms) file)
-            ((now start ms).bytes file.id) i stripe (block_given job.given file.id stripe i) ≡ true =
+            (asked i k) in let given = given_block job.given i file.id stripe g.0 g.1 in
+            let s : stripe < stripes_of (profiled (setup_in here) file.profile) (length (here.bytes file.id))
+            =
+            subst (λ (t : Setup). stripe < stripes_of (profiled t file.profile) (length (here.bytes file.id)))
+            (sym setup) (subst (λ (y : List ℕ). stripe < stripes_of
+            (profiled (setup_in (begin_of start ms job)) file.profile) (length y)) own_bytes below) in
+            let now_wrong : is_wrong_block (file_object here file) (here.bytes file.id) i stripe
+            (block_given job.given file.id stripe i) ≡ true =
             subst (λ (t : Setup). is_wrong_block (object_of (profiled t file.profile) file.id)
-            ((now start ms).bytes file.id) i stripe (block_given job.given file.id stripe i) ≡ true)
-            (sym setup)
+            (here.bytes file.id) i stripe (block_given job.given file.id stripe i) ≡ true) (sym setup)
             (subst (λ (y : List ℕ). is_wrong_block (file_object (begin_of start ms job) file) y i stripe
             (block_given job.given file.id stripe i) ≡ true) own_bytes wrong) in
             elim (F.gave job.number job (pinned_file (begin_of start ms job) file) i stripe
@@ -287,23 +281,22 @@ module _ (limit : ℕ) (mark : Mark) (start : State) (m : Moment) (ms : List Mom
               | inr q ↦ absurd (none i l q.1)
             ])
 
-    in_stripes : (stripe : ℕ) → (f : Pinned) × In f job.pinned × (f.id ≡ file.id) ×
-        (stripe < pinned_stripes (setup_in (now start ms)) f) →
-        stripe < stripes (file_object (begin_of start ms job) file)
+    in_stripes : (stripe : ℕ) → (f : Pinned) × In f job.pinned × (f.id ≡ file.id) × (stripe < pinned_stripes
+        (setup_in here) f) → stripe < stripes (file_object (begin_of start ms job) file)
         (length ((begin_of start ms job).bytes file.id))
     in_stripes stripe (f, in_f, id_is, l) = elim (subst (In f) pinned in_f) [
       | inl e ↦ subst (λ (t : Setup). stripe < stripes_of (profiled t file.profile)
           (length ((begin_of start ms job).bytes file.id))) setup
-          (subst (λ (x : Pinned). stripe < pinned_stripes (setup_in (now start ms)) x) e l)
+          (subst (λ (x : Pinned). stripe < pinned_stripes (setup_in here) x) e l)
       | inr none ↦ absurd none
     ]
 
     -- a get is lost only where a provider's count rose
     lost_by : (how : Answer) (stripe row : ℕ) → m.event ≡ Step job.number → m.outcome ≡ Ended how →
-        how ≡ answer.Lost stripe row → next_action (now start ms) job ≡ Some (Work file.id stripe) →
+        how ≡ answer.Lost stripe row → next_action here job ≡ Some (Work file.id stripe) →
         IsLostByFaults (begin_of start ms job) m.state how
     lost_by how stripe row event outcome is next_is =
-        elim (some_rose (begin_of start ms job) (now start ms) (setup_in (begin_of start ms job)).n) [
+        elim (some_rose (begin_of start ms job) here (setup_in (begin_of start ms job)).n) [
           | inl (i, l, rose) ↦ record {
             stripe = stripe;
             row = row;
@@ -313,10 +306,9 @@ module _ (limit : ℕ) (mark : Mark) (start : State) (m : Moment) (ms : List Mom
             rose = rd.rose_on _ _ _ rose ((run_onward limit start m ms run).provider i).others;
           }
           | inr none ↦ absurd (few_not_lost limit start m ms job name clean run runs kind event file in_effect
-              stripe row (outcome ∙ ap Ended is)
-              (few none stripe (in_stripes stripe
-              (read_within (now start ms) job name file.id stripe kind next_is))
-              (λ i l. fetched_before_work (now start ms) job file.id stripe i next_is l)))
+              stripe row (outcome ∙ ap Ended is) (few none stripe (in_stripes stripe (read_within here job
+              name file.id stripe kind next_is)) (λ i l. fetched_before_work here job file.id stripe i next_is
+              l)))
         ]
 
     -- a get ends with the bytes in effect at its begin, or is lost so
@@ -326,7 +318,7 @@ module _ (limit : ℕ) (mark : Mark) (start : State) (m : Moment) (ms : List Mom
         by_end (get_ends limit start m ms job name (pinned_file (begin_of start ms job) file) how lone run
         event outcome runs kind pinned)
       where
-        by_end : Get_ends (now start ms) job (pinned_file (begin_of start ms job) file) how →
+        by_end : Get_ends here job (pinned_file (begin_of start ms job) file) how →
             GivesOrIsLost (begin_of start ms job) m.state name how
         by_end (Get_ends.with_bytes bytes is) =
             (let g = got_right limit start m ms job name bytes clean run
@@ -355,37 +347,30 @@ module _ (limit : ℕ) (mark : Mark) (start : State) (m : Moment) (ms : List Mom
         record {
           file = file;
           in_effect = in_effect;
-          gives =
-              by_rose (some_rose (begin_of start ms job) (now start ms) (setup_in (begin_of start ms job)).n);
+          gives = by_rose (some_rose (begin_of start ms job) here (setup_in (begin_of start ms job)).n);
         }
       where
         by_end : ((i : ℕ) → i < (setup_in (begin_of start ms job)).n →
-            RoseSince (begin_of start ms job) (now start ms) i → ⊥) →
-            Get_ends (now start ms) job (pinned_file (begin_of start ms job) file) how →
+            RoseSince (begin_of start ms job) here i → ⊥) →
+            Get_ends here job (pinned_file (begin_of start ms job) file) how →
             how ≡ answer.Got ((begin_of start ms job).bytes file.id)
         by_end none (Get_ends.with_bytes bytes is) =
-            is ∙ ap answer.Got (few_give limit start m ms job name clean run runs kind event file in_effect
-            bytes (outcome ∙ ap Ended is)
-            (λ stripe below. few none stripe below
-            (λ i l. fetched_before_end (now start ms) job name
-            (pinned_file (begin_of start ms job) file) stripe i kind
-            (event_end limit (length ms) (now start ms) m.event m.outcome m.state job (answer.Got bytes)
-            (λ h. h) event (outcome ∙ ap Ended is) runs run.1).0 in_file
-            (subst (λ (t : Setup). stripe < stripes_of (profiled t file.profile)
+            cc (few_give limit start m ms job name clean run runs kind event file in_effect bytes (outcome
+            ∙ ap Ended is) (λ stripe below. few none stripe below (λ i l. fetched_before_end here job name
+            (pinned_file (begin_of start ms job) file) stripe i kind (event_end limit (length ms) here m.event
+            m.outcome m.state job (answer.Got bytes) (λ h. h) event (outcome ∙ ap Ended is) runs run.1).0
+            in_file (subst (λ (t : Setup). stripe < stripes_of (profiled t file.profile)
             (length ((begin_of start ms job).bytes file.id))) (sym setup) below) l)))
         by_end none (Get_ends.is_lost stripe row is next_is lost) =
             absurd (few_not_lost limit start m ms job name clean run runs kind event file in_effect stripe row
-            (outcome ∙ ap Ended is)
-            (few none stripe (in_stripes stripe
-            (read_within (now start ms) job name file.id stripe kind next_is))
-            (λ i l. fetched_before_work (now start ms) job file.id stripe i next_is l)))
+            (outcome ∙ ap Ended is) (few none stripe (in_stripes stripe (read_within here job name file.id
+            stripe kind next_is)) (λ i l. fetched_before_work here job file.id stripe i next_is l)))
 
-        by_rose : ((i : ℕ) × (i < (setup_in (begin_of start ms job)).n) ×
-            RoseSince (begin_of start ms job) (now start ms) i) ⊎
-            ((i : ℕ) → i < (setup_in (begin_of start ms job)).n →
-            RoseSince (begin_of start ms job) (now start ms) i → ⊥) →
-            (how ≡ answer.Got ((begin_of start ms job).bytes file.id)) ⊎
-            CountRose (begin_of start ms job) m.state
+        by_rose : ((i : ℕ) × (i < (setup_in (begin_of start ms job)).n) × RoseSince (begin_of start ms job)
+            here i) ⊎ ((i : ℕ) → i < (setup_in (begin_of start ms job)).n →
+            RoseSince (begin_of start ms job) here i → ⊥) →
+            (how ≡ answer.Got ((begin_of start ms job).bytes file.id)) ⊎ CountRose (begin_of start ms job)
+            m.state
         by_rose (inl (i, l, rose)) =
             inr (inr (
               i,
@@ -397,35 +382,34 @@ module _ (limit : ℕ) (mark : Mark) (start : State) (m : Moment) (ms : List Mom
             (by_end none (get_ends limit start m ms job name
             (pinned_file (begin_of start ms job) file) how lone run event outcome runs kind pinned))
 
-  get_gives : (job : Job) (name : List ℕ) (how : Answer) → job_of (now start ms).jobs job.number ≡ Some job →
+  get_gives : (job : Job) (name : List ℕ) (how : Answer) → job_of here.jobs job.number ≡ Some job →
       job.kind ≡ GetJob name → m.event ≡ Step job.number → m.outcome ≡ Ended how →
       GivesOrRose (begin_of start ms job) m.state name how
   get_gives job name how runs kind event outcome =
       (let H = have_files limit start clean ms run.2 job.number job name runs kind in
-      gives job name runs kind H.file H.in_effect H.pinned
-      (setup_same (now start ms) (begin_of start ms job) H.setup) how event outcome)
+      gives job name runs kind H.file H.in_effect H.pinned (setup_same here (begin_of start ms job) H.setup)
+      how event outcome)
 
   -- a get that a step ends gave the bytes in effect at its begin, or is lost and a provider's count rose
-  pub get_sharply : (job : Job) (name : List ℕ) (how : Answer) →
-      job_of (now start ms).jobs job.number ≡ Some job → job.kind ≡ GetJob name → m.event ≡ Step job.number →
-      m.outcome ≡ Ended how → GivesOrIsLost (begin_of start ms job) m.state name how
+  pub get_sharply : (job : Job) (name : List ℕ) (how : Answer) → job_of here.jobs job.number ≡ Some job →
+      job.kind ≡ GetJob name → m.event ≡ Step job.number → m.outcome ≡ Ended how →
+      GivesOrIsLost (begin_of start ms job) m.state name how
   get_sharply job name how runs kind event outcome =
       (let H = have_files limit start clean ms run.2 job.number job name runs kind in
-      ends_sharply job name runs kind H.file H.in_effect H.pinned
-      (setup_same (now start ms) (begin_of start ms job) H.setup) how event outcome)
+      ends_sharply job name runs kind H.file H.in_effect H.pinned (setup_same here (begin_of start ms job)
+      H.setup) how event outcome)
 
   by_job : (number : ℕ) (how : Answer) → m.event ≡ Step number → m.outcome ≡ Ended how →
       KeepsSecondHalf start ms (Step number) (Ended how) m.state
-  by_job number how event outcome = go (job_of (now start ms).jobs number) refl
+  by_job number how event outcome = go (job_of here.jobs number) refl
     where
-      by_kind : (job : Job) → job_of (now start ms).jobs number ≡ Some job → (kd : Kind) → job.kind ≡ kd →
+      by_kind : (job : Job) → job_of here.jobs number ≡ Some job → (kd : Kind) → job.kind ≡ kd →
           EndsWell (begin_of start ms job) m.state (Some (record job { kind = kd })) how
-      by_kind job runs (GetJob name) is = (let n = number_of (now start ms).jobs number job runs in
-          get_gives job name how (subst (λ z. job_of (now start ms).jobs z ≡ Some job) (sym n) runs) is
-          (event ∙ ap Step (sym n)) outcome)
+      by_kind job runs (GetJob name) is = (let n = number_of here.jobs number job runs in
+          get_gives job name how (cc) is (event ∙ ap Step (sym n)) outcome)
       by_kind job runs kd is = tt
 
-      go : (found : Option Job) → job_of (now start ms).jobs number ≡ found →
+      go : (found : Option Job) → job_of here.jobs number ≡ found →
           EndsWell (now start (first_moments (begun_of found) ms)) m.state found how
       go None is = tt
       go (Some job) is = by_kind job is job.kind refl

@@ -75,9 +75,9 @@ sized_is : (size : ℕ) (b : Option (List ℕ)) (c : List ℕ) → sized size b 
     (b ≡ Some c) × (length c ≡ size)
 sized_is size None c h = absurd (let z : None ≡ Some c = h in cc)
 sized_is size (Some x) c h = elim (cases_Bool (length x == size)) [
-  | inl t ↦ (let z : Some x ≡ Some c = sym (cond_true (length x == size) (Some x) None t) ∙ h in
-      let y : x ≡ c = cc in (ap Some y, ap length (sym y) ∙ eqb-true (length x) size t))
-  | inr f ↦ absurd (let z : None ≡ Some c = sym (cond_false (length x == size) (Some x) None f) ∙ h in cc)
+  | inl t ↦ (let z : Some x ≡ Some c = cc in
+      let y : x ≡ c = cc in (ap Some y, cc (eqb-true (length x) size t)))
+  | inr f ↦ absurd (let z : None ≡ Some c = cc in cc)
 ]
 
 -- each profile's blocks have symbols
@@ -106,28 +106,31 @@ module _ (limit : ℕ) (mark : Mark) (start : State) (m : Moment) (ms : List Mom
     (I : eff.Facts (now start ms)) (X : Changes limit (length ms) (now start ms) m.event m.outcome m.state)
     (tell : AllTell (now start ms))
     (none : (now start ms).jobs ≡ []) (b : Beside (now start ms) m.state) where
-  setup : setup_in m.state ≡ setup_in (now start ms)
-  setup = setup_same m.state (now start ms) (ap setup_of b.records)
+  -- the state after these moments
+  abbrev here : State
+  here = now start ms
 
-  bytes_are : (o : ℕ) → m.state.bytes o ≡ (now start ms).bytes o
+  setup : setup_in m.state ≡ setup_in here
+  setup = setup_same m.state here (ap setup_of b.records)
+
+  bytes_are : (o : ℕ) → m.state.bytes o ≡ here.bytes o
   bytes_are o = ap (λ g. g o) b.bytes
 
-  file_is : (f : File) → pinned_file (now start ms) f ≡ pinned_file m.state f
+  file_is : (f : File) → pinned_file here f ≡ pinned_file m.state f
   file_is f = ap (λ l. record { id = f.id; profile = f.profile; bytes = l }) (sym (bytes_are f.id))
 
-  columns_are : (f : Pinned) (i s : ℕ) →
-      columns (pinned_object (now start ms) f) ((now start ms).bytes f.id) i s
-      ≡ columns (pinned_object m.state f) (m.state.bytes f.id) i s
-  columns_are f i s = ap (λ y. columns (pinned_object (now start ms) f) y i s) (sym (bytes_are f.id))
+  columns_are : (f : Pinned) (i s : ℕ) → columns (pinned_object here f) (here.bytes f.id) i s ≡ columns
+      (pinned_object m.state f) (m.state.bytes f.id) i s
+  columns_are f i s = ap (λ y. columns (pinned_object here f) y i s) (sym (bytes_are f.id))
       ∙ ap (λ (t : Setup). columns (object_of (profiled t f.profile) f.id) (m.state.bytes f.id) i s)
       (sym setup)
 
-  module _ (scrub : Scrub) (at : (now start ms).alone ≡ Some (Scrubbing scrub))
-      (K : Scrubbed mark start ms scrub) (C : Swept start ms scrub) where
+  module _ (scrub : Scrub) (at : here.alone ≡ Some (Scrubbing scrub)) (K : Scrubbed mark start ms scrub)
+      (C : Swept start ms scrub) where
     -- what is seen of a block, before the event
     abbrev Seen : Pinned → ℕ → ℕ → List ℕ → Option (List ℕ) → Type 0
-    Seen f i s block c = (sized (pinned_object (now start ms) f).profile.size c ≡ Some block) ⊎
-        (c ≡ Some (columns (pinned_object (now start ms) f) ((now start ms).bytes f.id) i s))
+    Seen f i s block c = (sized (pinned_object here f).profile.size c ≡ Some block)
+        ⊎ (c ≡ Some (columns (pinned_object here f) (here.bytes f.id) i s))
 
     -- the block is the provider's own column after the event
     abbrev Own : Pinned → ℕ → ℕ → Option (List ℕ) → Type 0
@@ -141,21 +144,20 @@ module _ (limit : ℕ) (mark : Mark) (start : State) (m : Moment) (ms : List Mom
     -- of each block that the event leaves as it was
     abbrev Leaves : List Action → Type 0
     Leaves todo = (f : Pinned) (i s : ℕ) (block : Option (List ℕ)) → In f scrub.files →
-        i < (setup_in (now start ms)).n → s < pinned_stripes (setup_in (now start ms)) f →
-        told_block m.state i f.id s ≡ Some block → told_block (now start ms) i f.id s ≡ Some block →
+        i < (setup_in here).n → s < pinned_stripes (setup_in here) f →
+        told_block m.state i f.id s ≡ Some block → told_block here i f.id s ≡ Some block →
         Left todo f i s block
 
     sweeps : (next : Scrub) → next.files ≡ scrub.files → next.begun ≡ scrub.begun →
         ((f : Pinned) (i s : ℕ) (block : List ℕ) (c : Option (List ℕ)) → In f scrub.files →
         In (Fetched i f.id s (Some block)) next.given → is_replaced_since scrub.begun i ms ≡ false →
-        told_block (now start ms) i f.id s ≡ Some c → Seen f i s block c) →
-        Leaves next.todo → IsEnded next.todo → Swept start (m ∷ ms) next
+        told_block here i f.id s ≡ Some c → Seen f i s block c) → Leaves next.todo → IsEnded next.todo →
+        Swept start (m ∷ ms) next
     sweeps next files begun seen left ended = record {
-      all = λ q f h. subst (In (pinned_file m.state f)) (sym files)
-          (subst (λ (x : Pinned). In x scrub.files) (file_is f)
-          (C.all q f (ap (λ rs. file_of rs q) (sym b.records) ∙ h)));
+      all = λ q f h. subst (In (pinned_file m.state f)) (sym files) (subst (λ (x : Pinned). In x scrub.files)
+          (file_is f) (C.all q f (cc)));
       seen = λ f i s block c in_f given unreplaced told. see f i s block c (subst (In f) files in_f) given
-          (subst (λ n. is_replaced_since n i (m ∷ ms) ≡ false) begun unreplaced) told;
+          (cc) told;
       left = λ f i s block in_f l k told. subst
           (λ n. Own f i s block ⊎
           (IsReplaced n i (m ∷ ms) ⊎ (In (Work f.id s) next.todo ⊎ In (Store i f.id s) next.todo)))
@@ -174,42 +176,38 @@ module _ (limit : ℕ) (mark : Mark) (start : State) (m : Moment) (ms : List Mom
           | Block_is.same e ↦ elim (seen f i s block c in_f given
               (replaced_before scrub.begun i m ms unreplaced) (sym e ∙ told)) [
                 | inl whole ↦ inl whole
-                | inr column ↦ inr (column ∙ ap Some (columns_are f i s))
+                | inr column ↦ inr (cc (columns_are f i s))
               ]
-          | Block_is.replaced r ↦
-              absurd (false≢true (sym unreplaced ∙ since_now scrub.begun i m ms r K.begun))
-          | Block_is.stored x runs next_is is ↦ absurd (found_none (now start ms).jobs x.number x none runs)
+          | Block_is.replaced r ↦ absurd (false≢true (cc (since_now scrub.begun i m ms r K.begun)))
+          | Block_is.stored x runs next_is is ↦ absurd (found_none here.jobs x.number x none runs)
           | Block_is.scrubbed other rest at_other next_is is ↦
-              inr (some_told (block_to_scrub (now start ms) other i f.id s)
-              ((now start ms).providers i).held c (sym is ∙ told)
+              inr (some_told (block_to_scrub here other i f.id s) (here.providers i).held c (sym is ∙ told)
               ∙ ap Some (stores_own mark start ms A scrub at K f i s in_f other rest at_other next_is
               ∙ columns_are f i s))
-          | Block_is.removed x runs next_is ↦ absurd (found_none (now start ms).jobs x.number x none runs)
+          | Block_is.removed x runs next_is ↦ absurd (found_none here.jobs x.number x none runs)
         ]
 
-        leave : (f : Pinned) (i s : ℕ) (block : Option (List ℕ)) → In f scrub.files →
-            i < (setup_in (now start ms)).n → s < pinned_stripes (setup_in (now start ms)) f →
-            told_block m.state i f.id s ≡ Some block → Left next.todo f i s block
+        leave : (f : Pinned) (i s : ℕ) (block : Option (List ℕ)) → In f scrub.files → i < (setup_in here).n →
+            s < pinned_stripes (setup_in here) f → told_block m.state i f.id s ≡ Some block →
+            Left next.todo f i s block
         leave f i s block in_f l k told = elim (X.block i f.id s) [
           | Block_is.same e ↦ left f i s block in_f l k told (sym e ∙ told)
           | Block_is.replaced r ↦ inr (inl (since_now scrub.begun i m ms r K.begun))
-          | Block_is.stored x runs next_is is ↦ absurd (found_none (now start ms).jobs x.number x none runs)
+          | Block_is.stored x runs next_is is ↦ absurd (found_none here.jobs x.number x none runs)
           | Block_is.scrubbed other rest at_other next_is is ↦
-              inl (some_told (block_to_scrub (now start ms) other i f.id s)
-              ((now start ms).providers i).held block (sym is ∙ told)
-              ∙ ap Some (stores_own mark start ms A scrub at K f i s in_f other rest at_other next_is
+              inl (some_told (block_to_scrub here other i f.id s) (here.providers i).held block (sym is
+              ∙ told) ∙ ap Some (stores_own mark start ms A scrub at K f i s in_f other rest at_other next_is
               ∙ columns_are f i s))
-          | Block_is.removed x runs next_is ↦ absurd (found_none (now start ms).jobs x.number x none runs)
+          | Block_is.removed x runs next_is ↦ absurd (found_none here.jobs x.number x none runs)
         ]
 
     -- where it was left before, with what is still to do
-    left_by : (f : Pinned) (i s : ℕ) (block : Option (List ℕ)) (todo rest : List Action) →
-        In f scrub.files → i < (setup_in (now start ms)).n →
-        s < pinned_stripes (setup_in (now start ms)) f → told_block (now start ms) i f.id s ≡ Some block →
-        scrub.todo ≡ todo → (In (Work f.id s) todo → Left rest f i s block) →
-        (In (Store i f.id s) todo → Left rest f i s block) → Left rest f i s block
+    left_by : (f : Pinned) (i s : ℕ) (block : Option (List ℕ)) (todo rest : List Action) → In f scrub.files →
+        i < (setup_in here).n → s < pinned_stripes (setup_in here) f → told_block here i f.id s ≡ Some block →
+        scrub.todo ≡ todo → (In (Work f.id s) todo → Left rest f i s block) → (In (Store i f.id s) todo →
+        Left rest f i s block) → Left rest f i s block
     left_by f i s block todo rest in_f l k old is work store = elim (C.left f i s block in_f l k old) [
-      | inl own ↦ inl (own ∙ ap Some (columns_are f i s))
+      | inl own ↦ inl (cc (columns_are f i s))
       | inr (inl r) ↦ inr (inl (since_more scrub.begun i m ms r))
       | inr (inr (inl w)) ↦ work (subst (In (Work f.id s)) is w)
       | inr (inr (inr st)) ↦ store (subst (In (Store i f.id s)) is st)
@@ -224,14 +222,13 @@ module _ (limit : ℕ) (mark : Mark) (start : State) (m : Moment) (ms : List Mom
 
     swept_stored : (i o s : ℕ) (rest : List Action) → scrub.todo ≡ Store i o s ∷ rest →
         ((c : Option (List ℕ)) → told_block m.state i o s ≡ Some c →
-        c ≡ Some (block_to_scrub (now start ms) scrub i o s)) →
-        Swept start (m ∷ ms) (record scrub { todo = rest })
+        c ≡ Some (block_to_scrub here scrub i o s)) → Swept start (m ∷ ms) (record scrub { todo = rest })
     swept_stored i o s rest todo told = sweeps (record scrub { todo = rest }) refl refl C.seen leave
         (ended_tail (Store i o s) rest tt (subst IsEnded todo C.ended))
       where
         Told : ℕ → ℕ → ℕ → Type 0
         Told a p q = (c : Option (List ℕ)) → told_block m.state a p q ≡ Some c →
-            c ≡ Some (block_to_scrub (now start ms) scrub a p q)
+            c ≡ Some (block_to_scrub here scrub a p q)
 
         stored_now : (f : Pinned) (j t : ℕ) (block : Option (List ℕ)) → In f scrub.files → j ≡ i →
             f.id ≡ o → t ≡ s → scrub.todo ≡ Store j f.id t ∷ rest →
@@ -253,13 +250,12 @@ module _ (limit : ℕ) (mark : Mark) (start : State) (m : Moment) (ms : List Mom
             by_store : In (Store j f.id t) (Store i o s ∷ rest) → Left rest f j t block
             by_store (inl e) = (let z : Store j f.id t ≡ Store i o s = e in let ji : j ≡ i = cc in
                 let fo : f.id ≡ o = cc in let ts : t ≡ s = cc in
-                inl (stored_now f j t block in_f ji fo ts (todo ∙ ap (λ a. a ∷ rest) (sym z)) new))
+                inl (stored_now f j t block in_f ji fo ts (cc) new))
             by_store (inr h) = inr (inr (inr h))
 
     swept_fetched : (i o s : ℕ) (rest : List Action) (block : Option (List ℕ)) →
-        scrub.todo ≡ Fetch i o s ∷ rest →
-        FetchGives (scrubbed_object (now start ms) scrub o).profile.size o s
-        ((now start ms).providers i).held block ⊎ (block ≡ None) →
+        scrub.todo ≡ Fetch i o s ∷ rest → FetchGives (scrubbed_object here scrub o).profile.size o s
+        (here.providers i).held block ⊎ (block ≡ None) →
         Swept start (m ∷ ms) (record scrub { todo = rest; given = Fetched i o s block ∷ scrub.given })
     swept_fetched i o s rest block todo got = sweeps
         (record scrub { todo = rest; given = Fetched i o s block ∷ scrub.given }) refl refl seen leave
@@ -267,20 +263,16 @@ module _ (limit : ℕ) (mark : Mark) (start : State) (m : Moment) (ms : List Mom
       where
         seen : (f : Pinned) (j t : ℕ) (c : List ℕ) (d : Option (List ℕ)) → In f scrub.files →
             In (Fetched j f.id t (Some c)) (Fetched i o s block ∷ scrub.given) →
-            is_replaced_since scrub.begun j ms ≡ false → told_block (now start ms) j f.id t ≡ Some d →
-            Seen f j t c d
+            is_replaced_since scrub.begun j ms ≡ false → told_block here j f.id t ≡ Some d → Seen f j t c d
         seen f j t c d in_f (inr old) unreplaced told = C.seen f j t c d in_f old unreplaced told
         seen f j t c d in_f (inl e) unreplaced told =
             (let z : Fetched j f.id t (Some c) ≡ Fetched i o s block = e in
             let ji : j ≡ i = cc in let fo : f.id ≡ o = cc in let ts : t ≡ s = cc in
-            let cb : Some c ≡ block = cc in
-            let h = telling (now start ms) j f.id t d told in
-            let gives = subst (λ (held : Option Held). FetchGives
-            (pinned_object (now start ms) f).profile.size f.id t held (Some c)) h.1
-            (subst (λ (ob : Object). FetchGives ob.profile.size f.id t ((now start ms).providers j).held
-            (Some c)) (object_is mark start ms A scrub K f in_f)
-            (gives_there (now start ms) scrub i o s block f j t c ji fo ts cb got)) in
-            inl (ap (sized (pinned_object (now start ms) f).profile.size) (sym h.2) ∙ sym gives))
+            let cb : Some c ≡ block = cc in let h = telling here j f.id t d told in
+            let gives = subst (λ (held : Option Held). FetchGives (pinned_object here f).profile.size f.id t
+            held (Some c)) h.1 (subst (λ (ob : Object). FetchGives ob.profile.size f.id t
+            (here.providers j).held (Some c)) (object_is mark start ms A scrub K f in_f) (gives_there here
+            scrub i o s block f j t c ji fo ts cb got)) in inl (cc))
 
         leave : Leaves rest
         leave f j t block in_f l k new old = left_by f j t block (Fetch i o s ∷ rest) rest in_f l k old todo
@@ -295,114 +287,97 @@ module _ (limit : ℕ) (mark : Mark) (start : State) (m : Moment) (ms : List Mom
             by_store (inr h) = inr (inr (inr h))
 
     -- a stripe that the scrub opened just now
-    module _ (calm : replaced_count (now start ms) (scrub_mark mark ms scrub)
-        ms ≤ (setup_in (now start ms)).b)
-        (o s : ℕ) (rest : List Action) (symbols : List ℕ) (todo : scrub.todo ≡ Work o s ∷ rest)
-        (gives : GivesSymbols (scrubbed_object (now start ms) scrub o) s
-        (blocks_given scrub.given (setup_in (now start ms)).n o s) symbols) where
+    module _ (calm : replaced_count here (scrub_mark mark ms scrub) ms ≤ (setup_in here).b) (o s : ℕ)
+        (rest : List Action) (symbols : List ℕ) (todo : scrub.todo ≡ Work o s ∷ rest) (gives : GivesSymbols
+        (scrubbed_object here scrub o) s (blocks_given scrub.given (setup_in here).n o s) symbols) where
       seen : (f : Pinned) (j t : ℕ) (c : List ℕ) (d : Option (List ℕ)) → In f scrub.files →
           In (Fetched j f.id t (Some c)) (Worked o s symbols ∷ scrub.given) →
-          is_replaced_since scrub.begun j ms ≡ false → told_block (now start ms) j f.id t ≡ Some d →
-          Seen f j t c d
+          is_replaced_since scrub.begun j ms ≡ false → told_block here j f.id t ≡ Some d → Seen f j t c d
       seen f j t c d in_f (inl e) unreplaced told =
           absurd (let z : Fetched j f.id t (Some c) ≡ Worked o s symbols = e in cc)
       seen f j t c d in_f (inr old) unreplaced told = C.seen f j t c d in_f old unreplaced told
 
       -- a block that does not differ is the provider's own column
       same_block : (f : Pinned) (j t : ℕ) (block : Option (List ℕ)) → In f scrub.files →
-          t < pinned_stripes (setup_in (now start ms)) f → f.id ≡ o → t ≡ s →
-          (off_by (now start ms) scrub f.id t symbols j == 0) ≡ true →
-          is_replaced_since scrub.begun j ms ≡ false → told_block (now start ms) j f.id t ≡ Some block →
-          block ≡ Some (columns (pinned_object (now start ms) f) ((now start ms).bytes f.id) j t)
+          t < pinned_stripes (setup_in here) f → f.id ≡ o → t ≡ s → (off_by here scrub f.id t symbols j == 0)
+          ≡ true → is_replaced_since scrub.begun j ms ≡ false → told_block here j f.id t ≡ Some block →
+          block ≡ Some (columns (pinned_object here f) (here.bytes f.id) j t)
       same_block f j t block in_f k fo ts off unreplaced told =
-          by_given (block_given scrub.given f.id t j) refl
-          (eqb-true (off_by (now start ms) scrub f.id t symbols j) 0 off)
+          by_given (block_given scrub.given f.id t j) refl (eqb-true (off_by here scrub f.id t symbols j) 0
+          off)
         where
-          own_gives : GivesSymbols (scrubbed_object (now start ms) scrub f.id) t
-              (blocks_given scrub.given (setup_in (now start ms)).n f.id t) symbols
-          own_gives = subst (λ q. GivesSymbols (scrubbed_object (now start ms) scrub f.id) q
-              (blocks_given scrub.given (setup_in (now start ms)).n f.id q) symbols) (sym ts)
-              (subst (λ p. GivesSymbols (scrubbed_object (now start ms) scrub p) s
-              (blocks_given scrub.given (setup_in (now start ms)).n p s) symbols) (sym fo) gives)
+          own_gives : GivesSymbols (scrubbed_object here scrub f.id) t (blocks_given scrub.given
+              (setup_in here).n f.id t) symbols
+          own_gives = subst (λ q. GivesSymbols (scrubbed_object here scrub f.id) q (blocks_given scrub.given
+              (setup_in here).n f.id q) symbols) (sym ts) (subst (λ p. GivesSymbols (scrubbed_object here
+              scrub p) s (blocks_given scrub.given (setup_in here).n p s) symbols) (sym fo) gives)
 
-          column_is : column_of_symbols (scrubbed_object (now start ms) scrub f.id) symbols j t
-              ≡ columns (pinned_object (now start ms) f) ((now start ms).bytes f.id) j t
-          column_is = ap (λ (ob : Object). column_of_symbols ob symbols j t)
-              (object_is mark start ms A scrub K f in_f)
-              ∙ ap (λ l. column_of_symbols (pinned_object (now start ms) f) l j t)
-              (opened_right limit mark start m ms A I X tell none b scrub at K calm f t symbols in_f k
-              own_gives)
+          column_is : column_of_symbols (scrubbed_object here scrub f.id) symbols j t ≡ columns
+              (pinned_object here f) (here.bytes f.id) j t
+          column_is = cc (
+            object_is mark start ms A scrub K f in_f,
+            opened_right limit mark start m ms A I X
+                tell none b scrub at K calm f t symbols in_f k own_gives,
+          )
 
-          size_is : length (column_of_symbols (scrubbed_object (now start ms) scrub f.id) symbols j t)
-              ≡ (pinned_object (now start ms) f).profile.size
-          size_is = ap (λ (ob : Object). length (column_of_symbols ob symbols j t))
-              (object_is mark start ms A scrub K f in_f)
-              ∙ length-column_of_symbols (pinned_object (now start ms) f) symbols j t
+          size_is : length (column_of_symbols (scrubbed_object here scrub f.id) symbols j t) ≡ (pinned_object
+              here f).profile.size
+          size_is = cc (
+            object_is mark start ms A scrub K f in_f,
+            length-column_of_symbols (pinned_object here f) symbols j t,
+          )
 
           by_given : (g : Option (List ℕ)) → block_given scrub.given f.id t j ≡ g →
-              differs (block_given scrub.given f.id t j)
-              (column_of_symbols (scrubbed_object (now start ms) scrub f.id) symbols j t) ≡ 0 →
-              block ≡ Some (columns (pinned_object (now start ms) f) ((now start ms).bytes f.id) j t)
-          by_given None is h = absurd (let z : differs None
-              (column_of_symbols (scrubbed_object (now start ms) scrub f.id) symbols j t) ≡ 0 =
-              subst (λ g. differs g
-              (column_of_symbols (scrubbed_object (now start ms) scrub f.id) symbols j t) ≡ 0) is h in
-              some_size f.profile (sym size_is ∙ z))
+              differs (block_given scrub.given f.id t j) (column_of_symbols (scrubbed_object here scrub f.id)
+              symbols j t) ≡ 0 → block ≡ Some (columns (pinned_object here f) (here.bytes f.id) j t)
+          by_given None is h = absurd (let z : differs None (column_of_symbols (scrubbed_object here scrub
+              f.id) symbols j t) ≡ 0 = cc in some_size f.profile (sym size_is ∙ z))
           by_given (Some c) is h =
-              (let z : differs (Some c)
-              (column_of_symbols (scrubbed_object (now start ms) scrub f.id) symbols j t) ≡ 0 =
-              subst (λ g. differs g
-              (column_of_symbols (scrubbed_object (now start ms) scrub f.id) symbols j t) ≡ 0) is
-              h in
-              elim (C.seen f j t c block in_f (block_in scrub.given f.id t j c is) unreplaced told) [
-                | inl whole ↦ (let p =
-                    sized_is (pinned_object (now start ms) f).profile.size block c whole in
-                    p.0 ∙ ap Some
-                    (differs-none c (column_of_symbols (scrubbed_object (now start ms) scrub f.id)
-                    symbols j t) (p.1 ∙ sym size_is) z ∙ column_is))
+              (let z : differs (Some c) (column_of_symbols (scrubbed_object here scrub f.id) symbols j t) ≡ 0
+              = cc in elim (C.seen f j t c block in_f (block_in scrub.given f.id t j c is) unreplaced told) [
+                | inl whole ↦ (let p = sized_is (pinned_object here f).profile.size block c whole in
+                    p.0 ∙ ap Some (differs-none c (column_of_symbols (scrubbed_object here scrub f.id) symbols
+                    j t) (p.1 ∙ sym size_is) z ∙ column_is))
                 | inr e ↦ e
               ])
 
-      leave : Leaves (scrub_stores (now start ms) scrub o s symbols ++ rest)
-      leave f j t block in_f l k new old = left_by f j t block (Work o s ∷ rest)
-          (scrub_stores (now start ms) scrub o s symbols ++ rest) in_f l k old todo by_work by_store
+      leave : Leaves (scrub_stores here scrub o s symbols ++ rest)
+      leave f j t block in_f l k new old = left_by f j t block (Work o s ∷ rest) (scrub_stores here scrub o s
+          symbols ++ rest) in_f l k old todo by_work by_store
         where
-          now_open : f.id ≡ o → t ≡ s → Left (scrub_stores (now start ms) scrub o s symbols ++ rest) f j t block
-          now_open fo ts = elim (cases_Bool (off_by (now start ms) scrub f.id t symbols j == 0)) [
+          now_open : f.id ≡ o → t ≡ s → Left (scrub_stores here scrub o s symbols ++ rest) f j t block
+          now_open fo ts = elim (cases_Bool (off_by here scrub f.id t symbols j == 0)) [
             | inl off ↦ elim (cases_Bool (is_replaced_since scrub.begun j ms)) [
               | inl r ↦ inr (inl (since_more scrub.begun j m ms r))
               | inr unreplaced ↦ inl (same_block f j t block in_f k fo ts off unreplaced old
                   ∙ ap Some (columns_are f j t))
             ]
-            | inr off ↦ inr (inr (inr (in_left (scrub_stores (now start ms) scrub o s symbols) rest
-                (Store j f.id t)
-                (subst (λ q. In (Store j f.id t) (scrub_stores (now start ms) scrub o q symbols)) ts
-                (subst (λ p. In (Store j f.id t) (scrub_stores (now start ms) scrub p t symbols)) fo
-                (in_stores (now start ms) scrub f.id t symbols j l off))))))
+            | inr off ↦ inr (inr (inr (in_left (scrub_stores here scrub o s symbols) rest (Store j f.id t)
+                (subst (λ q. In (Store j f.id t) (scrub_stores here scrub o q symbols)) ts
+                (subst (λ p. In (Store j f.id t) (scrub_stores here scrub p t symbols)) fo
+                (in_stores here scrub f.id t symbols j l off))))))
           ]
 
-          by_work : In (Work f.id t) (Work o s ∷ rest) →
-              Left (scrub_stores (now start ms) scrub o s symbols ++ rest) f j t block
+          by_work : In (Work f.id t) (Work o s ∷ rest) → Left (scrub_stores here scrub o s symbols ++ rest) f
+              j t block
           by_work (inl e) = (let z : Work f.id t ≡ Work o s = e in let fo : f.id ≡ o = cc in
               let ts : t ≡ s = cc in now_open fo ts)
-          by_work (inr h) = inr (inr
-              (inl (in_right (scrub_stores (now start ms) scrub o s symbols) rest (Work f.id t) h)))
+          by_work (inr h) = inr (inr (inl (in_right (scrub_stores here scrub o s symbols) rest (Work f.id t)
+              h)))
 
           by_store : In (Store j f.id t) (Work o s ∷ rest) →
-              Left (scrub_stores (now start ms) scrub o s symbols ++ rest) f j t block
+              Left (scrub_stores here scrub o s symbols ++ rest) f j t block
           by_store (inl e) = absurd (let z : Store j f.id t ≡ Work o s = e in cc)
-          by_store (inr h) = inr (inr
-              (inr (in_right (scrub_stores (now start ms) scrub o s symbols) rest (Store j f.id t) h)))
+          by_store (inr h) = inr (inr (inr (in_right (scrub_stores here scrub o s symbols) rest
+              (Store j f.id t) h)))
 
-      swept_worked : Swept start (m ∷ ms) (opened_scrub (now start ms) scrub o s rest symbols)
-      swept_worked =
-          sweeps (opened_scrub (now start ms) scrub o s rest symbols) refl refl seen leave
-          (ended_append (scrub_stores (now start ms) scrub o s symbols) rest
-          (stores_not_end (now start ms) scrub o s symbols)
+      swept_worked : Swept start (m ∷ ms) (opened_scrub here scrub o s rest symbols)
+      swept_worked = sweeps (opened_scrub here scrub o s rest symbols) refl refl seen leave
+          (ended_append (scrub_stores here scrub o s symbols) rest (stores_not_end here scrub o s symbols)
           (ended_tail (Work o s) rest tt (subst IsEnded todo C.ended)))
 
-    swept_went : replaced_count (now start ms) (scrub_mark mark ms scrub) ms ≤ (setup_in (now start ms)).b →
-        (next : Scrub) → Scrub_goes (now start ms) m.state scrub next → Swept start (m ∷ ms) next
+    swept_went : replaced_count here (scrub_mark mark ms scrub) ms ≤ (setup_in here).b → (next : Scrub) →
+        Scrub_goes here m.state scrub next → Swept start (m ∷ ms) next
     swept_went calm next (Scrub_goes.stored i o s rest todo is told) =
         subst (λ (x : Scrub). Swept start (m ∷ ms) x) (sym is) (swept_stored i o s rest todo told)
     swept_went calm next (Scrub_goes.fetched i o s rest block todo is got) =
@@ -410,15 +385,15 @@ module _ (limit : ℕ) (mark : Mark) (start : State) (m : Moment) (ms : List Mom
     swept_went calm next (Scrub_goes.worked o s rest symbols todo gives is) =
         subst (λ (x : Scrub). Swept start (m ∷ ms) x) (sym is) (swept_worked calm o s rest symbols todo gives)
 
-  swept_begun : (next : Scrub) → next ≡ new_scrub (now start ms) (length ms) → Swept start (m ∷ ms) next
+  swept_begun : (next : Scrub) → next ≡ new_scrub here (length ms) → Swept start (m ∷ ms) next
   swept_begun next is = subst (λ (x : Scrub). Swept start (m ∷ ms) x) (sym is) (record {
-    all = λ q f h. subst (λ (x : Pinned). In x (new_scrub (now start ms) (length ms)).files) (file_is f)
-        (all_pinned (now start ms) q f (ap (λ rs. file_of rs q) (sym b.records) ∙ h));
+    all = λ q f h. subst (λ (x : Pinned). In x (new_scrub here (length ms)).files) (file_is f)
+        (all_pinned here q f (cc));
     seen = λ f i s block c in_f given unreplaced told. absurd given;
-    left = λ f i s block in_f l k told. inr (inr
-        (inl (first_work (setup_in (now start ms)) (new_scrub (now start ms) (length ms)).files f s in_f
-        (subst (λ (t : Setup). s < pinned_stripes t f) setup k))));
-    ended = first_ended (setup_in (now start ms)) (new_scrub (now start ms) (length ms)).files;
+    left = λ f i s block in_f l k told. inr (inr (inl (first_work (setup_in here)
+        (new_scrub here (length ms)).files f s in_f (subst (λ (t : Setup). s < pinned_stripes t f) setup
+        k))));
+    ended = first_ended (setup_in here) (new_scrub here (length ms)).files;
   })
 
 -- one event more

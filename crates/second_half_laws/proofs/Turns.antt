@@ -8,23 +8,25 @@ use Rattle.run_laws.proofs.Direct.{was_moved, first_job}
 other_with : (js : List Job) (y : Job) (k : ℕ) → (k ≡ y.number → ⊥) → job_of (with_job js y) k ≡ job_of js k
 other_with [] y k apart = refl
 other_with (x ∷ js) y k apart = elim (cases_Bool (x.number == y.number)) [
-  | inl t ↦ ap (λ l. job_of l k) (cond_true (x.number == y.number) (y ∷ js) (x ∷ with_job js y) t)
-      ∙ (cond_false (y.number == k) (Some y) (job_of js k) (ne_eqb y.number k (λ e. apart (sym e)))
-      ∙ sym (cond_false (x.number == k) (Some x) (job_of js k)
-      (ne_eqb x.number k (λ e. apart (sym e ∙ eqb-true x.number y.number t)))))
-  | inr f ↦ ap (λ l. job_of l k) (cond_false (x.number == y.number) (y ∷ js) (x ∷ with_job js y) f)
-      ∙ ap (cond (x.number == k) (Some x)) (other_with js y k apart)
+  | inl t ↦ cc (
+    cond_true (x.number == y.number) (y ∷ js) (x ∷ with_job js y) t,
+    cond_false (y.number == k) (Some y) (job_of js k) (ne_eqb y.number k (λ e. apart (sym e))),
+    cond_false (x.number == k) (Some x) (job_of js k) (ne_eqb x.number k (λ e. apart (sym e
+        ∙ eqb-true x.number y.number t))),
+  )
+  | inr f ↦ cc (cond_false (x.number == y.number) (y ∷ js) (x ∷ with_job js y) f, other_with js y k apart)
 ]
 
 other_without : (js : List Job) (n k : ℕ) → (k ≡ n → ⊥) → job_of (without_job js n) k ≡ job_of js k
 other_without [] n k apart = refl
 other_without (x ∷ js) n k apart = elim (cases_Bool (x.number == n)) [
-  | inl t ↦ ap (λ l. job_of l k) (cond_true (x.number == n) (without_job js n) (x ∷ without_job js n) t)
-      ∙ (other_without js n k apart
-      ∙ sym (cond_false (x.number == k) (Some x) (job_of js k)
-      (ne_eqb x.number k (λ e. apart (sym e ∙ eqb-true x.number n t)))))
-  | inr f ↦ ap (λ l. job_of l k) (cond_false (x.number == n) (without_job js n) (x ∷ without_job js n) f)
-      ∙ ap (cond (x.number == k) (Some x)) (other_without js n k apart)
+  | inl t ↦ ap (λ l. job_of l k) (cc) ∙ (other_without js n k apart
+      ∙ sym (cond_false (x.number == k) (Some x) (job_of js k) (ne_eqb x.number k (λ e. apart (sym e
+      ∙ eqb-true x.number n t)))))
+  | inr f ↦ cc (
+    cond_false (x.number == n) (without_job js n) (x ∷ without_job js n) f,
+    other_without js n k apart,
+  )
 ]
 
 -- an action that is not the last move of an append
@@ -78,7 +80,7 @@ module _ (old : State) where
   -- jobs stay
   stay_all : (new : State) → new.jobs ≡ old.jobs → (k : ℕ) (j : Job) → job_of old.jobs k ≡ Some j →
       Stay_is old new k j
-  stay_all new jobs k j h = Stay_is.stayed (ap (λ l. job_of l k) jobs ∙ h)
+  stay_all new jobs k j h = Stay_is.stayed (cc)
 
   -- nothing changes but jobs that begin, what runs alone and devices
   quiet : (new : State) → new.doubt ≡ old.doubt → new.records ≡ old.records → new.audits ≡ old.audits →
@@ -100,26 +102,24 @@ module _ (old : State) where
 
   module _ (job : Job) (runs : job_of old.jobs job.number ≡ Some job) where
     it_is : (k : ℕ) (j : Job) → job_of old.jobs k ≡ Some j → k ≡ job.number → j ≡ job
-    it_is k j h e = same_value _ j job (subst (λ n. job_of old.jobs n ≡ Some j) e h) runs
+    it_is k j h e = cc
 
     stay_by : (action : Action) (new : State) → next_action old job ≡ Some action →
         (action ≡ SyncGate → (new.doubt ≡ None) ⊎ (new.is_barred ≡ true)) →
         ((k : ℕ) → (k ≡ job.number → ⊥) → job_of new.jobs k ≡ job_of old.jobs k) → (k : ℕ) (j : Job) →
         job_of old.jobs k ≡ Some j → Stay_is old new k j
     stay_by action new next_is gate others k j h = elim (cases_eq k job.number) [
-      | inl e ↦ Stay_is.steps action
-          (subst (λ (x : Job). next_action old x ≡ Some action) (sym (it_is k j h e)) next_is) gate
+      | inl e ↦ Stay_is.steps action (cc) gate
       | inr n ↦ Stay_is.stayed (others k n ∙ h)
     ]
 
     went : (js : List Job) (y : Job) → js ≡ with_job old.jobs y → y.number ≡ job.number → (k : ℕ) →
         (k ≡ job.number → ⊥) → job_of js k ≡ job_of old.jobs k
-    went js y jobs number k apart =
-        ap (λ l. job_of l k) jobs ∙ other_with old.jobs y k (λ e. apart (e ∙ number))
+    went js y jobs number k apart = cc (other_with old.jobs y k (λ e. apart (e ∙ number)))
 
     left_out : (js : List Job) → js ≡ without_job old.jobs job.number → (k : ℕ) → (k ≡ job.number → ⊥) →
         job_of js k ≡ job_of old.jobs k
-    left_out js jobs k apart = ap (λ l. job_of l k) jobs ∙ other_without old.jobs job.number k apart
+    left_out js jobs k apart = cc (other_without old.jobs job.number k apart)
 
     none_now : (append : Option Append) → append ≡ None → (a : Append) → append ≡ Some a → old.append ≡ None →
         ⊥
@@ -159,10 +159,8 @@ module _ (old : State) where
         (job_of new.jobs job.number ≡ Some (advanced job)) ⊎ (new.is_barred ≡ true) → (d : Doubt) →
         new.doubt ≡ Some d → Doubt_now old new d
     in_doubt a new next_is flight mine doubt records on d h =
-        (let e : record { entry = a.entry; maker = Some (advanced job) } ≡ d =
-        same_value new.doubt _ d doubt h in
-        Doubt_now.gated job a runs next_is flight mine (sym (ap (λ (x : Doubt). x.entry) e))
-        (sym (ap (λ (x : Doubt). x.maker) e)) records on)
+        (let e : record { entry = a.entry; maker = Some (advanced job) } ≡ d = cc in
+        Doubt_now.gated job a runs next_is flight mine (cc) (cc) records on)
 
     now_barred : old.is_open ≡ true → (old.is_open ≡ true) × (true ≡ false → old.is_barred ≡ false)
     now_barred h = (h, λ g. absurd (false≢true (sym g)))
@@ -245,9 +243,8 @@ module _ (old : State) where
       LeavesDoubt old s doubt → Turns old (record old { doubt = doubt; disk_faults = faults })
   failed s doubt faults closed (inl e) = quiet _ e refl refl refl same_open (λ k j h. h)
   failed s doubt faults closed (inr (none, e)) = record {
-    doubt = λ d h. (let f : record { entry = SetUp s; maker = None } ≡ d = same_value doubt _ d e h in
-        Doubt_now.set_up s (sym (ap (λ (x : Doubt). x.entry) f)) (sym (ap (λ (x : Doubt). x.maker) f))
-        (is_some-none (setup_of old.records) none) closed);
+    doubt = λ d h. (let f : record { entry = SetUp s; maker = None } ≡ d = cc in
+        Doubt_now.set_up s (cc) (cc) (is_some-none (setup_of old.records) none) closed);
     audits = Audits_are.undrawn refl no_new;
     opened = λ d h. same_open;
     stay = λ k j h. Stay_is.stayed h;
@@ -259,7 +256,7 @@ module _ (old : State) where
     acts = λ job runs is_open unbarred. acts job runs;
     alone = λ number x r new at is_open unbarred h. (let a = steps_aside old x r new h in
         quiet new a.doubt a.records a.audits a.append (λ g. (sym a.is_open ∙ g, λ z. unbarred))
-        (λ k j g. ap (λ l. job_of l k) a.jobs ∙ g));
+        (λ k j g. cc));
     begins = λ kind is_open allowed. quiet _ refl refl refl refl same_open
         (λ k j h. still_found old.jobs (beginning old moment kind None) k j h);
     begins_at = λ profile name bytes is_open allowed. quiet _ refl refl refl refl same_open

@@ -89,7 +89,7 @@ module _ (moment : ℕ) (old : State) (e : Event) (r : Outcome) where
   same_jobs : (new : State) → ((k : ℕ) → e ≡ Step k → r ≡ More → ⊥) → new.jobs ≡ old.jobs →
       ((d : Doubt) → new.doubt ≡ Some d → Doubted old new d) → Walked moment old e r new
   same_jobs new apart jobs doubt =
-      record { job = λ k j h. Went.kept (ap (λ l. job_of l k) (sym jobs) ∙ h) (apart k); doubt = doubt }
+      record { job = λ k j h. Went.kept (cc) (apart k); doubt = doubt }
 
   no_jobs : (new : State) → new.jobs ≡ [] → ((d : Doubt) → new.doubt ≡ Some d → Doubted old new d) →
       Walked moment old e r new
@@ -102,8 +102,7 @@ module _ (moment : ℕ) (old : State) (e : Event) (r : Outcome) where
       ((d : Doubt) → new.doubt ≡ Some d → Doubted old new d) → Walked moment old e r new
   ends new apart n jobs doubt =
       record {
-        job = λ k j h. Went.kept (found_without old.jobs n k j (ap (λ l. job_of l k) (sym jobs) ∙ h)).1
-            (apart k);
+        job = λ k j h. Went.kept (found_without old.jobs n k j (cc)).1 (apart k);
         doubt = doubt;
       }
 
@@ -132,7 +131,7 @@ module _ (moment : ℕ) (old : State) where
         holder_of old.append action ≡ None → y.number ≡ job.number → new.jobs ≡ with_job old.jobs y →
         Passed old job action new y → ((d : Doubt) → new.doubt ≡ Some d → Doubted old new d) → Result More new
     goes_on action y new next_is free number jobs passed doubt = record {
-      job = λ k j h. elim (found_with old.jobs y k j (ap (λ l. job_of l k) (sym jobs) ∙ h)) [
+      job = λ k j h. elim (found_with old.jobs y k j (cc)) [
         | inl p ↦ (let at : job.number ≡ k = sym (p.0 ∙ number) in Went.went job action (record {
           number = at;
           event = ap Step at;
@@ -140,12 +139,12 @@ module _ (moment : ℕ) (old : State) where
           is_open = is_open;
           unbarred = unbarred;
           none_alone = none_alone;
-          runs = subst (λ n. job_of old.jobs n ≡ Some job) at runs;
+          runs = cc;
           next = next_is;
           unheld = free;
           passed = subst (λ (z : Job). Passed old job action new z) (sym p.1) passed;
         }))
-        | inr q ↦ Went.kept q.1 (λ same m. q.0 (step_is same ∙ sym number))
+        | inr q ↦ Went.kept q.1 (λ same m. q.0 (cc))
       ];
       doubt = doubt;
     }
@@ -185,8 +184,8 @@ module _ (moment : ℕ) (old : State) where
 
     acts : Acting old job Result
     acts = record {
-      begins = λ entry next none writes faults low. goes_on WriteBody _ _ next
-          (ap (λ o. holder_of o WriteBody) none) refl refl (Passed.drew refl refl refl) (stay _ refl refl);
+      begins = λ entry next none writes faults low. goes_on WriteBody _ _ next (cc) refl refl
+          (Passed.drew refl refl refl) (stay _ refl refl);
       syncs = λ a next flight mine faults low.
           makes SyncBody (advanced job) _ next tt refl refl (Passed.silent tt refl refl) refl refl;
       gates = λ a next flight mine faults low. goes_on WriteGate (advanced job) _ next
@@ -245,7 +244,7 @@ module _ (moment : ℕ) (old : State) where
   left_doubt s doubt new (inr (none, is)) rec d h =
       (let g : Some (record { entry = SetUp s; maker = None }) ≡ Some d = sym is ∙ h in
       let f : record { entry = SetUp s; maker = None } ≡ d = cc in
-      Doubted.set_up s (sym f) (ap setup_of rec ∙ is_some-none (setup_of old.records) none))
+      Doubted.set_up s (sym f) (cc (is_some-none (setup_of old.records) none)))
 
   -- an event that leaves jobs, records and what is in doubt
   leaves : (e : Event) (r : Outcome) (new : State) → ((k : ℕ) → e ≡ Step k → r ≡ More → ⊥) →

@@ -34,7 +34,7 @@ made_less start ms job bound less l h p action k at = h p action (omega (arith, 
 made_advanced : (start : State) (ms : List Moment) (x : Job) (entry : Record) → Done start ms x entry →
     MadeAll start ms (advanced x) x.place
 made_advanced start ms x entry d p action l at =
-    d.made p action l (ap (λ l. slice_get l p) (sym (advanced_list (setup_in (now start ms)) x)) ∙ at)
+    d.made p action l (cc (advanced_list (setup_in (now start ms)) x))
 
 -- ---- puts
 
@@ -89,6 +89,10 @@ put_moved t x id size profile kind h = h
 
 module _ (limit : ℕ) (start : State) (clean : IsStart start) (ms : List Moment)
     (run : IsRun limit start ms) where
+  -- the state after these moments
+  abbrev here : State
+  here = now start ms
+
   work_made : (job : Job) (o j s : ℕ) → job.kind ≡ RepairJob → (c : WasMade start ms job (Store j o s)) →
       WasMade start c.before c.maker (Work o s)
   work_made job o j s kind c =
@@ -98,22 +102,19 @@ module _ (limit : ℕ) (start : State) (clean : IsStart start) (ms : List Moment
       let w = (worked_before_store (now start c.before) c.maker j o s (c.same.kind ∙ kind) c.makes.next).0 in
       (F.made c.maker.number c.maker w.place (Work o s) c.makes.runs w.made w.action).0)
 
-  repair_whole : (job : Job) → job.kind ≡ RepairJob →
-      length (repair_actions (setup_in (now start ms)) job) ≤ job.place →
-      MadeAll start ms job (length (repair_actions (setup_in (now start ms)) job)) →
+  repair_whole : (job : Job) → job.kind ≡ RepairJob → length (repair_actions (setup_in here) job) ≤ job.place
+      → MadeAll start ms job (length (repair_actions (setup_in here) job)) →
       RepairIsWhole start ms job job.subject
   repair_whole job kind late made = record {
     kind = kind;
     subject = refl;
     rewrote = λ file j stripe in_f k flag l.
-        (let at = store_in_repair (setup_in (now start ms)) job file j stripe
-        (contains_in job.pinned file in_f) flag k l in
-        let early = slice_get_within (repair_actions (setup_in (now start ms)) job) at.0
-        (Store j file.id stripe) at.1 in
-        let stands = of_kind (setup_in (now start ms)) job RepairJob at.0 (Store j file.id stripe) kind
-        (get_left (repair_actions (setup_in (now start ms)) job) (append_actions ++ End ∷ []) at.0
-        (Store j file.id stripe) at.1) in
-        let store = (made at.0 (Store j file.id stripe) early stands).0 in
+        (let at = store_in_repair (setup_in here) job file j stripe (contains_in job.pinned file in_f) flag k
+        l in
+        let early = slice_get_within (repair_actions (setup_in here) job) at.0 (Store j file.id stripe) at.1
+        in let stands = of_kind (setup_in here) job RepairJob at.0 (Store j file.id stripe) kind
+        (get_left (repair_actions (setup_in here) job) (append_actions ++ End ∷ []) at.0 (Store j file.id
+        stripe) at.1) in let store = (made at.0 (Store j file.id stripe) early stands).0 in
         record {
           store = store;
           work = work_made job file.id j stripe kind store;
@@ -122,14 +123,11 @@ module _ (limit : ℕ) (start : State) (clean : IsStart start) (ms : List Moment
   }
 
   repair_of : (job : Job) (id bound : ℕ) (kind : Kind) → job.kind ≡ kind → bound ≤ job.place →
-      MadeAll start ms job bound →
-      (kind ≡ RepairJob → length (repair_actions (setup_in (now start ms)) job) ≤ bound) →
-      FinalRepair (setup_in (now start ms)) job id kind → RepairIsWhole start ms job id
-  repair_of job id bound RepairJob is low made late h =
-      (let l = late refl in
-      subst (RepairIsWhole start ms job) h.0
-      (repair_whole job is (omega (arith, l, low))
-      (made_less start ms job bound (length (repair_actions (setup_in (now start ms)) job)) l made)))
+      MadeAll start ms job bound → (kind ≡ RepairJob → length (repair_actions (setup_in here) job) ≤ bound) →
+      FinalRepair (setup_in here) job id kind → RepairIsWhole start ms job id
+  repair_of job id bound RepairJob is low made late h = (let l = late refl in
+      subst (RepairIsWhole start ms job) h.0 (repair_whole job is (omega (arith, l, low)) (made_less start ms
+      job bound (length (repair_actions (setup_in here) job)) l made)))
   repair_of job id bound kind is low made late h = absurd h
 
 repair_bound : (t : Setup) (x : Job) (id : ℕ) (kind : Kind) → FinalRepair t x id kind → kind ≡ RepairJob →
@@ -201,10 +199,9 @@ came_by olds news = cond (length news == suc (length olds)) (newest news) None
 
 on_top : (olds : List Record) (e r : Record) (news : List Record) → news ≡ e ∷ olds →
     came_by olds news ≡ Some r → e ≡ r
-on_top olds e r news is h =
-    (let f : Some e ≡ Some r =
-    sym (cond_true (length (e ∷ olds) == suc (length olds)) (Some e) None
-    (eq-eqb (suc (length olds)) (suc (length olds)) refl)) ∙ (ap (came_by olds) (sym is) ∙ h) in cc)
+on_top olds e r news is h = (let f : Some e ≡ Some r =
+    cc (cond_true (length (e ∷ olds) == suc (length olds)) (Some e) None (eq-eqb (suc (length olds))
+    (suc (length olds)) refl)) in cc)
 
 none_came : (olds news : List Record) (r : Record) → (length news ≡ suc (length olds) → ⊥) →
     came_by olds news ≡ Some r → ⊥
@@ -236,134 +233,125 @@ no_setup_done version id size profile s is = by_version version id size profile 
 
 module _ (limit : ℕ) (start : State) (clean : IsStart start) (ms : List Moment)
     (run : IsRun limit start ms) where
+  -- the state after these moments
+  abbrev w : State
+  w = now start ms
+
   now_facts : Facts start ms
   now_facts = facts limit start clean ms run
 
-  made_running : (k : ℕ) (job : Job) → job_of (now start ms).jobs k ≡ Some job →
-      MadeAll start ms job job.place
+  made_running : (k : ℕ) (job : Job) → job_of w.jobs k ≡ Some job → MadeAll start ms job job.place
   made_running k job runs p action l at = now_facts.made.made k job p action runs l at
 
-  own_stands : (k : ℕ) (job : Job) (name bytes : List ℕ) → job_of (now start ms).jobs k ≡ Some job →
-      job.kind ≡ PutJob name bytes → 4 ≤ job.place → Stands (now start ms) job.subject bytes
+  own_stands : (k : ℕ) (job : Job) (name bytes : List ℕ) → job_of w.jobs k ≡ Some job →
+      job.kind ≡ PutJob name bytes → 4 ≤ job.place → Stands w job.subject bytes
   own_stands k job name bytes runs kind late = record {
-    below = (all limit start clean ms run).numbers.below k job runs
-        (subst (Draws objects) (sym kind) tt, late);
+    below = (all limit start clean ms run).numbers.below k job runs (cc, late);
     bytes_are = (eff.facts limit start ms clean run).kept k job name bytes runs kind late;
   }
 
   -- a running put that is past its stores has stored each stripe on each provider
-  pub put_running : (k : ℕ) (job : Job) (name bytes : List ℕ) → job_of (now start ms).jobs k ≡ Some job →
-      job.kind ≡ PutJob name bytes →
-      4 + length (store_actions (setup_in (now start ms)) job bytes) ≤ job.place →
+  pub put_running : (k : ℕ) (job : Job) (name bytes : List ℕ) → job_of w.jobs k ≡ Some job →
+      job.kind ≡ PutJob name bytes → 4 + length (store_actions (setup_in w) job bytes) ≤ job.place →
       PutIsWhole start ms job job.subject (length bytes) job.profile
-  put_running k job name bytes runs kind late = put_whole start ms job name bytes kind late
-      (made_less start ms job job.place (4 + length (store_actions (setup_in (now start ms)) job bytes)) late
-      (made_running k job runs))
+  put_running k job name bytes runs kind late = put_whole start ms job name bytes kind late (made_less start
+      ms job job.place (4 + length (store_actions (setup_in w) job bytes)) late (made_running k job runs))
       (own_stands k job name bytes runs kind (omega (arith, late)))
 
   -- a running repair that is past its stores has rewritten each file on each flagged provider
-  pub repair_running : (k : ℕ) (job : Job) → job_of (now start ms).jobs k ≡ Some job → job.kind ≡ RepairJob →
-      length (repair_actions (setup_in (now start ms)) job) ≤ job.place →
-      RepairIsWhole start ms job job.subject
-  repair_running k job runs kind late = repair_whole limit start clean ms run job kind late
-      (made_less start ms job job.place (length (repair_actions (setup_in (now start ms)) job)) late
-      (made_running k job runs))
+  pub repair_running : (k : ℕ) (job : Job) → job_of w.jobs k ≡ Some job → job.kind ≡ RepairJob →
+      length (repair_actions (setup_in w) job) ≤ job.place → RepairIsWhole start ms job job.subject
+  repair_running k job runs kind late = repair_whole limit start clean ms run job kind late (made_less start
+      ms job job.place (length (repair_actions (setup_in w) job)) late (made_running k job runs))
 
-  final_of : (a : Append) (x : Job) (k : ℕ) (r : Record) → (now start ms).append ≡ Some a →
-      job_of (now start ms).jobs k ≡ Some x → a.job ≡ k → a.entry ≡ r →
-      Final (setup_in (now start ms)) x r x.kind
-  final_of a x k r flight runs mine is = subst (λ e. Final (setup_in (now start ms)) x e x.kind) is
-      (now_facts.flights a x flight (subst (λ n. job_of (now start ms).jobs n ≡ Some x) (sym mine) runs))
+  final_of : (a : Append) (x : Job) (k : ℕ) (r : Record) → w.append ≡ Some a → job_of w.jobs k ≡ Some x →
+      a.job ≡ k → a.entry ≡ r → Final (setup_in w) x r x.kind
+  final_of a x k r flight runs mine is = subst (λ e. Final (setup_in w) x e x.kind) is (now_facts.flights a x
+      flight (cc))
 
   -- an audit whose last record is in flight has made each ask, and has these sums
-  pub audit_running : (a : Append) (x : Job) (k id undecided : ℕ) (counts : List ℕ) →
-      (now start ms).append ≡ Some a → job_of (now start ms).jobs k ≡ Some x → a.job ≡ k →
-      a.entry ≡ AuditDone id undecided counts → AuditIsWhole start ms x id undecided counts
+  pub audit_running : (a : Append) (x : Job) (k id undecided : ℕ) (counts : List ℕ) → w.append ≡ Some a →
+      job_of w.jobs k ≡ Some x → a.job ≡ k → a.entry ≡ AuditDone id undecided counts →
+      AuditIsWhole start ms x id undecided counts
   audit_running a x k id undecided counts flight runs mine is =
       (let f = final_of a x k (AuditDone id undecided counts) flight runs mine is in
       audit_of start ms x id undecided counts x.place x.kind refl (made_running k x runs)
-      (λ gift i. now_facts.made.came k x gift runs i)
-      (audit_bound (setup_in (now start ms)) x id undecided counts x.kind f) f)
+      (λ gift i. now_facts.made.came k x gift runs i) (audit_bound (setup_in w) x id undecided counts x.kind
+      f) f)
 
   -- the job that wrote a record in doubt
-  pub doubt_put : (d : Doubt) (version id size profile : ℕ) → (now start ms).doubt ≡ Some d →
-      d.entry ≡ done_record version id size profile →
-      ((version == 2) ≡ false → profile ≡ (setup_in (now start ms)).profile) →
-      (job : Job) × (d.maker ≡ Some job) × PutIsWhole start ms job id size profile
+  pub doubt_put : (d : Doubt) (version id size profile : ℕ) → w.doubt ≡ Some d →
+      d.entry ≡ done_record version id size profile → ((version == 2) ≡ false →
+      profile ≡ (setup_in w).profile) → (job : Job) × (d.maker ≡ Some job) × PutIsWhole start ms job id size
+      profile
   doubt_put d version id size profile h is own = elim (now_facts.doubt d h) [
     | Standing.bare s entry maker none_ ↦ absurd (no_setup_done version id size profile s (sym entry ∙ is))
-    | Standing.by_job x maker done ↦
-        (let f = final_done (setup_in (now start ms)) x version id size profile x.kind own
-        (subst (λ e. Final (setup_in (now start ms)) x e x.kind) is done.final) in (
+    | Standing.by_job x maker done ↦ (let f = final_done (setup_in w) x version id size profile x.kind own
+        (subst (λ e. Final (setup_in w) x e x.kind) is done.final) in (
           advanced x,
           maker,
-          put_of start ms (advanced x) id size profile x.place x.kind refl (omega arith)
-              (made_advanced start ms x d.entry done)
-              (λ name bytes e. put_bound (setup_in (now start ms)) x id size profile x.kind name bytes f e)
-              (λ name bytes e. (done.own name bytes e
-              (let l = put_bound (setup_in (now start ms)) x id size profile x.kind name bytes f e in
-              omega (arith, l)))) (put_moved (setup_in (now start ms)) x id size profile x.kind f),
+          put_of start ms (advanced x) id size profile x.place x.kind refl (omega arith) (made_advanced start
+              ms x d.entry done) (λ name bytes e. put_bound (setup_in w) x id size profile x.kind name bytes f
+              e) (λ name bytes e. (done.own name bytes e
+              (let l = put_bound (setup_in w) x id size profile x.kind name bytes f e in
+              omega (arith, l)))) (put_moved (setup_in w) x id size profile x.kind f),
         ))
   ]
 
   -- the job of a repair's record in doubt has rewritten each file on each flagged provider
-  pub doubt_repair : (d : Doubt) (id : ℕ) → (now start ms).doubt ≡ Some d → d.entry ≡ RepairDone id →
+  pub doubt_repair : (d : Doubt) (id : ℕ) → w.doubt ≡ Some d → d.entry ≡ RepairDone id →
       (job : Job) × (d.maker ≡ Some job) × RepairIsWhole start ms job id
   doubt_repair d id h is = elim (now_facts.doubt d h) [
     | Standing.bare s entry maker none_ ↦ absurd (let e : SetUp s ≡ RepairDone id = sym entry ∙ is in cc)
-    | Standing.by_job x maker done ↦
-        (let f = subst (λ e. Final (setup_in (now start ms)) x e x.kind) is done.final in (
-          advanced x,
-          maker,
-          repair_of limit start clean ms run (advanced x) id x.place x.kind refl (omega arith)
-              (made_advanced start ms x d.entry done)
-              (λ e. repair_bound (setup_in (now start ms)) x id x.kind f e)
-              (repair_moved (setup_in (now start ms)) x id x.kind f),
-        ))
+    | Standing.by_job x maker done ↦ (let f = subst (λ e. Final (setup_in w) x e x.kind) is done.final in (
+      advanced x,
+      maker,
+      repair_of limit start clean ms run (advanced x) id x.place x.kind refl (omega arith)
+          (made_advanced start ms x d.entry done) (λ e. repair_bound (setup_in w) x id x.kind f e)
+          (repair_moved (setup_in w) x id x.kind f),
+    ))
   ]
 
   -- the job of an audit's last record in doubt has made each ask, and has these sums
-  pub doubt_audit : (d : Doubt) (id undecided : ℕ) (counts : List ℕ) → (now start ms).doubt ≡ Some d →
-      d.entry ≡ AuditDone id undecided counts → (job : Job) × (d.maker ≡ Some job) ×
-      AuditIsWhole start ms job id undecided counts
+  pub doubt_audit : (d : Doubt) (id undecided : ℕ) (counts : List ℕ) → w.doubt ≡ Some d →
+      d.entry ≡ AuditDone id undecided counts → (job : Job) × (d.maker ≡ Some job) × AuditIsWhole start ms job
+      id undecided counts
   doubt_audit d id undecided counts h is = elim (now_facts.doubt d h) [
     | Standing.bare s entry maker none_ ↦
         absurd (let e : SetUp s ≡ AuditDone id undecided counts = sym entry ∙ is in cc)
-    | Standing.by_job x maker done ↦
-        (let f = subst (λ e. Final (setup_in (now start ms)) x e x.kind) is done.final in (
-          advanced x,
-          maker,
-          audit_of start ms (advanced x) id undecided counts x.place x.kind refl
-              (made_advanced start ms x d.entry done) done.came
-              (λ e. audit_bound (setup_in (now start ms)) x id undecided counts x.kind f e)
-              (audit_moved (setup_in (now start ms)) x id undecided counts x.kind f),
-        ))
+    | Standing.by_job x maker done ↦ (let f = subst (λ e. Final (setup_in w) x e x.kind) is done.final in (
+      advanced x,
+      maker,
+      audit_of start ms (advanced x) id undecided counts x.place x.kind refl (made_advanced start ms x
+          d.entry done) done.came (λ e. audit_bound (setup_in w) x id undecided counts x.kind f e)
+          (audit_moved (setup_in w) x id undecided counts x.kind f),
+    ))
   ]
 
 module _ (limit : ℕ) (start : State) (clean : IsStart start) (m : Moment) (ms : List Moment)
     (run : IsRun limit start (m ∷ ms)) where
-  came_now : (r : Record) → came (now start ms) m.state ≡ Some r → Came_is (now start ms) r
+  -- the state after these moments
+  abbrev u : State
+  u = now start ms
+
+  came_now : (r : Record) → came u m.state ≡ Some r → Came_is u r
   came_now r h = (let A = all limit start clean ms run.2 in
-      came_is (now start ms) m.state r
-      (changes limit (length ms) (now start ms) m.event m.outcome m.state A.numbers.idle run.1).records h)
+      came_is u m.state r (changes limit (length ms) u m.event m.outcome m.state A.numbers.idle run.1).records
+      h)
 
   -- where a put's last record comes into effect its job has stored each stripe on each provider
-  pub came_put : (version id size profile : ℕ) → came (now start ms) m.state
-      ≡ Some (done_record version id size profile) →
-      ((version == 2) ≡ false → profile ≡ (setup_in (now start ms)).profile) →
-      (job : Job) × PutIsWhole start ms job id size profile
+  pub came_put : (version id size profile : ℕ) → came u m.state ≡ Some (done_record version id size profile) →
+      ((version == 2) ≡ false → profile ≡ (setup_in u).profile) → (job : Job) × PutIsWhole start ms job id
+      size profile
   came_put version id size profile h own = elim (came_now (done_record version id size profile) h) [
     | Came_is.by_step x a runs flight mine is ↦
-        (let f = final_done (setup_in (now start ms)) x version id size profile x.kind own
-        (final_of limit start clean ms run.2 a x x.number
-        (done_record version id size profile) flight runs mine is) in (
+        (let f = final_done (setup_in u) x version id size profile x.kind own (final_of limit start clean ms
+        run.2 a x x.number (done_record version id size profile) flight runs mine is) in (
           x,
-          put_of start ms x id size profile x.place x.kind refl (omega arith)
-              (made_running limit start clean ms run.2 x.number x runs)
-              (λ name bytes e. put_bound (setup_in (now start ms)) x id size profile x.kind name bytes f e)
-              (λ name bytes e. own_stands limit start clean ms run.2 x.number x name bytes runs e
-              (let l = put_bound (setup_in (now start ms)) x id size profile x.kind name bytes f e in
-              omega (arith, l))) f,
+          put_of start ms x id size profile x.place x.kind refl (omega arith) (made_running limit start clean
+              ms run.2 x.number x runs) (λ name bytes e. put_bound (setup_in u) x id size profile x.kind name
+              bytes f e) (λ name bytes e. own_stands limit start clean ms run.2 x.number x name bytes runs e
+              (let l = put_bound (setup_in u) x id size profile x.kind name bytes f e in omega (arith, l))) f,
         ))
     | Came_is.by_doubt d in_doubt is ↦
         (let r = doubt_put limit start clean ms run.2 d version id size profile in_doubt is own in (r.0, r.2))
@@ -380,15 +368,14 @@ module _ (limit : ℕ) (start : State) (clean : IsStart start) (m : Moment) (ms 
       (record { below = put.drawn; bytes_are = put.bytes_are }))).bytes_are
 
   -- where a repair's record comes into effect its job has rewritten each file on each flagged provider
-  pub came_repair : (id : ℕ) → came (now start ms) m.state ≡ Some (RepairDone id) →
+  pub came_repair : (id : ℕ) → came u m.state ≡ Some (RepairDone id) →
       (job : Job) × RepairIsWhole start ms job id
   came_repair id h = elim (came_now (RepairDone id) h) [
     | Came_is.by_step x a runs flight mine is ↦
         (let f = final_of limit start clean ms run.2 a x x.number (RepairDone id) flight runs mine is in (
           x,
-          repair_of limit start clean ms run.2 x id x.place x.kind refl (omega arith)
-              (made_running limit start clean ms run.2 x.number x runs)
-              (λ e. repair_bound (setup_in (now start ms)) x id x.kind f e) f,
+          repair_of limit start clean ms run.2 x id x.place x.kind refl (omega arith) (made_running limit
+              start clean ms run.2 x.number x runs) (λ e. repair_bound (setup_in u) x id x.kind f e) f,
         ))
     | Came_is.by_doubt d in_doubt is ↦
         (let r = doubt_repair limit start clean ms run.2 d id in_doubt is in (r.0, r.2))
@@ -397,8 +384,8 @@ module _ (limit : ℕ) (start : State) (clean : IsStart start) (m : Moment) (ms 
 
   -- where an audit's last record comes into effect its job has made each ask, and has these sums
   pub came_audit : (id undecided : ℕ) (counts : List ℕ) →
-      came (now start ms) m.state ≡ Some (AuditDone id undecided counts) →
-      (job : Job) × AuditIsWhole start ms job id undecided counts
+      came u m.state ≡ Some (AuditDone id undecided counts) → (job : Job) × AuditIsWhole start ms job id
+      undecided counts
   came_audit id undecided counts h = elim (came_now (AuditDone id undecided counts) h) [
     | Came_is.by_step x a runs flight mine is ↦
         (x, audit_running limit start clean ms run.2 a x x.number id undecided counts flight runs mine is)
@@ -418,9 +405,7 @@ doubt_made limit start clean ms run d job p action h maker l at =
           (let e : None ≡ Some job = sym none_maker ∙ maker in cc)
       | Standing.by_job x maker_x done ↦
           (let same : advanced x ≡ job = (let e : Some (advanced x) ≡ Some job = sym maker_x ∙ maker in cc) in
-          let place : x.place + 1 ≡ job.place = ap (λ (y : Job). y.place) same in
-          subst (λ (y : Job). WasMade start ms y action) same
-          (made_advanced start ms x d.entry done p action (omega (arith, l, place))
-          (subst (λ (y : Job). slice_get (actions_of (setup_in (now start ms)) y) p ≡ Some action)
-          (sym same) at)).0)
+          let place : x.place + 1 ≡ job.place = cc in
+          subst (λ (y : Job). WasMade start ms y action) same (made_advanced start ms x d.entry done p action
+          (omega (arith, l, place)) (cc)).0)
     ]
