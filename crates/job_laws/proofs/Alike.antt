@@ -44,7 +44,7 @@ module _ (u : State) (E : AreAlike u.journal u.records) (none_packs : IsUnpackin
   found name = sym (file-alike u.journal u.records name E)
 
   idle : (job : Job) (kind : Kind) → is_idle_drop u job kind ≡ is_idle_drop (plain u) job kind
-  idle job (DropJob name) = ap (λ o. (job.place == 0) && not (is_some o)) (found name)
+  idle job (DropJob name) = cc (found name)
   idle job kind = refl
 
   next : (job : Job) → next_action u job ≡ next_action (plain u) job
@@ -59,40 +59,33 @@ module _ (u : State) (E : AreAlike u.journal u.records) (none_packs : IsUnpackin
       block_to_store u job kind j object stripe ≡ block_to_store (plain u) job kind j object stripe
   to_store job (PutJob name bytes) j object stripe =
       ap (λ s. columns (object_of (profiled s job.profile) object) bytes j stripe) set_up
-  to_store job kind j object stripe =
-      ap (λ o. column_of_symbols o (symbols_given job.given object stripe) j stripe) (worked job object)
+  to_store job kind j object stripe = cc (worked job object)
 
   subjects : (job : Job) (kind : Kind) → subject_drawn (plain u) job kind ≡ subject_drawn u job kind
-  subjects job (PutJob name bytes) = ap (λ n. cond (is_first_append job) n job.subject) E.id
-  subjects job AuditJob = ap (λ n. cond (is_first_append job) n job.subject) E.audit
+  subjects job (PutJob name bytes) = cc
+  subjects job AuditJob = cc
   subjects job kind = refl
 
   its_bytes : (job : Job) (kind : Kind) (id : ℕ) → bytes_drawn (plain u) job kind id ≡ bytes_drawn u job kind id
-  its_bytes job (PutJob name bytes) id =
-      ap (λ n. cond (is_first_append job && (id == n)) bytes (u.bytes id)) E.id
+  its_bytes job (PutJob name bytes) id = cc
   its_bytes job kind id = refl
 
   its_audits : (job : Job) (kind : Kind) (number : ℕ) →
       audits_drawn (plain u) job kind number ≡ audits_drawn u job kind number
-  its_audits job AuditJob number =
-      ap (λ n. cond (is_first_append job && (number == n)) job.begun (u.audits number)) E.audit
+  its_audits job AuditJob number = cc
   its_audits job kind number = refl
 
   taken : (job : Job) (kind : Kind) → taken_out (plain u) job kind ≡ taken_out u job kind
-  taken job (PutJob name bytes) = ap (λ o. cond (is_first_append job) [] (removable u o)) (sym (found name))
-  taken job (DropJob name) = ap (λ o. removable u o) (sym (found name))
+  taken job (PutJob name bytes) = cc (found name)
+  taken job (DropJob name) = cc (found name)
   taken job kind = refl
 
   writes : (job : Job) (kind : Kind) (entry : Record) → Writes (plain u) job kind entry →
       Writes u job kind entry
-  writes job (PutJob name bytes) entry h = h
-      ∙ (ap (λ n. cond (is_first_append job) (PutStart n name)
-      (done_record (version_of u.journal) job.subject (length bytes) job.profile)) E.id
-      ∙ ap (λ v. cond (is_first_append job) (PutStart (next_id u.records) name)
-      (done_record v job.subject (length bytes) job.profile)) E.version)
+  writes job (PutJob name bytes) entry h = cc
   writes job (GetJob name) entry h = absurd h
   writes job AuditJob entry h = elim (cases_Bool (is_first_append job)) [
-    | inl t ↦ rw t (let g : entry ≡ AuditStart (next_audit u.journal) = rw t at h in g ∙ ap AuditStart E.audit)
+    | inl t ↦ rw t (let g : entry ≡ AuditStart (next_audit u.journal) = rw t at h in cc)
     | inr f ↦ rw f (let g : (sums : Sums) × HasSums (setup_in (plain u)) job sums
         × (entry ≡ AuditDone job.subject sums.undecided sums.counts) = rw f at h in
         (g.0, subst (λ s. HasSums s job g.0) (sym set_up) g.1, g.2))
@@ -314,7 +307,7 @@ module _ (u : State) (E : AreAlike u.journal u.records) (none_packs : IsUnpackin
           (blocks_given scrub.given s.n object stripe) symbols) (sym set_up) gives,
       refl,
     );
-    same = e ∙ ap (λ s. scrubbing (plain u) s) (opens scrub object stripe rest symbols);
+    same = cc (opens scrub object stripe rest symbols);
     none_packs = tt;
   }
   scrubs scrub (Work object stripe) rest (Ended (Lost s row)) v (is, loses, e) = record {
@@ -522,7 +515,7 @@ module _ (u : State) (S : IsSound 8 u) (none : IsUnpacking u.alone) (moment numb
           steps = C.steps;
           are_steps = C.are_steps;
           ends = g.happens;
-          heard_is = G.heard_is ∙ ap (λ (w : State). heard_by (job_of w.jobs number)) C.same;
+          heard_is = cc;
         };
         same = g.same;
         none_packs = g.none_packs;
@@ -551,7 +544,7 @@ module _ (u : State) (O : IsOpenAtRest u 1) where
   sound = rest-sound 8 u O.rest
 
   quiet : IsUnpacking u.alone
-  quiet = subst IsUnpacking (sym O.rest.idle.3) tt
+  quiet = cc
 
   -- a job
   pub ran-alike : (area : Area) (records : List Record) (kind : Kind) (own : Option ℕ) (answer : Answer)
@@ -567,7 +560,7 @@ module _ (u : State) (O : IsOpenAtRest u 1) where
         last = g.new;
         runs = record { begun = b.new; job = R.runs.job; begins = b.happens; goes_on = g.happens };
         images = images-plain new.disk g.new (subst (λ w. StandsForState new.disk w) g.same R.images);
-        faults_are = sym (ap (λ (w : State). w.disk_faults) g.same) ∙ R.faults_are;
+        faults_are = cc;
         handed = handed-plain new.providers g.new (subst (λ w. AreHanded new.providers w) g.same R.handed);
         outside_text = subst (λ (w : State). SameOutside area kind own answer records w.journal old.disk new.disk)
             g.same R.outside_text;
@@ -580,12 +573,11 @@ module _ (u : State) (O : IsOpenAtRest u 1) where
       PartRan area records name bytes own old new faults u moment
   part-alike area records name bytes own old new faults moment spelled named R =
       (let kind = PutJob name bytes in
-      let b = begins-carried u sound.journal.alike quiet moment R.runs.job kind own R.runs.begun R.runs.begins in
-      let W = walk-begin moment R.runs.job u b.new kind own named O spelled b.happens in
+      let b = begins-carried u sound.journal.alike quiet moment R.runs.job kind own R.runs.begun R.runs.begins
+      in let W = walk-begin moment R.runs.job u b.new kind own named O spelled b.happens in
       let C = steps-carried b.new W.1.sound b.none_packs (moment + 1) R.runs.job W.0 R.runs.steps
       (subst (λ w. AreSteps w (moment + 1) R.runs.job R.runs.steps) b.same R.runs.are_steps) in
-      let e : R.last ≡ plain (now b.new C.steps)
-      = R.runs.last ∙ (ap (λ w. now w R.runs.steps) b.same ∙ C.same) in
+      let e : R.last ≡ plain (now b.new C.steps) = cc in
       record {
         last = now b.new C.steps;
         runs = record {
@@ -612,13 +604,12 @@ module _ (u : State) (O : IsOpenAtRest u 1) where
   scrub-alike records answer old new faults moment R =
       (let b = scrub-carried u sound.journal.alike quiet moment R.runs.job R.runs.begun R.runs.begins in
       let S = events-sound 8 moment u sound (omega arith, omega arith) BeginScrub (Begun R.runs.job) b.new tt
-      b.happens in
-      let g = goes-carried b.new S b.none_packs (moment + 1) R.runs.job (R.runs.begins.2 ∙ O.next) answer [] R.last
+      b.happens in let g = goes-carried b.new S b.none_packs (moment + 1) R.runs.job (cc) answer [] R.last
       (subst (λ w. GoesOnTo w (moment + 1) R.runs.job answer [] R.last) b.same R.runs.goes_on) in
       record {
         last = g.new;
         runs = record { begun = b.new; job = R.runs.job; begins = b.happens; goes_on = g.happens };
         images = images-plain new.disk g.new (subst (λ w. StandsForState new.disk w) g.same R.images);
-        faults_are = sym (ap (λ (w : State). w.disk_faults) g.same) ∙ R.faults_are;
+        faults_are = cc;
         handed = handed-plain new.providers g.new (subst (λ w. AreHanded new.providers w) g.same R.handed);
       })

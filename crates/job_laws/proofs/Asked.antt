@@ -9,21 +9,16 @@ pin-map : (w : State) (f : File) (fs : List File) →
     pin_by machine_pins (pinned_file w f) (map (pinned_file w) fs) ≡ map (pinned_file w) (with_number f fs)
 pin-map w f [] = refl
 pin-map w f (g ∷ gs) = elim (cases_Bool (nat_lt f.id g.id)) [
-  | inl t ↦ cond_true (nat_lt f.id g.id) (pinned_file w f ∷ pinned_file w g ∷ map (pinned_file w) gs)
-      (pinned_file w g ∷ pin_by machine_pins (pinned_file w f) (map (pinned_file w) gs)) t
-      ∙ sym (ap (map (pinned_file w)) (cond_true (nat_lt f.id g.id) (f ∷ g ∷ gs) (g ∷ with_number f gs) t))
+  | inl t ↦ cc
   | inr o ↦ cond_false (nat_lt f.id g.id) (pinned_file w f ∷ pinned_file w g ∷ map (pinned_file w) gs)
       (pinned_file w g ∷ pin_by machine_pins (pinned_file w f) (map (pinned_file w) gs)) o
-      ∙ (ap (λ ps. pinned_file w g ∷ ps) (pin-map w f gs)
-      ∙ sym (ap (map (pinned_file w))
-      (cond_false (nat_lt f.id g.id) (f ∷ g ∷ gs) (g ∷ with_number f gs) o)))
+      ∙ (ap (λ ps. pinned_file w g ∷ ps) (pin-map w f gs) ∙ sym (cc))
 ]
 
 -- all files as pins are these files by number, each as a pin
 pub pinned-by_number : (w : State) (fs : List File) → pin_all w fs ≡ map (pinned_file w) (files_by_number fs)
 pinned-by_number w [] = refl
-pinned-by_number w (f ∷ fs) =
-    ap (pin_by machine_pins (pinned_file w f)) (pinned-by_number w fs) ∙ pin-map w f (files_by_number fs)
+pinned-by_number w (f ∷ fs) = cc (pinned-by_number w fs, pin-map w f (files_by_number fs))
 
 -- a fact of each file is one of each by number
 each-with_number : (P : File → Type 0) (f : File) (fs : List File) → P f → Each P fs →
@@ -53,7 +48,7 @@ asks-rounds : (n : ℕ) (f : File) (rounds : List ℕ) →
     flat_map (λ round. map (λ j. Ask j f.id round) (upto n)) rounds
     ≡ asks_of n (map (λ round. record { file = f; round = round }) rounds)
 asks-rounds n f [] = refl
-asks-rounds n f (round ∷ more) = ap (λ l. map (λ j. Ask j f.id round) (upto n) ++ l) (asks-rounds n f more)
+asks-rounds n f (round ∷ more) = cc (asks-rounds n f more)
 
 -- the questions of files in this order
 abbrev pub questions_in : Setup → List File → List Question
@@ -68,15 +63,11 @@ asks-files : (s : Setup) (w : State) (fs : List File) →
     ≡ asks_of s.n (questions_in s fs)
 asks-files s w [] h = refl
 asks-files s w (f ∷ fs) h =
-    (let one : flat_map (λ round. map (λ j. Ask j f.id round) (upto s.n))
-    (rounds_of (profiled s f.profile) (length (w.bytes f.id)))
-    ≡ asks_of s.n (map (λ round. record { file = f; round = round })
+    (let one : flat_map (λ round. map (λ j. Ask j f.id round) (upto s.n)) (rounds_of (profiled s f.profile)
+    (length (w.bytes f.id))) ≡ asks_of s.n (map (λ round. record { file = f; round = round })
     (rounds_of (profiled s f.profile) f.size)) =
-    ap (λ size. flat_map (λ round. map (λ j. Ask j f.id round) (upto s.n))
-    (rounds_of (profiled s f.profile) size)) h.0
-    ∙ asks-rounds s.n f (rounds_of (profiled s f.profile) f.size) in
-    (λ i. one i ++ asks-files s w fs h.1 i)
-    ∙ sym (flat_map-append (asks_one s.n)
+    cc (asks-rounds s.n f (rounds_of (profiled s f.profile) f.size)) in
+    (λ i. one i ++ asks-files s w fs h.1 i) ∙ sym (flat_map-append (asks_one s.n)
     (map (λ round. record { file = f; round = round }) (rounds_of (profiled s f.profile) f.size))
     (questions_in s fs)))
 
@@ -85,10 +76,11 @@ pub asks-questions : (s : Setup) (w : State) (job : Job) (files : List File) →
     Each (λ (f : File). length (w.bytes f.id) ≡ f.size) files →
     ask_actions s job ≡ asks_of s.n (questions s files)
 asks-questions s w job files pinned h =
-    ap (λ ps. flat_map (λ (f : Pinned). flat_map (λ round. map (λ j. Ask j f.id round) (upto s.n))
-    (rounds_of (profiled s f.profile) (length f.bytes))) ps) (pinned ∙ pinned-by_number w files)
-    ∙ asks-files s w (files_by_number files)
-    (each-by_number (λ (f : File). length (w.bytes f.id) ≡ f.size) files h)
+    cc (
+      pinned-by_number w files,
+      asks-files s w (files_by_number files) (each-by_number (λ (f : File). length
+          (w.bytes f.id) ≡ f.size) files h),
+    )
 
 -- ---- no two asks are the same
 
@@ -140,11 +132,11 @@ above-low s low (f ∷ fs) h = each_append (λ x. low ≤ object_tag x)
   where
     mono : (xs : List Action) → Each (λ x. object_tag x ≡ f.id) xs → Each (λ x. low ≤ object_tag x) xs
     mono [] e = tt
-    mono (x ∷ xs) e = ((let a = e.0 in let b = h.0 in omega (arith, a, b)), mono xs e.1)
+    mono (x ∷ xs) e = ((omega arith), mono xs e.1)
 
     mono2 : (xs : List Action) → Each (λ x. f.id + 1 ≤ object_tag x) xs → Each (λ x. low ≤ object_tag x) xs
     mono2 [] e = tt
-    mono2 (x ∷ xs) e = ((let a = e.0 in let b = h.0 in omega (arith, a, b)), mono2 xs e.1)
+    mono2 (x ∷ xs) e = ((omega arith), mono2 xs e.1)
 
 -- the asks of an audit are distinct, where its files ascend by number
 pub distinct-asks : (s : Setup) (low : ℕ) (pinned : List Pinned) → AreAscending low pinned →
@@ -169,7 +161,7 @@ distinct-asks s low (f ∷ fs) h =
   where
     beyond : (xs : List Action) → Each (λ x. f.id + 1 ≤ object_tag x) xs → Each (λ x. f.id < object_tag x) xs
     beyond [] e = tt
-    beyond (x ∷ xs) e = ((let a = e.0 in omega (arith, a)), beyond xs e.1)
+    beyond (x ∷ xs) e = ((omega arith), beyond xs e.1)
 
 -- ---- the entries of questions
 

@@ -77,8 +77,7 @@ module _ (start : State) (O : IsOpenAtRest start 1) (w : State) (job : Job)
   auditing-next : (action : Action) → next_action w job ≡ Some action → (action ≡ End → ⊥) →
       IsAuditing s.n action
   auditing-next action next n = each_get (IsAuditing s.n) (actions_of s job) job.place action auditing-all
-      (subst (λ (t : Setup). slice_get (actions_of t job) job.place ≡ Some action) W.setup
-      (next_stands w job action next n))
+      (cc)
 
   made-taken : Each (IsAuditing s.n) (take job.place (actions_of s job))
   made-taken = each_take (IsAuditing s.n) (actions_of s job) job.place auditing-all
@@ -144,12 +143,12 @@ module _ (start : State) (O : IsOpenAtRest start 1) (w : State) (job : Job)
     heard-none two = elim (cases_lt job.place 4) [
       | inl l ↦ (moved-first x (ask_actions s job) (End ∷ []) job.place action move unmoved-asks
           ((λ m. m), tt) start.providers w.providers job.given here made-so-far l).1
-      | inr l ↦ absurd (let c = audit-later (setup_in w) job W.kind_is l in omega (arith, c, two))
+      | inr l ↦ absurd (omega (arith, audit-later (setup_in w) job W.kind_is l, two))
     ]
 
     second : appends_left (setup_in w) job ≡ 1 → 4 ≤ job.place
     second one = elim (cases_lt job.place 4) [
-      | inl l ↦ absurd (let c = audit-first (setup_in w) job W.kind_is l in omega (arith, c, one))
+      | inl l ↦ absurd (omega (arith, audit-first (setup_in w) job W.kind_is l, one))
       | inr l ↦ l
     ]
 
@@ -162,20 +161,16 @@ module _ (start : State) (O : IsOpenAtRest start 1) (w : State) (job : Job)
   module _ (next : next_action w job ≡ Some End) where
     -- all actions but the end were made
     made-asks : Made x (ask_actions s job) start.providers w.providers [] job.given
-    made-asks =
-        (let all : Made x (append_actions ++ (ask_actions s job ++ (append_actions ++ End ∷ [])))
+    made-asks = (let all : Made x (append_actions ++ (ask_actions s job ++ (append_actions ++ End ∷ [])))
         start.providers w.providers [] job.given =
         subst (λ xs. Made x xs start.providers w.providers [] job.given) list-is (end-made O W refl next) in
         let a = made-split x append_actions (ask_actions s job ++ (append_actions ++ End ∷ []))
         start.providers w.providers [] job.given all in
         let b = made-split x (ask_actions s job) (append_actions ++ End ∷ []) a.0 w.providers a.1 job.given
-        a.3 in
-        let c = made-split x append_actions (End ∷ []) b.0 w.providers b.1 job.given b.3 in
+        a.3 in let c = made-split x append_actions (End ∷ []) b.0 w.providers b.1 job.given b.3 in
         let first = moves-still x start.providers a.0 [] a.1 a.2 in
-        let last = moves-still x b.0 c.0 b.1 c.1 c.2 in
-        let end = c.3 in
-        let p : w.providers ≡ b.0 = end.3.0 ∙ (end.2.0 ∙ last.0) in
-        let g : job.given ≡ b.1 = end.3.1 ∙ (end.2.1 ∙ last.1) in
+        let last = moves-still x b.0 c.0 b.1 c.1 c.2 in let end = c.3 in let p : w.providers ≡ b.0 = cc in
+        let g : job.given ≡ b.1 = cc in
         subst (λ f. Made x (ask_actions s job) f w.providers [] job.given) first.0
         (subst (λ h. Made x (ask_actions s job) a.0 w.providers h job.given) first.1
         (subst (λ f. Made x (ask_actions s job) a.0 f a.1 job.given) (sym p)
@@ -276,12 +271,7 @@ module _ (start : State) (O : IsOpenAtRest start 1) (w : State) (job : Job)
               Fits x job.given held j s.n below (gave j) (honest held) q
           one q e = (
             answer-heard 1 job.given q.file.id q.round j,
-            ap (λ size. honest_answer
-                (challenge_of (object_at_begin ran q.file) size s.picks job.subject q.round)
-                (held q.file.id)) (sym e.0)
-                ∙ ap (λ (z : Object). honest_answer
-                (challenge_of z (pinned_size x.pinned q.file.id) s.picks job.subject q.round)
-                (held q.file.id)) (sym e.1),
+            cc,
           )
 
           known : (qs : List Question) →
@@ -306,8 +296,7 @@ module _ (start : State) (O : IsOpenAtRest start 1) (w : State) (job : Job)
               record {
                 each = all-each (λ q. (gave j q ≡ honest held q) ⊎ (gave j q ≡ None)) asked
                     (told-questions x job.given held j s.n below (gave j) (honest held) asked f t.0);
-                few = λ l. (let same : (new.providers j).other_faults ≡ (w.providers j).other_faults =
-                    ap (λ (g : ℕ → Provider). (g j).other_faults) providers in
+                few = λ l. (let same : (new.providers j).other_faults ≡ (w.providers j).other_faults = cc in
                     let c = t.1 (omega (arith, l, same)) in let m =
                     lacks-questions x job.given held j s.n below (gave j) (honest held) asked f in
                     omega (arith, c, m, same));
@@ -347,18 +336,16 @@ module _ (start : State) (O : IsOpenAtRest start 1) (w : State) (job : Job)
       whole next sums has records doubt =
           record {
             after = records ∙ by_records w.records refl W.records;
-            sure = ap (option_map (λ (d : Doubt). d.entry)) (doubt ∙ end-sure O W refl next);
+            sure = cc (end-sure O W refl next);
           }
         where
           by_records : (rs : List Record) → w.records ≡ rs → RecordsAre start AuditJob job rs →
               w.records ≡ AuditDone number sums.undecided sums.counts ∷ AuditStart number ∷ start.records
-          by_records rs e (RecordsAre.none l is) = absurd (let c = end-left O W refl next in omega (arith, l, c))
-          by_records rs e (RecordsAre.one l is) = absurd (let c = end-left O W refl next in omega (arith, l, c))
+          by_records rs e (RecordsAre.none l is) = absurd (omega (arith, end-left O W refl next, l))
+          by_records rs e (RecordsAre.one l is) = absurd (omega (arith, end-left O W refl next, l))
           by_records rs e (RecordsAre.two entry l sec is) =
-              e ∙ (is ∙ (ap (λ (r : Record). r ∷ AuditStart number ∷ start.records)
-              (sec.2 ∙ ap (λ (t : Sums). AuditDone number t.undecided t.counts)
-              (sums-one s job (valid-shape s (setup-valid 8 start (opened-sound start O) O.opened)) sec.0
-              sums sec.1 (subst (λ (t : Setup). HasSums t job sums) W.setup has)))))
+              cc (sums-one s job (valid-shape s (setup-valid 8 start (opened-sound start O) O.opened)) sec.0
+              sums sec.1 (subst (λ (t : Setup). HasSums t job sums) W.setup has))
 
 -- ---- all ends of an audit
 
@@ -375,8 +362,7 @@ module _ (start new : State) (how : Answer) (heard : List Entry) (O : IsOpenAtRe
 
   -- what it heard
   heard-is : heard ≡ entries_of 1 E.job.given
-  heard-is = E.heard_is
-      ∙ (ap (heard_by_kind E.job) E.walked.kind_is ∙ ap (λ n. entries_of n E.job.given) E.walked.number)
+  heard-is = cc
 
   -- what an audit leaves by its answer, and providers as they were
   abbrev Gives : Answer → Type 0
@@ -429,9 +415,9 @@ module _ (start new : State) (how : Answer) (heard : List Entry) (O : IsOpenAtRe
 
     cut-first : appends_left (setup_in E.before) E.job ≡ 2 → E.before.records ≡ start.records →
         AuditIsCut (ran_from start new heard)
-    cut-first two is = AuditIsCut.at_start (F.records ∙ is)
-        (first-doubted O E.walked F (λ l. omega (arith, l, two)))
-        (heard-is ∙ ap (entries_of 1) (heard-none start O E.before E.job E.walked action next-is n move two))
+    cut-first two is = AuditIsCut.at_start (F.records
+        ∙ is) (first-doubted O E.walked F (λ l. omega (arith, l, two))) (cc (heard-none start O E.before E.job
+        E.walked action next-is n move two))
 
     module _ (one : appends_left (setup_in E.before) E.job ≡ 1) where
       asks : Made (with_job_of start AuditJob E.job)
@@ -440,8 +426,11 @@ module _ (start new : State) (how : Answer) (heard : List Entry) (O : IsOpenAtRe
           (second start O E.before E.job E.walked action next-is n move one)
 
       number-is : E.job.subject ≡ next_audit start.records
-      number-is = E.walked.subject
-          (let l = second start O E.before E.job E.walked action next-is n move one in omega (arith, l))
+      number-is = E.walked.subject (omega (
+        arith,
+        second start O E.before E.job E.walked action next-is n move
+            one,
+      ))
 
       heard-all : HearsRounds (ran_from start new heard) (next_audit start.records)
       heard-all = subst (λ h. HearsRounds (ran_from start new h) (next_audit start.records)) (sym heard-is)

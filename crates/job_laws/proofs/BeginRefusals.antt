@@ -40,7 +40,7 @@ module _ (w : State) where
 
   -- the machine's text is too long for a pack where the command's is
   long-alike : (area : Area) → w.area ≡ area → is_too_long w area ≡ commands.reaches_over area w.journal
-  long-alike A e = ap (λ a. nat_lt (2 ^ 23) (end_in a w.journal)) e
+  long-alike A e = cc
   long-alike B e = refl
 
   module _ {first : ℕ} (O : IsOpenAtRest w first) where
@@ -70,9 +70,4 @@ module _ (w : State) where
 
     -- so is a pack
     pub pack-refusal-of : pack_refusal w ≡ commands.pack_refusal_over w.area w.journal
-    pack-refusal-of =
-        ap (λ b. refused_by b w.jobs w.alone (version_of w.records) (is_too_long w w.area)) O.rest.idle.2
-        ∙ (ap (λ js. refused_by false js w.alone (version_of w.records) (is_too_long w w.area)) O.rest.idle.0
-        ∙ (ap (λ a. refused_by false [] a (version_of w.records) (is_too_long w w.area)) O.rest.idle.3
-        ∙ (ap (λ v. refused_by false [] None v (is_too_long w w.area)) (sym O.rest.journal.alike.version)
-        ∙ ap (λ b. refused_by false [] None (version_of w.journal) b) (long-alike w.area refl))))
+    pack-refusal-of = cc (long-alike w.area refl)

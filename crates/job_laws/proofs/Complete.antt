@@ -52,9 +52,8 @@ pub wrong-sized : (o : Object) (bytes : List ℕ) (j t : ℕ) (block : Option (L
     is_wrong_block o bytes j t (sized o.profile.size block) ≡ is_wrong_block o bytes j t block
 wrong-sized o bytes j t None = refl
 wrong-sized o bytes j t (Some block) = elim (cases_Bool (length block == o.profile.size)) [
-  | inl y ↦ ap (is_wrong_block o bytes j t) (cond_true (length block == o.profile.size) (Some block) None y)
-  | inr n ↦ ap (is_wrong_block o bytes j t) (cond_false (length block == o.profile.size) (Some block) None n)
-      ∙ sym (ap (λ b. not b || nat_lt o.profile.fix (differences block (columns o bytes j t))) n)
+  | inl y ↦ cc
+  | inr n ↦ cc
 ]
 
 -- a provider that is not wrong for a file has no wrong block of a stripe of it
@@ -80,10 +79,8 @@ missing-one : {B : Type 0} (given held : ℕ → Option B) (a n t : ℕ) → a �
 missing-one given held a zero t l u e = absurd (omega (arith, l, u))
 missing-one given held a (suc n) t l u e = elim (cases_eq t a) [
   | inl same ↦ (let c : ◌≡◌ {A = ℕ} (cond (is_none (given a) && is_some (held a)) 1 0) 1 =
-      cond_true (is_none (given a) && is_some (held a)) 1 0
-      (subst (λ k. (is_none (given k) && is_some (held k)) ≡ true) same e) in omega (arith, c))
-  | inr m ↦ (let r = missing-one given held (a + 1) n t (omega (arith, l, m)) (omega (arith, u)) e in
-      omega (arith, r))
+      cc in omega (arith, c))
+  | inr m ↦ (omega (arith, missing-one given held (a + 1) n t (omega (arith, l, m)) (omega (arith, u)) e))
 ]
 
 -- a count that has not risen is no higher than before, and below its last value
@@ -100,14 +97,11 @@ not-risen before now h =
 given-held : {B : Type 0} (given held : ℕ → Option B) (m before now : ℕ) →
     IsTruthful given held (upto m) before now → has_risen before now ≡ false → (t : ℕ) → t < m →
     given t ≡ held t
-given-held given held m before now T calm t l =
-    (let c = not-risen before now calm in
+given-held given held m before now T calm t l = (let c = not-risen before now calm in
     let few : before + missing given held (upto m) ≤ now = T.few c.1 in
     let one : (given t ≡ held t) ⊎ (given t ≡ None) =
-    subst (λ k. (given k ≡ held k) ⊎ (given k ≡ None))
-    (get_or-range 0 m t 0 l ∙ (let e : 0 + t ≡ t = omega arith in e))
-    (T.each t 0 (let z = length-range 0 m in omega (arith, l, z))) in
-    elim one [
+    subst (λ k. (given k ≡ held k) ⊎ (given k ≡ None)) (get_or-range 0 m t 0 l ∙ (let e : 0 + t ≡ t =
+    omega arith in e)) (T.each t 0 (omega (arith, length-range 0 m, l))) in elim one [
       | inl same ↦ same
       | inr none ↦ by_held (held t) refl none few c.0
     ])
@@ -139,14 +133,15 @@ module _ (x : Ran) (file : File) (bytes : List ℕ) where
           is_wrong_block o bytes j t (block_at (blocks_heard x file.id t) j) ≡ false
       by_held None g T = absurd (false≢true (sym g))
       by_held (Some held) g T =
-          (let p = or_parts (is_wrong o bytes j (held file.id))
-          (has_risen (x.old j).other_faults (x.new j).other_faults) g in
-          let same = given-held (λ s. block_heard x file.id s j)
-          (λ s. sized o.profile.size (held file.id s)) m (x.old j).other_faults
-          (x.new j).other_faults T p.1 t l in
-          ap (is_wrong_block o bytes j t) (block_at-map (block_heard x file.id t) (setup_at_begin x).n j below
-          ∙ same) ∙ (wrong-sized o bytes j t (held file.id t)
-          ∙ not-wrong-each o bytes j (held file.id) p.0 t k))
+          (let p = or_parts (is_wrong o bytes j (held file.id)) (has_risen (x.old j).other_faults
+          (x.new j).other_faults) g in
+          let same = given-held (λ s. block_heard x file.id s j) (λ s. sized o.profile.size (held file.id s))
+          m (x.old j).other_faults (x.new j).other_faults T p.1 t l in
+          cc (
+            block_at-map (block_heard x file.id t) (setup_at_begin x).n j below,
+            wrong-sized o bytes j t (held file.id t),
+            not-wrong-each o bytes j (held file.id) p.0 t k,
+          ))
 
   -- a provider that gave a wrong block is bad
   pub bad-block : (m t : ℕ) → HearsStripes x file m → t < m → t < stripes o (length bytes) → (j : ℕ) →
@@ -154,7 +149,7 @@ module _ (x : Ran) (file : File) (bytes : List ℕ) where
       ≡ true → is_bad x file bytes j ≡ true
   bad-block m t H l k j below wrong = elim (cases_Bool (is_bad x file bytes j)) [
     | inl y ↦ y
-    | inr n ↦ absurd (false≢true (sym (good-block m j H (omega (arith, below)) n t l k) ∙ wrong))
+    | inr n ↦ absurd (false≢true (cc (good-block m j H (omega (arith, below)) n t l k)))
   ]
 
   module _ (shape : IsShape (setup_at_begin x).n (setup_at_begin x).l (setup_at_begin x).b)
@@ -189,27 +184,22 @@ module _ (x : Ran) (file : File) (bytes : List ℕ) where
             is_bad x file bytes j ≡ true
         bad j l wrong = elim (cases_Bool (is_bad x file bytes j)) [
           | inl y ↦ y
-          | inr n ↦ absurd (false≢true
-              (sym (each-not-wrong o bytes j (λ s. block_at (blocks_heard x file.id s) j)
-              (λ t k. good-block (stripes_at_begin x file) j hears (omega (arith, l)) n t
-              (subst (λ z. t < stripes_of (profiled (setup_at_begin x) file.profile) z) size k) k))
-              ∙ wrong))
+          | inr n ↦ absurd (false≢true (cc (each-not-wrong o bytes j (λ s. block_at (blocks_heard x file.id s)
+              j) (λ t k. good-block (stripes_at_begin x file) j hears (omega (arith, l)) n t
+              (subst (λ z. t < stripes_of (profiled (setup_at_begin x) file.profile) z) size k) k))))
         ]
 
     -- and as few as may be leave no row lost
     few-kept : (stripe row : ℕ) → GetGives x file (answer.Lost stripe row) →
         bad_count x file bytes ≤ (setup_at_begin x).b → ⊥
-    few-kept stripe row L few =
-        (let k : stripe < stripes o (length bytes) = subst
-        (λ z. stripe < stripes_of (profiled (setup_at_begin x) file.profile) z) (sym size) L.within in
-        let within = count_of-within
-        (λ j. is_wrong_block o bytes j stripe (block_at (blocks_heard x file.id stripe) j))
-        (is_bad x file bytes) 0 (setup_at_begin x).n
-        (bad-block (stripe + 1) stripe L.hears (omega arith) k) in
-        L.loses.lost (row_polynomial o (symbols_in o bytes stripe) L.loses.place)
-        (row-right o bytes file.profile stripe L.loses.place
-        (blocks_heard x file.id stripe) L.loses.opened refl shape (omega (arith, within, few)) L.loses.opens
-        (let a = L.loses.kept in let b = profile-room o file.profile refl in omega (arith, a, b))))
+    few-kept stripe row L few = (let k : stripe < stripes o (length bytes) = subst (λ z. stripe < stripes_of
+        (profiled (setup_at_begin x) file.profile) z) (sym size) L.within in
+        let within = count_of-within (λ j. is_wrong_block o bytes j stripe (block_at (blocks_heard x file.id
+        stripe) j)) (is_bad x file bytes) 0 (setup_at_begin x).n (bad-block (stripe + 1) stripe L.hears
+        (omega arith) k) in
+        L.loses.lost (row_polynomial o (symbols_in o bytes stripe) L.loses.place) (row-right o bytes
+        file.profile stripe L.loses.place (blocks_heard x file.id stripe) L.loses.opened refl shape
+        (omega (arith, within, few)) L.loses.opens (omega (arith, profile-room o file.profile refl))))
 
 -- ---- the same of a run
 
@@ -226,14 +216,13 @@ module _ (x : Ran) (name bytes : List ℕ) (file : File)
     (in_effect : file_of x.records name ≡ Some file) (fits : AreBytes bytes)
     (size : length bytes ≡ file.size) where
   gives-file : (how : Answer) → GetLeaves x name how → GetGives x file how
-  gives-file how L = subst (λ f. GetGives x f how)
-      (same_value (file_of x.records name) L.file file L.in_effect in_effect) L.gives
+  gives-file how L = subst (λ f. GetGives x f how) (cc) L.gives
 
   -- a get gives the file's bytes where at most b providers are bad
   pub get-complete : (how : Answer) → GetLeaves x name how → bad_count x file bytes ≤ (setup_at_begin x).b →
       how ≡ answer.Got bytes
-  get-complete (answer.Got got) L few = ap answer.Got
-      (few-right x file bytes shape size got fits (gives-file (answer.Got got) L) (omega (arith, few)))
+  get-complete (answer.Got got) L few = cc (few-right x file bytes shape size got fits
+      (gives-file (answer.Got got) L) (omega (arith, few)))
   get-complete (answer.Lost stripe row) L few =
       absurd (few-kept x file bytes shape size stripe row (gives-file (answer.Lost stripe row) L) few)
   get-complete how L few = absurd L.gives

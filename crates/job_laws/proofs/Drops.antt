@@ -38,8 +38,7 @@ not-idle : (w : State) (job : Job) (name : List ℕ) (f : File) → (job.place �
     is_idle_drop w job (DropJob name) ≡ false
 not-idle w job name f h = elim (cases_Bool (is_idle_drop w job (DropJob name))) [
   | inl t ↦ absurd (let p = and_parts (job.place == 0) (not (is_some (file_in w name))) t in
-      let e : not (is_some (file_in w name)) ≡ false =
-      ap (λ (o : Option File). not (is_some o)) (h (eqb-true job.place 0 p.0)) in
+      let e : not (is_some (file_in w name)) ≡ false = cc (h (eqb-true job.place 0 p.0)) in
       let g : false ≡ true = sym e ∙ p.1 in false≢true g)
   | inr n ↦ n
 ]
@@ -56,7 +55,7 @@ module _ (start new : State) (name : List ℕ) (how : Answer) (heard : List Entr
   ran = ran_from start new heard
 
   nothing-heard : heard ≡ []
-  nothing-heard = E.heard_is ∙ ap (heard_by_kind E.job) E.walked.kind_is
+  nothing-heard = cc
 
   list-is : actions_of (setup_in start) E.job ≡ append_actions ++ drop_rest (setup_in start) E.job
   list-is = drop-list (setup_in start) E.job name E.walked.kind_is
@@ -68,10 +67,9 @@ module _ (start new : State) (name : List ℕ) (how : Answer) (heard : List Entr
   moves-taken action at n m = subst (λ xs. Each IsMove (take E.job.place xs)) (sym list-is)
       (elim (split_get append_actions (drop_rest (setup_in start) E.job) E.job.place action
       (ap (λ xs. slice_get xs E.job.place) (sym list-is) ∙ listed E action at n)) [
-        | inl a ↦ subst (Each IsMove)
-            (sym (take-within append_actions (drop_rest (setup_in start) E.job) E.job.place
-            (let l = a.0 in omega (arith, l))))
-            (each_take IsMove append_actions E.job.place (tt, (tt, (tt, (tt, tt)))))
+        | inl a ↦ subst (Each IsMove) (sym (take-within append_actions (drop_rest (setup_in start) E.job)
+            E.job.place (omega arith))) (each_take IsMove append_actions E.job.place
+            (tt, (tt, (tt, (tt, tt)))))
         | inr b ↦ absurd (m (each_get IsTail (drop_rest (setup_in start) E.job)
             (E.job.place - length append_actions) action (tail-list (setup_in start) E.job) b.1))
       ])
@@ -107,9 +105,8 @@ module _ (start new : State) (name : List ℕ) (how : Answer) (heard : List Entr
 
   -- before its first move the records are those of the begin
   at-begin : E.job.place ≡ 0 → file_in E.before name ≡ Some file
-  at-begin first = ap (λ rs. file_of rs name)
-      (none-written O E.walked refl (let e = appends-whole E.before E.job (DropJob name) E.walked.kind_is first
-      in omega (arith, e))) ∙ in_effect
+  at-begin first = ap (λ rs. file_of rs name) (none-written O E.walked refl
+      (omega (arith, appends-whole E.before E.job (DropJob name) E.walked.kind_is first))) ∙ in_effect
 
   idle : is_idle_drop E.before E.job (DropJob name) ≡ false
   idle = not-idle E.before E.job name file at-begin

@@ -17,8 +17,7 @@ module _ {start new : State} {kind : Kind} {own : Option ℕ} {how : Answer} {he
   -- the last action, but for the end, stands in the job's list
   pub listed : (action : Action) → E.action ≡ action → (action ≡ End → ⊥) →
       slice_get (actions_of (setup_in start) E.job) E.job.place ≡ Some action
-  listed action at n = subst (λ (t : Setup). slice_get (actions_of t E.job) E.job.place ≡ Some action)
-      E.walked.setup (next_stands E.before E.job action (E.next ∙ ap Some at) n)
+  listed action at n = cc (next_stands E.before E.job action (E.next ∙ ap Some at) n)
 
   -- the last step leaves what a provider holds, and fetches nothing
   pub last-kept : (j : ℕ) → ((new.providers j).held ≡ (E.before.providers j).held) ×
@@ -51,10 +50,9 @@ move-ends {start} {new} {kind} {own} {how} {heard} O E Gives action at faulted n
           subst Gives (sym e) (faulted failed
           (move-faults start O kind E.before E.job E.walked action E.before.append new refl
           (E.next ∙ ap Some at) failed)))
-      | inr e ↦ subst Gives (sym e)
-          (no-room (move-memory start O kind E.before E.job E.walked action E.before.append new refl
-          (subst (λ z. holder_of E.before.append z ≡ None) at E.free) (E.next ∙ ap Some at)
-          (subst (λ a. Moves E.before E.job action E.before.append (Ended a) new) e h)))
+      | inr e ↦ subst Gives (sym e) (no-room (move-memory start O kind E.before E.job E.walked action
+          E.before.append new refl (cc) (E.next ∙ ap Some at) (subst (λ a. Moves E.before E.job action
+          E.before.append (Ended a) new) e h)))
     ]
 
 -- the last step was the end, a move, a store or a work
@@ -90,9 +88,7 @@ module _ {start w : State} {kind : Kind} {profile : ℕ} {job : Job} (O : IsOpen
     (next : next_action w job ≡ Some End) where
   -- its end stands at its place
   pub end-stands : slice_get (actions_of (setup_in w) job) job.place ≡ Some End
-  end-stands = sym (cond_false (is_idle_drop w job job.kind) (Some End)
-      (slice_get (actions_of (setup_in w) job) job.place)
-      (subst (λ kd. is_idle_drop w job kd ≡ false) (sym W.kind_is) idle)) ∙ next
+  end-stands = cc
 
   order : IsInOrder (moves_made w.append job.number) (End ∷ drop (job.place + 1) (actions_of (setup_in w) job))
   order = subst (IsInOrder (moves_made w.append job.number))
@@ -113,17 +109,13 @@ module _ {start w : State} {kind : Kind} {profile : ℕ} {job : Job} (O : IsOpen
   -- all of its list is made, up to the end, which changes nothing
   pub end-made : Made (with_job_at start kind profile job) (actions_of (setup_in start) job)
       start.providers w.providers [] job.given
-  end-made =
-      (let none : drop job.place (actions_of (setup_in start) job) ≡ End ∷ [] =
+  end-made = (let none : drop job.place (actions_of (setup_in start) job) ≡ End ∷ [] =
       subst (λ (t : Setup). actions_left t job ≡ End ∷ []) W.setup left in
-      let whole : take job.place (actions_of (setup_in start) job) ++ End ∷ []
-      ≡ actions_of (setup_in start) job =
-      ap (λ xs. take job.place (actions_of (setup_in start) job) ++ xs) (sym none)
-      ∙ take-append-drop job.place (actions_of (setup_in start) job) in
+      let whole : take job.place (actions_of (setup_in start) job) ++ End ∷ [] ≡ actions_of (setup_in start)
+      job = cc (take-append-drop job.place (actions_of (setup_in start) job)) in
       subst (λ xs. Made (with_job_at start kind profile job) xs start.providers w.providers [] job.given)
-      whole
-      (made-append (with_job_at start kind profile job) (take job.place (actions_of (setup_in start) job))
-      (End ∷ []) start.providers w.providers w.providers [] job.given job.given W.made
+      whole (made-append (with_job_at start kind profile job) (take job.place (actions_of (setup_in start)
+      job)) (End ∷ []) start.providers w.providers w.providers [] job.given job.given W.made
       (made-one (with_job_at start kind profile job) End w.providers w.providers job.given job.given
       (refl, refl))))
 
@@ -134,9 +126,9 @@ pub first-doubted : {start w new : State} {kind : Kind} {profile : ℕ} {job : J
     (option_map (λ (d : Doubt). d.entry) new.doubt ≡ None) ⊎
     (option_map (λ (d : Doubt). d.entry) new.doubt ≡ Some (first_record start kind))
 first-doubted {start} {w} {new} {kind} {profile} {job} O W F early = elim F.doubt [
-  | inl none ↦ inl (ap (option_map (λ (d : Doubt). d.entry)) none)
+  | inl none ↦ inl (cc)
   | inr (d, at, writes) ↦ elim (wrote start O kind w job W d.entry F.left writes) [
-    | Wrote.first l is entry ↦ inr (ap (option_map (λ (z : Doubt). z.entry)) at ∙ ap Some entry)
+    | Wrote.first l is entry ↦ inr (cc)
     | Wrote.second l is sec ↦ absurd (early l)
   ]
 ]
@@ -156,11 +148,9 @@ pub two-stand : {start w : State} {kind : Kind} {profile : ℕ} {job : Job} (O :
 two-stand {start} {w} {kind} {profile} {job} O W two some = by_records w.records refl W.records
   where
     by_records : (rs : List Record) → w.records ≡ rs → RecordsAre start kind job rs → Stand start w kind job
-    by_records rs e (RecordsAre.none l is) = Stand.at_first (sym (left-same O W) ∙ (l ∙ two)) (e ∙ is)
-    by_records rs e (RecordsAre.one l is) =
-        Stand.at_second (let same = left-same O W in omega (arith, l, same, two)) (e ∙ is)
-    by_records rs e (RecordsAre.two entry l sec is) =
-        absurd (let same = left-same O W in omega (arith, l, same, some, two))
+    by_records rs e (RecordsAre.none l is) = Stand.at_first (cc) (e ∙ is)
+    by_records rs e (RecordsAre.one l is) = Stand.at_second (omega (arith, left-same O W, l, two)) (e ∙ is)
+    by_records rs e (RecordsAre.two entry l sec is) = absurd (omega (arith, left-same O W, l, some, two))
 
 -- a job cut between its records leaves those before the cut
 pub two-cut : {start w : State} {kind : Kind} {profile : ℕ} {job : Job} (O : IsOpenAtRest start 1)
@@ -175,7 +165,7 @@ two-cut {start} {w} {kind} {profile} {job} O W two new heard last some records n
         rest = last ∷ [];
         parts = refl;
         after = records ∙ is;
-        sure = ap (option_map (λ (d : Doubt). d.entry)) none;
+        sure = cc;
       }
       | Stand.at_second l is ↦ record {
         done = first_record start kind ∷ [];
@@ -183,7 +173,7 @@ two-cut {start} {w} {kind} {profile} {job} O W two new heard last some records n
         rest = [];
         parts = refl;
         after = records ∙ is;
-        sure = ap (option_map (λ (d : Doubt). d.entry)) none;
+        sure = cc;
       }
     ]
 
@@ -198,8 +188,7 @@ module _ {start w : State} {kind : Kind} {profile : ℕ} {job : Job} (O : IsOpen
       by_records : (rs : List Record) → w.records ≡ rs → RecordsAre start kind job rs →
           w.records ≡ start.records
       by_records rs e (RecordsAre.none l is) = e ∙ is
-      by_records rs e (RecordsAre.one l is) =
-          absurd (let same = left-same O W in omega (arith, l, same, some, one))
+      by_records rs e (RecordsAre.one l is) = absurd (omega (arith, left-same O W, l, some, one))
       by_records rs e (RecordsAre.two entry l sec is) = absurd (omega (arith, l, one))
 
   -- with none left its record is in effect, and it is the last one
@@ -208,7 +197,7 @@ module _ {start w : State} {kind : Kind} {profile : ℕ} {job : Job} (O : IsOpen
       IsWhole (ran_from start new heard) (first_record start kind ∷ [])
   one-whole new heard none sure records doubt = record {
     after = records ∙ by_records w.records refl W.records;
-    sure = ap (option_map (λ (d : Doubt). d.entry)) (doubt ∙ sure);
+    sure = cc;
   }
     where
       by_records : (rs : List Record) → w.records ≡ rs → RecordsAre start kind job rs →
@@ -226,7 +215,7 @@ module _ {start w : State} {kind : Kind} {profile : ℕ} {job : Job} (O : IsOpen
     rest = [];
     parts = refl;
     after = F.records ∙ none-written F.left;
-    doubt = first-doubted O W F (λ l. (let some = F.left in omega (arith, l, some, one)));
+    doubt = first-doubted O W F (λ l. (omega (arith, l, one)));
   }
 
   -- a job cut before its record leaves none
@@ -239,5 +228,5 @@ module _ {start w : State} {kind : Kind} {profile : ℕ} {job : Job} (O : IsOpen
     rest = [];
     parts = refl;
     after = records ∙ none-written some;
-    sure = ap (option_map (λ (d : Doubt). d.entry)) none;
+    sure = cc;
   }

@@ -19,7 +19,7 @@ use Rattle.job_laws.proofs.Leaving.{counts-rise, others-stay}
 -- the first elements of two lists, where the first list has as many, are of the first list
 pub take-within : {X : Type 0} (xs ys : List X) (p : ℕ) → p ≤ length xs → take p (xs ++ ys) ≡ take p xs
 take-within [] ys (suc p) l = absurd (omega (arith, l))
-take-within (x ∷ xs) ys (suc p) l = ap (λ zs. x ∷ zs) (take-within xs ys p (omega (arith, l)))
+take-within (x ∷ xs) ys (suc p) l = cc (take-within xs ys p (omega (arith, l)))
 take-within xs ys zero l = refl
 
 take-beyond : {X : Type 0} (xs ys : List X) (p : ℕ) → length xs ≤ p →
@@ -34,8 +34,7 @@ single-get w x (suc k) h = absurd (let e : None ≡ Some x = h in cc)
 flat-append : {A X : Type 0} (f : A → List X) (xs ys : List A) →
     flat_map f (xs ++ ys) ≡ flat_map f xs ++ flat_map f ys
 flat-append f [] ys = refl
-flat-append f (x ∷ xs) ys =
-    ap (λ l. f x ++ l) (flat-append f xs ys) ∙ sym (append_assoc (f x) (flat_map f xs) (flat_map f ys))
+flat-append f (x ∷ xs) ys = cc (flat-append f xs ys, append_assoc (f x) (flat_map f xs) (flat_map f ys))
 
 -- ---- the list of a get, cut at one of its places
 
@@ -55,7 +54,7 @@ module _ (s : Setup) (id : ℕ) where
   -- what stands at a place of a get's list is its end, work or a fetch; and what stands before that
   pub cut : (n a p : ℕ) (x : Action) → slice_get (reads a n ++ End ∷ []) p ≡ Some x →
       Cut n a x (take p (reads a n ++ End ∷ []))
-  cut zero a p x h = (let e = single-get End x p h in Cut.at_end e.1 (ap (λ q. take q (End ∷ [])) e.0))
+  cut zero a p x h = (let e = single-get End x p h in Cut.at_end e.1 (cc))
   cut (suc n) a p x h =
       elim (split_get (open_actions s id a) (reads (a + 1) n ++ End ∷ []) p x
       (ap (λ xs. slice_get xs p) (sym whole) ∙ h)) [
@@ -64,17 +63,16 @@ module _ (s : Setup) (id : ℕ) where
               (each_map (λ y. (j : ℕ) × (y ≡ Fetch j id a)) (λ j. Fetch j id a) (upto s.n) (λ j. (j, refl)))
               f.1 in Cut.at_fetch g.0 a g.1)
           | inr w ↦ (let e = single-get (Work id a) x (p - length (fetches a)) w.1 in
-              let at : p ≡ length (fetches a) + 0 = (let l = w.0 in let z = e.0 in omega (arith, l, z)) in
-              Cut.at_work 0 (omega arith) (e.1 ∙ ap (Work id) (let z : a ≡ a + 0 = omega arith in z))
-              (ap (λ q. take q ((open_actions s id a ++ reads (a + 1) n) ++ End ∷ [])) at
-              ∙ (ap (take (length (fetches a) + 0))
-              (append_assoc (open_actions s id a) (reads (a + 1) n) (End ∷ [])
-              ∙ append_assoc (fetches a) (Work id a ∷ []) (reads (a + 1) n ++ End ∷ []))
+              let at : p ≡ length (fetches a) + 0 = (omega arith) in
+              Cut.at_work 0 (omega arith) (e.1 ∙ ap (Work id) (let z : a ≡ a + 0 = omega arith in
+              z)) (ap (λ q. take q ((open_actions s id a ++ reads (a + 1) n) ++ End ∷ [])) at
+              ∙ (ap (take (length (fetches a) + 0)) (append_assoc (open_actions s id a) (reads (a + 1) n)
+              (End ∷ []) ∙ append_assoc (fetches a) (Work id a ∷ []) (reads (a + 1) n ++ End ∷ []))
               ∙ (take-append-add (fetches a) (Work id a ∷ (reads (a + 1) n ++ End ∷ [])) 0
               ∙ (append-nil (fetches a) ∙ ap fetches (let z : a ≡ a + 0 = omega arith in z))))))
         ]
         | inr later ↦ elim (cut n (a + 1) (p - length (open_actions s id a)) x later.1) [
-          | Cut.at_end is front ↦ Cut.at_end is (behind later.0 ∙ ap (λ ys. open_actions s id a ++ ys) front)
+          | Cut.at_end is front ↦ Cut.at_end is (cc (behind later.0))
           | Cut.at_work k l is front ↦ Cut.at_work (suc k) (omega (arith, l))
               (is ∙ ap (Work id) (let z : a + 1 + k ≡ a + suc k = omega arith in z))
               (behind later.0 ∙ (ap (λ ys. open_actions s id a ++ ys) front
@@ -209,7 +207,7 @@ module _ (x : With) (j : ℕ) (held : Held) (now : List Given) where
   still-step a p q told none e h =
       record {
         told = told;
-        held_is = ap (λ (z : Provider). z.held) e ∙ h;
+        held_is = cc;
         count = λ l. (let f = ap (λ (z : Provider). z.other_faults) e in omega (arith, f, none));
       }
 
@@ -220,11 +218,8 @@ module _ (x : With) (j : ℕ) (held : Held) (now : List Given) where
     told = λ e. elim gives [ inl g ↦ inl (is ∙ g) | inr f ↦ inr (is ∙ f.0) ];
     held_is = c.held ∙ h;
     count = λ l. (let one : lack_block (Fetch k o t) ≡ lacks block (has o t) =
-        cond_true (k == j) (lacks (block_given now o t k) (has o t)) 0 (eq-eqb k j hit)
-        ∙ ap (λ g. lacks g (has o t)) is in
-        elim gives [
-          | inl g ↦ (let z = lacks-same block (has o t) g in let low = c.counts.other_faults in
-              omega (arith, one, z, low))
+        cc (cond_true (k == j) (lacks (block_given now o t k) (has o t)) 0 (eq-eqb k j hit)) in elim gives [
+          | inl g ↦ (omega (arith, lacks-same block (has o t) g, one))
           | inr f ↦ (let z = lacks-few block (has o t) in let low = c.counts.other_faults in
               let up = f.1 (omega (arith, low, l)) in omega (arith, one, z, up))
         ]);
@@ -243,8 +238,7 @@ module _ (x : With) (j : ℕ) (held : Held) (now : List Given) where
   read-step (Fetch k o t) actions old mid new given so_far reading over (block, called, is) rest h =
       elim (cases_eq k j) [
         | inl hit ↦ fetch-step k o t block (old j) (mid j) hit
-            (block-later x actions mid new so_far now k o t rest over
-            ∙ (ap (λ g. block_given g o t k) is ∙ block-newest k o t block given)) h
+            (cc (block-later x actions mid new so_far now k o t rest over, block-newest k o t block given)) h
             (subst (λ n. Fetches (object_made x o).profile.size o t (old n) block (mid n)) hit
             (call-hit old k (λ p q. Fetches (object_made x o).profile.size o t p block q) mid called))
         | inr miss ↦ still-step (Fetch k o t) (old j) (mid j) (λ e. absurd (miss e))
@@ -270,8 +264,7 @@ module _ (x : With) (j : ℕ) (held : Held) (now : List Given) where
       let r = blocks-told actions mid new so_far reading.1 d.1 rest s.held_is in
       let up = (made-rises x actions mid new so_far now j rest).1 in (
         (s.told, r.0),
-        λ l. (let c = s.count (omega (arith, up, l)) in let e = r.1 l in
-            let f = sum_by-cons lack_block a actions in omega (arith, c, e, f)),
+        λ l. (omega (arith, s.count (omega (arith, up, l)), r.1 l, sum_by-cons lack_block a actions)),
       ))
 
   -- works are told of nothing, and lack nothing
@@ -301,19 +294,16 @@ module _ (x : With) (j : ℕ) (held : Held) (now : List Given) where
 
     stripes-lack : (a n : ℕ) → sum_by lack_block (reads s id a n) ≡ missing gave (has id) (range_with_len a n)
     stripes-lack a zero = refl
-    stripes-lack a (suc n) =
-        (let e = sum_by-append lack_block (open_actions s id a) (reads s id (a + 1) n) in
+    stripes-lack a (suc n) = (let e = sum_by-append lack_block (open_actions s id a) (reads s id (a + 1) n) in
         let f = sum_by-append lack_block (fetches s id a) (Work id a ∷ []) in
         let w = sum_by-cons lack_block (Work id a) [] in
-        let b = range-hit j lack_block (λ k. Fetch k id a) 0 s.n
-        (λ k m. cond_false (k == j) _ 0 (ne_eqb k j m)) (omega arith) (omega (arith, below)) in
+        let b = range-hit j lack_block (λ k. Fetch k id a) 0 s.n (λ k m. cond_false (k == j) _ 0
+        (ne_eqb k j m)) (omega arith) (omega (arith, below)) in
         let c : lack_block (Fetch j id a) ≡ lacks (gave a) (has id a) =
-        cond_true (j == j) (lacks (block_given now id a j) (has id a)) 0 (eq-eqb j j refl)
-        ∙ ap (λ g. lacks g (has id a)) (sym (gave_is a)) in
+        cc (cond_true (j == j) (lacks (block_given now id a j) (has id a)) 0 (eq-eqb j j refl), gave_is a) in
         let d : sum_by lack_block (open_actions s id a) ≡ lacks (gave a) (has id a) =
         (let g : sum_by lack_block (open_actions s id a) ≡ sum_by lack_block (fetches s id a) =
-        omega (arith, f, w) in g ∙ (b ∙ c)) in
-        e ∙ (λ i. d i + stripes-lack (a + 1) n i))
+        omega (arith, f, w) in g ∙ (b ∙ c)) in e ∙ (λ i. d i + stripes-lack (a + 1) n i))
 
 -- ---- what the work on stripes gave
 
@@ -344,19 +334,17 @@ module _ (x : With) (id : ℕ) (now : List Given) where
       GivesSymbols (object_made x id) a (blocks_given now x.setup.n id a) (symbols_given now id a)
   open-gives a rest old new given later m =
       (let p = made-split x (open_actions x.setup id a) rest old new given now m in
-      let q = made-split x (fetches x.setup id a) (Work id a ∷ []) old p.0 given p.1 p.2 in
-      let did = q.3.2 in
-      let end = q.3.3 in
-      let given_is : p.1 ≡ q.3.1 = end.1 in
+      let q = made-split x (fetches x.setup id a) (Work id a ∷ []) old p.0 given p.1 p.2 in let did = q.3.2 in
+      let end = q.3.3 in let given_is : p.1 ≡ q.3.1 = end.1 in
       let now_is : q.3.1 ≡ Worked id a did.0 ∷ q.1 = did.3 in
       let blocks : (j : ℕ) → block_given now id a j ≡ block_given q.1 id a j =
-      (λ j. block-later x rest p.0 new p.1 now j id a p.3
-      (each-not (a + 1) (Fetch j id a) rest (λ l. omega (arith, l)) later)
-      ∙ (ap (λ g. block_given g id a j) (given_is ∙ now_is))) in
-      let symbols : symbols_given now id a ≡ did.0 =
-      symbols-later x rest p.0 new p.1 now id a p.3
-      (each-not (a + 1) (Work id a) rest (λ l. omega (arith, l)) later)
-      ∙ (ap (λ g. symbols_given g id a) (given_is ∙ now_is) ∙ symbols_given-newest id a did.0 q.1) in
+      (λ j. cc (block-later x rest p.0 new p.1 now j id a p.3 (each-not (a + 1) (Fetch j id a) rest
+      (λ l. omega (arith, l)) later))) in let symbols : symbols_given now id a ≡ did.0 =
+      cc (
+        symbols-later x rest p.0 new p.1 now id a p.3 (each-not (a + 1) (Work id a) rest
+            (λ l. omega (arith, l)) later),
+        symbols_given-newest id a did.0 q.1,
+      ) in
       subst (λ z. GivesSymbols (object_made x id) a (blocks_given now x.setup.n id a) z) (sym symbols)
       (subst (λ (g : ℕ → Option (List ℕ)). GivesSymbols (object_made x id) a (map g (upto x.setup.n)) did.0)
       (λ i j. sym (blocks j) i) did.1))
@@ -420,18 +408,14 @@ module _ (start new : State) (name : List ℕ) (how : Answer) (heard : List Entr
 
   -- what it heard
   heard-is : heard ≡ entries_of 1 E.job.given
-  heard-is = E.heard_is
-      ∙ (ap (heard_by_kind E.job) E.walked.kind_is ∙ ap (λ n. entries_of n E.job.given) E.walked.number)
+  heard-is = cc
 
   gave-is : (o t j : ℕ) → block_heard ran o t j ≡ block_given E.job.given o t j
-  gave-is o t j = ap (λ h. block_given (given_to 1 h) o t j) heard-is ∙ block-heard 1 E.job.given o t j
+  gave-is o t j = cc (block-heard 1 E.job.given o t j)
 
   -- what its next action is
   next-at : slice_get (read_actions (setup_in start) E.job.pinned ++ End ∷ []) E.job.place ≡ Some E.action
-  next-at = subst (λ (t : Setup). slice_get (read_actions t E.job.pinned ++ End ∷ []) E.job.place
-      ≡ Some E.action) E.walked.setup
-      (sym (next_is_by E.before E.job ∙ ap (λ kd. next_by E.before E.job kd E.job.place) E.walked.kind_is)
-      ∙ E.next)
+  next-at = cc (next_is_by E.before E.job)
 
   -- the records and what is in doubt
   records-before : E.before.records ≡ start.records
@@ -473,12 +457,11 @@ module _ (start new : State) (name : List ℕ) (how : Answer) (heard : List Entr
     size-is = (O.rest.files name file in_effect).1
 
     pinned-is : E.job.pinned ≡ pinned_file start file ∷ []
-    pinned-is = E.walked.pinned ∙ ap (pin_found (pinned_file start)) in_effect
+    pinned-is = cc
 
     list-is : read_actions (setup_in start) E.job.pinned ++ End ∷ []
         ≡ reads (setup_in start) file.id 0 count ++ End ∷ []
-    list-is = ap (λ ps. read_actions (setup_in start) ps ++ End ∷ []) pinned-is
-        ∙ ap (λ ys. ys ++ End ∷ []) (append-nil (reads (setup_in start) file.id 0 count))
+    list-is = cc (append-nil (reads (setup_in start) file.id 0 count))
 
     cut-is : Cut (setup_in start) file.id count 0 E.action
         (take E.job.place (reads (setup_in start) file.id 0 count ++ End ∷ []))
@@ -496,12 +479,13 @@ module _ (start new : State) (name : List ℕ) (how : Answer) (heard : List Entr
         (made : Made x xs start.providers E.before.providers [] E.job.given) (distinct : AreDistinct xs)
         (reading : Each IsReading xs) where
       entries : entries_of 1 E.job.given ≡ flat_map (entries_at (setup_in start) file.id E.job.given) (upto m)
-      entries = entries-made 1 x xs start.providers E.before.providers [] E.job.given distinct made
-          ∙ (sym (append-nil (flat_map (entry_for 1 E.job.given) xs))
-          ∙ (ap (λ l. flat_map (entry_for 1 E.job.given) xs ++ l) (sym (silent ws works))
-          ∙ (sym (flat-append (entry_for 1 E.job.given) xs ws)
-          ∙ (ap (flat_map (entry_for 1 E.job.given)) (sym whole)
-          ∙ entries-reads (setup_in start) file.id E.job.given 0 m))))
+      entries = cc (
+        entries-made 1 x xs start.providers E.before.providers [] E.job.given distinct made,
+        append-nil (flat_map (entry_for 1 E.job.given) xs),
+        silent ws works,
+        flat-append (entry_for 1 E.job.given) xs ws,
+        entries-reads (setup_in start) file.id E.job.given 0 m,
+      )
         where
           silent : (ys : List Action) → Each IsWork ys → flat_map (entry_for 1 E.job.given) ys ≡ []
           silent [] h = refl
@@ -519,28 +503,23 @@ module _ (start new : State) (name : List ℕ) (how : Answer) (heard : List Entr
           tells held e = subst (λ (z : Object). IsTruthful (λ t. block_heard ran file.id t j)
               (λ t. sized z.profile.size (held file.id t)) (upto m) (start.providers j).other_faults
               (new.providers j).other_faults) o-is
-              (let t = blocks-told x j held E.job.given xs start.providers E.before.providers
-              [] reading distinct made e in
-              let v = works-told x j held E.job.given ws works in
+              (let t = blocks-told x j held E.job.given xs start.providers E.before.providers [] reading
+              distinct made e in let v = works-told x j held E.job.given ws works in
               let all : Each (IsToldBlock x j held E.job.given) (reads (setup_in start) file.id 0 m) =
-              subst (Each (IsToldBlock x j held E.job.given)) (sym whole)
-              (each_append (IsToldBlock x j held E.job.given) xs ws t.0 v.0) in
-              let sum : sum_by (lack_block x j held E.job.given) (reads (setup_in start) file.id 0 m)
-              ≡ sum_by (lack_block x j held E.job.given) xs =
-              ap (sum_by (lack_block x j held E.job.given)) whole
-              ∙ (let a = sum_by-append (lack_block x j held E.job.given) xs ws in let b = v.1 in
-              omega (arith, a, b)) in
+              subst (Each (IsToldBlock x j held E.job.given)) (sym whole) (each_append (IsToldBlock x j held
+              E.job.given) xs ws t.0 v.0) in
+              let sum : sum_by (lack_block x j held E.job.given) (reads (setup_in start) file.id 0 m) ≡ sum_by
+              (lack_block x j held E.job.given) xs = ap (sum_by (lack_block x j held E.job.given)) whole
+              ∙ (omega (arith, sum_by-append (lack_block x j held E.job.given) xs ws)) in
               record {
                 each = all-each (λ t. (block_heard ran file.id t j ≡ has x j held E.job.given file.id t) ⊎
                     (block_heard ran file.id t j ≡ None)) (upto m)
                     (stripes-told x j held E.job.given (setup_in start) file.id below
                     (λ t. block_heard ran file.id t j) (λ t. gave-is file.id t j) 0 m all);
                 few = λ l. (let same : (new.providers j).other_faults ≡ (E.before.providers j).other_faults =
-                    ap (λ (g : ℕ → Provider). (g j).other_faults) providers in
-                    let c = t.1 (omega (arith, l, same)) in
-                    let d = stripes-lack x j held E.job.given (setup_in start) file.id below
-                    (λ t. block_heard ran file.id t j) (λ t. gave-is file.id t j) 0 m in
-                    omega (arith, c, d, sum, same));
+                    cc in let c = t.1 (omega (arith, l, same)) in
+                    let d = stripes-lack x j held E.job.given (setup_in start) file.id below (λ t. block_heard
+                    ran file.id t j) (λ t. gave-is file.id t j) 0 m in omega (arith, c, d, sum, same));
               })
 
           by_held : (h : Option Held) → (start.providers j).held ≡ h →
@@ -592,7 +571,7 @@ module _ (start new : State) (name : List ℕ) (how : Answer) (heard : List Entr
         made = subst (λ xs. Made x xs start.providers E.before.providers [] E.job.given) front made-cut
 
         providers : new.providers ≡ E.before.providers
-        providers = ap (λ (v : State). v.providers) is
+        providers = cc
 
         by_answer : (a : Answer) → step.Ends E.before E.job (GetJob name) a → Gives a
         by_answer (answer.Got bytes) got =
@@ -647,7 +626,7 @@ module _ (start new : State) (name : List ℕ) (how : Answer) (heard : List Entr
         made = subst (λ xs. Made x xs start.providers E.before.providers [] E.job.given) front made-cut
 
         providers : new.providers ≡ E.before.providers
-        providers = ap (λ (v : State). v.providers) is
+        providers = cc
 
         few : t < stripes_at_begin ran file
         few = subst (λ size. t < stripes_of (profiled (setup_in start) file.profile) size) size-is
@@ -736,7 +715,7 @@ module _ (start new : State) (name : List ℕ) (how : Answer) (heard : List Entr
       (by_answer how (subst (λ kd. step.Ends E.before E.job kd how) E.walked.kind_is acts.0))
     where
       empty : E.job.pinned ≡ []
-      empty = E.walked.pinned ∙ ap (pin_found (pinned_file start)) none
+      empty = cc
 
       at : E.action ≡ End
       at = (single-get End E.action E.job.place

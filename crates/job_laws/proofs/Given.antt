@@ -7,11 +7,9 @@ pub block-heard : (n : ℕ) (given : List Given) (object stripe j : ℕ) →
 block-heard n [] object stripe j = refl
 block-heard n (Worked o s symbols ∷ more) object stripe j = block-heard n more object stripe j
 block-heard n (Fetched k o s block ∷ more) object stripe j =
-    ap (λ gs. block_given gs object stripe j) (given_to-more n (entries_of n more) (Fetched k o s block))
-    ∙ ap (λ b. cond ((k == j) && (o == object) && (s == stripe)) block b) (block-heard n more object stripe j)
+    cc (given_to-more n (entries_of n more) (Fetched k o s block), block-heard n more object stripe j)
 block-heard n (Answered k o r symbol ∷ more) object stripe j =
-    ap (λ gs. block_given gs object stripe j) (given_to-more n (entries_of n more) (Answered k o r symbol))
-    ∙ block-heard n more object stripe j
+    cc (given_to-more n (entries_of n more) (Answered k o r symbol), block-heard n more object stripe j)
 
 -- an answer looked up in what a job heard is that which it was given
 pub answer-heard : (n : ℕ) (given : List Given) (object round j : ℕ) →
@@ -19,8 +17,6 @@ pub answer-heard : (n : ℕ) (given : List Given) (object round j : ℕ) →
 answer-heard n [] object round j = refl
 answer-heard n (Worked o s symbols ∷ more) object round j = answer-heard n more object round j
 answer-heard n (Fetched k o s block ∷ more) object round j =
-    ap (λ gs. answer_given gs object round j) (given_to-more n (entries_of n more) (Fetched k o s block))
-    ∙ answer-heard n more object round j
+    cc (given_to-more n (entries_of n more) (Fetched k o s block), answer-heard n more object round j)
 answer-heard n (Answered k o r symbol ∷ more) object round j =
-    ap (λ gs. answer_given gs object round j) (given_to-more n (entries_of n more) (Answered k o r symbol))
-    ∙ ap (λ b. cond ((k == j) && (o == object) && (r == round)) symbol b) (answer-heard n more object round j)
+    cc (given_to-more n (entries_of n more) (Answered k o r symbol), answer-heard n more object round j)

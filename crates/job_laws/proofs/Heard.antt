@@ -41,8 +41,7 @@ pub apart-by : (tag : Action → ℕ) (k : ℕ) (xs ys : List Action) → Each (
     Each (λ y. k < tag y) ys → Each (λ x. IsOver x ys) xs
 apart-by tag k [] ys a b = tt
 apart-by tag k (x ∷ xs) ys a b = (
-  over-all x ys (each_mono (λ y. k < tag y) (IsNot x) ys
-      (λ y l e. (let f = ap tag e in let g = a.0 in omega (arith, l, f, g))) b),
+  over-all x ys (each_mono (λ y. k < tag y) (IsNot x) ys (λ y l e. (omega (arith, ap tag e, l))) b),
   apart-by tag k xs ys a.1 b,
 )
 
@@ -77,7 +76,7 @@ distinct-map tag f a (suc n) h = (
     above : (b m : ℕ) → a < b → Each (IsNot (f a)) (map f (range_with_len b m))
     above b zero l = tt
     above b (suc m) l = (
-      (λ e. (let g = ap tag e in let i = h a in let k = h b in omega (arith, l, g, i, k))),
+      (λ e. (omega (arith, ap tag e, h a, h b, l))),
       above (b + 1) m (omega (arith, l)),
     )
 
@@ -87,7 +86,7 @@ distinct-map tag f a (suc n) h = (
 pub answer-later : (x : With) (actions : List Action) (old new : ℕ → Provider) (given now : List Given)
     (j object round : ℕ) → Made x actions old new given now → Each (IsNot (Ask j object round)) actions →
     answer_given now object round j ≡ answer_given given object round j
-answer-later x [] old new given now j object round m n = ap (λ g. answer_given g object round j) m.1
+answer-later x [] old new given now j object round m n = cc
 answer-later x (a ∷ actions) old new given now j object round (mid, so_far, did, rest) n =
     answer-later x actions mid new so_far now j object round rest n.1 ∙ one a did n.0
   where
@@ -96,22 +95,21 @@ answer-later x (a ∷ actions) old new given now j object round (mid, so_far, di
     one (Ask k o r) (symbol, called, is) m = ap (λ g. answer_given g object round j) is
         ∙ elim (cases_Bool ((k == j) && (o == object) && (r == round))) [
           | inl t ↦ absurd (m (same (and_parts ((k == j) && (o == object)) (r == round) t)))
-          | inr f ↦ cond_false ((k == j) && (o == object) && (r == round)) symbol
-              (answer_given given object round j) f
+          | inr f ↦ cc
         ]
       where
         same : (((k == j) && (o == object)) ≡ true) × ((r == round) ≡ true) → Ask j object round ≡ Ask k o r
         same p = (let q = and_parts (k == j) (o == object) p.0 in let a = eqb-true k j q.0 in
             let b = eqb-true o object q.1 in let c = eqb-true r round p.1 in cc)
-    one (Fetch k o s) (block, called, is) m = ap (λ g. answer_given g object round j) is
-    one (Work o s) (symbols, gives, still, is) m = ap (λ g. answer_given g object round j) is
-    one a h m = ap (λ g. answer_given g object round j) h.1
+    one (Fetch k o s) (block, called, is) m = cc
+    one (Work o s) (symbols, gives, still, is) m = cc
+    one a h m = cc
 
 -- a block stays what it was where it is fetched no more
 pub block-later : (x : With) (actions : List Action) (old new : ℕ → Provider) (given now : List Given)
     (j object stripe : ℕ) → Made x actions old new given now → Each (IsNot (Fetch j object stripe)) actions →
     block_given now object stripe j ≡ block_given given object stripe j
-block-later x [] old new given now j object stripe m n = ap (λ g. block_given g object stripe j) m.1
+block-later x [] old new given now j object stripe m n = cc
 block-later x (a ∷ actions) old new given now j object stripe (mid, so_far, did, rest) n =
     block-later x actions mid new so_far now j object stripe rest n.1 ∙ one a did n.0
   where
@@ -120,23 +118,22 @@ block-later x (a ∷ actions) old new given now j object stripe (mid, so_far, di
     one (Fetch k o s) (block, called, is) m = ap (λ g. block_given g object stripe j) is
         ∙ elim (cases_Bool ((k == j) && (o == object) && (s == stripe))) [
           | inl t ↦ absurd (m (same (and_parts ((k == j) && (o == object)) (s == stripe) t)))
-          | inr f ↦ cond_false ((k == j) && (o == object) && (s == stripe)) block
-              (block_given given object stripe j) f
+          | inr f ↦ cc
         ]
       where
         same : (((k == j) && (o == object)) ≡ true) × ((s == stripe) ≡ true) →
             Fetch j object stripe ≡ Fetch k o s
         same p = (let q = and_parts (k == j) (o == object) p.0 in let a = eqb-true k j q.0 in
             let b = eqb-true o object q.1 in let c = eqb-true s stripe p.1 in cc)
-    one (Ask k o r) (symbol, called, is) m = ap (λ g. block_given g object stripe j) is
-    one (Work o s) (symbols, gives, still, is) m = ap (λ g. block_given g object stripe j) is
-    one a h m = ap (λ g. block_given g object stripe j) h.1
+    one (Ask k o r) (symbol, called, is) m = cc
+    one (Work o s) (symbols, gives, still, is) m = cc
+    one a h m = cc
 
 -- symbols stay what they were where the stripe is worked on no more
 pub symbols-later : (x : With) (actions : List Action) (old new : ℕ → Provider) (given now : List Given)
     (object stripe : ℕ) → Made x actions old new given now → Each (IsNot (Work object stripe)) actions →
     symbols_given now object stripe ≡ symbols_given given object stripe
-symbols-later x [] old new given now object stripe m n = ap (λ g. symbols_given g object stripe) m.1
+symbols-later x [] old new given now object stripe m n = cc
 symbols-later x (a ∷ actions) old new given now object stripe (mid, so_far, did, rest) n =
     symbols-later x actions mid new so_far now object stripe rest n.1 ∙ one a did n.0
   where
@@ -145,14 +142,14 @@ symbols-later x (a ∷ actions) old new given now object stripe (mid, so_far, di
     one (Work o s) (symbols, gives, still, is) m = ap (λ g. symbols_given g object stripe) is
         ∙ elim (cases_Bool ((o == object) && (s == stripe))) [
           | inl t ↦ absurd (m (same (and_parts (o == object) (s == stripe) t)))
-          | inr f ↦ cond_false ((o == object) && (s == stripe)) symbols (symbols_given given object stripe) f
+          | inr f ↦ cc
         ]
       where
         same : ((o == object) ≡ true) × ((s == stripe) ≡ true) → Work object stripe ≡ Work o s
-        same p = (let b = eqb-true o object p.0 in let c = eqb-true s stripe p.1 in cc)
-    one (Fetch k o s) (block, called, is) m = ap (λ g. symbols_given g object stripe) is
-    one (Ask k o r) (symbol, called, is) m = ap (λ g. symbols_given g object stripe) is
-    one a h m = ap (λ g. symbols_given g object stripe) h.1
+        same p = (cc (eqb-true o object p.0, eqb-true s stripe p.1))
+    one (Fetch k o s) (block, called, is) m = cc
+    one (Ask k o r) (symbol, called, is) m = cc
+    one a h m = cc
 
 -- the three look up what is newest
 pub answer-newest : (j object round : ℕ) (symbol : Option ℕ) (given : List Given) →
@@ -186,24 +183,24 @@ entry_for n now action = []
 pub entries-made : (n : ℕ) (x : With) (actions : List Action) (old new : ℕ → Provider)
     (given now : List Given) → AreDistinct actions → Made x actions old new given now →
     entries_of n now ≡ entries_of n given ++ flat_map (entry_for n now) actions
-entries-made n x [] old new given now d m = ap (entries_of n) m.1 ∙ sym (append-nil (entries_of n given))
+entries-made n x [] old new given now d m = cc (append-nil (entries_of n given))
 entries-made n x (a ∷ actions) old new given now d (mid, so_far, did, rest) =
-    entries-made n x actions mid new so_far now d.1 rest
-    ∙ (ap (λ es. es ++ flat_map (entry_for n now) actions) (one a did d.0)
-    ∙ append_assoc (entries_of n given) (entry_for n now a) (flat_map (entry_for n now) actions))
+    cc (
+      entries-made n x actions mid new so_far now d.1 rest,
+      one a did d.0,
+      append_assoc (entries_of n given) (entry_for n now a) (flat_map (entry_for n now) actions),
+    )
   where
     nothing : (gs : List Given) → gs ≡ given → entries_of n gs ≡ entries_of n given ++ []
-    nothing gs e = ap (entries_of n) e ∙ sym (append-nil (entries_of n given))
+    nothing gs e = cc (append-nil (entries_of n given))
 
     one : (a : Action) → Did x a old mid given so_far → IsOver a actions →
         entries_of n so_far ≡ entries_of n given ++ entry_for n now a
     one (Fetch k o s) (block, called, is) m = ap (entries_of n) is
         ∙ ap (λ b. entries_of n given ++ record { job = n; given = Fetched k o s b } ∷ [])
-        (sym (block-later x actions mid new so_far now k o s rest m
-        ∙ (ap (λ g. block_given g o s k) is ∙ block-newest k o s block given)))
+        (cc (block-later x actions mid new so_far now k o s rest m, block-newest k o s block given))
     one (Ask k o r) (symbol, called, is) m = ap (entries_of n) is
         ∙ ap (λ b. entries_of n given ++ record { job = n; given = Answered k o r b } ∷ [])
-        (sym (answer-later x actions mid new so_far now k o r rest m
-        ∙ (ap (λ g. answer_given g o r k) is ∙ answer-newest k o r symbol given)))
-    one (Work o s) (symbols, gives, still, is) m = ap (entries_of n) is ∙ nothing given refl
+        (cc (answer-later x actions mid new so_far now k o r rest m, answer-newest k o r symbol given))
+    one (Work o s) (symbols, gives, still, is) m = cc (nothing given refl)
     one a h m = nothing so_far h.1

@@ -21,24 +21,24 @@ more u v w a b = record {
   area = b.area ∙ a.area;
   switch = b.switch ∙ a.switch;
   added = b.added ++ a.added;
-  journal = b.journal ∙ (ap (λ rs. b.added ++ rs) a.journal ∙ sym (append_assoc b.added a.added u.journal));
-  records = b.records ∙ (ap (λ rs. b.added ++ rs) a.records ∙ sym (append_assoc b.added a.added u.records));
+  journal = cc (append_assoc b.added a.added u.journal);
+  records = cc (append_assoc b.added a.added u.records);
 }
 
 -- where the disk held the whole history, it does so again
 pub keeps-whole : (old new : State) → Keeps old new → old.journal ≡ old.records → new.journal ≡ new.records
-keeps-whole old new k e = k.journal ∙ (ap (λ rs. k.added ++ rs) e ∙ sym k.records)
+keeps-whole old new k e = cc
 
 module _ (old : State) (job : Job) (new : State) where
   -- a step that changes none of these keeps them
   none : (w : State) → new ≡ w → w.area ≡ old.area → w.is_switching ≡ old.is_switching →
       w.journal ≡ old.journal → w.records ≡ old.records → Keeps old new
   none w is area switch journal records = record {
-    area = ap (λ (v : State). v.area) is ∙ area;
-    switch = ap (λ (v : State). v.is_switching) is ∙ switch;
+    area = cc;
+    switch = cc;
     added = [];
-    journal = ap (λ (v : State). v.journal) is ∙ journal;
-    records = ap (λ (v : State). v.records) is ∙ records;
+    journal = cc;
+    records = cc;
   }
 
   moves-keep : (action : Action) (flight : Option Append) (r : Outcome) → Moves old job action flight r new →
@@ -54,11 +54,11 @@ module _ (old : State) (job : Job) (new : State) where
       none _ is refl refl refl refl
   moves-keep WriteGate (Some a) (Ended answer.Memory) (at, is) = none _ is refl refl refl refl
   moves-keep SyncGate (Some a) More (at, (faults, low, is)) = record {
-    area = ap (λ (v : State). v.area) is;
-    switch = ap (λ (v : State). v.is_switching) is;
+    area = cc;
+    switch = cc;
     added = a.entry ∷ [];
-    journal = ap (λ (v : State). v.journal) is;
-    records = ap (λ (v : State). v.records) is;
+    journal = cc;
+    records = cc;
   }
   moves-keep SyncGate (Some a) (Ended answer.DiskFault) (at, (faults, low, rose, is)) =
       none _ is refl refl refl refl
@@ -83,10 +83,9 @@ module _ (start : State) (O : IsOpenAtRest start 1) (kind : Kind) (own : Option 
   steps-keep w job moment [] W h = same w
   steps-keep w job moment (m ∷ ms) W (event, outcome, happens, rest) =
       (let r = walk-steps start w kind (chosen (setup_in start) own) job moment ms O W rest in
-      let a = step-acts start O kind (now w ms) r.0 r.1 More m.state
-      (λ n e. absurd (let f : More ≡ Waiting n = e in cc)) happens in
-      more w (now w ms) m.state (steps-keep w job moment ms W rest)
-      (acts-keep (now w ms) r.0 m.state a.0 More a.3))
+      let a = step-acts start O kind (now w ms) r.0 r.1 More m.state (λ n e. cc) happens in
+      more w (now w ms) m.state (steps-keep w job moment ms W rest) (acts-keep (now w ms) r.0 m.state a.0 More
+      a.3))
 
   -- so does its begin
   begun-keeps : (moment number : ℕ) (begun : State) → BeginsAt 8 moment start kind own (Begun number) begun →
@@ -115,10 +114,8 @@ module _ (start : State) (O : IsOpenAtRest start 1) (kind : Kind) (own : Option 
       (let b = walk-begin moment r.job start r.begun kind own named O spelled r.begins in
       let g : GoesOnTo r.begun (moment + 1) 1 how heard new =
       subst (λ n. GoesOnTo r.begun (moment + 1) n how heard new) b.0 r.goes_on in
-      let last = walk-steps start r.begun kind (chosen (setup_in start) own)
-      (beginning start moment kind own) (moment + 1) g.steps O b.1 g.are_steps in
-      let a = step-acts start O kind (now r.begun g.steps) last.0 last.1 (Ended how) new
-      (λ n e. absurd (let f : Ended how ≡ Waiting n = e in cc)) g.ends in
-      more start (now r.begun g.steps) new
-      (part-keeps moment r.job r.begun (beginning start moment kind own) g.steps r.begins b.1 g.are_steps)
-      (acts-keep (now r.begun g.steps) last.0 new a.0 (Ended how) a.3))
+      let last = walk-steps start r.begun kind (chosen (setup_in start) own) (beginning start moment kind own)
+      (moment + 1) g.steps O b.1 g.are_steps in
+      let a = step-acts start O kind (now r.begun g.steps) last.0 last.1 (Ended how) new (λ n e. cc) g.ends in
+      more start (now r.begun g.steps) new (part-keeps moment r.job r.begun (beginning start moment kind own)
+      g.steps r.begins b.1 g.are_steps) (acts-keep (now r.begun g.steps) last.0 new a.0 (Ended how) a.3))

@@ -8,19 +8,17 @@ module _ (start : State) (O : IsOpenAtRest start 1) (kind : Kind) {profile : ℕ
     (W : WalkedAt start kind profile w job) where
   -- the append in flight is the job's
   own-append : (a : Append) → w.append ≡ Some a → (a.job ≡ job.number) × Writes w job job.kind a.entry
-  own-append a flight =
-      (let A = W.sound.append a flight in
-      let one : A.job ≡ job = only A.job a.job A.runs in
-      let number : job.number ≡ a.job = sym (ap (λ (z : Job). z.number) one) ∙ number-of A.job a.job A.runs in
+  own-append a flight = (let A = W.sound.append a flight in let one : A.job ≡ job = only A.job a.job A.runs in
+      let number : job.number ≡ a.job = cc (number-of A.job a.job A.runs) in
       (sym number, subst (λ (z : Job). Writes w z z.kind a.entry) one A.writes))
     where
       only : (j : Job) (k : ℕ) → job_of w.jobs k ≡ Some j → j ≡ job
-      only j k h = (let g : job_of (job ∷ []) k ≡ Some j = ap (λ js. job_of js k) (sym W.jobs) ∙ h in
+      only j k h = (let g : job_of (job ∷ []) k ≡ Some j = cc in
           first (job.number == k) g)
         where
           first : (b : Bool) → cond b (Some job) None ≡ Some j → j ≡ job
           first true e = (let f : job ≡ j = cc in sym f)
-          first false e = absurd (let f : None ≡ Some j = e in cc)
+          first false e = cc
 
       number-of : (j : Job) (k : ℕ) → job_of w.jobs k ≡ Some j → j.number ≡ k
       number-of j k h = number_of w.jobs k j h
@@ -29,9 +27,7 @@ module _ (start : State) (O : IsOpenAtRest start 1) (kind : Kind) {profile : ℕ
   mid-left : (a : Append) → w.append ≡ Some a → 0 < appends_left (setup_in w) job
   mid-left a flight = (let own = own-append a flight in let A = W.sound.append a flight in
       let o = (W.sound.jobs job.number job (runs start O kind w job W)).order in
-      let m : moves_made w.append job.number ≡ a.moves = ap (λ f. moves_made f job.number) flight
-      ∙ mine a job.number own.0 in
-      let b = A.begun in
+      let m : moves_made w.append job.number ≡ a.moves = cc in let b = A.begun in
       appends-order (moves_made w.append job.number) (actions_left (setup_in w) job) (omega (arith, m, b)) o)
 
   -- what is in doubt before the last step: nothing, or the record that the job has written
@@ -123,7 +119,7 @@ module _ (start : State) (O : IsOpenAtRest start 1) (kind : Kind) {profile : ℕ
         low = omega arith;
         records = refl;
         providers = refl;
-        doubt = none-doubted None e (λ a h. absurd (let f : None ≡ Some a = h in cc));
+        doubt = none-doubted None e (λ a h. cc);
         left = body-left 8 w W.sound job.number job (runs start O kind w job W) next;
       })
   move-memory WriteBody (Some a) new e free next h = absurd (some-not-none (Some a.job) a.job refl free)
@@ -131,8 +127,7 @@ module _ (start : State) (O : IsOpenAtRest start 1) (kind : Kind) {profile : ℕ
     low = omega arith;
     records = refl;
     providers = refl;
-    doubt = none-doubted (Some a) e
-        (λ b h. (let f : a ≡ b = cc in ap (λ (z : Append). z.moves == 3) (sym f) ∙ ap (λ n. n == 3) at.1));
+    doubt = none-doubted (Some a) e (λ b h. (let f : a ≡ b = cc in cc));
     left = mid-left a e;
   })
   move-memory SyncBody (Some a) new e free next h = absurd h
@@ -149,5 +144,4 @@ module _ (start : State) (O : IsOpenAtRest start 1) (kind : Kind) {profile : ℕ
           (w.append ≡ None) × (w.doubt ≡ None)
       by_flight None e h = (e, h)
       by_flight (Some a) e h = absurd (let own = own-append a e in let b = (W.sound.append a e).begun in
-          let m : moves_made w.append job.number ≡ a.moves = ap (λ f. moves_made f job.number) e
-          ∙ mine a job.number own.0 in omega (arith, none, b, m))
+          let m : moves_made w.append job.number ≡ a.moves = cc in omega (arith, none, b, m))

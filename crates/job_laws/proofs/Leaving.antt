@@ -95,27 +95,27 @@ module _ (w : State) (job : Job) (new : State) where
       Moves w job action flight (Ended how) new → (new.providers ≡ w.providers) ×
       (w.disk_faults ≤ new.disk_faults)
   moves-last WriteBody flight answer.DiskFault (faults, low, rose, is) = (
-    ap (λ (v : State). v.providers) is,
+    cc,
     (let e = ap (λ (v : State). v.disk_faults) is in omega (arith, low, e)),
   )
   moves-last WriteBody flight answer.Memory is = (
-    ap (λ (v : State). v.providers) is,
+    cc,
     (let e = ap (λ (v : State). v.disk_faults) is in omega (arith, e)),
   )
   moves-last SyncBody (Some a) answer.DiskFault (at, (faults, low, rose, is)) = (
-    ap (λ (v : State). v.providers) is,
+    cc,
     (let e = ap (λ (v : State). v.disk_faults) is in omega (arith, low, e)),
   )
   moves-last WriteGate (Some a) answer.DiskFault (at, (faults, low, rose, is)) = (
-    ap (λ (v : State). v.providers) is,
+    cc,
     (let e = ap (λ (v : State). v.disk_faults) is in omega (arith, low, e)),
   )
   moves-last WriteGate (Some a) answer.Memory (at, is) = (
-    ap (λ (v : State). v.providers) is,
+    cc,
     (let e = ap (λ (v : State). v.disk_faults) is in omega (arith, e)),
   )
   moves-last SyncGate (Some a) answer.DiskFault (at, (faults, low, rose, is)) = (
-    ap (λ (v : State). v.providers) is,
+    cc,
     (let e = ap (λ (v : State). v.disk_faults) is in omega (arith, low, e)),
   )
   moves-last action flight how h = absurd h
@@ -132,17 +132,15 @@ module _ (w : State) (job : Job) (new : State) where
   pub last-call : (action : Action) (how : Answer) → Acts w job action (Ended how) new →
       LastCall action w new × (w.disk_faults ≤ new.disk_faults)
   last-call (Store j o s) (answer.ProviderFault k) (same, (p, made, is)) = (
-    LastCall.store j o s refl (p, (made.held, made.counts), ap (λ (v : State). v.providers) is),
+    LastCall.store j o s refl (p, (made.held, made.counts), cc),
     (let e = ap (λ (v : State). v.disk_faults) is in omega (arith, e)),
   )
   last-call (Store j o s) answer.Memory (p, made, is) = (
-    LastCall.store j o s refl (p, (made.held, made.counts), ap (λ (v : State). v.providers) is),
+    LastCall.store j o s refl (p, (made.held, made.counts), cc),
     (let e = ap (λ (v : State). v.disk_faults) is in omega (arith, e)),
   )
-  last-call (Work o s) (answer.Lost t row) (same, loses, is) =
-      quiet-end (Work o s) 0 (ap (λ (v : State). v.providers) is) (ap (λ (v : State). v.disk_faults) is)
-  last-call End how (so, is) =
-      quiet-end End 0 (ap (λ (v : State). v.providers) is) (ap (λ (v : State). v.disk_faults) is)
+  last-call (Work o s) (answer.Lost t row) (same, loses, is) = quiet-end (Work o s) 0 (cc) (cc)
+  last-call End how (so, is) = quiet-end End 0 (cc) (cc)
   last-call action how h = of-move action how h
 
 -- ---- the whole run
@@ -169,7 +167,7 @@ module _ (start new : State) (kind : Kind) (own : Option ℕ) (how : Answer) (he
   rises-last j (LastCall.store k o s at call) =
       elim (calls-at E.before.providers k (λ p q. (q.held ≡ p.held) × StoreCounts p q) new.providers j call) [
         | inl e ↦ subst (Rises (E.before.providers j)) (sym e) (rises-same (E.before.providers j))
-        | inr c ↦ (c.1.1.store_faults, (let f = c.1.1.other_faults in omega (arith, f)))
+        | inr c ↦ (c.1.1.store_faults, (omega arith))
       ]
 
   rises : (j : ℕ) → Rises (start.providers j) (new.providers j)
@@ -180,7 +178,7 @@ module _ (start new : State) (kind : Kind) (own : Option ℕ) (how : Answer) (he
   -- in the run of a job no count of faults falls
   pub counts-rise : CountsRise (ran_from start new heard)
   counts-rise = record {
-    disk = (let a = E.walked.disk in let b = L.1 in omega (arith, a, b));
+    disk = (omega (arith, E.walked.disk, L.1));
     stores = λ j. (rises j).0;
     others = λ j. (rises j).1;
   }
@@ -195,17 +193,14 @@ module _ (start new : State) (kind : Kind) (own : Option ℕ) (how : Answer) (he
 
   others-last : (j : ℕ) → (setup_in start).n ≤ j → LastCall E.action E.before new →
       new.providers j ≡ E.before.providers j
-  others-last j l (LastCall.none is) = ap (λ (f : ℕ → Provider). f j) is
+  others-last j l (LastCall.none is) = cc
   others-last j l (LastCall.store k o s at call) =
       elim (calls-at E.before.providers k (λ p q. (q.held ≡ p.held) × StoreCounts p q) new.providers j call) [
         | inl e ↦ e
         | inr c ↦ absurd (let b : k < (setup_in start).n =
             each_get (IsBelow (setup_in start).n) (actions_of (setup_in start) E.job) E.job.place
-            (Store k o s) (below (setup_in start) E.job)
-            (subst (λ (t : Setup). slice_get (actions_of t E.job) E.job.place ≡ Some (Store k o s))
-            E.walked.setup
-            (next_stands E.before E.job (Store k o s) (E.next ∙ ap Some at) (λ e. cc))) in
-            let f = c.0 in omega (arith, b, f, l))
+            (Store k o s) (below (setup_in start) E.job) (cc (next_stands E.before E.job (Store k o s) (E.next
+            ∙ ap Some at) (λ e. cc))) in let f = c.0 in omega (arith, b, f, l))
       ]
 
   -- the run of a job leaves providers beyond the setup's

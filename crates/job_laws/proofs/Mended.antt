@@ -15,14 +15,13 @@ get_or-last (x ∷ xs) z d = get_or-last xs z d
 
 length-last : {A : Type 0} (xs : List A) (z : A) → length xs < length (xs ++ z ∷ [])
 length-last [] z = omega arith
-length-last (x ∷ xs) z = (let r = length-last xs z in omega (arith, r))
+length-last (x ∷ xs) z = (omega (arith, length-last xs z))
 
 missing-last : {A B : Type 0} (given held : A → Option B) (xs : List A) (z : A) →
     (is_none (given z) && is_some (held z)) ≡ true → 1 ≤ missing given held (xs ++ z ∷ [])
-missing-last given held [] z e =
-    (let c : ◌≡◌ {A = ℕ} (cond (is_none (given z) && is_some (held z)) 1 0) 1 =
-    cond_true (is_none (given z) && is_some (held z)) 1 0 e in omega (arith, c))
-missing-last given held (x ∷ xs) z e = (let r = missing-last given held xs z e in omega (arith, r))
+missing-last given held [] z e = (let c : ◌≡◌ {A = ℕ} (cond (is_none (given z) && is_some (held z)) 1 0) 1 =
+    cc in omega (arith, c))
+missing-last given held (x ∷ xs) z e = (omega (arith, missing-last given held xs z e))
 
 last-held : {A B : Type 0} (given held : A → Option B) (xs : List A) (z : A) (before now : ℕ) →
     IsTruthful given held (xs ++ z ∷ []) before now → has_risen before now ≡ false → given z ≡ held z
@@ -86,39 +85,38 @@ module _ (x : Ran) (shape : IsShape (setup_at_begin x).n (setup_at_begin x).l (s
           is_wrong_block o bytes j L.place.stripe (block_at (blocks_at x L.gave L.place) j) ≡ false
       by_held None g T = absurd (false≢true (sym g))
       by_held (Some held) g T =
-          (let p = or_parts (is_wrong o bytes j (held L.place.object))
-          (has_risen (x.old j).other_faults (x.new j).other_faults) g in
+          (let p = or_parts (is_wrong o bytes j (held L.place.object)) (has_risen (x.old j).other_faults
+          (x.new j).other_faults) g in
           let same = last-held (L.gave j) (held_at x held) L.done L.place (x.old j).other_faults
           (x.new j).other_faults T p.1 in
-          ap (is_wrong_block o bytes j L.place.stripe)
-          (block_at-map (λ i. L.gave i L.place) (setup_at_begin x).n j below ∙ same)
-          ∙ (wrong-sized o bytes j L.place.stripe (held L.place.object L.place.stripe)
-          ∙ not-wrong-each o bytes j (held L.place.object) p.0 L.place.stripe k))
+          cc (
+            block_at-map (λ i. L.gave i L.place) (setup_at_begin x).n j below,
+            wrong-sized o bytes j L.place.stripe (held L.place.object L.place.stripe),
+            not-wrong-each o bytes j (held L.place.object) p.0 L.place.stripe k,
+          ))
 
   bad-place : L.place.stripe < stripes o (length bytes) → (j : ℕ) → j < 0 + (setup_at_begin x).n →
       is_wrong_block o bytes j L.place.stripe (block_at (blocks_at x L.gave L.place) j) ≡ true →
       is_bad_here j ≡ true
   bad-place k j below wrong = elim (cases_Bool (is_bad_here j)) [
     | inl y ↦ y
-    | inr n ↦ absurd (false≢true (sym (good-place j (omega (arith, below)) n k) ∙ wrong))
+    | inr n ↦ absurd (false≢true (cc (good-place j (omega (arith, below)) n k)))
   ]
 
   few-mended : L.place.stripe < stripes o (length bytes) →
       count_of is_bad_here (upto (setup_at_begin x).n) ≤ (setup_at_begin x).b → ⊥
-  few-mended k few =
-      (let lost : LosesRow o L.place.stripe (blocks_at x L.gave L.place) row =
+  few-mended k few = (let lost : LosesRow o L.place.stripe (blocks_at x L.gave L.place) row =
       subst (λ t. LosesRow o t (blocks_at x L.gave L.place) row) (sym L.stripe_is) L.loses in
-      let within = count_of-within
-      (λ j. is_wrong_block o bytes j L.place.stripe (block_at (blocks_at x L.gave L.place) j)) is_bad_here 0
-      (setup_at_begin x).n (bad-place k) in
-      lost.lost (row_polynomial o (symbols_in o bytes L.place.stripe) lost.place)
-      (row-right o bytes (profile_among (setup_at_begin x).profile (files_of x.records) L.place.object)
-      L.place.stripe lost.place (blocks_at x L.gave L.place) lost.opened refl shape
-      (omega (arith, within, few)) lost.opens
-      (let a = lost.kept in
-      let b = profile-room o
-      (profile_among (setup_at_begin x).profile (files_of x.records) L.place.object) refl in
-      omega (arith, a, b))))
+      let within = count_of-within (λ j. is_wrong_block o bytes j L.place.stripe
+      (block_at (blocks_at x L.gave L.place) j)) is_bad_here 0 (setup_at_begin x).n (bad-place k) in
+      lost.lost (row_polynomial o (symbols_in o bytes L.place.stripe) lost.place) (row-right o bytes
+      (profile_among (setup_at_begin x).profile (files_of x.records) L.place.object) L.place.stripe lost.place
+      (blocks_at x L.gave L.place) lost.opened refl shape (omega (arith, within, few)) lost.opens
+      (omega (
+        arith,
+        profile-room o (profile_among (setup_at_begin x).profile (files_of x.records)
+            L.place.object) refl,
+      ))))
 
 -- ---- the repair
 
@@ -137,23 +135,18 @@ module _ (x : Ran) (accepted : AreAccepted x.records)
   pub lost-none : (looked : ℕ → Bool) (stripe row : ℕ) →
       ((name : List ℕ) (file : File) → file_of x.records name ≡ Some file → IsSafe file) →
       LosesAtPlace x looked stripe row → ⊥
-  lost-none looked stripe row safe L =
-      (let all : Each IsFound (files_by_number (files_of x.records)) =
-      each-by_number IsFound (files_of x.records)
-      (each-in IsFound (files_of x.records)
+  lost-none looked stripe row safe L = (let all : Each IsFound (files_by_number (files_of x.records)) =
+      each-by_number IsFound (files_of x.records) (each-in IsFound (files_of x.records)
       (λ f i. (safe f.name f (listed_file x.records f i), numbered-file x accepted f i))) in
       let fits = each_middle (Fits (setup_at_begin x) IsFound) L.done L.place L.rest
-      (subst (Each (Fits (setup_at_begin x) IsFound)) L.part.parts
-      (fits-places (setup_at_begin x) IsFound (files_by_number (files_of x.records)) all)) in
-      let file = fits.0 in
-      let at : object_at_begin x file ≡ object_numbered x L.place.object = sym fits.1.1
-      ∙ ap (object_numbered x) fits.2 in
-      few-mended x shape looked stripe row L (bytes file.id)
-      (subst (λ (z : Object). L.place.stripe < stripes z (length (bytes file.id))) at (subst
-      (λ n. L.place.stripe < stripes_of (profiled (setup_at_begin x) file.profile) n)
-      (sym fits.1.0.0) fits.3))
-      (subst (λ (z : Object). count_of (λ j. is_bad_for z (bytes file.id) j (x.old j) (x.new j))
-      (upto (setup_at_begin x).n) ≤ (setup_at_begin x).b) at fits.1.0.1))
+      (subst (Each (Fits (setup_at_begin x) IsFound)) L.part.parts (fits-places (setup_at_begin x) IsFound
+      (files_by_number (files_of x.records)) all)) in let file = fits.0 in
+      let at : object_at_begin x file ≡ object_numbered x L.place.object = cc in
+      few-mended x shape looked stripe row L (bytes file.id) (subst (λ (z : Object). L.place.stripe < stripes
+      z (length (bytes file.id))) at (subst (λ n. L.place.stripe < stripes_of (profiled (setup_at_begin x)
+      file.profile) n) (sym fits.1.0.0) fits.3)) (subst (λ (z : Object). count_of (λ j. is_bad_for z
+      (bytes file.id) j (x.old j) (x.new j)) (upto (setup_at_begin x).n) ≤ (setup_at_begin x).b) at
+      fits.1.0.1))
 
   -- a repair with no fault and at most b bad providers a file is done, or found no memory
   pub repair-end : (how : Answer) → RepairLeaves x how → (Rose x.disk_before x.disk_after → ⊥) →

@@ -53,11 +53,11 @@ module _ (x : With) (between behind : List Action) (p : ℕ) (action : Action) (
   -- where a move of the second append stands
   second-at : 4 ≤ p → (r : ℕ) × (r < 4) × (p ≡ 4 + (length between + r))
   second-at l = elim (split_get append_actions (between ++ (append_actions ++ behind)) p action at) [
-    | inl a ↦ absurd (let k = a.0 in omega (arith, k, l))
+    | inl a ↦ absurd (omega (arith, l))
     | inr b ↦ elim (split_get between (append_actions ++ behind) (p - 4) action b.1) [
       | inl a ↦ absurd (each_get IsUnmoved between (p - 4) action first a.1 move)
       | inr c ↦ elim (split_get append_actions behind (p - 4 - length between) action c.1) [
-        | inl a ↦ (p - 4 - length between, a.0, (let k = c.0 in omega (arith, l, k)))
+        | inl a ↦ (p - 4 - length between, a.0, (omega (arith, l)))
         | inr d ↦ absurd (each_get IsUnmoved behind (p - 4 - length between - 4) action last d.1 move)
       ]
     ]
@@ -65,22 +65,20 @@ module _ (x : With) (between behind : List Action) (p : ℕ) (action : Action) (
 
   -- a move of the second append: all between was made
   pub moved-second : 4 ≤ p → Made x between old new [] now
-  moved-second l =
-      (let r = second-at l in
-      let front : take p (append_actions ++ (between ++ (append_actions ++ behind)))
-      ≡ append_actions ++ (between ++ take r.0 (append_actions ++ behind)) =
-      ap (λ n. take n (append_actions ++ (between ++ (append_actions ++ behind)))) r.2
-      ∙ (take-append-add append_actions (between ++ (append_actions ++ behind)) (length between + r.0)
-      ∙ ap (λ xs. append_actions ++ xs) (take-append-add between (append_actions ++ behind) r.0)) in
+  moved-second l = (let r = second-at l in
+      let front : take p (append_actions ++ (between ++ (append_actions ++ behind))) ≡ append_actions ++
+      (between ++ take r.0 (append_actions ++ behind)) =
+      cc (
+        take-append-add append_actions (between ++ (append_actions ++ behind)) (length between + r.0),
+        take-append-add between (append_actions ++ behind) r.0,
+      ) in
       let all : Made x (append_actions ++ (between ++ take r.0 (append_actions ++ behind))) old new [] now =
       subst (λ xs. Made x xs old new [] now) front made in
-      let a = made-split x append_actions (between ++ take r.0 (append_actions ++ behind)) old new
-      [] now all in
-      let b = made-split x between (take r.0 (append_actions ++ behind)) a.0 new a.1 now a.3 in
+      let a = made-split x append_actions (between ++ take r.0 (append_actions ++ behind)) old new [] now all
+      in let b = made-split x between (take r.0 (append_actions ++ behind)) a.0 new a.1 now a.3 in
       let start = made-moves x append_actions old a.0 [] a.1 (tt, (tt, (tt, (tt, tt)))) a.2 in
-      let end = made-moves x (take r.0 (append_actions ++ behind)) b.0 new b.1 now
-      (few-moves behind r.0 r.1) b.3 in
-      subst (λ f. Made x between f new [] now) start.0
-      (subst (λ h. Made x between a.0 new h now) start.1
-      (subst (λ f. Made x between a.0 f a.1 now) (sym end.0)
-      (subst (λ h. Made x between a.0 b.0 a.1 h) (sym end.1) b.2))))
+      let end = made-moves x (take r.0 (append_actions ++ behind)) b.0 new b.1 now (few-moves behind r.0 r.1)
+      b.3 in
+      subst (λ f. Made x between f new [] now) start.0 (subst (λ h. Made x between a.0 new h now) start.1
+      (subst (λ f. Made x between a.0 f a.1 now) (sym end.0) (subst (λ h. Made x between a.0 b.0 a.1 h)
+      (sym end.1) b.2))))

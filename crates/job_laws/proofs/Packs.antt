@@ -42,7 +42,7 @@ module _ (w : State) (journal : List Record) (area : Area) (switching barred : B
       ⊎ ((switching ≡ true) × StandsActive image (other_area area) (packed journal))
   image-left image (inl (inl h)) = inl h
   image-left image (inl (inr h)) = absurd (some h.0)
-  image-left image (inr (inl h)) = absurd (let e : None ≡ Some h.doubt = sym sure ∙ h.in_doubt in cc)
+  image-left image (inr (inl h)) = cc
   image-left image (inr (inr h)) = inr (h.switching, h.stands)
 
   -- so where it is not, each image stands for the journal
@@ -79,12 +79,11 @@ module _ (records : List Record) (how : Answer) (old new : Seen) (R : opens.IsOp
           (packed-some records) refl)
           (subst (StandsForState new.disk) is ran.images),
     ),
-    ap (λ (v : State). v.providers) is,
+    cc,
   )
   leaves-by answer.DiskFault (rose, low, switching, is) = (
     (
-      rose-before old.disk_faults A.faults new.disk_faults A.before
-          (let e = ran.faults_are in omega (arith, low, e))
+      rose-before old.disk_faults A.faults new.disk_faults A.before (omega (arith, ran.faults_are, low))
           (subst (Rose A.faults) ran.faults_are rose),
       each_image-mono new.disk _ (λ image. StandsActive image R.area records
           ⊎ StandsActive image (other_area R.area) (packed records))
@@ -92,13 +91,13 @@ module _ (records : List Record) (how : Answer) (old new : Seen) (R : opens.IsOp
           image h) [ inl s ↦ inl s | inr s ↦ inr s.1 ])
           (subst (StandsForState new.disk) is ran.images),
     ),
-    ap (λ (v : State). v.providers) is,
+    cc,
   )
   leaves-by answer.Memory (low, is) = (
     each_image-mono new.disk _ (λ image. StandsActive image R.area records)
         (firm-left w records R.area false false ran.last.disk_faults refl R.read.some refl)
         (subst (StandsForState new.disk) is ran.images),
-    ap (λ (v : State). v.providers) is,
+    cc,
   )
   leaves-by answer h = absurd h
 

@@ -17,10 +17,12 @@ use Rattle.job_laws.proofs.Telling.{opened_state, state-over, providers-seen, im
 length-each : (f : ℕ → List Action) (n : ℕ) → ((t : ℕ) → length (f t) ≡ n) → (a k : ℕ) →
     length (flat_map f (range_with_len a k)) ≡ k * n
 length-each f n h a zero = omega arith
-length-each f n h a (suc k) =
-    (let e = length-append (f a) (flat_map f (range_with_len (a + 1) k)) in let c = h a in
-    let i = length-each f n h (a + 1) k in
-    let m : suc k * n ≡ n + k * n = omega arith in omega (arith, e, c, i, m))
+length-each f n h a (suc k) = (omega (
+  arith,
+  length-append (f a) (flat_map f (range_with_len (a + 1) k)),
+  h a,
+  length-each f n h (a + 1) k,
+))
 
 -- the stores of a put are as many as stripes and providers
 pub length-stores : (s : Setup) (job : Job) (bytes : List ℕ) → length (store_actions s job bytes)
@@ -65,25 +67,31 @@ module _ (start w : State) (name bytes : List ℕ) (profile : ℕ) (job : Job) (
     made-is : take job.place (actions_of (setup_in start) job) ≡ append_actions ++ (stores ++ [])
     made-is = ap (λ n. take n (actions_of (setup_in start) job)) place-is
         ∙ (ap (λ xs. take (length append_actions + (length stores + 0)) xs) list
-        ∙ (take-append-add append_actions (stores ++ rest) (length stores + 0)
-        ∙ ap (λ xs. append_actions ++ xs) (take-append-add stores rest 0)))
+        ∙ (cc (
+          take-append-add append_actions (stores ++ rest) (length stores + 0),
+          take-append-add stores rest 0,
+        )))
 
     -- its start is in effect, and its end is not
     pub started : w.records ≡ PutStart (next_id start.records) name ∷ start.records
     started = by_records w.records refl W.records
       where
         some : 0 < appends_left (setup_in start) job
-        some = (let e = ap appends_in left-is in
-            let m = appends-move (remove_actions (setup_in start) job ++ End ∷ []) in omega (arith, e, m))
+        some = (omega (
+          arith,
+          ap appends_in left-is,
+          appends-move (remove_actions (setup_in start) job ++ End
+              ∷ []),
+        ))
 
         few : appends_left (setup_in start) job ≤ 1
         few = put-later (setup_in start) job name bytes W.kind_is (omega (arith, at))
 
         by_records : (rs : List Record) → w.records ≡ rs → RecordsAre start (PutJob name bytes) job rs →
             w.records ≡ PutStart (next_id start.records) name ∷ start.records
-        by_records rs e (RecordsAre.none l is) = absurd (let c = few in omega (arith, l, c))
+        by_records rs e (RecordsAre.none l is) = absurd (omega (arith, few, l))
         by_records rs e (RecordsAre.one l is) = e ∙ is
-        by_records rs e (RecordsAre.two entry l sec is) = absurd (let c = some in omega (arith, l, c))
+        by_records rs e (RecordsAre.two entry l sec is) = absurd (omega (arith, some, l))
 
     -- it has no append in flight, and no record is in doubt
     unmoved : (w.append ≡ None) × (w.doubt ≡ None)

@@ -28,8 +28,7 @@ opens-fetches s [] acts h = tt
 opens-fetches s (p ∷ ps) acts (stores, rest, is, more) = (
   Work p.object p.stripe ∷ stores,
   rest,
-  is
-      ∙ ap (λ l. l ++ rest) (append_assoc (fetches_at s p) (Work p.object p.stripe ∷ []) stores),
+  cc (append_assoc (fetches_at s p) (Work p.object p.stripe ∷ []) stores),
   opens-fetches s ps rest more,
 )
 
@@ -51,9 +50,10 @@ fetches-done s job [] ps acts h = h
 fetches-done s job (p ∷ done) ps acts h = (
   Work p.object p.stripe ∷ rewrite_actions s job p.object p.stripe,
   flat_map (actions_at s job) done ++ acts,
-  append_assoc (actions_at s job p) (flat_map (actions_at s job) done) acts
-      ∙ ap (λ l. l ++ (flat_map (actions_at s job) done ++ acts))
-      (append_assoc (fetches_at s p) (Work p.object p.stripe ∷ []) (rewrite_actions s job p.object p.stripe)),
+  cc (
+    append_assoc (actions_at s job p) (flat_map (actions_at s job) done) acts,
+    append_assoc (fetches_at s p) (Work p.object p.stripe ∷ []) (rewrite_actions s job p.object p.stripe),
+  ),
   fetches-done s job done ps acts h,
 )
 
@@ -137,7 +137,7 @@ module _ (s : Setup) (job : Job) (p : Place) where
       (Work p.object p.stripe ∷ rewrite_actions s job p.object p.stripe) q (Work o t)
       (ap (λ xs. slice_get xs q) (sym split-place) ∙ h)) [
         | inl a ↦ absurd (each_get IsFetch (fetches_at s p) q (Work o t) fetches-only a.1)
-        | inr b ↦ at (q - length (fetches_at s p)) refl (let e = b.0 in omega (arith, e)) b.1
+        | inr b ↦ at (q - length (fetches_at s p)) refl (omega arith) b.1
       ]
     where
       at : (r : ℕ) → r ≡ q - length (fetches_at s p) →
@@ -152,12 +152,8 @@ module _ (s : Setup) (job : Job) (p : Place) where
             ∙ (take-append-add (fetches_at s p)
             (Work p.object p.stripe ∷ rewrite_actions s job p.object p.stripe) 0
             ∙ append-nil (fetches_at s p))),
-        (let f : Work p.object p.stripe ≡ Work o t =
-            (let k : Some (Work p.object p.stripe) ≡ Some (Work o t) = g in cc) in
-            sym (let m : p.object ≡ o = cc in m)),
-        (let f : Work p.object p.stripe ≡ Work o t =
-            (let k : Some (Work p.object p.stripe) ≡ Some (Work o t) = g in cc) in
-            sym (let m : p.stripe ≡ t = cc in m)),
+        (sym (let m : p.object ≡ o = cc in m)),
+        (sym (let m : p.stripe ≡ t = cc in m)),
       )
       at (suc r) e is g = absurd
           (each_get IsStoreAt (rewrite_actions s job p.object p.stripe) r (Work o t)
@@ -257,11 +253,10 @@ stored-at s job j (q ∷ ps) p l f (inl e) =
     range a zero lo hi = absurd (omega (arith, lo, hi))
     range a (suc m) lo hi = elim (cases_eq a j) [
       | inl same ↦ in_left (cond (job.flagged a) (Store a q.object q.stripe ∷ []) [])
-          (flat_map (λ k. cond (job.flagged k) (Store k q.object q.stripe ∷ []) [])
-          (range_with_len (a + 1) m)) (Store j q.object q.stripe)
-          (subst (λ xs. In (Store j q.object q.stripe) xs)
+          (flat_map (λ k. cond (job.flagged k) (Store k q.object q.stripe ∷ []) []) (range_with_len (a + 1)
+          m)) (Store j q.object q.stripe) (subst (λ xs. In (Store j q.object q.stripe) xs)
           (sym (cond_true (job.flagged a) (Store a q.object q.stripe ∷ []) [] (ap job.flagged same ∙ f)))
-          (inl (ap (λ k. Store k q.object q.stripe) (sym same))))
+          (inl (cc)))
       | inr apart ↦ in_right (cond (job.flagged a) (Store a q.object q.stripe ∷ []) [])
           (flat_map (λ k. cond (job.flagged k) (Store k q.object q.stripe ∷ []) [])
           (range_with_len (a + 1) m)) (Store j q.object q.stripe)
@@ -272,9 +267,8 @@ stored-at s job j (q ∷ ps) p l f (inl e) =
 no-store : (job : Job) (n : ℕ) (ps : List Place) (j o t : ℕ) →
     ((job.flagged j ≡ true) × In (record { object = o; stripe = t }) ps → ⊥) → (a : Action) →
     IsStoreOf job n ps a → IsNot (Store j o t) a
-no-store job n ps j o t none (Store k p u) h e = none
-    (let a : j ≡ k = (let f = e in cc) in let b : o ≡ p = (let f = e in cc) in
-    let c : t ≡ u = (let f = e in cc) in (
+no-store job n ps j o t none (Store k p u) h e = none (let a : j ≡ k = (cc) in let b : o ≡ p = (cc) in
+    let c : t ≡ u = (cc) in (
       ap job.flagged a ∙ h.1,
       subst (λ (z : Place). In z ps)
           (λ i. record { object = sym b i; stripe = sym c i }) h.2,

@@ -24,8 +24,7 @@ stripes-places : (s : Setup) (job : Job) (id : ℕ) (stripes : List ℕ) →
     flat_map (λ stripe. open_actions s id stripe ++ rewrite_actions s job id stripe) stripes
     ≡ flat_map (actions_at s job) (map (λ stripe. record { object = id; stripe = stripe }) stripes)
 stripes-places s job id [] = refl
-stripes-places s job id (t ∷ ts) =
-    ap (λ l. (open_actions s id t ++ rewrite_actions s job id t) ++ l) (stripes-places s job id ts)
+stripes-places s job id (t ∷ ts) = cc (stripes-places s job id ts)
 
 files-places : (s : Setup) (w : State) (job : Job) (fs : List File) →
     Each (λ (f : File). length (w.bytes f.id) ≡ f.size) fs →
@@ -36,14 +35,10 @@ files-places s w job [] h = refl
 files-places s w job (f ∷ fs) h =
     (let one : flat_map (λ stripe. open_actions s f.id stripe ++ rewrite_actions s job f.id stripe)
     (upto (stripes_of (profiled s f.profile) (length (w.bytes f.id)))) ≡ flat_map (actions_at s job)
-    (map (λ stripe. record { object = f.id; stripe = stripe })
-    (upto (stripes_of (profiled s f.profile) f.size))) =
-    ap (λ n. flat_map (λ stripe. open_actions s f.id stripe ++ rewrite_actions s job f.id stripe)
-    (upto (stripes_of (profiled s f.profile) n))) h.0
-    ∙ stripes-places s job f.id (upto (stripes_of (profiled s f.profile) f.size)) in
+    (map (λ stripe. record { object = f.id; stripe = stripe }) (upto (stripes_of (profiled s f.profile)
+    f.size))) = cc (stripes-places s job f.id (upto (stripes_of (profiled s f.profile) f.size))) in
     (λ i. one i ++ files-places s w job fs h.1 i)
-    ∙ sym (flat_map-append (actions_at s job)
-    (map (λ stripe. record { object = f.id; stripe = stripe })
+    ∙ sym (flat_map-append (actions_at s job) (map (λ stripe. record { object = f.id; stripe = stripe })
     (upto (stripes_of (profiled s f.profile) f.size))) (places_in s fs)))
 
 -- the actions of a repair are those of its places, in order
@@ -51,10 +46,11 @@ pub repairs-places : (s : Setup) (w : State) (job : Job) (files : List File) →
     Each (λ (f : File). length (w.bytes f.id) ≡ f.size) files →
     repair_actions s job ≡ flat_map (actions_at s job) (places s files)
 repairs-places s w job files pinned h =
-    ap (λ ps. flat_map (λ (f : Pinned). on_each_stripe (profiled s f.profile) (length f.bytes)
-    (λ stripe. open_actions s f.id stripe ++ rewrite_actions s job f.id stripe)) ps)
-    (pinned ∙ pinned-by_number w files) ∙ files-places s w job (files_by_number files)
-    (each-by_number (λ (f : File). length (w.bytes f.id) ≡ f.size) files h)
+    cc (
+      pinned-by_number w files,
+      files-places s w job (files_by_number files)
+          (each-by_number (λ (f : File). length (w.bytes f.id) ≡ f.size) files h),
+    )
 
 -- ---- no place comes twice
 
@@ -79,30 +75,27 @@ apart-stripes id a (suc n) = (above (a + 1) n (omega arith), apart-stripes id (a
         Each (IsElse (record { object = id; stripe = a }))
         (map (λ stripe. record { object = id; stripe = stripe }) (range_with_len b m))
     above b zero l = tt
-    above b (suc m) l = ((λ e. (let f = e.1 in omega (arith, f, l))), above (b + 1) m (omega (arith, l)))
+    above b (suc m) l = ((λ e. (omega (arith, l))), above (b + 1) m (omega (arith, l)))
 
 places-above : (s : Setup) (w : State) (low : ℕ) (fs : List File) →
     AreAscending low (map (pinned_file w) fs) → Each (λ (p : Place). low ≤ p.object) (places_in s fs)
 places-above s w low [] h = tt
 places-above s w low (f ∷ fs) h = each_append (λ (p : Place). low ≤ p.object)
-    (map (λ stripe. record { object = f.id; stripe = stripe })
-    (upto (stripes_of (profiled s f.profile) f.size))) (places_in s fs)
-    (each_map (λ (p : Place). low ≤ p.object) (λ stripe. record { object = f.id; stripe = stripe })
-    (upto (stripes_of (profiled s f.profile) f.size)) (λ t. h.0))
-    (each_mono (λ (p : Place). f.id + 1 ≤ p.object) (λ (p : Place). low ≤ p.object) (places_in s fs)
-    (λ p l. (let a = h.0 in omega (arith, l, a))) (places-above s w (f.id + 1) fs h.1))
+    (map (λ stripe. record { object = f.id; stripe = stripe }) (upto (stripes_of (profiled s f.profile)
+    f.size))) (places_in s fs) (each_map (λ (p : Place). low ≤ p.object)
+    (λ stripe. record { object = f.id; stripe = stripe }) (upto (stripes_of (profiled s f.profile) f.size))
+    (λ t. h.0)) (each_mono (λ (p : Place). f.id + 1 ≤ p.object) (λ (p : Place). low ≤ p.object)
+    (places_in s fs) (λ p l. (omega (arith, l))) (places-above s w (f.id + 1) fs h.1))
 
 places-apart : (s : Setup) (w : State) (low : ℕ) (fs : List File) →
     AreAscending low (map (pinned_file w) fs) → AreApart (places_in s fs)
 places-apart s w low [] h = tt
-places-apart s w low (f ∷ fs) h =
-    apart-append (map (λ stripe. record { object = f.id; stripe = stripe })
-    (upto (stripes_of (profiled s f.profile) f.size))) (places_in s fs)
-    (apart-stripes f.id 0 (stripes_of (profiled s f.profile) f.size)) (places-apart s w (f.id + 1) fs h.1)
+places-apart s w low (f ∷ fs) h = apart-append (map (λ stripe. record { object = f.id; stripe = stripe })
+    (upto (stripes_of (profiled s f.profile) f.size))) (places_in s fs) (apart-stripes f.id 0
+    (stripes_of (profiled s f.profile) f.size)) (places-apart s w (f.id + 1) fs h.1)
     (each_map (λ p. Each (IsElse p) (places_in s fs)) (λ stripe. record { object = f.id; stripe = stripe })
-    (upto (stripes_of (profiled s f.profile) f.size))
-    (λ t. each_mono (λ (p : Place). f.id + 1 ≤ p.object) (IsElse (record { object = f.id; stripe = t }))
-    (places_in s fs) (λ p l e. (let a = e.0 in omega (arith, l, a)))
+    (upto (stripes_of (profiled s f.profile) f.size)) (λ t. each_mono (λ (p : Place). f.id + 1 ≤ p.object)
+    (IsElse (record { object = f.id; stripe = t })) (places_in s fs) (λ p l e. (omega (arith, l)))
     (places-above s w (f.id + 1) fs h.1)))
 
 -- no place of files comes twice, where they ascend by number
@@ -202,7 +195,7 @@ ordered-fetches o s a (suc n) = (above (a + 1) n (omega arith), ordered-fetches 
     above : (b m : ℕ) → a < b → Each (IsNot (Fetch a o s)) (map (λ j. Fetch j o s) (range_with_len b m))
     above b zero l = tt
     above b (suc m) l = (
-      (λ e. (let f : a ≡ b = (let g = e in cc) in omega (arith, f, l))),
+      (λ e. (let f : a ≡ b = (cc) in omega (arith, f, l))),
       above (b + 1) m (omega (arith, l)),
     )
 
@@ -253,23 +246,15 @@ pub data Cut (A : Place → List Action) (ps : List Place) (tail : List Action) 
 pub cut-at : (A : Place → List Action) (ps : List Place) (tail : List Action) (p : ℕ) (a : Action) →
     slice_get (flat_map A ps ++ tail) p ≡ Some a → Cut A ps tail p a
 cut-at A [] tail p a h = Cut.behind p h refl
-cut-at A (x ∷ ps) tail p a h =
-    (let assoc : (A x ++ flat_map A ps) ++ tail ≡ A x ++ (flat_map A ps ++ tail) =
-    append_assoc (A x) (flat_map A ps) tail in
-    elim (split_get (A x) (flat_map A ps ++ tail) p a (ap (λ xs. slice_get xs p) (sym assoc) ∙ h)) [
+cut-at A (x ∷ ps) tail p a h = (let assoc : (A x ++ flat_map A ps) ++ tail ≡ A x ++ (flat_map A ps ++ tail) =
+    append_assoc (A x) (flat_map A ps) tail in elim (split_get (A x) (flat_map A ps ++ tail) p a (cc)) [
       | inl l ↦ Cut.inside [] x ps p refl l.1 (ap (take p) assoc
-          ∙ take-append-le p (A x) (flat_map A ps ++ tail) (let e = l.0 in omega (arith, e)))
-      | inr r ↦ (let n = p - length (A x) in
-          let is : p ≡ length (A x) + n = (let e = r.0 in omega (arith, e)) in
+          ∙ take-append-le p (A x) (flat_map A ps ++ tail) (omega arith))
+      | inr r ↦ (let n = p - length (A x) in let is : p ≡ length (A x) + n = (omega arith) in
           let front : take p ((A x ++ flat_map A ps) ++ tail) ≡ A x ++ take n (flat_map A ps ++ tail) =
-          ap (take p) assoc ∙ (ap (λ k. take k (A x ++ (flat_map A ps ++ tail))) is
-          ∙ take-append-add (A x) (flat_map A ps ++ tail) n) in
-          elim (cut-at A ps tail n a r.1) [
-            | Cut.inside done place rest q e at t ↦ Cut.inside (x ∷ done) place rest q
-                (ap (λ l. x ∷ l) e) at (front
-                ∙ (ap (λ l. A x ++ l) t ∙ sym (append_assoc (A x) (flat_map A done) (take q (A place)))))
-            | Cut.behind q at t ↦
-                Cut.behind q at (front
-                ∙ (ap (λ l. A x ++ l) t ∙ sym (append_assoc (A x) (flat_map A ps) (take q tail))))
+          cc (take-append-add (A x) (flat_map A ps ++ tail) n) in elim (cut-at A ps tail n a r.1) [
+            | Cut.inside done place rest q e at t ↦ Cut.inside (x ∷ done) place rest q (ap (λ l. x ∷ l) e) at
+                (cc (append_assoc (A x) (flat_map A done) (take q (A place))))
+            | Cut.behind q at t ↦ Cut.behind q at (cc (append_assoc (A x) (flat_map A ps) (take q tail)))
           ])
     ])

@@ -16,26 +16,21 @@ among-found q p (g ∷ gs) id all f i e = elim (cases_Bool (g.id == id)) [
 ]
   where
     later : In f (g ∷ gs) → (g.id == id) ≡ false → In f gs
-    later (inl same) o = absurd
-        (let a : (g.id == id) ≡ true = eq-eqb g.id id (ap (λ (z : File). z.id) (sym same) ∙ e) in
-        let b : true ≡ false = sym a ∙ o in cc)
+    later (inl same) o = absurd (let a : (g.id == id) ≡ true = eq-eqb g.id id (cc) in cc)
     later (inr j) o = j
 
 -- two files in effect of one number have one profile
 one-profile : (rs : List Record) → AreAccepted rs → (f g : File) → In f (files_of rs) → In g (files_of rs) →
     g.id ≡ f.id → g.profile ≡ f.profile
-one-profile rs accepted f g i j same =
-    (let a : file_of rs g.name ≡ Some g = listed_file rs g j in
+one-profile rs accepted f g i j same = (let a : file_of rs g.name ≡ Some g = listed_file rs g j in
     let b : file_of rs f.name ≡ Some f = listed_file rs f i in
-    let names : g.name ≡ f.name = (sound-accepted rs accepted).one_name g.name f.name g f a b same in
-    ap (λ (z : File). z.profile) (same_value (file_of rs g.name) g f a (ap (file_of rs) names ∙ b)))
+    let names : g.name ≡ f.name = (sound-accepted rs accepted).one_name g.name f.name g f a b same in cc)
 
 -- the object of a file in effect is that of its number
 pub numbered-file : (x : Ran) → AreAccepted x.records → (file : File) → In file (files_of x.records) →
     object_numbered x file.id ≡ object_at_begin x file
-numbered-file x accepted file i = ap (λ p. object_of (profiled (setup_at_begin x) p) file.id)
-    (among-found (setup_at_begin x).profile file.profile (files_of x.records) file.id
-    (λ g j same. one-profile x.records accepted file g i j same) file i refl)
+numbered-file x accepted file i = cc (among-found (setup_at_begin x).profile file.profile (files_of x.records)
+    file.id (λ g j same. one-profile x.records accepted file g i j same) file i refl)
 
 -- ---- files by number have the profiles that they have in any order
 
@@ -61,13 +56,10 @@ swapped : (f g : File) (id later : ℕ) → (g.id ≡ f.id → g.profile ≡ f.p
 swapped f g id later one = elim (cases_Bool (g.id == id)) [
   | inl t ↦ cond_true (g.id == id) g.profile (first_or f id later) t
       ∙ elim (cases_Bool (f.id == id)) [
-        | inl u ↦ one (eqb-true g.id id t ∙ sym (eqb-true f.id id u))
-            ∙ sym (cond_true (f.id == id) f.profile (first_or g id later) u)
-        | inr n ↦ sym (cond_false (f.id == id) f.profile (first_or g id later) n
-            ∙ cond_true (g.id == id) g.profile later t)
+        | inl u ↦ one (eqb-true g.id id t ∙ sym (eqb-true f.id id u)) ∙ sym (cc)
+        | inr n ↦ cc
       ]
-  | inr o ↦ cond_false (g.id == id) g.profile (first_or f id later) o
-      ∙ sym (ap (λ n. first_or f id n) (cond_false (g.id == id) g.profile later o))
+  | inr o ↦ cc
 ]
 
 with-among : (q : ℕ) (f : File) (fs : List File) (id : ℕ) →
@@ -75,26 +67,29 @@ with-among : (q : ℕ) (f : File) (fs : List File) (id : ℕ) →
     profile_among q (with_number f fs) id ≡ profile_among q (f ∷ fs) id
 with-among q f [] id h = refl
 with-among q f (g ∷ gs) id h = elim (cases_Bool (nat_lt f.id g.id)) [
-  | inl t ↦ ap (λ l. profile_among q l id)
-      (cond_true (nat_lt f.id g.id) (f ∷ g ∷ gs) (g ∷ with_number f gs) t)
-  | inr o ↦ ap (λ l. profile_among q l id)
-      (cond_false (nat_lt f.id g.id) (f ∷ g ∷ gs) (g ∷ with_number f gs) o)
-      ∙ (ap (λ n. first_or g id n) (with-among q f gs id h.1) ∙ swapped f g id (profile_among q gs id) h.0)
+  | inl t ↦ cc
+  | inr o ↦ cc (
+    cond_false (nat_lt f.id g.id) (f ∷ g ∷ gs) (g ∷ with_number f gs) o,
+    with-among q f gs id h.1,
+    swapped f g id (profile_among q gs id) h.0,
+  )
 ]
 
 by-number-among : (q : ℕ) (fs : List File) (id : ℕ) → AreOne fs →
     profile_among q (files_by_number fs) id ≡ profile_among q fs id
 by-number-among q [] id h = refl
 by-number-among q (f ∷ fs) id h =
-    with-among q f (files_by_number fs) id
-    (each-by_number (λ (g : File). g.id ≡ f.id → g.profile ≡ f.profile) fs h.0)
-    ∙ ap (λ n. first_or f id n) (by-number-among q fs id h.1)
+    cc (
+      with-among q f (files_by_number fs) id (each-by_number (λ (g : File). g.id ≡ f.id →
+          g.profile ≡ f.profile) fs h.0),
+      by-number-among q fs id h.1,
+    )
 
 -- the pins of files have their profiles
 pinned-among : (w : State) (q : ℕ) (fs : List File) (id : ℕ) →
     pinned_profile q (map (pinned_file w) fs) id ≡ profile_among q fs id
 pinned-among w q [] id = refl
-pinned-among w q (f ∷ fs) id = ap (λ n. first_or f id n) (pinned-among w q fs id)
+pinned-among w q (f ∷ fs) id = cc (pinned-among w q fs id)
 
 -- ---- a state whose vault was just opened
 
@@ -118,16 +113,9 @@ module _ (start : State) (O : IsOpenAtRest start 1) where
       object_made (with_job_of start (GetJob name) job) file.id
       ≡ object_of (profiled (setup_in start) file.profile) file.id
   made-got name job file in_effect =
-      ap (λ (o : Option File). object_of (profiled (setup_in start)
-      (pinned_profile (setup_in start).profile (pin_found (pinned_file start) o) file.id)) file.id) in_effect
-      ∙ ap (λ p. object_of (profiled (setup_in start) p) file.id)
-      (cond_true (file.id == file.id) file.profile (setup_in start).profile
-      (eq-eqb file.id file.id refl))
+      cc (cond_true (file.id == file.id) file.profile (setup_in start).profile (eq-eqb file.id file.id refl))
 
   module _ (kind : Kind) (w : State) (job : Job) (W : Walked start kind w job) where
     -- the object that a job works on is that which its actions are made with
     pub worked-made : (id : ℕ) → worked_object w job id ≡ object_made (with_job_of start kind job) id
-    worked-made id =
-        ap (λ (s : Setup). object_of (profiled s (pinned_profile s.profile job.pinned id)) id) W.setup
-        ∙ ap (λ ps. object_of (profiled (setup_in start)
-        (pinned_profile (setup_in start).profile ps id)) id) W.pinned
+    worked-made id = cc

@@ -71,22 +71,16 @@ rises-same p = (omega arith, omega arith)
 
 -- counts that do not fall twice do not fall in both together
 pub rises-more : (p q r : Provider) → Rises p q → Rises q r → Rises p r
-rises-more p q r a b =
-    ((let c = a.0 in let d = b.0 in omega (arith, c, d)), (let c = a.1 in let d = b.1 in omega (arith, c, d)))
+rises-more p q r a b = ((omega arith), (omega arith))
 
 -- no count of a provider falls by a call of it
 pub called-rises : (x : With) (a : Action) (given now : List Given) (i : ℕ) (p q : Provider) →
     Called x a given now i p q → Rises p q
-called-rises x (Store j o s) given now i p q (e, c, is) =
-    (c.counts.store_faults, (let f = c.counts.other_faults in omega (arith, f)))
-called-rises x (Fetch j o s) given now i p q (e, (block, c, is)) =
-    ((let f = c.counts.store_faults in omega (arith, f)), c.counts.other_faults)
-called-rises x (Ask j o r) given now i p q (e, (symbol, c, is)) =
-    ((let f = c.counts.store_faults in omega (arith, f)), c.counts.other_faults)
-called-rises x (Remove j o) given now i p q (e, inl c, is) =
-    ((let f = c.counts.store_faults in omega (arith, f)), c.counts.other_faults)
-called-rises x (Remove j o) given now i p q (e, inr c, is) =
-    ((let f = c.counts.store_faults in omega (arith, f)), c.counts.other_faults)
+called-rises x (Store j o s) given now i p q (e, c, is) = (c.counts.store_faults, (omega arith))
+called-rises x (Fetch j o s) given now i p q (e, (block, c, is)) = ((omega arith), c.counts.other_faults)
+called-rises x (Ask j o r) given now i p q (e, (symbol, c, is)) = ((omega arith), c.counts.other_faults)
+called-rises x (Remove j o) given now i p q (e, inl c, is) = ((omega arith), c.counts.other_faults)
+called-rises x (Remove j o) given now i p q (e, inr c, is) = ((omega arith), c.counts.other_faults)
 called-rises x a given now i p q h = absurd h
 
 -- an action that calls no provider from this number on

@@ -22,9 +22,8 @@ with_block-hit o t block p = cond_true ((o == o) && (t == t)) (Some block) (p o 
 with_block-cases : (o t : ℕ) (block : List ℕ) (p : Held) (i u : ℕ) →
     (with_block o t block p i u ≡ p i u) ⊎ ((i ≡ o) × (u ≡ t) × (with_block o t block p i u ≡ Some block))
 with_block-cases o t block p i u = elim (cases_Bool ((i == o) && (u == t))) [
-  | inl y ↦ (let b = and_parts (i == o) (u == t) y in
-      inr (eqb-true i o b.0, eqb-true u t b.1, cond_true ((i == o) && (u == t)) (Some block) (p i u) y))
-  | inr n ↦ inl (cond_false ((i == o) && (u == t)) (Some block) (p i u) n)
+  | inl y ↦ (let b = and_parts (i == o) (u == t) y in inr (eqb-true i o b.0, eqb-true u t b.1, cc))
+  | inr n ↦ inl (cc)
 ]
 
 -- ---- the stores of a file, for one provider
@@ -55,9 +54,7 @@ module _ (s : Setup) (profile : ℕ) (name bytes : List ℕ) (subject id : ℕ) 
       StoresRange a (suc n) p q
   range-more a n p q R = record {
     stored = λ t l u. elim (cases_eq t a) [
-      | inl e ↦ R.others id t (λ f. inl (omega (arith, e)))
-          ∙ (ap (λ k. with_block id a (block a) p id k) e
-          ∙ (with_block-hit id a (block a) p ∙ ap (λ k. Some (block k)) (sym e)))
+      | inl e ↦ cc (R.others id t (λ f. inl (omega (arith, e))), with_block-hit id a (block a) p)
       | inr m ↦ R.stored t (omega (arith, l, m)) (omega (arith, u))
     ];
     others = λ o t n. R.others o t
@@ -65,9 +62,8 @@ module _ (s : Setup) (profile : ℕ) (name bytes : List ℕ) (subject id : ℕ) 
         ∙ elim (with_block-cases id a (block a) p o t) [
           | inl same ↦ same
           | inr hit ↦ absurd (elim (n hit.0) [
-            | inl l ↦ (let e = hit.1 in omega (arith, l, e))
-            | inr g ↦
-                (let e = hit.1 in omega (arith, g, e))
+            | inl l ↦ (omega (arith, l))
+            | inr g ↦ (omega (arith, g))
           ])
         ];
   }
@@ -120,8 +116,7 @@ module _ (s : Setup) (profile : ℕ) (name bytes : List ℕ) (subject id : ℕ) 
 
   partly-store : (t : ℕ) (p : Held) → Partly p (with_block id t (block t) p)
   partly-store t p = record {
-    stored = λ u. elim (with_block-cases id t (block t) p id u)
-        [ inl same ↦ inl same | inr hit ↦ inr (hit.2 ∙ ap (λ k. Some (block k)) (sym hit.1)) ];
+    stored = λ u. elim (with_block-cases id t (block t) p id u) [ inl same ↦ inl same | inr hit ↦ inr (cc) ];
     others = λ o u n. elim (with_block-cases id t (block t) p o u)
         [ inl same ↦ same | inr hit ↦ absurd (n hit.0) ];
   }
@@ -136,11 +131,7 @@ module _ (s : Setup) (profile : ℕ) (name bytes : List ℕ) (subject id : ℕ) 
       stored : (k o t : ℕ) (p q : Provider) → j ≡ k → o ≡ id →
           Stores o t (columns (object_of (profiled s profile) o) bytes k t) p q → Goes Partly p.held q.held
       stored k o t p q at is c = goes-map Partly (with_block id t (block t)) (partly-store t) p.held q.held
-          (subst (λ i. q.held ≡ option_map (with_block id t (columns made bytes i t)) p.held)
-          (sym at)
-          (subst (λ i. q.held
-          ≡ option_map (with_block i t (columns (object_of (profiled s profile) i) bytes k t)) p.held) is
-          c.held))
+          (cc)
 
       one : (a : Action) (given now : List Given) (p q : Provider) → IsStoring a →
           Called x a given now j p q → Goes Partly p.held q.held
@@ -162,10 +153,10 @@ module _ (s : Setup) (profile : ℕ) (name bytes : List ℕ) (subject id count :
       StoresRange s profile name bytes subject id pinned j 0 count p q → r ≡ q →
       StoredOn whole_made bytes None rose j p r
   whole-none rose p q r size R same = record {
-    stored = λ t l. ap (λ (h : Held). h id t) same ∙ R.stored t (omega arith) (omega (arith, l, size));
+    stored = λ t l. cc (R.stored t (omega arith) (omega (arith, l, size)));
     removed = tt;
     others = λ o t n. ap (λ (h : Held). h o t) same
-        ∙ R.others o t (λ e. inr (let l = n.stored e in omega (arith, l, size)));
+        ∙ R.others o t (λ e. inr (omega (arith, n.stored e, size)));
   }
 
   whole-some : (rose : Type 0) (f : File) (p q r : Held) → count ≡ stripes whole_made (length bytes) →
@@ -175,8 +166,7 @@ module _ (s : Setup) (profile : ℕ) (name bytes : List ℕ) (subject id count :
     stored = λ t l. D.others id t (λ e. apart (sym e)) ∙ R.stored t (omega arith) (omega (arith, l, size));
     removed = λ t. elim (D.gone t)
         [ inl none ↦ inl none | inr same ↦ inr (same.0, same.1 ∙ R.others f.id t (λ e. absurd (apart e))) ];
-    others = λ o t n. D.others o t n.removed
-        ∙ R.others o t (λ e. inr (let l = n.stored e in omega (arith, l, size)));
+    others = λ o t n. D.others o t n.removed ∙ R.others o t (λ e. inr (omega (arith, n.stored e, size)));
   }
 
 -- the stores of a put, once all are made, store its file on each provider
@@ -197,7 +187,7 @@ all-stored s profile name bytes job id pinned old new given now j is drawn below
     count = stripes_of (profiled s job.profile) (length bytes)
 
     size : count ≡ stripes (object_of (profiled s profile) id) (length bytes)
-    size = ap (λ p. stripes_of (profiled s p) (length bytes)) is
+    size = cc
 
 -- ---- the list of a put
 
@@ -228,9 +218,11 @@ put_front s job bytes = append_actions ++ (store_actions s job bytes ++ append_a
 
 put-parts : (s : Setup) (job : Job) (name bytes : List ℕ) → job.kind ≡ PutJob name bytes →
     actions_of s job ≡ put_front s job bytes ++ (remove_actions s job ++ End ∷ [])
-put-parts s job name bytes kind = put-list s job name bytes kind
-    ∙ ap (λ ys. append_actions ++ ys)
-    (sym (append_assoc (store_actions s job bytes) append_actions (remove_actions s job ++ End ∷ [])))
+put-parts s job name bytes kind = cc (
+  put-list s job name bytes kind,
+  append_assoc (store_actions s job bytes)
+      append_actions (remove_actions s job ++ End ∷ []),
+)
 
 pub writing-put : (s : Setup) (job : Job) (name bytes : List ℕ) → job.kind ≡ PutJob name bytes →
     Each IsWriting (actions_of s job)
@@ -270,20 +262,16 @@ writing-put s job name bytes kind = subst (Each IsWriting) (sym (put-list s job 
 store-place : (s : Setup) (job : Job) (bytes : List ℕ) (p k o t : ℕ) →
     slice_get (append_actions ++ put_rest s job bytes) p ≡ Some (Store k o t) →
     (4 ≤ p) × (0 < appends_in (drop p (append_actions ++ put_rest s job bytes)))
-store-place s job bytes zero k o t h = absurd (let e : Some WriteBody ≡ Some (Store k o t) = h in cc)
-store-place s job bytes (suc zero) k o t h = absurd (let e : Some SyncBody ≡ Some (Store k o t) = h in cc)
-store-place s job bytes (suc (suc zero)) k o t h =
-    absurd (let e : Some WriteGate ≡ Some (Store k o t) = h in cc)
-store-place s job bytes (suc (suc (suc zero))) k o t h =
-    absurd (let e : Some SyncGate ≡ Some (Store k o t) = h in cc)
+store-place s job bytes zero k o t h = cc
+store-place s job bytes (suc zero) k o t h = cc
+store-place s job bytes (suc (suc zero)) k o t h = cc
+store-place s job bytes (suc (suc (suc zero))) k o t h = cc
 store-place s job bytes (suc (suc (suc (suc q)))) k o t h = (
   omega arith,
   elim (split_get (store_actions s job bytes) (append_actions ++ (remove_actions s job ++ End ∷ [])) q
       (Store k o t) h) [
-        | inl a ↦ left-within (store_actions s job bytes)
-            (append_actions ++ (remove_actions s job ++ End ∷ [])) q a.0
-            (let e = appends-append append_actions (remove_actions s job ++ End ∷ []) in let f : appends_in
-            append_actions ≡ 1 = refl in omega (arith, e, f))
+        | inl a ↦ left-within (store_actions s job bytes) (append_actions ++ (remove_actions s job ++ End ∷
+            [])) q a.0 (omega (arith, appends-append append_actions (remove_actions s job ++ End ∷ [])))
         | inr b ↦ absurd (each_get NoStore (append_actions ++ (remove_actions s job ++ End ∷ []))
             (q - length (store_actions s job bytes)) (Store k o t) (none-stored s job) b.1)
       ],
@@ -310,7 +298,7 @@ module _ (start new : State) (name bytes : List ℕ) (own : Option ℕ) (how : A
   -- the stripes are those of its profile
   count-same : stripes_of (profiled (setup_in start) E.job.profile) (length bytes)
       ≡ stripes stored_as (length bytes)
-  count-same = ap (λ p. stripes_of (profiled (setup_in start) p) (length bytes)) E.walked.profile_is
+  count-same = cc
 
   -- its last record
   ends-with : done_record (version_of start.records) (next_id start.records) (length bytes) E.job.profile
@@ -320,7 +308,7 @@ module _ (start new : State) (name bytes : List ℕ) (own : Option ℕ) (how : A
       E.walked.profile_is
 
   nothing-heard : heard ≡ []
-  nothing-heard = E.heard_is ∙ ap (heard_by_kind E.job) E.walked.kind_is
+  nothing-heard = cc
 
   -- ---- a put that was cut off
 
@@ -354,9 +342,7 @@ module _ (start new : State) (name bytes : List ℕ) (own : Option ℕ) (how : A
       Each (IsStoring (setup_in start) its name bytes E.job.subject (next_id start.records) [] 0)
       (take E.job.place (actions_of (setup_in start) E.job))
   storing-taken action at n m = elim (cases_eq E.job.place 0) [
-    | inl first ↦ subst (λ p. Each
-        (IsStoring (setup_in start) its name bytes E.job.subject (next_id start.records) [] 0)
-        (take p (actions_of (setup_in start) E.job))) (sym first) tt
+    | inl first ↦ cc
     | inr later ↦ subst (λ i. Each (IsStoring (setup_in start) its name bytes E.job.subject i [] 0)
         (take E.job.place (actions_of (setup_in start) E.job))) (subject-is (omega (arith, later)))
         (subst (λ xs. Each (IsStoring (setup_in start) its name bytes E.job.subject E.job.subject [] 0)
@@ -366,15 +352,14 @@ module _ (start new : State) (name bytes : List ℕ) (own : Option ℕ) (how : A
       front : Each (IsStoring (setup_in start) its name bytes E.job.subject E.job.subject [] 0)
           (take E.job.place (put_front (setup_in start) E.job
           bytes ++ (remove_actions (setup_in start) E.job ++ End ∷ [])))
-      front = elim (split_get (put_front (setup_in start) E.job bytes)
-          (remove_actions (setup_in start) E.job ++ End ∷ []) E.job.place action
-          (ap (λ xs. slice_get xs E.job.place)
-          (sym (put-parts (setup_in start) E.job name bytes E.walked.kind_is)) ∙ listed E action at n)) [
-            | inl a ↦ subst
-                (Each (IsStoring (setup_in start) its name bytes E.job.subject E.job.subject [] 0))
-                (sym (take-within (put_front (setup_in start) E.job bytes)
-                (remove_actions (setup_in start) E.job ++ End ∷ []) E.job.place
-                (let l = a.0 in omega (arith, l))))
+      front = elim (split_get (put_front (setup_in start) E.job bytes) (remove_actions (setup_in start) E.job
+          ++ End ∷ []) E.job.place action (cc (
+            put-parts (setup_in start) E.job name bytes E.walked.kind_is,
+            listed E action at n,
+          ))) [
+            | inl a ↦ subst (Each (IsStoring (setup_in start) its name bytes E.job.subject E.job.subject []
+                0)) (sym (take-within (put_front (setup_in start) E.job bytes)
+                (remove_actions (setup_in start) E.job ++ End ∷ []) E.job.place (omega arith)))
                 (each_take (IsStoring (setup_in start) its name bytes E.job.subject E.job.subject [] 0)
                 (put_front (setup_in start) E.job bytes) E.job.place storing-front)
             | inr b ↦ absurd (m (each_get IsTail (remove_actions (setup_in start) E.job ++ End ∷ [])
@@ -433,14 +418,12 @@ module _ (start new : State) (name bytes : List ℕ) (own : Option ℕ) (how : A
       | inl l ↦ (moved-first put_with (store_actions (setup_in start) E.job bytes)
           (remove_actions (setup_in start) E.job ++ End ∷ []) E.job.place action move unmoved-stores
           unmoved-tail start.providers E.before.providers E.job.given here made-so-far l).0
-      | inr l ↦ absurd (let c = put-later (setup_in E.before) E.job name bytes E.walked.kind_is l in
-          omega (arith, c, two))
+      | inr l ↦ absurd (omega (arith, put-later (setup_in E.before) E.job name bytes E.walked.kind_is l, two))
     ]
 
     second : appends_left (setup_in E.before) E.job ≡ 1 → 4 ≤ E.job.place
     second one = elim (cases_lt E.job.place 4) [
-      | inl l ↦ absurd (let c = put-first (setup_in E.before) E.job name bytes E.walked.kind_is l in
-          omega (arith, c, one))
+      | inl l ↦ absurd (omega (arith, put-first (setup_in E.before) E.job name bytes E.walked.kind_is l, one))
       | inr l ↦ l
     ]
 
@@ -468,7 +451,7 @@ module _ (start new : State) (name bytes : List ℕ) (own : Option ℕ) (how : A
         (F : Faults start O (PutJob name bytes) E.before E.job E.walked new) →
         (ran.doubt ≡ None) ⊎ (ran.doubt ≡ Some (put_done start.records (length bytes) own))
     doubt-second one F = elim F.doubt [
-      | inl none ↦ inl (ap (option_map (λ (d : Doubt). d.entry)) none)
+      | inl none ↦ inl (cc)
       | inr (d, in_doubt, writes) ↦
           elim (wrote start O (PutJob name bytes) E.before E.job E.walked d.entry F.left writes) [
             | Wrote.first l is entry ↦ absurd (omega (arith, l, one))
@@ -482,9 +465,8 @@ module _ (start new : State) (name bytes : List ℕ) (own : Option ℕ) (how : A
     faulted F = (
       rose-before start.disk_faults E.before.disk_faults new.disk_faults E.walked.disk F.low F.rose,
       elim (two-stand O E.walked refl F.left) [
-        | Stand.at_first l is ↦ PutIsCut.at_start (F.records ∙ is)
-            (first-doubted O E.walked F (λ b. omega (arith, b, l)))
-            (λ j below. ap (λ (f : ℕ → Provider). (f j).held) (F.providers ∙ untouched l))
+        | Stand.at_first l is ↦ PutIsCut.at_start (F.records
+            ∙ is) (first-doubted O E.walked F (λ b. omega (arith, b, l))) (λ j below. cc (untouched l))
         | Stand.at_second l is ↦ PutIsCut.at_done (F.records ∙ is) (doubt-second l F)
             (stores-all (second l) F.providers)
       ],
@@ -502,18 +484,15 @@ module _ (start new : State) (name bytes : List ℕ) (own : Option ℕ) (how : A
   module _ (k o t : ℕ) (at : E.action ≡ Store k o t) where
     place : (4 ≤ E.job.place) × (0 < appends_left (setup_in E.before) E.job)
     place = (let list = put-list (setup_in start) E.job name bytes E.walked.kind_is in
-        let p = store-place (setup_in start) E.job bytes E.job.place k o t
-        (ap (λ xs. slice_get xs E.job.place) (sym list) ∙ listed E (Store k o t) at (λ e. cc)) in (
+        let p = store-place (setup_in start) E.job bytes E.job.place k o t (cc) in (
           p.0,
-          subst (λ n. 0 < n) (ap (λ xs. appends_in (drop E.job.place xs)) (sym list) ∙ left-same O E.walked)
-              p.1,
+          subst (λ n. 0 < n) (cc) p.1,
         ))
 
     started : E.before.records ≡ PutStart (next_id start.records) name ∷ start.records
     started = elim (two-stand O E.walked refl place.1) [
       | Stand.at_first l is ↦
-          absurd (let a = put-later (setup_in E.before) E.job name bytes E.walked.kind_is place.0 in
-          omega (arith, a, l))
+          absurd (omega (arith, put-later (setup_in E.before) E.job name bytes E.walked.kind_is place.0, l))
       | Stand.at_second l is ↦ is
     ]
 
@@ -678,8 +657,8 @@ module _ (start new : State) (name bytes : List ℕ) (own : Option ℕ) (how : A
             RecordsAre start (PutJob name bytes) E.job rs →
             E.before.records ≡ put_done start.records (length bytes) own ∷ PutStart
             (next_id start.records) name ∷ start.records
-        by_records rs e (RecordsAre.none l is) = absurd (let c = no-append in omega (arith, l, c))
-        by_records rs e (RecordsAre.one l is) = absurd (let c = no-append in omega (arith, l, c))
+        by_records rs e (RecordsAre.none l is) = absurd (omega (arith, no-append, l))
+        by_records rs e (RecordsAre.one l is) = absurd (omega (arith, no-append, l))
         by_records rs e (RecordsAre.two entry l sec is) = e
             ∙ (is ∙ ap (λ (r : Record). r ∷ PutStart (next_id start.records) name ∷ start.records)
             (sec ∙ ends-with))
@@ -688,11 +667,10 @@ module _ (start new : State) (name bytes : List ℕ) (own : Option ℕ) (how : A
       new ≡ ended E.before E.job → Gives a
   put-ends answer.Put at so is = (
     record {
-      after = ap (λ (v : State). v.records) is ∙ whole-records at;
-      sure = ap (λ (v : State). option_map (λ (d : Doubt). d.entry) v.doubt) is
-          ∙ ap (option_map (λ (d : Doubt). d.entry)) (end-sure O E.walked refl (last at));
+      after = cc (whole-records at);
+      sure = cc (end-sure O E.walked refl (last at));
     },
-    stores-file at (ap (λ (v : State). v.providers) is),
+    stores-file at (cc),
   )
   put-ends a at so is = absurd so
 

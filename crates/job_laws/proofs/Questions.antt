@@ -64,16 +64,17 @@ size-found : (w : State) (fs : List File) (g : File) → In g fs →
     pinned_size (map (pinned_file w) fs) g.id ≡ length (w.bytes g.id)
 size-found w [] g i = absurd i
 size-found w (f ∷ fs) g i = elim (cases_Bool (f.id == g.id)) [
-  | inl t ↦ cond_true (f.id == g.id) (length (w.bytes f.id)) (pinned_size (map (pinned_file w) fs) g.id) t
-      ∙ ap (λ id. length (w.bytes id)) (eqb-true f.id g.id t)
+  | inl t ↦ cc (
+    cond_true (f.id == g.id) (length (w.bytes f.id)) (pinned_size (map (pinned_file w) fs) g.id)
+        t,
+    eqb-true f.id g.id t,
+  )
   | inr o ↦ cond_false (f.id == g.id) (length (w.bytes f.id)) (pinned_size (map (pinned_file w) fs) g.id) o
       ∙ size-found w fs g (later i o)
 ]
   where
     later : In g (f ∷ fs) → (f.id == g.id) ≡ false → In g fs
-    later (inl e) o = absurd
-        (let a : (f.id == g.id) ≡ true = eq-eqb f.id g.id (ap (λ (z : File). z.id) (sym e)) in
-        let b : true ≡ false = sym a ∙ o in cc)
+    later (inl e) o = absurd (let a : (f.id == g.id) ≡ true = eq-eqb f.id g.id (cc) in cc)
     later (inr k) o = k
 
 -- the length that is looked up of a pinned file is its size
@@ -85,7 +86,7 @@ sizes-pinned w fs h = each-in (λ (f : File). pinned_size (map (pinned_file w) f
     at : (gs : List File) (g : File) → In g gs → Each (λ (f : File). length (w.bytes f.id) ≡ f.size) gs →
         length (w.bytes g.id) ≡ g.size
     at [] g i h = absurd i
-    at (f ∷ gs) g (inl e) h = subst (λ (z : File). length (w.bytes z.id) ≡ z.size) (sym e) h.0
+    at (f ∷ gs) g (inl e) h = cc
     at (f ∷ gs) g (inr i) h = at gs g i h.1
 
 -- ---- truth, by questions
@@ -106,7 +107,7 @@ module _ (x : With) (now : List Given) (held : Held) (j n : ℕ) (below : j < n)
       (let p = each-parts (IsTold x now held j) (asks_one n q) (asks_of n qs) h in
       let one = each-at (IsTold x now held j) (λ k. Ask k q.file.id q.round) 0 n j p.0 (omega arith)
       (omega (arith, below)) refl in (
-        elim one [ inl e ↦ inl (fits.0.0 ∙ (e ∙ sym fits.0.1)) | inr e ↦ inr (fits.0.0 ∙ e) ],
+        elim one [ inl e ↦ inl (cc) | inr e ↦ inr (fits.0.0 ∙ e) ],
         told-questions qs fits.1 p.1,
       ))
 
@@ -116,13 +117,11 @@ module _ (x : With) (now : List Given) (held : Held) (j n : ℕ) (below : j < n)
   lacks-questions [] fits = refl
   lacks-questions (q ∷ qs) fits =
       (let a = sum_by-append (lack_at x now held j) (asks_one n q) (asks_of n qs) in
-      let b = range-hit j (lack_at x now held j) (λ k. Ask k q.file.id q.round) 0 n
-      (λ k m. cond_false (k == j) _ 0 (ne_eqb k j m)) (omega arith) (omega (arith, below)) in
+      let b = range-hit j (lack_at x now held j) (λ k. Ask k q.file.id q.round) 0 n (λ k m. cond_false
+      (k == j) _ 0 (ne_eqb k j m)) (omega arith) (omega (arith, below)) in
       let c : lack_at x now held j (Ask j q.file.id q.round) ≡ lacks (gave q) (honest q) =
-      cond_true (j == j) (lacks (answer_given now q.file.id q.round j)
-      (honest_answer (challenge_made x q.file.id q.round) (held q.file.id))) 0 (eq-eqb j j refl)
-      ∙ (ap (λ g. lacks g (honest_answer (challenge_made x q.file.id q.round) (held q.file.id)))
-      (sym fits.0.0) ∙ ap (lacks (gave q)) (sym fits.0.1)) in
+      cc (cond_true (j == j) (lacks (answer_given now q.file.id q.round j)
+      (honest_answer (challenge_made x q.file.id q.round) (held q.file.id))) 0 (eq-eqb j j refl)) in
       let r = lacks-questions qs fits.1 in
       a ∙ (let d : sum_by (lack_at x now held j) (asks_one n q) ≡ lacks (gave q) (honest q) = b ∙ c in
       (λ i. d i + r i)))

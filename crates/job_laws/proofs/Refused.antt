@@ -7,12 +7,14 @@ use Rattle.machine_defs.proofs.Sights.{stored-file}
 pub drop-has : (limit : ℕ) (w : State) (name : List ℕ) → begin_refusal limit w (DropJob name) ≡ None →
     (f : File) × (file_in w name ≡ Some f)
 drop-has limit w name h = by_file (file_in w name) refl
-    (ap not (sym (stored-file w name))
-    ∙ (none-applies (causes limit (sight_of w) (aim_of (DropJob name)) None) h).1.1.1.0)
+    (cc (
+      stored-file w name,
+      (none-applies (causes limit (sight_of w) (aim_of (DropJob name)) None)
+          h).1.1.1.0,
+    ))
   where
     by_file : (o : Option File) → file_in w name ≡ o → not (is_some (file_in w name)) ≡ false →
         (f : File) × (file_in w name ≡ Some f)
-    by_file None e n = absurd
-        (let g : not (is_some (file_in w name)) ≡ true = ap (λ (o : Option File). not (is_some o)) e in
+    by_file None e n = absurd (let g : not (is_some (file_in w name)) ≡ true = cc in
         let z : false ≡ true = sym n ∙ g in false≢true z)
     by_file (Some f) e n = (f, e)

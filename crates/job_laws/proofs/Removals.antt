@@ -9,7 +9,7 @@ use Rattle.job_laws.proofs.Leaving.{LastCall}
 pub left-within : (xs ys : List Action) (p : ℕ) → p < length xs → 0 < appends_in ys →
     0 < appends_in (drop p (xs ++ ys))
 left-within [] ys p l h = absurd (omega (arith, l))
-left-within (x ∷ xs) ys zero l h = (let e = appends-append (x ∷ xs) ys in omega (arith, e, h))
+left-within (x ∷ xs) ys zero l h = (omega (arith, appends-append (x ∷ xs) ys, h))
 left-within (x ∷ xs) ys (suc p) l h = left-within xs ys p (omega (arith, l)) h
 
 -- ---- one action for each provider
@@ -58,7 +58,7 @@ goes-more R S T more q r a g h = absurd h
 -- what is told and is changed by a function goes by a relation of each to what it is changed to
 pub goes-map : (R : Held → Held → Type 0) (f : Held → Held) → ((p : Held) → R p (f p)) →
     (old new : Option Held) → new ≡ option_map f old → Goes R old new
-goes-map R f h None new e = subst (Goes R None) (sym e) tt
+goes-map R f h None new e = cc
 goes-map R f h (Some p) new e = subst (Goes R (Some p)) (sym e) (h p)
 
 -- what is told and goes by a relation goes by a wider one
@@ -134,26 +134,23 @@ writing-fetches x xs old new given now i e m = made-keeps x i (λ p q. q.fetches
 -- the last step leaves what providers hold, and fetches nothing
 pub last-keeps : (action : Action) (w new : State) (i : ℕ) → LastCall action w new →
     ((new.providers i).held ≡ (w.providers i).held) × ((new.providers i).fetches ≡ (w.providers i).fetches)
-last-keeps action w new i (LastCall.none is) =
-    (ap (λ (f : ℕ → Provider). (f i).held) is, ap (λ (f : ℕ → Provider). (f i).fetches) is)
+last-keeps action w new i (LastCall.none is) = (cc, cc)
 last-keeps action w new i (LastCall.store k o t at call) =
     elim (calls-at w.providers k (λ p q. (q.held ≡ p.held) × StoreCounts p q) new.providers i call) [
-      | inl e ↦ (ap (λ (p : Provider). p.held) e, ap (λ (p : Provider). p.fetches) e)
+      | inl e ↦ (cc, cc)
       | inr c ↦ (c.1.0, c.1.1.fetches)
     ]
 
 -- moves of an append change nothing of providers
 pub moves-made : (x : With) (old new : ℕ → Provider) (given now : List Given) →
     Made x (WriteBody ∷ SyncBody ∷ WriteGate ∷ SyncGate ∷ []) old new given now → new ≡ old
-moves-made x old new given now (a, ga, da, (b, gb, db, (c, gc, dc, (d, gd, dd, last)))) =
-    last.0 ∙ (dd.0 ∙ (dc.0 ∙ (db.0 ∙ da.0)))
+moves-made x old new given now (a, ga, da, (b, gb, db, (c, gc, dc, (d, gd, dd, last)))) = cc
 
 -- ---- the removals of a put or a drop
 
 -- the object of the file that a name had at the begin
 nothing-pinned : (start : State) → start.jobs ≡ [] → (f : File) → removable start (Some f) ≡ f.id ∷ []
-nothing-pinned start none f = cond_false (is_pinned start f.id) [] (f.id ∷ [])
-    (ap (λ (js : List Job). list_any (λ (j : Job). list_any (λ (g : Pinned). g.id == f.id) j.pinned) js) none)
+nothing-pinned start none f = cc
 
 -- each provider's blocks of an older object are gone; without one nothing is
 abbrev pub OlderGoes : Option File → Provider → Provider → Type 0
@@ -173,7 +170,7 @@ older-goes x start s job older old new given now j idle is below m = by_file old
         new given now) e m
 
     by_file : (o : Option File) → job.older ≡ removable start o → OlderGoes o (old j) (new j)
-    by_file None e = ap (λ (f : ℕ → Provider). (f j).held) (list [] e).0
+    by_file None e = cc ((list [] e).0)
     by_file (Some f) e = removals-go x f.id s.n old new given now j below
         (subst (λ ys. Made x ys old new given now) (append-nil (on_each_provider s (λ k. Remove k f.id)))
-        (list (f.id ∷ []) (e ∙ nothing-pinned start idle f)))
+        (list (f.id ∷ []) (cc)))

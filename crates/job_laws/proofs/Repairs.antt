@@ -51,9 +51,11 @@ module _ (start : State) (O : IsOpenAtRest start 1) (w : State) (job : Job)
   acts = take job.place (actions_of s job)
 
   list-is : actions_of s job ≡ flat_map (actions_at s job) all ++ tail
-  list-is = repair-list s job W.kind_is
-      ∙ ap (λ xs. xs ++ tail) (repairs-places s start job (files_of start.records) W.pinned
-      (held-sizes start O))
+  list-is = cc (
+    repair-list s job W.kind_is,
+    repairs-places s start job (files_of start.records) W.pinned
+        (held-sizes start O),
+  )
 
   places-apart : AreApart all
   places-apart = all-apart s start (files_of start.records)
@@ -99,7 +101,7 @@ module _ (start : State) (O : IsOpenAtRest start 1) (w : State) (job : Job)
       step : (a : Action) (given now : List Given) (p q : Provider) → IsRepairing a →
           Called x a given now j p q → p.held ≡ None → q.held ≡ None
       step (Fetch k o t) given now p q u (e, (block, c, is)) h = c.held ∙ h
-      step (Store k o t) given now p q u (e, c, is) h = c.held ∙ ap (option_map _) h
+      step (Store k o t) given now p q u (e, c, is) h = cc
       step (Ask k o r) given now p q u c h = absurd u
       step (Remove k o) given now p q u c h = absurd u
       step a given now p q u c h = absurd c
@@ -181,7 +183,7 @@ module _ (start : State) (O : IsOpenAtRest start 1) (w : State) (job : Job)
     goes-by change f j below = by_held (start.providers j).held refl
       where
         by_held : (h : Option Held) → (start.providers j).held ≡ h → Goes (change j) h (new.providers j).held
-        by_held None e = subst (Goes (change j) None) (sym (held-same j ∙ untold j e)) tt
+        by_held None e = cc (held-same j, untold j e)
         by_held (Some held) e = subst (Goes (change j) (Some held)) (sym (now-held j held e)) (f j held below)
 
     same-unflagged : (ps : List Place) → Each (IsStoreOf job s.n ps) acts → (j : ℕ) (held : Held) →
@@ -285,8 +287,7 @@ module _ (start : State) (O : IsOpenAtRest start 1) (w : State) (job : Job)
       0 < appends_left (setup_in w) job
   places-left a h p at = subst (λ (t : Setup). 0 < appends_left t job) (sym W.setup)
       (subst (λ xs. 0 < appends_in (drop job.place xs)) (sym (repair-list s job W.kind_is))
-      (elim (split_get (repair_actions s job) tail job.place a
-      (ap (λ xs. slice_get xs job.place) (sym (repair-list s job W.kind_is)) ∙ h)) [
+      (elim (split_get (repair_actions s job) tail job.place a (cc (repair-list s job W.kind_is))) [
         | inl l ↦ audit-within (repair_actions s job) job.place l.0
         | inr r ↦ absurd (each_get (λ y. IsAt p y → ⊥) tail (job.place - length (repair_actions s job)) a
             ((λ u. u), ((λ u. u), ((λ u. u), ((λ u. u), ((λ u. u), tt))))) r.1 at)
@@ -312,7 +313,7 @@ module _ (start new : State) (how : Answer) (heard : List Entry) (O : IsOpenAtRe
   sx = setup_in start
 
   subject-is : E.job.subject ≡ due.number
-  subject-is = E.walked.subject ∙ ap due_number is-due
+  subject-is = cc
 
   -- a move, or the end, stands behind all places
   behind-all : (action : Action) → slice_get (actions_of sx E.job) E.job.place ≡ Some action →
@@ -457,17 +458,17 @@ module _ (start new : State) (how : Answer) (heard : List Entry) (O : IsOpenAtRe
   called-held k p c is j =
       elim (calls-at E.before.providers k (λ p q. (q.held ≡ p.held) × StoreCounts p q) new.providers j
       (p, c, is)) [
-        | inl e ↦ (ap (λ (z : Provider). z.held) e, ap (λ (z : Provider). z.other_faults) e)
+        | inl e ↦ (cc, cc)
         | inr d ↦ (d.1.0, d.1.1.other_faults)
       ]
 
   same-held : new.providers ≡ E.before.providers → (j : ℕ) →
       (new.providers j).held ≡ (E.before.providers j).held
-  same-held e j = ap (λ (f : ℕ → Provider). (f j).held) e
+  same-held e j = cc
 
   same-count : new.providers ≡ E.before.providers → (j : ℕ) →
       (new.providers j).other_faults ≡ (E.before.providers j).other_faults
-  same-count e j = ap (λ (f : ℕ → Provider). (f j).other_faults) e
+  same-count e j = cc
 
   -- nothing is in doubt between appends
   sure : (action : Action) → E.action ≡ action → moves_before action ≡ 0 → E.before.doubt ≡ None
@@ -538,7 +539,7 @@ module _ (start new : State) (how : Answer) (heard : List Entry) (O : IsOpenAtRe
 
   -- its one record
   record-is : first_record start RepairJob ≡ RepairDone due.number
-  record-is = ap RepairDone (ap due_number is-due)
+  record-is = cc
 
   -- a cut before the one record
   cut-none : 0 < appends_left (setup_in E.before) E.job → new.records ≡ E.before.records → new.doubt ≡ None →
@@ -550,13 +551,10 @@ module _ (start new : State) (how : Answer) (heard : List Entry) (O : IsOpenAtRe
       FindsNoMemory (E.before.providers j) p →
       new ≡ record (ended E.before E.job) { providers = with_provider E.before.providers j p } →
       Gives answer.Memory
-  store-memory j o t at p failed is =
-      (let h = listed E (Store j o t) at (λ e. cc) in
-      let kept = called-held j p (failed.held, failed.counts) (ap (λ (v : State). v.providers) is) in
-      let cut = store-flagged j o t h in
+  store-memory j o t at p failed is = (let h = listed E (Store j o t) at (λ e. cc) in
+      let kept = called-held j p (failed.held, failed.counts) (cc) in let cut = store-flagged j o t h in
       let left = places-left start O E.before E.job E.walked (Store j o t) h cut.0 cut.3 in (
-        cut-none left (ap (λ (v : State). v.records) is)
-            (ap (λ (v : State). v.doubt) is ∙ sure (Store j o t) at refl),
+        cut-none left (cc) (cc (sure (Store j o t) at refl)),
         store-some (λ k. (kept k).0) (λ k. (kept k).1) j o t h,
       ))
 
@@ -611,9 +609,7 @@ module _ (start new : State) (how : Answer) (heard : List Entry) (O : IsOpenAtRe
       RewritesAll (ran_from start new heard) (flags (ran_from start new heard) due)
   at-end at records doubt providers =
       (let next : next_action E.before E.job ≡ Some End = E.next ∙ ap Some at in
-      let stands : slice_get (actions_of sx E.job) E.job.place ≡ Some End =
-      subst (λ (t : Setup). slice_get (actions_of t E.job) E.job.place ≡ Some End) E.walked.setup
-      (end-stands O E.walked refl next) in
+      let stands : slice_get (actions_of sx E.job) E.job.place ≡ Some End = cc in
       let b = behind-all End stands (λ p u. u) in (
         subst (λ r. IsWhole (ran_from start new heard) (r ∷ [])) record-is
             (one-whole O E.walked refl new heard (end-left O E.walked refl next)
@@ -656,7 +652,7 @@ module _ (start new : State) (how : Answer) (heard : List Entry) (O : IsOpenAtRe
       (λ j o t at h. by-store j o t how at h) (λ o t at h. by-work o t how at h)
 
   repair-silent : heard ≡ []
-  repair-silent = E.heard_is ∙ ap (heard_by_kind E.job) E.walked.kind_is
+  repair-silent = cc
 
 -- a repair leaves flagged providers rewritten in all places, or in some where it failed or was cut
 pub repairs-leave : (start new : State) (moment : ℕ) (how : Answer) (heard : List Entry) →

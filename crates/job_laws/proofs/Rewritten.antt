@@ -32,11 +32,11 @@ IsRepairing action = Unit {0}
 
 -- an action that is none of a place is no fetch of it
 pub none-fetch : (j o s : ℕ) (y : Action) → IsNoneOf o s y → IsNot (Fetch j o s) y
-none-fetch j o s (Fetch k p t) h e = h ((let f = e in cc), (let f = e in cc))
+none-fetch j o s (Fetch k p t) h e = h ((cc), (cc))
 none-fetch j o s y h e = cc
 
 none-work : (o s : ℕ) (y : Action) → IsNoneOf o s y → IsNot (Work o s) y
-none-work o s (Work p t) h e = h ((let f = e in cc), (let f = e in cc))
+none-work o s (Work p t) h e = h ((cc), (cc))
 none-work o s y h e = cc
 
 -- ---- what one provider holds after stores
@@ -58,12 +58,9 @@ module _ (x : With) (last : List Given) where
       (cond (k == j) (with_block p t (column_at j p t) held) held o s ≡ held o s) ⊎
       (cond (k == j) (with_block p t (column_at j p t) held) held o s ≡ Some (column_at j o s))
   store-either j k p t held o s = elim (cases_Bool (k == j)) [
-    | inr f ↦ inl (ap (λ (h : Held). h o s)
-        (cond_false (k == j) (with_block p t (column_at j p t) held) held f))
+    | inr f ↦ inl (cc)
     | inl u ↦ elim (cases_Bool ((o == p) && (s == t))) [
-      | inr f ↦ inl (ap (λ (h : Held). h o s)
-          (cond_true (k == j) (with_block p t (column_at j p t) held) held u)
-          ∙ cond_false ((o == p) && (s == t)) (Some (column_at j p t)) (held o s) f)
+      | inr f ↦ inl (cc)
       | inl v ↦ inr (ap (λ (h : Held). h o s)
           (cond_true (k == j) (with_block p t (column_at j p t) held) held u)
           ∙ (cond_true ((o == p) && (s == t)) (Some (column_at j p t)) (held o s) v
@@ -95,16 +92,15 @@ module _ (x : With) (last : List Given) where
   store-other : (j k p t : ℕ) (held : Held) (o s : ℕ) → IsNot (Store j o s) (Store k p t) →
       cond (k == j) (with_block p t (column_at j p t) held) held o s ≡ held o s
   store-other j k p t held o s n = elim (cases_Bool (k == j)) [
-    | inr f ↦ ap (λ (h : Held). h o s) (cond_false (k == j) (with_block p t (column_at j p t) held) held f)
+    | inr f ↦ cc
     | inl u ↦ elim (cases_Bool ((o == p) && (s == t))) [
-      | inr f ↦ ap (λ (h : Held). h o s) (cond_true (k == j) (with_block p t (column_at j p t) held) held u)
-          ∙ cond_false ((o == p) && (s == t)) (Some (column_at j p t)) (held o s) f
+      | inr f ↦ cc
       | inl v ↦ absurd (n (same (eqb-true k j u) (and_parts (o == p) (s == t) v)))
     ]
   ]
     where
       same : k ≡ j → ((o == p) ≡ true) × ((s == t) ≡ true) → Store j o s ≡ Store k p t
-      same a b = (let c = eqb-true o p b.0 in let d = eqb-true s t b.1 in cc)
+      same a b = (cc (eqb-true o p b.0, eqb-true s t b.1))
 
   -- after stores a block that none of them is of is as it was
   pub after-none : (j : ℕ) (actions : List Action) (held : Held) (o s : ℕ) →
@@ -183,7 +179,7 @@ module _ (x : With) (repairs : x.kind ≡ RepairJob) (last : List Given) (j : �
   still begin held a p q told none same e h =
       record {
         told = told;
-        held_is = ap (λ (z : Provider). z.held) e ∙ (h ∙ ap Some (sym same));
+        held_is = cc;
         count = λ l. (let f = ap (λ (z : Provider). z.other_faults) e in omega (arith, f, none));
       }
 
@@ -193,13 +189,15 @@ module _ (x : With) (repairs : x.kind ≡ RepairJob) (last : List Given) (j : �
   fetch-step begin held k o s block p q hit kept is h c = record {
     told = λ e. elim gives [ inl g ↦ inl (is ∙ g) | inr f ↦ inr (is ∙ f.0) ];
     held_is = c.held ∙ h;
-    count = λ l. (let one : lack_block begin (Fetch k o s)
-        ≡ lacks block (sized (object_made x o).profile.size (begin o s)) =
-        cond_true (k == j) (lacks (block_given last o s k) (sized (object_made x o).profile.size (begin o s)))
-        0 (eq-eqb k j hit) ∙ ap (λ g. lacks g (sized (object_made x o).profile.size (begin o s))) is in
-        elim gives [
-          | inl g ↦ (let z = lacks-same block (sized (object_made x o).profile.size (begin o s)) g in
-              let low = c.counts.other_faults in omega (arith, one, z, low))
+    count = λ l. (let one : lack_block begin (Fetch k o s) ≡ lacks block (sized (object_made x o).profile.size
+        (begin o s)) =
+        cc (cond_true (k == j) (lacks (block_given last o s k) (sized (object_made x o).profile.size
+        (begin o s))) 0 (eq-eqb k j hit)) in elim gives [
+          | inl g ↦ (omega (
+            arith,
+            lacks-same block (sized (object_made x o).profile.size (begin o s)) g,
+            one,
+          ))
           | inr f ↦ (let z = lacks-few block (sized (object_made x o).profile.size (begin o s)) in
               let low = c.counts.other_faults in let up = f.1 (omega (arith, low, l)) in
               omega (arith, one, z, up))
@@ -220,9 +218,8 @@ module _ (x : With) (repairs : x.kind ≡ RepairJob) (last : List Given) (j : �
   one-step begin held (Fetch k o s) actions old mid new given so_far fit order kept (block, called, is) rest h =
       elim (cases_eq k j) [
         | inl hit ↦ fetch-step begin held k o s block (old j) (mid j) hit (kept hit)
-            (block-later x actions mid new so_far last k o s rest order
-            ∙ (ap (λ g. block_given g o s k) is ∙ block-newest k o s block given)) h
-            (subst (λ n. Fetches (object_made x o).profile.size o s (old n) block (mid n)) hit
+            (cc (block-later x actions mid new so_far last k o s rest order, block-newest k o s block given))
+            h (subst (λ n. Fetches (object_made x o).profile.size o s (old n) block (mid n)) hit
             (call-hit old k (λ p q. Fetches (object_made x o).profile.size o s p block q) mid called))
         | inr miss ↦ still begin held (Fetch k o s) (old j) (mid j) (λ e. absurd (miss e))
             (cond_false (k == j) (lacks (block_given last o s k)
@@ -235,20 +232,14 @@ module _ (x : With) (repairs : x.kind ≡ RepairJob) (last : List Given) (j : �
         | inl hit ↦ (let c = subst (λ n. Stores o s (block_stored x x.kind given k o s) (old n) (mid n)) hit
             (call-hit old k (Stores o s (block_stored x x.kind given k o s)) mid called) in
             let symbols : symbols_given given o s ≡ symbols_given last o s =
-            sym (ap (λ g. symbols_given g o s) is)
-            ∙ sym (symbols-later x actions mid new so_far last o s rest
-            (each_mono (IsNoneOf o s) (IsNot (Work o s)) actions (λ y u. none-work o s y u) order)) in
-            let block : block_stored x x.kind given k o s ≡ column_at x last j o s =
-            ap (λ kd. block_stored x kd given k o s) repairs
-            ∙ (ap (λ ss. column_of_symbols (object_made x o) ss k s) symbols
-            ∙ ap (λ n. column_of_symbols (object_made x o) (symbols_given last o s) n s) hit) in
+            cc (symbols-later x actions mid new so_far last o s rest (each_mono (IsNoneOf o s)
+            (IsNot (Work o s)) actions (λ y u. none-work o s y u) order)) in
+            let block : block_stored x x.kind given k o s ≡ column_at x last j o s = cc in
             record {
               told = tt;
-              held_is = c.held ∙ (ap (option_map (with_block o s (block_stored x x.kind given k o s))) h
-                  ∙ (ap (λ b. Some (with_block o s b held)) block
-                  ∙ ap Some (sym (cond_true (k == j) (with_block o s (column_at x last j o s) held) held
-                  (eq-eqb k j hit)))));
-              count = λ l. (let e = c.counts.other_faults in omega (arith, e));
+              held_is = cc (cond_true (k == j) (with_block o s (column_at x last j o s) held) held
+                  (eq-eqb k j hit));
+              count = λ l. (omega arith);
             })
         | inr miss ↦ still begin held (Store k o s) (old j) (mid j) tt refl
             (cond_false (k == j) (with_block o s (column_at x last j o s) held) held (ne_eqb k j miss))
@@ -269,8 +260,7 @@ module _ (x : With) (repairs : x.kind ≡ RepairJob) (last : List Given) (j : �
       one : (y : Action) → IsNoneOf p t y → IsKeptAt begin held y →
           IsKeptAt begin (cond (k == j) (with_block p t (column_at x last j p t) held) held) y
       one (Fetch m o s) n e = λ hit. elim (cases_Bool (k == j)) [
-        | inr f ↦ ap (λ (g : Held). g o s)
-            (cond_false (k == j) (with_block p t (column_at x last j p t) held) held f) ∙ e hit
+        | inr f ↦ cc (cond_false (k == j) (with_block p t (column_at x last j p t) held) held f, e hit)
         | inl u ↦ ap (λ (g : Held). g o s)
             (cond_true (k == j) (with_block p t (column_at x last j p t) held) held u)
             ∙ (cond_false ((o == p) && (s == t)) (Some (column_at x last j p t)) (held o s)
@@ -313,7 +303,7 @@ module _ (x : With) (repairs : x.kind ≡ RepairJob) (last : List Given) (j : �
       Made x actions old new given last → (old j).held ≡ Some held → Told begin held actions (old j) (new j)
   told-on begin held [] old new given fit order kept m h = record {
     told = tt;
-    held_is = ap (λ (f : ℕ → Provider). (f j).held) m.0 ∙ h;
+    held_is = cc;
     count = λ l. (let e = ap (λ (f : ℕ → Provider). (f j).other_faults) m.0 in omega (arith, e));
   }
   told-on begin held (a ∷ actions) old new given fit order kept (mid, so_far, did, rest) h =
@@ -323,9 +313,13 @@ module _ (x : With) (repairs : x.kind ≡ RepairJob) (last : List Given) (j : �
       let up = (made-rises x actions mid new so_far last j rest).1 in
       record {
         told = (s.told, r.told);
-        held_is = r.held_is ∙ ap Some (sym (after-cons a actions held));
-        count = λ l. (let c = s.count (omega (arith, up, l)) in let e = r.count l in
-            let f = sum_by-cons (lack_block begin) a actions in omega (arith, c, e, f));
+        held_is = cc (after-cons a actions held);
+        count = λ l. (omega (
+          arith,
+          s.count (omega (arith, up, l)),
+          r.count l,
+          sum_by-cons (lack_block begin) a actions,
+        ));
       })
 
   -- of a repair's actions a provider that tells gave what it held, or nothing, and holds what was stored
@@ -359,17 +353,16 @@ works-opened x (a ∷ actions) old new given last order (mid, so_far, did, rest)
     (one a order.0 did, works-opened x actions mid new so_far last order.1 rest)
   where
     one : (a : Action) → IsBefore a actions → Did x a old mid given so_far → HasOpened x last a
-    one (Work o s) order (symbols, gives, same, is) =
-        (let found : symbols_given last o s ≡ symbols =
-        symbols-later x actions mid new so_far last o s rest
-        (each_mono (IsNoneOf o s) (IsNot (Work o s)) actions (λ y u. none-work o s y u) order)
-        ∙ (ap (λ g. symbols_given g o s) is ∙ symbols_given-newest o s symbols given) in
+    one (Work o s) order (symbols, gives, same, is) = (let found : symbols_given last o s ≡ symbols =
+        cc (
+          symbols-later x actions mid new so_far last o s rest (each_mono (IsNoneOf o s) (IsNot (Work o s))
+              actions (λ y u. none-work o s y u) order),
+          symbols_given-newest o s symbols given,
+        ) in
         let blocks : (k : ℕ) → block_given given o s k ≡ block_given last o s k =
-        (λ k. sym (ap (λ g. block_given g o s k) is)
-        ∙ sym (block-later x actions mid new so_far last k o s rest
-        (each_mono (IsNoneOf o s) (IsNot (Fetch k o s)) actions
-        (λ y u. none-fetch k o s y u) order))) in
+        (λ k. cc (block-later x actions mid new so_far last k o s rest (each_mono (IsNoneOf o s)
+        (IsNot (Fetch k o s)) actions (λ y u. none-fetch k o s y u) order))) in
         subst (λ ss. GivesSymbols (object_made x o) s (blocks_given last x.setup.n o s) ss) (sym found)
-        (subst (λ bs. GivesSymbols (object_made x o) s bs symbols)
-        (λ i. map (λ k. blocks k i) (upto x.setup.n)) gives))
+        (subst (λ bs. GivesSymbols (object_made x o) s bs symbols) (λ i. map (λ k. blocks k i)
+        (upto x.setup.n)) gives))
     one a order did = tt

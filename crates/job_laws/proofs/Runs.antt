@@ -25,7 +25,7 @@ record HasMade (w : State) (job : Job) (new : State) : Type 0 where
 made-by : (w : State) (job next : Job) (v new : State) → next.number ≡ job.number →
     next.place ≡ job.place + 1 → v.jobs ≡ with_job w.jobs next → new ≡ v → HasMade w job new
 made-by w job next v new number place jobs is =
-    record { next = next; number = number; place = place; jobs = ap (λ (z : State). z.jobs) is ∙ jobs }
+    record { next = next; number = number; place = place; jobs = cc }
 
 moves-make : (w : State) (job : Job) (action : Action) (flight : Option Append) (new : State) →
     Moves w job action flight More new → HasMade w job new
@@ -50,14 +50,8 @@ next-place : (start : State) (O : IsOpenAtRest start 1) (kind : Kind) {profile :
     (W : WalkedAt start kind profile w job) (moment : ℕ) (new : State) (next : Job) →
     Happens 8 moment w (Step 1) More new → WalkedAt start kind profile new next → next.place ≡ job.place + 1
 next-place start O kind w job W moment new next h V =
-    (let a = step-acts start O kind w job W More new
-    (λ n e. absurd (let f : More ≡ Waiting n = e in cc)) h in
-    let m = acts-make w job a.0 new a.3 in
-    let e : next ∷ [] ≡ m.next ∷ [] = sym V.jobs ∙ (m.jobs ∙ (ap (λ js. with_job js m.next) W.jobs
-    ∙ cond_true (job.number == m.next.number) (m.next ∷ []) (job ∷ [])
-    (eq-eqb job.number m.next.number (sym m.number)))) in
-    let f : next ≡ m.next = cc in
-    ap (λ (z : Job). z.place) f ∙ m.place)
+    (let a = step-acts start O kind w job W More new (λ n e. cc) h in let m = acts-make w job a.0 new a.3 in
+    let f : next ≡ m.next = cc in cc)
 
 -- ---- steps
 
@@ -80,9 +74,11 @@ walk-on start w kind profile job moment (m ∷ ms) O W (event, outcome, happens,
     record {
       next = n.0;
       walked = n.1;
-      place = (let a = next-place start O kind (now w ms) r.next r.walked (moment + length ms) m.state n.0
-          happens n.1 in
-          let b = r.place in omega (arith, a, b));
+      place = (omega (
+        arith,
+        next-place start O kind (now w ms) r.next r.walked (moment + length ms) m.state
+            n.0 happens n.1,
+      ));
     })
 
 -- steps that all go on leave a job on its walk
@@ -108,7 +104,7 @@ job-ends start new moment kind own answer heard O spelled named r =
       before = now r.begun g.steps;
       job = last.0;
       walked = last.1;
-      heard_is = g.heard_is ∙ ap heard_by (found start O kind (now r.begun g.steps) last.0 last.1);
+      heard_is = cc (found start O kind (now r.begun g.steps) last.0 last.1);
       action = a.0;
       next = a.1;
       free = a.2;

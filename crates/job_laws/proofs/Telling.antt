@@ -50,9 +50,11 @@ providers-seen w last old new n first enough same handed others j = elim (cases_
   | inl l ↦ (let e : Some (last.providers j) ≡ Some (provider_at new.providers j) =
       sym (handed.each j l) ∙ get-provider new.providers j l in
       let f : last.providers j ≡ provider_at new.providers j = cc in f)
-  | inr l ↦ others j (omega (arith, enough, l, same))
-      ∙ (ap (λ (f : ℕ → Provider). f j) first
-      ∙ (get-none old.providers j (omega (arith, l, same)) ∙ sym (get-none new.providers j l)))
+  | inr l ↦ cc (
+    others j (omega (arith, enough, l, same)),
+    get-none old.providers j (omega (arith, l, same)),
+    get-none new.providers j l,
+  )
 ]
 
 -- records with more on top are some where there were some
@@ -79,13 +81,12 @@ image-kept w last area records K history journal area_is unswitched some image h
         StandsActive image area last.records ⊎ IsSomeAnd (option_map (λ (d : Doubt). d.entry) last.doubt)
         (λ entry. StandsActive image area (entry ∷ last.records))
     by (inl (inl h)) = inl (subst (StandsActive image area) whole (stands last.journal h))
-    by (inl (inr h)) = absurd (some-more K.added records some
-        (sym (K.journal ∙ ap (λ rs. K.added ++ rs) journal) ∙ h.0))
+    by (inl (inr h)) = absurd (some-more K.added records some (cc))
     by (inr (inl h)) = inr (subst (λ (d : Option Doubt). IsSomeAnd (option_map (λ (d : Doubt). d.entry) d)
         (λ entry. StandsActive image area (entry ∷ last.records))) (sym h.in_doubt)
         (subst (λ rs. StandsActive image area (h.doubt.entry ∷ rs)) whole
         (stands (h.doubt.entry ∷ last.journal) h.stands)))
-    by (inr (inr h)) = absurd (false≢true (sym (K.switch ∙ unswitched) ∙ h.switching))
+    by (inr (inr h)) = absurd (false≢true (cc))
 
 -- ---- what is left of the run
 

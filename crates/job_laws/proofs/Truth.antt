@@ -40,7 +40,7 @@ lacks-itself (Some b) = refl
 
 -- where what is held was given nothing is lacking
 pub lacks-same : {B : Type 0} (given held : Option B) → given ≡ held → lacks given held ≡ 0
-lacks-same given held e = ap (λ g. lacks g held) e ∙ lacks-itself held
+lacks-same given held e = cc (lacks-itself held)
 
 -- of one question at most one answer is lacking
 pub lacks-few : {B : Type 0} (given held : Option B) → lacks given held ≤ 1
@@ -82,7 +82,7 @@ module _ (x : With) (j : ℕ) (held : Held) (now : List Given) where
   same-step a p q told none e h =
       record {
         told = told;
-        held_is = ap (λ (z : Provider). z.held) e ∙ h;
+        held_is = cc;
         count = λ l. (let f = ap (λ (z : Provider). z.other_faults) e in omega (arith, f, none));
       }
 
@@ -92,13 +92,11 @@ module _ (x : With) (j : ℕ) (held : Held) (now : List Given) where
   ask-step k o r symbol p q hit is h c = record {
     told = λ e. elim gives [ inl g ↦ inl (is ∙ g) | inr f ↦ inr (is ∙ f.0) ];
     held_is = c.held ∙ h;
-    count = λ l. (let one : lack_at x now held j (Ask k o r)
-        ≡ lacks symbol (honest_answer (challenge_made x o r) (held o)) =
-        cond_true (k == j) (lacks (answer_given now o r k) (honest_answer (challenge_made x o r) (held o))) 0
-        (eq-eqb k j hit) ∙ ap (λ g. lacks g (honest_answer (challenge_made x o r) (held o))) is in
-        elim gives [
-          | inl g ↦ (let z = lacks-same symbol (honest_answer (challenge_made x o r) (held o)) g in
-              let low = c.counts.other_faults in omega (arith, one, z, low))
+    count = λ l. (let one : lack_at x now held j (Ask k o r) ≡ lacks symbol (honest_answer (challenge_made x o
+        r) (held o)) =
+        cc (cond_true (k == j) (lacks (answer_given now o r k) (honest_answer (challenge_made x o r)
+        (held o))) 0 (eq-eqb k j hit)) in elim gives [
+          | inl g ↦ (omega (arith, lacks-same symbol (honest_answer (challenge_made x o r) (held o)) g, one))
           | inr f ↦ (let z = lacks-few symbol (honest_answer (challenge_made x o r) (held o)) in
               let low = c.counts.other_faults in let up = f.1 (omega (arith, low, l)) in
               omega (arith, one, z, up))
@@ -124,9 +122,8 @@ module _ (x : With) (j : ℕ) (held : Held) (now : List Given) where
   one-step (Ask k o r) actions old mid new given so_far quiet over (symbol, called, is) rest h =
       elim (cases_eq k j) [
         | inl hit ↦ ask-step k o r symbol (old j) (mid j) hit
-            (answer-later x actions mid new so_far now k o r rest over
-            ∙ (ap (λ g. answer_given g o r k) is ∙ answer-newest k o r symbol given)) h
-            (subst (λ n. Asks (honest_answer (challenge_made x o r)) o (old n) symbol (mid n)) hit
+            (cc (answer-later x actions mid new so_far now k o r rest over, answer-newest k o r symbol given))
+            h (subst (λ n. Asks (honest_answer (challenge_made x o r)) o (old n) symbol (mid n)) hit
             (call-hit old k (λ p q. Asks (honest_answer (challenge_made x o r)) o p symbol q) mid called))
         | inr miss ↦ other-ask k o r (old j) (mid j) miss
             (call-miss old k (λ p q. Asks (honest_answer (challenge_made x o r)) o p symbol q) mid j miss
@@ -140,8 +137,7 @@ module _ (x : With) (j : ℕ) (held : Held) (now : List Given) where
             record {
               told = tt;
               held_is = c.held ∙ h;
-              count =
-                  λ l. (let low = c.counts.other_faults in omega (arith, low));
+              count = λ l. (omega arith);
             })
         | inr miss ↦ same-step (Fetch k o s) (old j) (mid j) tt refl
             (call-miss old k (λ p q. Fetches (object_made x o).profile.size o s p block q) mid j miss called)
@@ -168,8 +164,12 @@ module _ (x : With) (j : ℕ) (held : Held) (now : List Given) where
       let r = asks-told actions mid new so_far quiet.1 d.1 rest s.held_is in
       let up = (made-rises x actions mid new so_far now j rest).1 in (
         (s.told, r.0),
-        λ l. (let c = s.count (omega (arith, up, l)) in let e = r.1 l in
-            let f = sum_by-cons (lack_at x now held j) a actions in omega (arith, c, e, f)),
+        λ l. (omega (
+          arith,
+          s.count (omega (arith, up, l)),
+          r.1 l,
+          sum_by-cons (lack_at x now held j) a actions,
+        )),
       ))
 
 -- ---- sums over a range of which one number counts
@@ -189,7 +189,10 @@ range-hit j f g a (suc n) h l u =
     sum_by-cons f (g a) (map g (range_with_len (a + 1) n)) ∙ elim (cases_eq a j) [
       | inl e ↦ (let r = range-miss j 0 f g (a + 1) n h (omega (arith, e)) in let s = ap (λ k. f (g k)) e in
           omega (arith, r, s))
-      | inr n0 ↦ (let z = h a n0 in
-          let r = range-hit j f g (a + 1) n h (omega (arith, l, n0)) (omega (arith, u)) in
-          omega (arith, z, r))
+      | inr n0 ↦ (omega (
+        arith,
+        h a n0,
+        range-hit j f g (a + 1) n h (omega (arith, l, n0))
+            (omega (arith, u)),
+      ))
     ]

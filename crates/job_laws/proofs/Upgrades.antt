@@ -25,7 +25,7 @@ module _ (start new : State) (how : Answer) (heard : List Entry) (O : IsOpenAtRe
   ran = ran_from start new heard
 
   nothing-heard : heard ≡ []
-  nothing-heard = E.heard_is ∙ ap (heard_by_kind E.job) E.walked.kind_is
+  nothing-heard = cc
 
   still-list : Each IsStill (actions_of (setup_in start) E.job)
   still-list = subst (Each IsStill) (sym (upgrade-list (setup_in start) E.job E.walked.kind_is))
@@ -47,10 +47,10 @@ module _ (start new : State) (how : Answer) (heard : List Entry) (O : IsOpenAtRe
       one a given now p q u c = absurd c
 
   same-held : SameHeld ran
-  same-held j l = (last-kept E j).0 ∙ ap (λ (p : Provider). p.held) (kept j)
+  same-held j l = cc ((last-kept E j).0, kept j)
 
   no-fetches : NoFetches ran
-  no-fetches j l = (last-kept E j).1 ∙ ap (λ (p : Provider). p.fetches) (kept j)
+  no-fetches j l = cc ((last-kept E j).1, kept j)
 
   abbrev Gives : Answer → Type 0
   Gives a = UpgradeLeaves ran a
@@ -61,7 +61,7 @@ module _ (start new : State) (how : Answer) (heard : List Entry) (O : IsOpenAtRe
   upgrade-ends answer.Upgraded at so is =
       (let next : next_action E.before E.job ≡ Some End = E.next ∙ ap Some at in (
         one-whole O E.walked refl new heard (end-left O E.walked refl next) (end-sure O E.walked refl next)
-            (ap (λ (v : State). v.records) is) (ap (λ (v : State). v.doubt) is),
+            (cc) (cc),
         same-held,
       ))
   upgrade-ends a at so is = absurd so
