@@ -55,11 +55,8 @@ own_symbols o bytes number stripe seen symbols is shape below few gives =
   where
     by_row : (place : ℕ) → place < o.profile.keep → AcceptsSymbols o gives.opened place symbols →
         IsRightRow o bytes stripe symbols place
-    by_row place kept one = λ j l.
-        get_or_from_slice_get symbols (j * o.profile.keep + place) (value one.row j) 0 (one.values j l)
-        ∙ map-range_at (value one.row)
-        (λ k. slice_index (codeword o.profile (kept_by o (symbols_in o bytes stripe) k)) place) 0 o.shape.l
-        (own_row o bytes number stripe place seen gives.opened one.row is shape
-        (record { stripe_in = below; place_in = kept }) few gives.opens one.accepted) j (omega arith)
-        (omega (arith, l))
-        ∙ kept-symbol o bytes stripe place j kept (omega (arith, kept, profile-room o number is)) l
+    by_row place kept one = λ j l. get_or_from_slice_get symbols (j * o.profile.keep + place)
+        (value one.row j) 0 (one.values j l) ∙ map-range_at _ _ 0 _ (own_row o bytes number stripe place seen
+        gives.opened one.row is shape (record { stripe_in = below; place_in = kept }) few gives.opens
+        one.accepted) j (omega arith) (omega (arith, l)) ∙ kept-symbol o bytes stripe place j kept
+        (omega (arith, kept, profile-room o number is)) l

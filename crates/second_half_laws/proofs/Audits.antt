@@ -33,9 +33,13 @@ module _ (limit : ℕ) (mark : Mark) (start : State) (m : Moment) (ms : List Mom
     (E : Always start ms) (F : Facts mark start ms) (R : ScrubsRight (now start ms)) (G : Audited start ms)
     (X : Changes limit (length ms) (now start ms) m.event m.outcome m.state)
     (T : Turns (now start ms) m.state) where
+  -- the state after these moments
+  abbrev past : State
+  past = now start ms
+
   on : (from : ℕ) (Old New : ℕ → ℕ → ℕ → Type 0) → PrecedesPuts start ms from → IsClear start ms from Old →
-      ((q : List ℕ) (f : File) (i s : ℕ) → file_in (now start ms) q ≡ Some f → file_in m.state q ≡ Some f →
-      setup_in m.state ≡ setup_in (now start ms) → i < (setup_in m.state).n →
+      ((q : List ℕ) (f : File) (i s : ℕ) → file_in past q ≡ Some f → file_in m.state q ≡ Some f →
+      setup_in m.state ≡ setup_in past → i < (setup_in m.state).n →
       s < stripes_of (profiled (setup_in m.state) f.profile) (length (m.state.bytes f.id)) →
       IsBad m.state f.profile f.id i s → Old i f.id s → IsReplaced from i (m ∷ ms) ⊎ New i f.id s) →
       IsClear start (m ∷ ms) from New
@@ -45,17 +49,15 @@ module _ (limit : ℕ) (mark : Mark) (start : State) (m : Moment) (ms : List Mom
 
   audit_on : (from : ℕ) → PrecedesPuts start ms from → IsClear start ms from (WrongAt start ms from) →
       IsClear start (m ∷ ms) from (WrongAt start (m ∷ ms) from)
-  audit_on from P clear = on from (WrongAt start ms from) (WrongAt start (m ∷ ms) from) P clear
-      (λ q f i s stood h setup l k bad x. inr
-      (subst (λ hs. WasWrong (now start hs) i f.id) (sym (first_more from m ms P.early)) x))
+  audit_on from P clear = on from _ _ P clear (λ q f i s stood h setup l k bad x.
+      inr (subst (λ hs. WasWrong (now start hs) i f.id) (sym (first_more from m ms P.early)) x))
 
   audit_doubt_step : (d : Doubt) (number u : ℕ) (c : List ℕ) → m.state.doubt ≡ Some d →
       d.entry ≡ AuditDone number u c →
       IsClear start (m ∷ ms) (m.state.audits number) (WrongAt start (m ∷ ms) (m.state.audits number))
   audit_doubt_step d number u c h e = elim (T.doubt d h) [
-    | Doubt_now.kept was rec ↦
-        (let P = E.audit_doubt d number u c was e in
-        moved P.0 ((now start ms).audits number) refl P.1 (G.audit_doubt d number u c was e))
+    | Doubt_now.kept was rec ↦ (let P = E.audit_doubt d number u c was e in
+        moved P.0 (past.audits number) refl P.1 (G.audit_doubt d number u c was e))
     | Doubt_now.gated job a runs next_is flight mine entry_is maker rec on_ ↦
         (let g = ev.audit_gated limit start m ms A U I E X T job a number u c runs flight mine
         (sym entry_is ∙ e) in
@@ -65,17 +67,17 @@ module _ (limit : ℕ) (mark : Mark) (start : State) (m : Moment) (ms : List Mom
         absurd (let z : SetUp t ≡ AuditDone number u c = sym entry_is ∙ e in cc)
   ]
     where
-      moved : number < next_audit (now start ms).records → (from : ℕ) → from ≡ (now start ms).audits number →
+      moved : number < next_audit past.records → (from : ℕ) → from ≡ past.audits number →
           PrecedesPuts start ms from → IsClear start ms from (WrongAt start ms from) →
           IsClear start (m ∷ ms) (m.state.audits number) (WrongAt start (m ∷ ms) (m.state.audits number))
       moved below from is P clear = subst (λ n. IsClear start (m ∷ ms) n (WrongAt start (m ∷ ms) n))
           (is ∙ sym (audits_below T number below)) (audit_on from P clear)
 
   -- an audit that has just begun
-  audit_new : m.state.records ≡ (now start ms).records →
-      IsClear start (m ∷ ms) (length ms) (WrongAt start (m ∷ ms) (length ms))
-  audit_new rec q f i s h l b bad = (let stood : file_in (now start ms) q ≡ Some f = cc in
-      let setup = setup_same m.state (now start ms) (ap setup_of rec) in let below = file_below A q f stood in
+  audit_new : m.state.records ≡ past.records → IsClear start (m ∷ ms) (length ms) (WrongAt start (m ∷ ms)
+      (length ms))
+  audit_new rec q f i s h l b bad = (let stood : file_in past q ≡ Some f = cc in
+      let setup = setup_same m.state past (ap setup_of rec) in let below = file_below A q f stood in
       let n = ev.bounds limit start m ms A U I E X T f.profile f.id i s setup below l b in
       elim (pt.file_bad limit mark start m ms clean run A U I E X T (rows_right mark start ms F) R q f i s
       stood setup bad) [
@@ -86,7 +88,7 @@ module _ (limit : ℕ) (mark : Mark) (start : State) (m : Moment) (ms : List Mom
               file = f;
               in_effect = stood;
               id_is = refl;
-              was = bad_wrong (now start ms) f i s n.1 old;
+              was = bad_wrong past f i s n.1 old;
             }))
         | inr r ↦ inl (since_now (length ms) i m ms r (omega arith))
       ])
@@ -104,27 +106,25 @@ module _ (limit : ℕ) (mark : Mark) (start : State) (m : Moment) (ms : List Mom
 
   -- ---- repairs
 
-  rest_on : (x j : Job) (k : ℕ) (action : Action) → job_of (now start ms).jobs k ≡ Some x →
-      next_action (now start ms) x ≡ Some action → x.kind ≡ RepairJob → j.kind ≡ RepairJob →
-      j.pinned ≡ x.pinned → j.flagged ≡ x.flagged →
-      j.subject ≡ x.subject → j.place ≡ x.place + 1 →
+  rest_on : (x j : Job) (k : ℕ) (action : Action) → job_of past.jobs k ≡ Some x →
+      next_action past x ≡ Some action → x.kind ≡ RepairJob → j.kind ≡ RepairJob → j.pinned ≡ x.pinned →
+      j.flagged ≡ x.flagged → j.subject ≡ x.subject → j.place ≡ x.place + 1 →
       ((i o s : ℕ) (b : Option (List ℕ)) → action ≡ Store i o s → told_block m.state i o s ≡ Some b →
-      b ≡ Some (block_to_store (now start ms) x x.kind i o s)) →
-      IsClear start (m ∷ ms) (m.state.audits j.subject) (Remains m.state j)
+      b ≡ Some (block_to_store past x x.kind i o s)) → IsClear start (m ∷ ms) (m.state.audits j.subject)
+      (Remains m.state j)
   rest_on x j k action runs next_is kx kj pinned flagged subject place stores =
       (let P = E.repair k x runs kx in
       subst (λ n. IsClear start (m ∷ ms) n (Remains m.state j)) (cc (audits_below T x.subject P.0))
-      (on ((now start ms).audits x.subject) (Remains (now start ms) x) (Remains m.state j) P.1
-      (G.repair k x runs kx) more))
+      (on _ _ _ P.1 (G.repair k x runs kx) more))
     where
-      at_number : job_of (now start ms).jobs x.number ≡ Some x
-      at_number = cc (number_of (now start ms).jobs k x runs)
+      at_number : job_of past.jobs x.number ≡ Some x
+      at_number = cc (number_of past.jobs k x runs)
 
-      more : (q : List ℕ) (f : File) (i s : ℕ) → file_in (now start ms) q ≡ Some f →
-          file_in m.state q ≡ Some f → setup_in m.state ≡ setup_in (now start ms) → i < (setup_in m.state).n →
+      more : (q : List ℕ) (f : File) (i s : ℕ) → file_in past q ≡ Some f → file_in m.state q ≡ Some f →
+          setup_in m.state ≡ setup_in past → i < (setup_in m.state).n →
           s < stripes_of (profiled (setup_in m.state) f.profile) (length (m.state.bytes f.id)) →
-          IsBad m.state f.profile f.id i s → Remains (now start ms) x i f.id s →
-          IsReplaced ((now start ms).audits x.subject) i (m ∷ ms) ⊎ Remains m.state j i f.id s
+          IsBad m.state f.profile f.id i s → Remains past x i f.id s →
+          IsReplaced (past.audits x.subject) i (m ∷ ms) ⊎ Remains m.state j i f.id s
       more q f i s stood h setup l b bad (marked, (p, low, at)) = elim (cases_eq p x.place) [
         | inl here ↦ (let act : action ≡ Store i f.id s = cc in
             absurd (pt.stored_right limit mark start m ms clean run A U I E X T (rows_right mark start ms F)
@@ -137,43 +137,40 @@ module _ (limit : ℕ) (mark : Mark) (start : State) (m : Moment) (ms : List Mom
           (
             p,
             omega (arith, low, other, place),
-            cc (same_actions (setup_in (now start ms)) x j kx kj pinned flagged),
+            cc (same_actions (setup_in past) x j kx kj pinned flagged),
           ),
         )
       ]
 
   -- a repair that has just begun
-  repair_new : (j : Job) (wish : Option ℕ) → j ≡ beginning (now start ms) (length ms) RepairJob wish →
-      refusal_of_begin limit (now start ms) RepairJob wish ≡ None → m.state.records ≡ (now start ms).records →
+  repair_new : (j : Job) (wish : Option ℕ) → j ≡ beginning past (length ms) RepairJob wish →
+      refusal_of_begin limit past RepairJob wish ≡ None → m.state.records ≡ past.records →
       IsClear start (m ∷ ms) (m.state.audits j.subject) (Remains m.state j)
-  repair_new j wish is allowed rec =
-      (let u = repair_due limit (now start ms) wish (due_of (now start ms).records) refl allowed in
+  repair_new j wish is allowed rec = (let u = repair_due limit past wish (due_of past.records) refl allowed in
       let P = E.due u.0 u.1 in let subject : j.subject ≡ u.0.number = cc in
       subst (λ n. IsClear start (m ∷ ms) n (Remains m.state j)) (cc (audits_below T u.0.number P.0))
-      (on ((now start ms).audits u.0.number) (IsFlaggedBy (now start ms) u.0.counts) (Remains m.state j) P.1
-      (G.due u.0 u.1) (more u.0 u.1)))
+      (on _ _ _ P.1 (G.due u.0 u.1) (more u.0 u.1)))
     where
-      more : (u : Due) → due_of (now start ms).records ≡ Some u → (q : List ℕ) (f : File) (i s : ℕ) →
-          file_in (now start ms) q ≡ Some f → file_in m.state q ≡ Some f →
-          setup_in m.state ≡ setup_in (now start ms) → i < (setup_in m.state).n →
-          s < stripes_of (profiled (setup_in m.state) f.profile) (length (m.state.bytes f.id)) →
-          IsBad m.state f.profile f.id i s → IsFlaggedBy (now start ms) u.counts i f.id s →
-          IsReplaced ((now start ms).audits u.number) i (m ∷ ms) ⊎ Remains m.state j i f.id s
+      more : (u : Due) → due_of past.records ≡ Some u → (q : List ℕ) (f : File) (i s : ℕ) →
+          file_in past q ≡ Some f → file_in m.state q ≡ Some f → setup_in m.state ≡ setup_in past →
+          i < (setup_in m.state).n → s < stripes_of (profiled (setup_in m.state) f.profile)
+          (length (m.state.bytes f.id)) → IsBad m.state f.profile f.id i s →
+          IsFlaggedBy past u.counts i f.id s → IsReplaced (past.audits u.number) i (m ∷ ms) ⊎ Remains m.state
+          j i f.id s
       more u due q f i s stood h setup l b bad marked = (let flagged : j.flagged i ≡ true = cc in
-          let bytes : m.state.bytes f.id ≡ (now start ms).bytes f.id =
-          X.bytes f.id (file_below A q f stood) in
-          let st = store_stands (setup_in m.state) j (pinned_file (now start ms) f) i s (cc)
-          (subst (λ (x : Job). In (pinned_file (now start ms) f) x.pinned) (sym is) (all_pinned (now start ms)
-          q f stood)) flagged l (subst (λ (y : List ℕ). s < stripes_of (profiled (setup_in m.state) f.profile)
-          (length y)) bytes b) in inr (flagged, (st.0, (let z : j.place ≡ 0 = cc in omega arith), st.1)))
+          let bytes : m.state.bytes f.id ≡ past.bytes f.id = X.bytes f.id (file_below A q f stood) in
+          let st = store_stands _ j _ i s (cc) (subst (λ (x : Job). In (pinned_file past f) x.pinned) (sym is)
+          (all_pinned past q f stood)) flagged l (subst (λ (y : List ℕ). s < stripes_of
+          (profiled (setup_in m.state) f.profile) (length y)) bytes b) in
+          inr (flagged, (st.0, (let z : j.place ≡ 0 = cc in omega arith), st.1)))
 
   repair_step : (k : ℕ) (j : Job) → job_of m.state.jobs k ≡ Some j → j.kind ≡ RepairJob →
       IsClear start (m ∷ ms) (m.state.audits j.subject) (Remains m.state j)
   repair_step k j h kind = elim (X.job k j h) [
     | Job_is.kept r grown ↦ (let P = E.repair k j r kind in
         subst (λ n. IsClear start (m ∷ ms) n (Remains m.state j)) (sym (audits_below T j.subject P.0))
-        (on ((now start ms).audits j.subject) (Remains (now start ms) j) (Remains m.state j) P.1
-        (G.repair k j r kind) (λ q f i s stood h2 setup l b bad x. inr (x.0, (x.1.0, x.1.1, cc)))))
+        (on _ _ _ P.1 (G.repair k j r kind) (λ q f i s stood h2 setup l b bad x.
+        inr (x.0, (x.1.0, x.1.1, cc)))))
     | Job_is.begun kd wish is k_is allowed rec ↦ (let kd_is : kd ≡ RepairJob = cc in
         repair_new j wish (cc) (cc) rec)
     | Job_is.plain x action runs next_is is_plain goes rec st ↦
@@ -190,38 +187,34 @@ module _ (limit : ℕ) (mark : Mark) (start : State) (m : Moment) (ms : List Mom
       IsClear start (m ∷ ms) (m.state.audits number) Never
   repair_doubt_step d number h e = elim (T.doubt d h) [
     | Doubt_now.kept was rec ↦ (let P = E.repair_doubt d number was e in
-        subst (λ n. IsClear start (m ∷ ms) n Never) (sym (audits_below T number P.0))
-        (on ((now start ms).audits number) Never Never P.1 (G.repair_doubt d number was e)
-        (λ q f i s stood h2 setup l b bad x. absurd x)))
+        subst (λ n. IsClear start (m ∷ ms) n Never) (sym (audits_below T number P.0)) (on (past.audits number)
+        Never Never P.1 (G.repair_doubt d number was e) (λ q f i s stood h2 setup l b bad x. absurd x)))
     | Doubt_now.gated job a runs next_is flight mine entry_is maker rec on_ ↦
         (let g = ev.repair_gated limit start m ms A U I E X T job a number runs flight mine (sym entry_is
         ∙ e) in let P = E.repair job.number job runs g.kind in
-        subst (λ n. IsClear start (m ∷ ms) n Never) (cc (audits_below T job.subject P.0))
-        (on ((now start ms).audits job.subject) (Remains (now start ms) job) Never P.1 (G.repair job.number
-        job runs g.kind) (λ q f i s stood h2 setup l b bad x. absurd
-        (let z = gate_behind (now start ms) job x.1.0 i f.id s g.kind next_is x.1.2 in let low = x.1.1 in
+        subst (λ n. IsClear start (m ∷ ms) n Never) (cc (audits_below T job.subject P.0)) (on _ _ Never P.1
+        (G.repair job.number job runs g.kind) (λ q f i s stood h2 setup l b bad x. absurd
+        (let z = gate_behind past job x.1.0 i f.id s g.kind next_is x.1.2 in let low = x.1.1 in
         omega (arith, z, low)))))
     | Doubt_now.set_up t entry_is bare none closed ↦
         absurd (let z : SetUp t ≡ RepairDone number = sym entry_is ∙ e in cc)
   ]
 
-  module _ (missed : MissesNone start ms m.state (came (now start ms) m.state)) where
+  module _ (missed : MissesNone start ms m.state (came past m.state)) where
     -- where the end of an audit comes into effect, one that was wrong at its begin and is not flagged was
     -- replaced since
-    unmissed : (number u : ℕ) (c : List ℕ) (i o : ℕ) →
-        came (now start ms) m.state ≡ Some (AuditDone number u c) →
-        number < next_audit (now start ms).records → i < (setup_in (now start ms)).n →
-        is_flagged (setup_in (now start ms)).tolerance c i ≡ false →
-        WasWrong (now start (first_moments ((now start ms).audits number) ms)) i o →
-        IsReplaced ((now start ms).audits number) i ms
+    unmissed : (number u : ℕ) (c : List ℕ) (i o : ℕ) → came past m.state ≡ Some (AuditDone number u c) →
+        number < next_audit past.records → i < (setup_in past).n → is_flagged (setup_in past).tolerance c i
+        ≡ false → WasWrong (now start (first_moments (past.audits number) ms)) i o →
+        IsReplaced (past.audits number) i ms
     unmissed number u c i o came_in below l unflagged w =
-        elim (cases_Bool (is_replaced_since ((now start ms).audits number) i ms)) [
+        elim (cases_Bool (is_replaced_since (past.audits number) i ms)) [
           | inl t ↦ t
           | inr f ↦ absurd (by_begin (subst (MissesNone start ms m.state) came_in missed i) f)
         ]
       where
         by_begin : (Misses start ms c (m.state.audits number) i → ⊥) →
-            is_replaced_since ((now start ms).audits number) i ms ≡ false → ⊥
+            is_replaced_since (past.audits number) i ms ≡ false → ⊥
         by_begin none f = subst (λ n. Misses start ms c n i → ⊥) (audits_below T number below) none
             (record {
               provider = l;
@@ -235,33 +228,29 @@ module _ (limit : ℕ) (mark : Mark) (start : State) (m : Moment) (ms : List Mom
 
     -- ---- what is due
 
-    old_due : (u : Due) → due_of (now start ms).records ≡ Some u →
-        IsClear start (m ∷ ms) (m.state.audits u.number) (IsFlaggedBy m.state u.counts)
+    old_due : (u : Due) → due_of past.records ≡ Some u → IsClear start (m ∷ ms) (m.state.audits u.number)
+        (IsFlaggedBy m.state u.counts)
     old_due u was = (let P = E.due u was in
         subst (λ n. IsClear start (m ∷ ms) n (IsFlaggedBy m.state u.counts))
-        (sym (audits_below T u.number P.0)) (on ((now start ms).audits u.number) (IsFlaggedBy (now start ms)
-        u.counts) (IsFlaggedBy m.state u.counts) P.1 (G.due u was) (λ q f i s stood h setup l b bad x.
+        (sym (audits_below T u.number P.0)) (on _ _ _ P.1 (G.due u was) (λ q f i s stood h setup l b bad x.
         inr (cc))))
 
-    new_due : (u : Due) (d : Doubt) (und : ℕ) → (now start ms).doubt ≡ Some d →
-        d.entry ≡ AuditDone u.number und u.counts →
-        ((q : List ℕ) (f : File) (i s : ℕ) → file_in (now start ms) q ≡ Some f → file_in m.state q ≡ Some f →
-        setup_in m.state ≡ setup_in (now start ms) → i < (setup_in m.state).n →
-        s < stripes_of (profiled (setup_in m.state) f.profile) (length (m.state.bytes f.id)) →
-        IsBad m.state f.profile f.id i s → u.number < next_audit (now start ms).records →
-        WrongAt start ms ((now start ms).audits u.number) i f.id s →
-        IsReplaced ((now start ms).audits u.number) i (m ∷ ms) ⊎ IsFlaggedBy m.state u.counts i f.id s) →
+    new_due : (u : Due) (d : Doubt) (und : ℕ) → past.doubt ≡ Some d →
+        d.entry ≡ AuditDone u.number und u.counts → ((q : List ℕ) (f : File) (i s : ℕ) →
+        file_in past q ≡ Some f → file_in m.state q ≡ Some f → setup_in m.state ≡ setup_in past →
+        i < (setup_in m.state).n → s < stripes_of (profiled (setup_in m.state) f.profile)
+        (length (m.state.bytes f.id)) → IsBad m.state f.profile f.id i s →
+        u.number < next_audit past.records → WrongAt start ms (past.audits u.number) i f.id s →
+        IsReplaced (past.audits u.number) i (m ∷ ms) ⊎ IsFlaggedBy m.state u.counts i f.id s) →
         IsClear start (m ∷ ms) (m.state.audits u.number) (IsFlaggedBy m.state u.counts)
     new_due u d und at e more = (let P = E.audit_doubt d u.number und u.counts at e in
-        subst (λ n. IsClear start (m ∷ ms) n (IsFlaggedBy m.state u.counts)) (sym (audits_below T u.number P.0))
-        (on ((now start ms).audits u.number) (WrongAt start ms ((now start ms).audits u.number))
-        (IsFlaggedBy m.state u.counts) P.1 (G.audit_doubt d u.number und u.counts at e)
+        subst (λ n. IsClear start (m ∷ ms) n (IsFlaggedBy m.state u.counts))
+        (sym (audits_below T u.number P.0)) (on _ _ _ P.1 (G.audit_doubt d u.number und u.counts at e)
         (λ q f i s stood h setup l b bad x. more q f i s stood h setup l b bad P.0 x)))
 
-    due_entered : (u : Due) (d : Doubt) → (now start ms).doubt ≡ Some d →
-        due_of (d.entry ∷ (now start ms).records) ≡ Some u →
-        (due_of (now start ms).records ≡ Some u) ⊎ ((und : ℕ) × (d.entry ≡ AuditDone u.number und u.counts))
-    due_entered u d at h = due_done d.entry (now start ms).records u (A.numbers.written.1 d at) h
+    due_entered : (u : Due) (d : Doubt) → past.doubt ≡ Some d → due_of (d.entry ∷ past.records) ≡ Some u →
+        (due_of past.records ≡ Some u) ⊎ ((und : ℕ) × (d.entry ≡ AuditDone u.number und u.counts))
+    due_entered u d at h = due_done d.entry past.records u (A.numbers.written.1 d at) h
 
     due_step : (u : Due) → due_of m.state.records ≡ Some u →
         IsClear start (m ∷ ms) (m.state.audits u.number) (IsFlaggedBy m.state u.counts)
@@ -269,13 +258,11 @@ module _ (limit : ℕ) (mark : Mark) (start : State) (m : Moment) (ms : List Mom
       | ev.Effect_is.nothing rec ↦ old_due u (ap due_of (sym rec) ∙ h)
       | ev.Effect_is.entered d at rec ↦ elim (due_entered u d at (ap due_of (sym rec) ∙ h)) [
         | inl was ↦ old_due u was
-        | inr (und, e) ↦ new_due u d und at e
-            (λ q f i s stood h2 setup l b bad below w. elim (cases_Bool
-            (is_flagged (setup_in (now start ms)).tolerance u.counts i)) [
+        | inr (und, e) ↦ new_due u d und at e (λ q f i s stood h2 setup l b bad below w. elim (cases_Bool
+            (is_flagged (setup_in past).tolerance u.counts i)) [
               | inl t ↦ inr (cc)
-              | inr f2 ↦ inl (since_more ((now start ms).audits u.number) i m ms
-                  (unmissed u.number und u.counts i f.id
-                  (ev.came_one limit start m ms A U I E X T (now start ms).records d.entry rec refl
+              | inr f2 ↦ inl (since_more (past.audits u.number) i m ms (unmissed u.number und u.counts i f.id
+                  (ev.came_one limit start m ms A U I E X T past.records d.entry rec refl
                   ∙ ap Some e) below (subst (λ (t2 : Setup). i < t2.n) setup l) f2 w))
             ])
       ]
@@ -303,36 +290,32 @@ module _ (limit : ℕ) (mark : Mark) (start : State) (m : Moment) (ms : List Mom
       stays : IsClear start (m ∷ ms) (since start ms) Never
       stays = on (since start ms) Never Never E.mark clear (λ q f i s stood h setup l b bad x. absurd x)
 
-      settled_audit : (d : Doubt) (number u : ℕ) (c : List ℕ) → (now start ms).doubt ≡ Some d →
-          d.entry ≡ AuditDone number u c → came (now start ms) m.state ≡ Some (AuditDone number u c) →
-          flags_some (setup_in m.state).tolerance c ≡ false →
-          IsClear start (m ∷ ms) (m.state.audits number) Never
+      settled_audit : (d : Doubt) (number u : ℕ) (c : List ℕ) → past.doubt ≡ Some d →
+          d.entry ≡ AuditDone number u c → came past m.state ≡ Some (AuditDone number u c) →
+          flags_some (setup_in m.state).tolerance c ≡ false → IsClear start (m ∷ ms) (m.state.audits number)
+          Never
       settled_audit d number u c at e came_in none = (let P = E.audit_doubt d number u c at e in
-          subst (λ n. IsClear start (m ∷ ms) n Never) (sym (audits_below T number P.0))
-          (on ((now start ms).audits number) (WrongAt start ms ((now start ms).audits number)) Never P.1
+          subst (λ n. IsClear start (m ∷ ms) n Never) (sym (audits_below T number P.0)) (on _ _ Never P.1
           (G.audit_doubt d number u c at e) (λ q f i s stood h setup l b bad w.
-          inl (since_more ((now start ms).audits number) i m ms (unmissed number u c i f.id came_in P.0
-          (subst (λ (t : Setup). i < t.n) setup l) (cc (none_flagged (setup_in m.state).tolerance c i none))
-          w)))))
+          inl (since_more (past.audits number) i m ms (unmissed number u c i f.id came_in P.0
+          (subst (λ (t : Setup). i < t.n) setup l) (cc (none_flagged _ c i none)) w)))))
 
-      settled_repair : (d : Doubt) (number : ℕ) → (now start ms).doubt ≡ Some d →
-          d.entry ≡ RepairDone number → IsClear start (m ∷ ms) (m.state.audits number) Never
+      settled_repair : (d : Doubt) (number : ℕ) → past.doubt ≡ Some d → d.entry ≡ RepairDone number →
+          IsClear start (m ∷ ms) (m.state.audits number) Never
       settled_repair d number at e = (let P = E.repair_doubt d number at e in
           subst (λ n. IsClear start (m ∷ ms) n Never) (sym (audits_below T number P.0))
-          (on ((now start ms).audits number) Never Never P.1 (G.repair_doubt d number at e)
-          (λ q f i s stood h setup l b bad x. absurd x)))
+          (on (past.audits number) Never Never P.1 (G.repair_doubt d number at e) (λ q f i s stood h setup l b
+          bad x. absurd x)))
 
-      by_entry : (d : Doubt) → (now start ms).doubt ≡ Some d → (r : Record) → d.entry ≡ r →
-          came (now start ms) m.state ≡ Some r →
-          IsClear start (m ∷ ms)
-          (mark_after m.state (settled_by (setup_in m.state).tolerance (Some r)) (since start ms)) Never
+      by_entry : (d : Doubt) → past.doubt ≡ Some d → (r : Record) → d.entry ≡ r → came past m.state ≡ Some r →
+          IsClear start (m ∷ ms) (mark_after m.state (settled_by (setup_in m.state).tolerance (Some r))
+          (since start ms)) Never
       by_entry d at (AuditDone number u c) e came_in =
           elim (cases_Bool (flags_some (setup_in m.state).tolerance c)) [
             | inl t ↦ subst (λ z. IsClear start (m ∷ ms) (mark_after m.state z (since start ms)) Never)
-                (sym (cond_true (flags_some (setup_in m.state).tolerance c) None (Some number) t)) stays
+                (sym (cond_true _ None _ t)) stays
             | inr f ↦ subst (λ z. IsClear start (m ∷ ms) (mark_after m.state z (since start ms)) Never)
-                (sym (cond_false (flags_some (setup_in m.state).tolerance c) None (Some number) f))
-                (settled_audit d number u c at e came_in f)
+                (sym (cond_false _ None _ f)) (settled_audit d number u c at e came_in f)
           ]
       by_entry d at (RepairDone number) e came_in = settled_repair d number at e
       by_entry d at r e came_in = stays
@@ -345,10 +328,9 @@ module _ (limit : ℕ) (mark : Mark) (start : State) (m : Moment) (ms : List Mom
         | ev.Came_is.doubted d at rec e ↦ as_came (Some d.entry) e (by_entry d at d.entry refl e)
       ]
         where
-          as_came : (o : Option Record) → came (now start ms) m.state ≡ o →
-              IsClear start (m ∷ ms)
-              (mark_after m.state (settled_by (setup_in m.state).tolerance o) (since start ms)) Never →
-              IsClear start (m ∷ ms) (since start (m ∷ ms)) Never
+          as_came : (o : Option Record) → came past m.state ≡ o →
+              IsClear start (m ∷ ms) (mark_after m.state (settled_by (setup_in m.state).tolerance o)
+              (since start ms)) Never → IsClear start (m ∷ ms) (since start (m ∷ ms)) Never
           as_came o e P = subst
               (λ z. IsClear start (m ∷ ms)
               (mark_after m.state (settled_by (setup_in m.state).tolerance z) (since start ms)) Never)

@@ -9,8 +9,7 @@ use Rattle.column_defs.proofs.ForgeryLaws.{wrong-block}
 -- a provider that was replaced since a moment is so with one more event
 pub since_more : (from j : ℕ) (m : Moment) (ms : List Moment) → IsReplaced from j ms →
     IsReplaced from j (m ∷ ms)
-since_more from j m ms h =
-    or_right (is_replacement m.event m.outcome j && nat_le from (length ms)) (is_replaced_since from j ms) h
+since_more from j m ms h = or_right _ _ h
 
 -- an event that replaces a provider is a replacement since each moment up to it
 pub since_now : (from j : ℕ) (m : Moment) (ms : List Moment) → is_replacement m.event m.outcome j ≡ true →
@@ -172,7 +171,7 @@ none_flagged tolerance (c ∷ cs) zero h = elim (cases_Bool (nat_lt tolerance c)
 ]
 none_flagged tolerance (c ∷ cs) (suc j) h = none_flagged tolerance cs j
     (elim (cases_Bool (flags_some tolerance cs)) [
-      | inl t ↦ absurd (false≢true (sym h ∙ or_right (nat_lt tolerance c) (flags_some tolerance cs) t))
+      | inl t ↦ absurd (false≢true (sym h ∙ or_right _ _ t))
       | inr f ↦ f
     ])
 

@@ -9,9 +9,8 @@ block j = columns (object_of four 1) (111 ∷ []) j 0
 
 -- it has the size
 pub block_sized : (j : ℕ) → Some (block j) ≡ sized 6 (Some (block j))
-block_sized j = sym (cond_true (length (block j) == 6) (Some (block j)) None
-    (eq-eqb (length (block j)) 6
-    (length-column_of_symbols (object_of four 1) (symbols_in (object_of four 1) (111 ∷ []) 0) j 0)))
+block_sized j = sym (cond_true _ _ None (eq-eqb (length (block j)) 6 (length-column_of_symbols
+    (object_of four 1) (symbols_in (object_of four 1) (111 ∷ []) 0) j 0)))
 
 -- the symbols of the byte's only stripe
 abbrev pub symbols : List ℕ
@@ -19,8 +18,7 @@ symbols = symbols_in (object_of four 1) (111 ∷ []) 0
 
 -- the own blocks give them
 pub own_work : GivesSymbols (object_of four 1) 0 (own_blocks (object_of four 1) (111 ∷ []) 0) symbols
-own_work = own_give (object_of four 1) (111 ∷ []) 0 0 refl
-    (omega arith, omega arith, omega arith, omega arith, omega arith)
+own_work = own_give _ _ 0 0 refl (omega arith, omega arith, omega arith, omega arith, omega arith)
 
 -- the bytes of the symbols, cut to the length, are the byte
 pub byte_back : 111 ∷ []

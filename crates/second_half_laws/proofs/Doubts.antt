@@ -39,9 +39,7 @@ done_on limit start m ms x entry N X setup d = record {
       (made_on start m ms (advanced x) (advanced x) action (later_same (advanced x)) f.0, f.1));
   came = λ gift i. came_on start m ms (advanced x) (advanced x) gift setup (later_same (advanced x))
       (d.came gift i);
-  own = λ name bytes kind late.
-      stands_by limit (length ms) (now start ms) m.event m.outcome m.state x.subject bytes N X
-      (d.own name bytes kind late);
+  own = λ name bytes kind late. stands_by limit _ _ _ _ _ _ bytes N X (d.own name bytes kind late);
 }
 
 module _ (limit : ℕ) (start : State) (m : Moment) (ms : List Moment) (A : All start ms)
@@ -61,11 +59,10 @@ module _ (limit : ℕ) (start : State) (m : Moment) (ms : List Moment) (A : All 
             (made_on start m ms x (advanced x) action (later_advanced x) f.0, f.1));
         came = λ gift i. came_on start m ms x (advanced x) gift setup (later_advanced x)
             (F.made.came x.number x gift runs i);
-        own = λ name bytes kind late. stands_by limit (length ms) w m.event m.outcome m.state x.subject bytes
-            A.numbers.written X (record {
-              below = A.numbers.below x.number x runs (cc, late);
-              bytes_are = I.kept x.number x name bytes runs kind late;
-            });
+        own = λ name bytes kind late. stands_by limit _ w _ _ _ _ bytes A.numbers.written X (record {
+          below = A.numbers.below x.number x runs (cc, late);
+          bytes_are = I.kept x.number x name bytes runs kind late;
+        });
       })
 
   doubt_step : (d : Doubt) → m.state.doubt ≡ Some d → Standing start (m ∷ ms) d
@@ -118,8 +115,7 @@ setup_step : (limit : ℕ) (start : State) (m : Moment) (ms : List Moment) (s : 
 setup_step limit start m ms s A F X h = elim X.records [
   | Records_is.same rec ↦ ap setup_of rec ∙ h
   | Records_is.finished x a runs next_is flight mine moves rec ↦
-      ap setup_of rec ∙ (wrote_setup x x.kind a.entry (now start ms).records (A.pins.wrote a x flight (cc))
-      ∙ h)
+      ap setup_of rec ∙ (wrote_setup x x.kind _ _ (A.pins.wrote a x flight (cc)) ∙ h)
   | Records_is.settled d in_doubt rec ↦ cc (on_top d (F.doubt d in_doubt))
   | Records_is.set_up t none_ rec ↦ absurd (let e : None ≡ Some s = sym none_ ∙ h in cc)
   | Records_is.settled_set_up t d in_doubt none_ rec ↦

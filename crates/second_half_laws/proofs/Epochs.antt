@@ -9,10 +9,10 @@ use Rattle.second_half_laws.proofs.InRuns.{mark_stays}
 module _ (k from : ℕ) (mark : Mark) where
   -- at that moment and behind it the mark is the new one, before it the old one
   pub moved : (ms : List Moment) → k ≤ length ms → moved_mark k from mark ms ≡ from
-  moved ms l = cond_true (nat_le k (length ms)) from (mark ms) (le-leb k (length ms) l)
+  moved ms l = cond_true _ from _ (le-leb k (length ms) l)
 
   unmoved : (ms : List Moment) → length ms < k → moved_mark k from mark ms ≡ mark ms
-  unmoved ms l = cond_false (nat_le k (length ms)) from (mark ms) (lt-leb k (length ms) l)
+  unmoved ms l = cond_false _ from _ (lt-leb k (length ms) l)
 
   -- before, what is calm by the mark is calm by the moved one, and marks are marks
   pub same_first : (m : Moment) (ms : List Moment) (begun : ℕ) → length (m ∷ ms) < k →
@@ -20,7 +20,7 @@ module _ (k from : ℕ) (mark : Mark) where
       replaced_count m.state (moved_mark k from mark (first_moments begun (m ∷ ms))) (m ∷ ms)
       ≤ (setup_in m.state).b
   same_first m ms begun l few = subst (λ n. replaced_count m.state n (m ∷ ms) ≤ (setup_in m.state).b)
-      (sym (unmoved (first_moments begun (m ∷ ms)) (let s = first_fewer begun (m ∷ ms) in omega arith))) few
+      (sym (unmoved _ (let s = first_fewer begun (m ∷ ms) in omega arith))) few
 
   calm_same : (ms : List Moment) → length ms < k → IsCalm relies mark ms →
       IsCalm relies (moved_mark k from mark) ms

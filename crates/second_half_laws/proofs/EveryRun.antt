@@ -113,8 +113,7 @@ wrote_audit : (job : Job) (kind : Kind) (entry : Record) (number u : ℕ) (c : L
 wrote_audit job (PutJob name bytes) entry number u c (inl h) e =
     (let f : PutStart job.subject name ≡ AuditDone number u c = sym h.1 ∙ e in cc)
 wrote_audit job (PutJob name bytes) entry number u c (inr h) e =
-    absurd (ends_other h.1.0 job.subject (length bytes) job.profile (AuditDone number u c)
-    (sym h.1.1 ∙ e) refl)
+    absurd (ends_other h.1.0 _ _ _ _ (sym h.1.1 ∙ e) refl)
 wrote_audit job (GetJob name) entry number u c h e = absurd h
 wrote_audit job (DropJob name) entry number u c h e =
     (let f : Drop name ≡ AuditDone number u c = sym h ∙ e in cc)
@@ -128,7 +127,7 @@ wrote_repair : (job : Job) (kind : Kind) (entry : Record) (number : ℕ) → Wro
 wrote_repair job (PutJob name bytes) entry number (inl h) e =
     (let f : PutStart job.subject name ≡ RepairDone number = sym h.1 ∙ e in cc)
 wrote_repair job (PutJob name bytes) entry number (inr h) e =
-    absurd (ends_other h.1.0 job.subject (length bytes) job.profile (RepairDone number) (sym h.1.1 ∙ e) refl)
+    absurd (ends_other h.1.0 _ _ _ _ (sym h.1.1 ∙ e) refl)
 wrote_repair job (GetJob name) entry number h e = absurd h
 wrote_repair job (DropJob name) entry number h e = (let f : Drop name ≡ RepairDone number = sym h ∙ e in cc)
 wrote_repair job AuditJob entry number (inl h) e =
@@ -142,8 +141,7 @@ wrote_no_setup : (job : Job) (kind : Kind) (entry : Record) (s : Setup) → Wrot
     entry ≡ SetUp s → ⊥
 wrote_no_setup job (PutJob name bytes) entry s (inl h) e =
     (let f : PutStart job.subject name ≡ SetUp s = sym h.1 ∙ e in cc)
-wrote_no_setup job (PutJob name bytes) entry s (inr h) e =
-    ends_other h.1.0 job.subject (length bytes) job.profile (SetUp s) (sym h.1.1 ∙ e) refl
+wrote_no_setup job (PutJob name bytes) entry s (inr h) e = ends_other h.1.0 _ _ _ _ (sym h.1.1 ∙ e) refl
 wrote_no_setup job (GetJob name) entry s h e = h
 wrote_no_setup job (DropJob name) entry s h e = (let f : Drop name ≡ SetUp s = sym h ∙ e in cc)
 wrote_no_setup job AuditJob entry s (inl h) e = (let f : AuditStart h.0 ≡ SetUp s = sym h.1 ∙ e in cc)
@@ -163,13 +161,11 @@ pub profile_of : (other : ℕ) (ps : List Pinned) (f : Pinned) → In f ps →
     ((g : Pinned) → In g ps → g.id ≡ f.id → g.profile ≡ f.profile) → pinned_profile other ps f.id ≡ f.profile
 profile_of other [] f h one = absurd h
 profile_of other (p ∷ ps) f h one = elim (cases_Bool (p.id == f.id)) [
-  | inl t ↦ cond_true (p.id == f.id) p.profile (pinned_profile other ps f.id) t
-      ∙ one p (inl refl) (eqb-true p.id f.id t)
-  | inr o ↦ cond_false (p.id == f.id) p.profile (pinned_profile other ps f.id) o
-      ∙ profile_of other ps f (elim h [
-        | inl e ↦ absurd (false≢true (sym o ∙ eq-eqb p.id f.id (cc)))
-        | inr i ↦ i
-      ]) (λ g i. one g (inr i))
+  | inl t ↦ cond_true _ _ _ t ∙ one p (inl refl) (eqb-true p.id f.id t)
+  | inr o ↦ cond_false _ _ _ o ∙ profile_of other ps f (elim h [
+    | inl e ↦ absurd (false≢true (sym o ∙ eq-eqb p.id f.id (cc)))
+    | inr i ↦ i
+  ]) (λ g i. one g (inr i))
 ]
 
 -- the object of a number among those that a job works on is that of its file there
@@ -182,19 +178,15 @@ worked_is start ms E x o runs pin = cc (profile_of (setup_in (now start ms)).pro
 -- a number that is not drawn keeps its begin
 drawn_other : (w : State) (job : Job) (kind : Kind) (number : ℕ) → (number ≡ next_audit w.records → ⊥) →
     audits_drawn w job kind number ≡ w.audits number
-drawn_other w job AuditJob number other = cond_false
-    (is_first_append job && (number == next_audit w.records)) job.begun (w.audits number)
-    (and_right (is_first_append job) (number == next_audit w.records)
-    (ne_eqb number (next_audit w.records) other))
+drawn_other w job AuditJob number other = cond_false _ _ _ (and_right (is_first_append job)
+    (number == next_audit w.records) (ne_eqb number (next_audit w.records) other))
 drawn_other w job kind number other = refl
 
 -- one that is drawn has that of its audit
 drawn_begun : (w : State) (job : Job) (kind : Kind) (number : ℕ) → kind ≡ AuditJob →
     is_first_append job ≡ true → number ≡ next_audit w.records → audits_drawn w job kind number ≡ job.begun
 drawn_begun w job kind number is first e =
-    cc (cond_true (is_first_append job && (number == next_audit w.records)) job.begun (w.audits number)
-    (and_from (is_first_append job) (number == next_audit w.records) first
-    (eq-eqb number (next_audit w.records) e)))
+    cc (cond_true _ _ _ (and_from _ _ first (eq-eqb number (next_audit w.records) e)))
 
 -- what an audit's or a repair's append writes
 audit_writes : (w : State) (job : Job) (kind : Kind) (entry : Record) (number u : ℕ) (c : List ℕ) →
@@ -229,9 +221,8 @@ not_barred limit w kind wish h = elim (cases_Bool w.is_barred) [
 no_put : (limit : ℕ) (w : State) (wish : Option ℕ) → refusal_of_begin limit w AuditJob wish ≡ None →
     (k : ℕ) (j : Job) (name bytes : List ℕ) → job_of w.jobs k ≡ Some j → j.kind ≡ PutJob name bytes → ⊥
 no_put limit w wish none k j name bytes runs kind =
-    (let f = any_aim is_put_or_check w.jobs k j runs (right_false _ _ (right_false (is_shut (sight_of w))
-    (are_jobs_in_the_way limit (aims_of w.jobs) (aim_of AuditJob)) (not_busy limit w AuditJob wish none))) in
-    false≢true (cc))
+    (let f = any_aim is_put_or_check w.jobs k j runs (right_false _ _ (right_false _ _ (not_busy limit w
+    AuditJob wish none))) in false≢true (cc))
 
 -- a repair is due where one begins
 pub repair_due : (limit : ℕ) (w : State) (wish : Option ℕ) (o : Option Due) → due_of w.records ≡ o →
@@ -451,8 +442,7 @@ module _ (limit : ℕ) (start : State) (m : Moment) (ms : List Moment) (A : All 
         (elim (cases_Bool (is_replaced_since from i ms))
         [ inl t ↦ absurd (false≢true (sym none ∙ since_more from i m ms t)) | inr f ↦ f ]) (sym e ∙ told)
     | Block_is.replaced r ↦ absurd (false≢true (sym none ∙ since_now from i m ms r early))
-    | Block_is.stored x runs next_is is ↦
-        (let b_is = some_told (block_to_store w x x.kind i id s) (w.providers i).held b (sym is ∙ told) in
+    | Block_is.stored x runs next_is is ↦ (let b_is = some_told _ _ b (sym is ∙ told) in
         let fair_x = is_fair w x (Store i id s) next_is in elim (store_kinds x x.kind i id s refl fair_x) [
           | inl (n, bytes, kind, o_is) ↦ (let place = store_place w x n bytes i id s kind next_is in
               cc (
@@ -461,13 +451,12 @@ module _ (limit : ℕ) (start : State) (m : Moment) (ms : List Moment) (A : All 
               ))
           | inr (repairs, pin) ↦
               absurd (let q : HasPin x id = subst (λ kd. IsFair x kd (Store i id s)) repairs fair_x in
-              some-not-none (started_as w.records id) name started
-              (cc ((A.pins.pins x.number x q.file runs q.pinned).1)))
+              some-not-none _ name started (cc ((A.pins.pins x.number x q.file runs q.pinned).1)))
         ])
     | Block_is.scrubbed scrub rest at next_is is ↦ absurd (no_scrub scrub at)
     | Block_is.removed x runs next_is ↦
-        absurd (some-not-none (started_as w.records id) name started (A.pins.older x.number x id runs
-        (remove_kinds x x.kind i id refl (is_fair w x (Remove i id) next_is))).1)
+        absurd (some-not-none _ name started (A.pins.older x.number x id runs (remove_kinds x x.kind i id refl
+        (is_fair w x (Remove i id) next_is))).1)
   ]
 
   columns_on : (p id i s : ℕ) (b : Option (List ℕ)) → id < next_id w.records → setup_in m.state ≡ setup_in w →
@@ -674,14 +663,12 @@ module _ (limit : ℕ) (start : State) (m : Moment) (ms : List Moment) (A : All 
   -- where one record is added, that one came into effect
   pub came_one : (rs : List Record) (r : Record) → m.state.records ≡ r ∷ rs → rs ≡ w.records →
       came w m.state ≡ Some r
-  came_one rs r rec e = cond_true (length m.state.records == suc (length w.records)) (newest m.state.records)
-      None (eq-eqb _ _ (cc)) ∙ ap newest rec
+  came_one rs r rec e = cond_true _ _ None (eq-eqb _ _ (cc)) ∙ ap newest rec
 
   -- where the records did not grow by one, none came into effect
   pub came_none : (n : ℕ) → length m.state.records ≡ n → (n ≡ suc (length w.records) → ⊥) →
       came w m.state ≡ None
-  came_none n e other = cond_false (length m.state.records == suc (length w.records)) (newest m.state.records)
-      None (ne_eqb _ _ (λ z. other (sym e ∙ z)))
+  came_none n e other = cond_false _ _ None (ne_eqb _ _ (λ z. other (sym e ∙ z)))
 
   -- it was in doubt, or is a setup
   pub data Came_is : Type 0 where
@@ -898,8 +885,7 @@ module _ (limit : ℕ) (start : State) (m : Moment) (ms : List Moment) (A : All 
     ]
     | inr (d, at, ends) ↦
         (let held = E.put_held d g.id at (ends_ended w.records d.entry g.id g.size g.profile ends) in
-        absurd (some-not-none (started_as w.records g.id) held.name held.started (ap (started_as w.records)
-        (sym e) ∙ unstarted)))
+        absurd (some-not-none _ _ held.started (ap (started_as w.records) (sym e) ∙ unstarted)))
   ]
     where
       unstarted : started_as w.records f.id ≡ None
@@ -1084,11 +1070,9 @@ module _ (limit : ℕ) (start : State) (m : Moment) (ms : List Moment) (A : All 
           (since start ms))
       by_entry d at (AuditDone number u c) e = elim (cases_Bool (flags_some (setup_in m.state).tolerance c)) [
         | inl t ↦ subst (λ z. PrecedesPuts start (m ∷ ms) (mark_after m.state z (since start ms)))
-            (sym (cond_true (flags_some (setup_in m.state).tolerance c) None (Some number) t))
-            (before_on (since start ms) E.mark)
+            (sym (cond_true _ None _ t)) (before_on (since start ms) E.mark)
         | inr f ↦ subst (λ z. PrecedesPuts start (m ∷ ms) (mark_after m.state z (since start ms)))
-            (sym (cond_false (flags_some (setup_in m.state).tolerance c) None (Some number) f))
-            (moved number (E.audit_doubt d number u c at e)).1
+            (sym (cond_false _ None _ f)) (moved number (E.audit_doubt d number u c at e)).1
       ]
       by_entry d at (RepairDone number) e = (moved number (E.repair_doubt d number at e)).1
       by_entry d at r e = before_on (since start ms) E.mark
@@ -1158,8 +1142,8 @@ start_always limit start clean = record {
   put_held = λ d id h e. absurd (some-not-none start.doubt d h clean.doubt);
   put_columns = λ d id size p i s b h e l k none told. absurd (some-not-none start.doubt d h clean.doubt);
   put_own = λ d id size p k x name bytes h e. absurd (some-not-none start.doubt d h clean.doubt);
-  lone_open = λ scrub h. absurd (some-not-none start.alone (Scrubbing scrub) h clean.none_alone);
-  lone_sure = λ scrub d h. absurd (some-not-none start.alone (Scrubbing scrub) h clean.none_alone);
+  lone_open = λ scrub h. absurd (some-not-none _ _ h clean.none_alone);
+  lone_sure = λ scrub d h. absurd (some-not-none _ _ h clean.none_alone);
   doubt_put = λ d job id h maker e. absurd (some-not-none start.doubt d h clean.doubt);
   doubt_runs = λ d o b h. absurd (some-not-none start.doubt d h clean.doubt);
   audit_entry = λ a j number u c h. absurd (some-not-none start.append a h clean.append);

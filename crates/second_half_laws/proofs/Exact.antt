@@ -68,11 +68,10 @@ module _ (limit : ℕ) (start : State) (m : Moment) (ms : List Moment) (clean : 
         | Block_is.replaced r ↦ inr r
         | Block_is.stored x runs next_is is ↦ inl (stored_own W f.profile x i f.id s b runs next_is
             (A.pins.sound.file q f stood).1 (λ g in_g e. E.pin_file x.number x g q f runs in_g stood e)
-            (some_told (block_to_store w x x.kind i f.id s) (w.providers i).held b (sym is ∙ told))
-            ∙ ap Some on)
+            (some_told _ _ b (sym is ∙ told)) ∙ ap Some on)
         | Block_is.scrubbed scrub rest at next_is is ↦
             inl (cc (
-              some_told (block_to_scrub w scrub i f.id s) (w.providers i).held b (sym is ∙ told),
+              some_told _ _ b (sym is ∙ told),
               R scrub rest i s q f at next_is stood,
             ))
         | Block_is.removed x runs next_is ↦
@@ -95,8 +94,8 @@ module _ (limit : ℕ) (start : State) (m : Moment) (ms : List Moment) (clean : 
               | inr r ↦ absurd (false≢true (cc (since_now from i m ms r P.early)))
             ])
         | inr (d, at, e) ↦ elim (cases_Bool (is_replaced_since (begun_of d.maker) i (m ∷ ms))) [
-          | inl t ↦ absurd (false≢true (cc (since_earlier from (begun_of d.maker) i (m ∷ ms)
-              (P.doubts d e.version f.id f.size f.profile at e.entry_is) t)))
+          | inl t ↦ absurd (false≢true (cc (since_earlier from _ i _ (P.doubts d e.version f.id f.size
+              f.profile at e.entry_is) t)))
           | inr none ↦ ev.put_right limit start m ms A U I E X T d f.id f.size f.profile i s block at e setup l
               k none told
         ]

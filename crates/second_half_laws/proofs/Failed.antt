@@ -11,13 +11,13 @@ use Rattle.second_half_laws.proofs.Onward.{run_onward}
 made_acts : (limit moment : ℕ) (old : State) (m : Moment) (job : Job) (action : Action) →
     Makes old m job action → Happens limit moment old m.event m.outcome m.state →
     Acts old job action m.outcome m.state
-made_acts limit moment old m job action makes h = waits (holder_of old.append action) makes.unheld
-    (subst (λ (a : Option Action). StepsOn old job a m.outcome m.state) makes.next
+made_acts limit moment old m job action makes h =
+    waits _ makes.unheld (subst (λ (a : Option Action). StepsOn old job a m.outcome m.state) makes.next
     (subst (λ (o : Option Job). StepsJob old o m.outcome m.state) makes.runs
     (subst (λ (x : Option Alone). StepsOne old job.number x m.outcome m.state) makes.none_alone
     (subst (λ b. StepsOpen old job.number b m.outcome m.state) makes.unbarred
-    (subst (λ b. Steps old job.number b m.outcome m.state) makes.is_open
-    (subst (λ (e : Event). Happens limit moment old e m.outcome m.state) makes.event h))))))
+    (subst (λ b. Steps old job.number b m.outcome m.state) makes.is_open (subst (λ (e : Event). Happens limit
+    moment old e m.outcome m.state) makes.event h))))))
   where
     waits : (holder : Option ℕ) → holder ≡ None → ActsOrWaits old job action holder m.outcome m.state →
         Acts old job action m.outcome m.state
@@ -280,13 +280,10 @@ pub failures_rose : (limit : ℕ) (start : State) (later ms : List Moment) (coun
     RoseBy (count_in count (now start ms)) (count_in count (now start (later ++ ms))) n
 failures_rose limit start [] ms count n run none = inl (let e : n ≡ 0 = none in omega (arith, e))
 failures_rose limit start (m ∷ later) ms count n run (inl has) =
-    kept_rose (count_in count (now start ms)) (count_in count (now start (later ++ ms)))
-    (count_in count m.state) n
-    (failures_rose limit start later ms count n run.2 has) (never_falls limit start count m (later ++ ms) run)
+    kept_rose _ _ _ n (failures_rose limit start later ms count n run.2 has) (never_falls limit start count m
+    (later ++ ms) run)
 failures_rose limit start (m ∷ later) ms count n run (inr (fewer, is, fails, has)) =
-    subst (RoseBy (count_in count (now start ms)) (count_in count m.state)) (sym is)
-    (one_rose (count_in count (now start ms)) (count_in count (now start (later ++ ms)))
-    (count_in count m.state) fewer (failures_rose limit start later ms count fewer run.2 has)
-    (never_falls limit start count m (later ++ ms) run)
-    (failure_rose limit (length (later ++ ms)) count (now start (later ++ ms)) m
-    (subst (λ (w : State). IsFailure count w m) (after_more start later ms) fails) run.1))
+    subst (RoseBy (count_in count (now start ms)) (count_in count m.state)) (sym is) (one_rose _ _ _ fewer
+    (failures_rose limit start later ms count fewer run.2 has) (never_falls limit start count m (later ++ ms)
+    run) (failure_rose limit _ count _ m (subst (λ (w : State). IsFailure count w m) (after_more start later
+    ms) fails) run.1))

@@ -47,7 +47,7 @@ count_shape [] = refl
 count_shape (x ∷ l) = cc (
   count_cons ends_append x l,
   count_shape l,
-  count_cons (λ b. b) (ends_append x) (shape l),
+  count_cons _ _ _,
 )
 
 shape_count : (p : ℕ) (k l : List Action) → shape k ≡ shape l →
@@ -92,11 +92,11 @@ left_next : (t : Setup) (x j : Job) (action : Action) → slice_get (actions_of 
     (count_by ends_append (left_of t x) ≡ cond (ends_append action) 1 0 + count_by ends_append (left_of t j))
 left_next t x j action at place same = (let front = drop_here (actions_of t x) x.place action at in
     let len : length (drop (x.place + 1) (actions_of t x)) ≡ length (left_of t j) =
-    cc (shape_length (x.place + 1) (actions_of t j) (actions_of t x) same) in
+    cc (shape_length _ _ _ same) in
     let count : count_by ends_append (drop (x.place + 1) (actions_of t x)) ≡ count_by ends_append
-    (left_of t j) = cc (shape_count (x.place + 1) (actions_of t j) (actions_of t x) same) in (
+    (left_of t j) = cc (shape_count _ _ _ same) in (
       cc,
-      cc (count_cons ends_append action (drop (x.place + 1) (actions_of t x))),
+      cc (count_cons _ action _),
     ))
 
 -- an action that ends no append
@@ -125,8 +125,8 @@ gate_falls t x j at place kind same which =
       | inl none ↦ cc
       | inr more ↦ (let lots : 0 < count_by ends_append (left_of t x) =
           (let e = l.1 in omega (arith, e, more)) in cc (
-            lt-ltb 0 (count_by ends_append (left_of t x)) lots,
-            lt-ltb 0 (count_by ends_append (left_of t j)) more,
+            lt-ltb 0 _ lots,
+            lt-ltb 0 _ more,
           ))
     ] in let one : (n : ℕ) → suc (length (left_of t j)) + n ≡ suc (length (left_of t j) + n) =
     (λ n. omega arith) in
@@ -142,8 +142,7 @@ abbrev FewOlder : List ℕ → Type 0
 FewOlder l = (l ≡ []) ⊎ ((o : ℕ) × (l ≡ o ∷ []))
 
 no_gate_tail : (t : Setup) (j : Job) → count_by ends_append (remove_actions t j ++ End ∷ []) ≡ 0
-no_gate_tail t j = count_none (remove_actions t j ++ End ∷ [])
-    (tail_all t j (λ a. ends_append a ≡ false) (λ i o. refl) refl)
+no_gate_tail t j = count_none _ (tail_all t j _ (λ i o. refl) refl)
 
 tail_length : (t : Setup) (l : List ℕ) → length (removes_by t l ++ End ∷ []) ≡ length (removes_by t l) + 1
 tail_length t l = length-append (removes_by t l) (End ∷ [])

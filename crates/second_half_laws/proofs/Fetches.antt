@@ -9,7 +9,7 @@ module _ (old : State) (job : Job) (j object stripe : ℕ) where
   from_step new runs (block, (p, call, is)) =
       subst (λ (w : State). GaveFetched old w job j object stripe) (sym is) (record {
         block = block;
-        goes_on = found_itself old.jobs (advanced_with job (Fetched j object stripe block)) job runs;
+        goes_on = found_itself _ _ job runs;
         gives = elim call.gives [
           | inl g ↦ inl g
           | inr f ↦ inr (subst (λ (x : Provider). FailsToGive (old.providers j) block x)
@@ -36,8 +36,8 @@ module _ (old : State) (job : Job) (j object stripe : ℕ) where
       next_action old job ≡ Some (Fetch j object stripe) →
       holder_of old.append (Fetch j object stripe) ≡ None →
       StepsOn old job (next_action old job) r new → GaveFetched old new job j object stripe
-  on r new runs next_is free h = waits (holder_of old.append (Fetch j object stripe)) free r new runs
-      (subst (λ (a : Option Action). StepsOn old job a r new) next_is h)
+  on r new runs next_is free h = waits _ free r new runs (subst (λ (a : Option Action). StepsOn old job a r
+      new) next_is h)
 
   step_gave : (r : Outcome) (new : State) → old.is_open ≡ true → old.is_barred ≡ false → old.alone ≡ None →
       job_of old.jobs job.number ≡ Some job → next_action old job ≡ Some (Fetch j object stripe) →

@@ -14,58 +14,52 @@ file_named : (rs : List Record) (name : List ℕ) (f : File) → file_of rs name
 file_named [] name f h = absurd (some-not-none None f h refl)
 file_named (SetUp s ∷ rs) name f h = file_named rs name f h
 file_named (PutStart k n ∷ rs) name f h = file_named rs name f h
-file_named (PutDone k size ∷ rs) name f h =
-    named_put (is_start_of name (started_as rs k)) name k size (profile_in (setup_of rs)) (file_of rs name) f
-    h (file_named rs name f)
+file_named (PutDone k size ∷ rs) name f h = named_put _ name k size _ _ f h (file_named rs name f)
 file_named (Drop n ∷ rs) name f h = elim (cases_Bool (is_same_name n name)) [
-  | inl t ↦ absurd (some-not-none (file_of (Drop n ∷ rs) name) f h (cc))
+  | inl t ↦ absurd (some-not-none _ f h (cc))
   | inr o ↦ file_named rs name f (cc)
 ]
 file_named (AuditStart number ∷ rs) name f h = file_named rs name f h
 file_named (AuditDone number undecided counts ∷ rs) name f h = file_named rs name f h
 file_named (RepairDone number ∷ rs) name f h = file_named rs name f h
-file_named (PutDoneIn k size profile ∷ rs) name f h =
-    named_put (is_start_of name (started_as rs k)) name k size profile (file_of rs name) f h
-    (file_named rs name f)
+file_named (PutDoneIn k size profile ∷ rs) name f h = named_put _ name k size _ _ f h (file_named rs name f)
 file_named (Version ∷ rs) name f h = file_named rs name f h
 file_named (Resume next audit ∷ rs) name f h = file_named rs name f h
 file_named (InEffect k size profile kept ∷ rs) name f h =
-    named_put (is_same_name kept name) name k size profile (file_of rs name) f h (file_named rs name f)
+    named_put _ name k size _ _ f h (file_named rs name f)
 file_named (RepairDue number counts ∷ rs) name f h = file_named rs name f h
 
 with_new : (fs : List File) (x : File) → In x (with_file fs x)
 with_new [] x = inl refl
 with_new (f ∷ fs) x = elim (cases_Bool (is_name_before f.name x.name)) [
-  | inl t ↦ subst (λ l. In x l)
-      (sym (cond_true (is_name_before f.name x.name) (f ∷ with_file fs x) (x ∷ f ∷ fs) t))
-      (inr (with_new fs x))
-  | inr o ↦ subst (λ l. In x l)
-      (sym (cond_false (is_name_before f.name x.name) (f ∷ with_file fs x) (x ∷ f ∷ fs) o)) (inl refl)
+  | inl t ↦ subst (λ l. In x l) (sym (cond_true _ _ _ t)) (inr (with_new fs x))
+  | inr o ↦ subst (λ l. In x l) (sym (cond_false _ _ _ o)) (inl refl)
 ]
 
 with_old : (fs : List File) (x g : File) → In g fs → In g (with_file fs x)
 with_old [] x g h = absurd h
 with_old (f ∷ fs) x g h = elim (cases_Bool (is_name_before f.name x.name)) [
-  | inl t ↦ subst (λ l. In g l)
-      (sym (cond_true (is_name_before f.name x.name) (f ∷ with_file fs x) (x ∷ f ∷ fs) t))
-      (elim h [ inl e ↦ inl e | inr i ↦ inr (with_old fs x g i) ])
-  | inr o ↦ subst (λ l. In g l)
-      (sym (cond_false (is_name_before f.name x.name) (f ∷ with_file fs x) (x ∷ f ∷ fs) o)) (inr h)
+  | inl t ↦ subst (λ l. In g l) (sym (cond_true _ _ _ t)) (elim h [
+    | inl e ↦ inl e
+    | inr i ↦ inr (with_old fs x
+        g i)
+  ])
+  | inr o ↦ subst (λ l. In g l) (sym (cond_false _ _ _ o)) (inr h)
 ]
 
 without_old : (fs : List File) (n : List ℕ) (g : File) → In g fs → is_same_name g.name n ≡ false →
     In g (without_file fs n)
 without_old [] n g h other = absurd h
 without_old (f ∷ fs) n g h other = elim (cases_Bool (is_same_name f.name n)) [
-  | inl t ↦ subst (λ l. In g l)
-      (sym (cond_true (is_same_name f.name n) (without_file fs n) (f ∷ without_file fs n) t))
-      (elim h [
-        | inl e ↦ absurd (false≢true (cc))
-        | inr i ↦ without_old fs n g i other
-      ])
-  | inr o ↦ subst (λ l. In g l)
-      (sym (cond_false (is_same_name f.name n) (without_file fs n) (f ∷ without_file fs n) o))
-      (elim h [ inl e ↦ inl e | inr i ↦ inr (without_old fs n g i other) ])
+  | inl t ↦ subst (λ l. In g l) (sym (cond_true _ _ _ t)) (elim h [
+    | inl e ↦ absurd (false≢true (cc))
+    | inr i ↦ without_old fs n g i other
+  ])
+  | inr o ↦ subst (λ l. In g l) (sym (cond_false _ _ _ o)) (elim h [
+    | inl e ↦ inl e
+    | inr i ↦ inr (without_old
+        fs n g i other)
+  ])
 ]
 
 apart : (n name : List ℕ) → is_same_name n name ≡ false → is_same_name name n ≡ false
@@ -87,8 +81,7 @@ in_put fs (Some n) name k size profile rest f h named old = by_name (is_same_nam
     by_name true t e = (let same : file_as name k size profile ≡ f = cc in
         subst (λ (x : File). In x (with_file (without_file fs n) (file_as n k size profile)))
         (cc (same-eq n name t)) (with_new (without_file fs n) (file_as n k size profile)))
-    by_name false o e = with_old (without_file fs n) (file_as n k size profile) f (without_old fs n f (old e)
-        (cc (named e, apart n name o)))
+    by_name false o e = with_old _ _ f (without_old fs n f (old e) (cc (named e, apart n name o)))
 
 in_files : (rs : List Record) (name : List ℕ) (f : File) → file_of rs name ≡ Some f → In f (files_of rs)
 in_files [] name f h = absurd (some-not-none None f h refl)
@@ -118,20 +111,19 @@ in_files (RepairDue number counts ∷ rs) name f h = in_files rs name f h
 pin_new : (p : Pinned) (ps : List Pinned) → In p (pin_by machine_pins p ps)
 pin_new p [] = inl refl
 pin_new p (q ∷ qs) = elim (cases_Bool (nat_lt p.id q.id)) [
-  | inl t ↦ subst (λ l. In p l)
-      (sym (cond_true (nat_lt p.id q.id) (p ∷ q ∷ qs) (q ∷ pin_by machine_pins p qs) t)) (inl refl)
-  | inr o ↦ subst (λ l. In p l)
-      (sym (cond_false (nat_lt p.id q.id) (p ∷ q ∷ qs) (q ∷ pin_by machine_pins p qs) o)) (inr (pin_new p qs))
+  | inl t ↦ subst (λ l. In p l) (sym (cond_true _ _ _ t)) (inl refl)
+  | inr o ↦ subst (λ l. In p l) (sym (cond_false _ _ _ o)) (inr (pin_new p qs))
 ]
 
 pin_old : (p : Pinned) (ps : List Pinned) (g : Pinned) → In g ps → In g (pin_by machine_pins p ps)
 pin_old p [] g h = absurd h
 pin_old p (q ∷ qs) g h = elim (cases_Bool (nat_lt p.id q.id)) [
-  | inl t ↦ subst (λ l. In g l)
-      (sym (cond_true (nat_lt p.id q.id) (p ∷ q ∷ qs) (q ∷ pin_by machine_pins p qs) t)) (inr h)
-  | inr o ↦ subst (λ l. In g l)
-      (sym (cond_false (nat_lt p.id q.id) (p ∷ q ∷ qs) (q ∷ pin_by machine_pins p qs) o))
-      (elim h [ inl e ↦ inl e | inr i ↦ inr (pin_old p qs g i) ])
+  | inl t ↦ subst (λ l. In g l) (sym (cond_true _ _ _ t)) (inr h)
+  | inr o ↦ subst (λ l. In g l) (sym (cond_false _ _ _ o)) (elim h [
+    | inl e ↦ inl e
+    | inr i ↦ inr (pin_old p qs
+        g i)
+  ])
 ]
 
 in_all : (w : State) (fs : List File) (f : File) → In f fs → In (pinned_file w f) (pin_all w fs)

@@ -80,21 +80,17 @@ module _ (t : Setup) (x : Job) (version id size profile : ℕ) (kind : Kind)
     (own : (version == 2) ≡ false → profile ≡ t.profile) where
   done_final : FinalPut t x id size profile kind → Final t x (done_record version id size profile) kind
   done_final h = elim (cases_Bool (version == 2)) [
-    | inl e ↦ subst (λ r. Final t x r kind)
-        (sym (cond_true (version == 2) (PutDoneIn id size profile) (PutDone id size) e)) h
-    | inr f ↦ subst (λ r. Final t x r kind)
-        (sym (cond_false (version == 2) (PutDoneIn id size profile) (PutDone id size) f))
-        (subst (λ p. FinalPut t x id size p kind) (own f) h)
+    | inl e ↦ subst (λ r. Final t x r kind) (sym (cond_true _ _ _ e)) h
+    | inr f ↦ subst (λ r. Final t x r kind) (sym (cond_false _ _ _ f)) (subst (λ p. FinalPut t x id size p
+        kind) (own f) h)
   ]
 
   -- a job whose record ends a put had made all of that put's stores, whatever the version
   pub final_done : Final t x (done_record version id size profile) kind → FinalPut t x id size profile kind
   final_done h = elim (cases_Bool (version == 2)) [
-    | inl e ↦ subst (λ r. Final t x r kind)
-        (cond_true (version == 2) (PutDoneIn id size profile) (PutDone id size) e) h
-    | inr f ↦ subst (λ p. FinalPut t x id size p kind) (sym (own f))
-        (subst (λ r. Final t x r kind)
-        (cond_false (version == 2) (PutDoneIn id size profile) (PutDone id size) f) h)
+    | inl e ↦ subst (λ r. Final t x r kind) (cond_true _ _ _ e) h
+    | inr f ↦ subst (λ p. FinalPut t x id size p kind) (sym (own f)) (subst (λ r. Final t x r kind)
+        (cond_false _ _ _ f) h)
   ]
 
 -- a job that is the same in all that its last record hangs on

@@ -234,8 +234,8 @@ sweep : (limit : ℕ) (start : State) → IsStart start → AllTell start → (m
     Sweep start ms
 sweep limit start clean tell [] run calm scrubs = record {
   marks = start_moment start clean;
-  scrubs = λ scrub h. absurd (some-not-none start.alone (Scrubbing scrub) h clean.none_alone);
-  swept = λ scrub h. absurd (some-not-none start.alone (Scrubbing scrub) h clean.none_alone);
+  scrubs = λ scrub h. absurd (some-not-none _ _ h clean.none_alone);
+  swept = λ scrub h. absurd (some-not-none _ _ h clean.none_alone);
   owns = λ q f i s block h l k unreplaced told. absurd (no_first_file start.records q f clean.records h);
 }
 sweep limit start clean tell (m ∷ ms) run calm scrubs =
@@ -273,9 +273,8 @@ owns_later limit start clean tell before [] run calm scrubs =
 owns_later limit start clean tell before (m ∷ later) run calm scrubs =
     (let P = owns_later limit start clean tell before later run.2 calm.1 scrubs.1 in
     let h : IsScrubCalm start (later ++ before) = record { jobs = calm.1; scrubs = scrubs.1 } in (
-      before_stays limit start m (later ++ before) (scrubbed start before) clean run P.0,
-      owns_stay limit (scrubbed start) start m (later ++ before)
-          (scrub_marked limit start (later ++ before) clean tell run.2 h) scrubs.1 run
+      before_stays limit start m _ _ clean run P.0,
+      owns_stay limit _ start m _ (scrub_marked limit start (later ++ before) clean tell run.2 h) scrubs.1 run
           (scrubbed start before) P.0 P.1,
     ))
 
@@ -284,8 +283,7 @@ pub exact_by_scrubs : (limit : ℕ) (start : State) (later before : List Moment)
     AllTell start → IsRun limit start (later ++ before) → IsScrubCalm start (later ++ before) →
     IsExact start (later ++ before) (scrubbed start before)
 exact_by_scrubs limit start later before clean tell run h q f i s in_effect l k unreplaced =
-    by_told ((now start (later ++ before)).providers i).held refl
-    (all_tell limit start (later ++ before) tell run i)
+    by_told _ refl (all_tell limit start (later ++ before) tell run i)
   where
     by_told : (x : Option Held) → ((now start (later ++ before)).providers i).held ≡ x → IsSome x →
         told_block (now start (later ++ before)) i f.id s
@@ -301,8 +299,7 @@ exact_by_scrubs limit start later before clean tell run h q f i s in_effect l k 
 
 none_runs : (limit : ℕ) (start : State) → IsStart start → (ms : List Moment) → IsRun limit start ms →
     BeginsNoScrub ms → (scrub : Scrub) → (now start ms).alone ≡ Some (Scrubbing scrub) → ⊥
-none_runs limit start clean [] run none scrub h =
-    some-not-none start.alone (Scrubbing scrub) h clean.none_alone
+none_runs limit start clean [] run none scrub h = some-not-none _ _ h clean.none_alone
 none_runs limit start clean (m ∷ ms) run none scrub h =
     by_scrub (none_runs limit start clean ms run.2 none.1) (scrub_was limit start m ms clean run scrub h)
   where

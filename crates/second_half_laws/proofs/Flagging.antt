@@ -48,7 +48,7 @@ up_where_runs : (limit : ℕ) (start : State) → IsStart start → (ms : List M
     (k : ℕ) (j : Job) → job_of (now start ms).jobs k ≡ Some j →
     (s : Setup) × (setup_of (now start ms).records ≡ Some s)
 up_where_runs limit start clean ms run k j runs = elim (cases_Bool (now start ms).is_open) [
-  | inl t ↦ up_some (setup_of (now start ms).records) ((eff.facts limit start ms clean run).opened t)
+  | inl t ↦ up_some _ ((eff.facts limit start ms clean run).opened t)
   | inr f ↦ absurd (found_none (now start ms).jobs k j
       ((num.facts audits limit start clean ms run).idle.idle f).0 runs)
 ]
@@ -146,13 +146,11 @@ module _ (limit : ℕ) (start : State) (clean : IsStart start) (tolerance : ℕ)
       (none_beside : NoneBeganFor IsAudit auditing) (flags : Flags tolerance ps counts) where
     x : (job : Job) × (job_of (now start (auditing ++ b ∷ older)).jobs k ≡ Some job) × (job.number ≡ k) ×
         (job.kind ≡ AuditJob) × (job.begun ≡ length older)
-    x = ended_of_kind limit start auditing older e b AuditJob k (Audited number undecided counts) clean run
-        (inl begin) begun none_numbered event over
+    x = ended_of_kind limit start _ older e b _ k _ clean run (inl begin) begun none_numbered event over
 
     x_end : (next_action (now start (auditing ++ b ∷ older)) x.0 ≡ Some End) ×
         Ends (now start (auditing ++ b ∷ older)) x.0 x.0.kind (Audited number undecided counts)
-    x_end = event_end limit (length (auditing ++ b ∷ older)) (now start (auditing ++ b ∷ older)) e.event e.outcome
-        e.state x.0 (Audited number undecided counts) (λ z. z) (event ∙ ap Step (sym x.2)) over
+    x_end = event_end limit _ _ _ _ _ x.0 _ (λ z. z) (event ∙ ap Step (sym x.2)) over
         (ap (job_of (now start (auditing ++ b ∷ older)).jobs) x.2 ∙ x.1) run.1
 
     run_b : IsRun limit start (b ∷ older)
@@ -175,9 +173,8 @@ module _ (limit : ℕ) (start : State) (clean : IsStart start) (tolerance : ℕ)
         let at_job = subst (λ i. job_of (now start ms).jobs i ≡ Some g.job) (sym g.mine) g.runs in
         let E = always limit start clean ms run_ms in
         let entry = E.audit_entry g.append g.job n u c g.flies at_job g.kind g.entry in
-        let late = audit_late (setup_in (now start ms)) g.job g.job.place WriteGate g.kind
-        (next_stands (now start ms) g.job WriteGate g.next (λ z. cc)) entry.1 (λ z. z) in
-        let I = eff.facts limit start ms clean run_ms in
+        let late = audit_late _ g.job _ _ g.kind (next_stands (now start ms) g.job WriteGate g.next (λ z. cc))
+        entry.1 (λ z. z) in let I = eff.facts limit start ms clean run_ms in
         let up = up_where_runs limit start clean ms run_ms g.job.number g.job g.runs in
         let L = same_late limit start clean ms up.0 up.1 k g.job runs g.kind late front run_whole
         (none_front k front part (subst (NoneBegan k) is none_numbered)) x.0
@@ -188,8 +185,8 @@ module _ (limit : ℕ) (start : State) (clean : IsStart start) (tolerance : ℕ)
         run_whole up.1 ∙ sym up.1)) in
         let own = audit_running limit start clean ms run_ms g.append g.job g.job.number n u c g.flies g.runs
         g.mine g.entry in let mine : HasSums s x.0 (record { counts = c; undecided = u }) =
-        sums_same s g.job x.0 (record { counts = c; undecided = u }) (sym L.pinned) (sym L.subject) L.given
-        own.sums in let its : HasSums s x.0 (record { counts = counts; undecided = undecided }) =
+        sums_same s g.job x.0 _ (sym L.pinned) (sym L.subject) L.given own.sums in
+        let its : HasSums s x.0 (record { counts = counts; undecided = undecided }) =
         subst (λ t. HasSums t x.0 (record { counts = counts; undecided = undecided })) whole_setup
         (subst (λ kd. Ends (now start (auditing ++ b ∷ older)) x.0 kd (Audited number undecided counts)) x.3
         x_end.1).1 in let one = sums-one s x.0 (shape_in (now start ms) (λ t e. valid_shape t (I.setup t e))
@@ -250,7 +247,7 @@ module _ (limit : ℕ) (start : State) (clean : IsStart start) (tell : AllTell s
     (ps : List ℕ) where
   fits_back : (later ms : List Moment) → IsRun limit start (later ++ ms) →
       Fits tolerance ps (now start (later ++ ms)) → Fits tolerance ps (now start ms)
-  fits_back later ms run fits = go (setup_of (now start ms).records) refl
+  fits_back later ms run fits = go _ refl
     where
       go : (o : Option Setup) → setup_of (now start ms).records ≡ o → Fits tolerance ps (now start ms)
       go None is = inl is
@@ -267,13 +264,10 @@ module _ (limit : ℕ) (start : State) (clean : IsStart start) (tell : AllTell s
       is_wrong_now (now start hs) file j ≡ true →
       In j ps × (tolerance ≡ (setup_in (now start (later ++ hs))).tolerance)
   wrong_among later hs run only fits name file j in_effect l wrong =
-      (let run_hs = run_back limit start later hs run in
-      let only_hs = damages_back ps later hs only in
-      let up = up_some (setup_of (now start hs).records)
-      ((eff.facts limit start hs clean run_hs).files name file in_effect).up in
-      let setup = setup_same (now start (later ++ hs)) (now start hs)
-      (setups_stay limit start later hs up.0 clean run up.1 ∙ sym up.1) in
-      elim (fits_back later hs run fits) [
+      (let run_hs = run_back limit start later hs run in let only_hs = damages_back ps later hs only in
+      let up = up_some _ ((eff.facts limit start hs clean run_hs).files name file in_effect).up in
+      let setup = setup_same (now start (later ++ hs)) (now start hs) (setups_stay limit start later hs up.0
+      clean run up.1 ∙ sym up.1) in elim (fits_back later hs run fits) [
         | inl none ↦ absurd (let e : None ≡ Some up.0 = sym none ∙ up.1 in cc)
         | inr f ↦ (let h = few_marked limit start hs ps clean tell run_hs only_hs f.0 in (
           among_all ps hs 0 j only_hs
@@ -296,7 +290,7 @@ module _ (limit : ℕ) (start : State) (clean : IsStart start) (tell : AllTell s
   misses : (m : Moment) (ms : List Moment) → IsRun limit start (m ∷ ms) → DamagesOnly ps ms →
       Fits tolerance ps (now start ms) → FlagsNow tolerance ps (now start ms) →
       MissesNone start ms m.state (came (now start ms) m.state)
-  misses m ms run only fits flags = go (came (now start ms) m.state) refl
+  misses m ms run only fits flags = go _ refl
     where
       go : (r : Option Record) → came (now start ms) m.state ≡ r → MissesNone start ms m.state r
       go None is = tt

@@ -73,8 +73,7 @@ get_next w job name f kind pinned = cc (next_is_by w job)
 is_of_get : (w : State) (job : Job) (name : List ℕ) (f : Pinned) (action : Action) → job.kind ≡ GetJob name →
     job.pinned ≡ f ∷ [] → next_action w job ≡ Some action → IsOfGet f.id action
 is_of_get w job name f action kind pinned h =
-    each_get (IsOfGet f.id) (read_actions (setup_in w) (f ∷ []) ++ End ∷ []) job.place action
-    (of_get (setup_in w) f) (sym (get_next w job name f kind pinned) ∙ h)
+    each_get _ _ _ action (of_get (setup_in w) f) (sym (get_next w job name f kind pinned) ∙ h)
 
 -- ---- how a get ends
 
@@ -108,8 +107,7 @@ module _ (old : State) (job : Job) (name : List ℕ) (f : Pinned) (new : State) 
       Get_ends.is_lost t row refl (cc) (subst (λ n. LosesRow (pinned_object old f) n (blocks_given job.given
       (setup_in old).n f.id n) row) (sym t_is) (subst (λ n. LosesRow (object_in old f.profile n) s
       (blocks_given job.given (setup_in old).n n s) row) o_is (subst (λ p. LosesRow (object_in old p o) s
-      (blocks_given job.given (setup_in old).n o s) row) (own_profile (setup_in old).profile job.pinned f o
-      pinned o_is) lost)))
+      (blocks_given job.given (setup_in old).n o s) row) (own_profile _ _ f o pinned o_is) lost)))
   at_work o s o_is next_is how h = absurd h
 
   at_fetch : (i o s : ℕ) (how : Answer) → Acts old job (Fetch i o s) (Ended how) new → ⊥
@@ -132,7 +130,7 @@ module _ (old : State) (job : Job) (name : List ℕ) (f : Pinned) (new : State) 
   on : (action : Option Action) (how : Answer) → next_action old job ≡ action →
       StepsOn old job action (Ended how) new → Get_ends old job f how
   on None how is h = absurd h
-  on (Some action) how is h = waits action (holder_of old.append action) how is h
+  on (Some action) how is h = waits action _ how is h
 
   by_job : (found : Option Job) (how : Answer) → found ≡ Some job → StepsJob old found (Ended how) new →
       Get_ends old job f how
@@ -143,9 +141,8 @@ module _ (old : State) (job : Job) (name : List ℕ) (f : Pinned) (new : State) 
   by_bar : (is_barred : Bool) (how : Answer) → job_of old.jobs job.number ≡ Some job →
       StepsOpen old job.number is_barred (Ended how) new → Get_ends old job f how
   by_bar true how runs h = absurd h
-  by_bar false how runs h = by_job (job_of old.jobs job.number) how runs
-      (subst (λ (x : Option Alone). StepsOne old job.number x (Ended how) new)
-      (none_beside old job.number job lone runs) h)
+  by_bar false how runs h = by_job _ how runs (subst (λ (x : Option Alone). StepsOne old job.number x
+      (Ended how) new) (none_beside old job.number job lone runs) h)
 
   by_step : (is_open : Bool) (how : Answer) → job_of old.jobs job.number ≡ Some job →
       Steps old job.number is_open (Ended how) new → Get_ends old job f how
@@ -231,9 +228,8 @@ module _ (limit : ℕ) (start : State) (m : Moment) (ms : List Moment) (job : Jo
   few_not_lost stripe row outcome few =
       (let H = have_files limit start clean ms run.2 job.number job name runs kind in
       let same : H.file ≡ file = cc in
-      by_end (setup_same (now start ms) b H.setup) (get_ends limit start m ms job name (pinned_file b file)
-      (answer.Lost stripe row) (all limit start clean ms run.2).numbers.idle.lone run event outcome runs
-      kind (cc)))
+      by_end (setup_same (now start ms) b H.setup) (get_ends limit start m ms job name _ _ (all limit start
+      clean ms run.2).numbers.idle.lone run event outcome runs kind (cc)))
     where
       by_end : setup_in (now start ms) ≡ setup_in b →
           Get_ends (now start ms) job (pinned_file b file) (answer.Lost stripe row) → ⊥
@@ -247,13 +243,9 @@ module _ (limit : ℕ) (start : State) (m : Moment) (ms : List Moment) (job : Jo
           contradicts : t ≡ stripe →
               LosesRow (file_object b file) t (blocks_given job.given (setup_in b).n file.id t) r → ⊥
           contradicts t_is l =
-              l.lost (row_polynomial (file_object b file)
-              (symbols_in (file_object b file) (b.bytes file.id) t) l.place)
-              (row-right (file_object b file) (b.bytes file.id) file.profile t l.place
-              (blocks_given job.given (setup_in b).n file.id t) l.opened refl
-              (shape_of_file limit start (first_moments job.begun ms) name file clean run_b in_effect)
-              (few_seen (file_object b file) (b.bytes file.id) job.given file.id t
-              (subst (IsFewWrong b file job) (sym t_is) few))
-              l.opens
+              l.lost (row_polynomial (file_object b file) (symbols_in (file_object b file) (b.bytes file.id)
+              t) l.place) (row-right _ _ _ t _ _ _ refl (shape_of_file limit start _ name file clean run_b
+              in_effect) (few_seen (file_object b file) (b.bytes file.id) job.given file.id t
+              (subst (IsFewWrong b file job) (sym t_is) few)) l.opens
               (let room = profile-room (file_object b file) file.profile refl in let k = l.kept in
               omega (arith, room, k)))

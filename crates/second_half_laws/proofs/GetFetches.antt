@@ -23,9 +23,8 @@ got_fetched limit start m ms job name bytes file j stripe clean run event outcom
     =
     subst (λ (u : Setup). stripe < stripes_of (profiled u file.profile) (length (b.bytes file.id))) (sym t) l
     in let F = facts limit start clean ms run.2 in
-    let made = fetched_before_end (now start ms) job name (pinned_file b file) stripe j kind (event_end limit
-    (length ms) (now start ms) m.event m.outcome m.state job (Got bytes) (λ h. h) event outcome runs run.1).0
-    (subst (In (pinned_file b file)) (sym pinned) (inl refl)) few k in
+    let made = fetched_before_end _ job name _ stripe j kind (event_end limit _ _ _ _ _ job _ (λ h. h) event
+    outcome runs run.1).0 (subst (In (pinned_file b file)) (sym pinned) (inl refl)) few k in
     let g = (F.made job.number job made.place (Fetch j file.id stripe) runs made.made made.action).1 in
     F.came job.number job (Fetched j file.id stripe (block_given job.given file.id stripe j)) runs
     (given_block job.given j file.id stripe g.0 g.1))
@@ -40,14 +39,14 @@ pub lost_fetched : (limit : ℕ) (start : State) (m : Moment) (ms : List Moment)
 lost_fetched limit start m ms job name file j stripe row clean run event outcome runs kind in_effect k =
     (let H = have_files limit start clean ms run.2 job.number job name runs kind in
     let b : State = begin_of start ms job in let same : H.file ≡ file = cc in
-    by_end (get_ends limit start m ms job name (pinned_file b file) (Lost stripe row) (all limit start clean
-    ms run.2).numbers.idle.lone run event outcome runs kind (cc)))
+    by_end (get_ends limit start m ms job name _ _ (all limit start clean ms run.2).numbers.idle.lone run
+    event outcome runs kind (cc)))
   where
     at_work : (s : ℕ) → s ≡ stripe → next_action (now start ms) job ≡ Some (Work file.id s) →
         WasFetched start ms job j file.id stripe (block_given job.given file.id stripe j)
     at_work s is next_is =
         fetched_at start ms (facts limit start clean ms run.2) job.number job job.place j file.id stripe runs
-        (omega arith) (next_stands (now start ms) job (Work file.id stripe) (cc) (λ e. cc)) k
+        (omega arith) (next_stands _ job _ (cc) (λ e. cc)) k
 
     by_end : Get_ends (now start ms) job (pinned_file (begin_of start ms job) file) (Lost stripe row) →
         WasFetched start ms job j file.id stripe (block_given job.given file.id stripe j)

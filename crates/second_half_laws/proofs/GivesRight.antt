@@ -23,14 +23,13 @@ none_pass p a (suc n) h =
 
 block_at_own : (o : Object) (bytes : List ℕ) (stripe j : ℕ) → j < o.shape.n →
     block_at (own_blocks o bytes stripe) j ≡ Some (columns o bytes j stripe)
-block_at_own o bytes stripe j l = cc (get_map_upto (λ i. Some (columns o bytes i stripe)) o.shape.n j l)
+block_at_own o bytes stripe j l = cc (get_map_upto _ _ j l)
 
 -- so they give them
 pub own_give : (o : Object) (bytes : List ℕ) (number stripe : ℕ) → o.profile ≡ profile_of number →
     IsShape o.shape.n o.shape.l o.shape.b →
     GivesSymbols o stripe (own_blocks o bytes stripe) (symbols_in o bytes stripe)
-own_give o bytes number stripe is shape = given-right o bytes number stripe (own_blocks o bytes stripe)
-    (map (λ j. Some (bare o j stripe (columns o bytes j stripe))) (upto o.shape.n)) is shape few opens
+own_give o bytes number stripe is shape = given-right o bytes number stripe _ _ is shape few opens
   where
     opens : AllOpen o stripe 0 (own_blocks o bytes stripe)
         (map (λ j. Some (bare o j stripe (columns o bytes j stripe))) (upto o.shape.n))

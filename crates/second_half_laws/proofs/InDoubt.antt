@@ -51,7 +51,7 @@ module _ (limit : ℕ) (start : State) (m : Moment) (ms : List Moment) (A : All 
         absurd (elim (store_kinds y y.kind i f.id s refl (is_fair w y (Store i f.id s) next_y)) [
           | inl (name, bytes, kind_y, o_is) ↦
               (let place = store_place w y name bytes i f.id s kind_y next_y in
-              some-not-none (started_as w.records f.id) name (ap (started_as w.records) o_is
+              some-not-none _ name (ap (started_as w.records) o_is
               ∙ A.pins.started y.number y name bytes runs_y kind_y place.0
               (let l = place.1 in omega arith)) (A.pins.pins x.number x f runs in_f).1)
           | inr (repairs, pin) ↦
@@ -217,14 +217,12 @@ rewritten limit mark start clean tell (m ∷ ms) run calm marks =
     step : Rewritten start ms → Rewritten start (m ∷ ms)
     step before d job i o s b h maker kind made none told =
         elim ((turns (now start ms) limit (length ms) m.event m.outcome m.state run.1).doubt d h) [
-          | Doubt_now.kept was rec ↦
-              (let setup = setup_same m.state (now start ms) (ap setup_of rec) in
-              let old = made_alike (setup_in m.state) (setup_in (now start ms)) job i o s setup made in
+          | Doubt_now.kept was rec ↦ (let setup = setup_same m.state (now start ms) (ap setup_of rec) in
+              let old = made_alike _ _ job i o s setup made in
               let p = rd.made_pin (setup_in (now start ms)) job i o s kind old in
               let below : o < next_id (now start ms).records =
-              subst (λ n. n < next_id (now start ms).records) p.id_is
-              ((kept limit start clean ms run.2).below d job p.file was maker p.pinned) in
-              on below setup (elim (at_rest_or (now start ms)) [
+              subst (λ n. n < next_id (now start ms).records) p.id_is ((kept limit start clean ms run.2).below
+              d job p.file was maker p.pinned) in on below setup (elim (at_rest_or (now start ms)) [
                 | inl (open_, unbarred) ↦ (let g = E.doubt_runs d open_ unbarred was in
                     let e : g.job ≡ job = cc in while_running job i o s b (cc) kind old none told)
                 | inr rest ↦ elim (quiet_blocks (now start ms) limit
@@ -241,7 +239,7 @@ rewritten limit mark start clean tell (m ∷ ms) run calm marks =
               (let setup = setup_same m.state (now start ms) (ap setup_of rec) in
               let e : job ≡ advanced x = cc in let begun : job.begun ≡ x.begun = cc in
               let kx : x.kind ≡ RepairJob = cc in
-              let old = made_before (setup_in m.state) (now start ms) x job i o s setup e next_is made in
+              let old = made_before _ _ x job i o s setup e next_is made in
               let p = rd.made_pin (setup_in (now start ms)) x i o s kx old in
               let below : o < next_id (now start ms).records =
               subst (λ n. n < next_id (now start ms).records) p.id_is (A.pins.pins x.number x p.file runs

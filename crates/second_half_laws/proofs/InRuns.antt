@@ -115,13 +115,11 @@ pub came_columns : (limit : ℕ) (start : State) (m : Moment) (ms : List Moment)
     told_block m.state j id stripe ≡ Some block → block
     ≡ Some (columns (object_in m.state profile id) (m.state.bytes id) j stripe))
 came_columns limit start m ms r id size profile clean run e ends = (let A = all limit start clean ms run.2 in
-    let U = num.facts audits limit start clean ms run.2 in
-    let I = eff.facts limit start ms clean run.2 in
+    let U = num.facts audits limit start clean ms run.2 in let I = eff.facts limit start ms clean run.2 in
     let E = always limit start clean ms run.2 in
     let X = changes limit (length ms) (now start ms) m.event m.outcome m.state A.numbers.idle run.1 in
     let T = turns (now start ms) limit (length ms) m.event m.outcome m.state run.1 in
-    let c = ev.put_came limit start m ms A U I E X T r id
-    (ends_ended (now start ms).records r id size profile ends) e in
+    let c = ev.put_came limit start m ms A U I E X T r id (ends_ended _ r id size _ ends) e in
     let own : IsEndOfPut (now start ms).records c.doubt.entry id size profile =
     subst (λ x. IsEndOfPut (now start ms).records x id size profile) (sym c.entry) ends in (
       c.doubt,

@@ -10,8 +10,8 @@ use Rattle.second_half_laws.proofs.Passing.{Later, later_same, passed_later, pas
 
 -- three numbers that are those looked for, or two
 all_three : (k i p o t s : ℕ) → k ≡ i → p ≡ o → t ≡ s → (((k == i) && (p == o)) && (t == s)) ≡ true
-all_three k i p o t s x y z = and_from ((k == i) && (p == o)) (t == s)
-    (and_from (k == i) (p == o) (eq-eqb k i x) (eq-eqb p o y)) (eq-eqb t s z)
+all_three k i p o t s x y z = and_from _ _ (and_from (k == i) (p == o) (eq-eqb k i x) (eq-eqb p o y))
+    (eq-eqb t s z)
 
 -- where a fetch of a block was given, the newest such fetch is among what was given
 pub given_block : (given : List Given) (i o s : ℕ) (block : Option (List ℕ)) →

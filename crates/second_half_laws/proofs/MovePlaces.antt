@@ -15,7 +15,7 @@ gate_third zero h = absurd (let e : Some WriteBody ≡ Some WriteGate = h in cc)
 gate_third (suc zero) h = absurd (let e : Some SyncBody ≡ Some WriteGate = h in cc)
 gate_third (suc (suc zero)) h = refl
 gate_third (suc (suc (suc zero))) h = absurd (let e : Some SyncGate ≡ Some WriteGate = h in cc)
-gate_third (suc (suc (suc (suc q)))) h = absurd (let e : None ≡ Some WriteGate = h in cc)
+gate_third _ h = absurd (let e : None ≡ Some WriteGate = h in cc)
 
 -- a third move of a put's last append stands behind its stores and two more
 pub write_gate_place : (w : State) (job : Job) (name bytes : List ℕ) → job.kind ≡ PutJob name bytes →
@@ -130,8 +130,8 @@ followed_append : (xs ys : List Action) → Followed xs → Followed ys → Foll
 followed_append xs ys p q k h = elim (split_get xs ys k WriteGate h) [
   | inl x ↦ get_left xs ys (suc k) SyncGate (p k x.1)
   | inr y ↦ subst (λ n. slice_get (xs ++ ys) n ≡ Some SyncGate)
-      (let l = y.0 in let e : length xs + suc (k - length xs) ≡ suc k = omega arith in e)
-      (get_behind xs ys (suc (k - length xs)) SyncGate (q (k - length xs) y.1))
+      (let l = y.0 in let e : length xs + suc (k - length xs) ≡ suc k = omega arith in
+      e) (get_behind xs ys _ _ (q (k - length xs) y.1))
 ]
 
 followed_none : (xs : List Action) → Each NotGate xs → Followed xs
@@ -146,14 +146,11 @@ followed_moves (suc (suc (suc (suc k)))) h = absurd (let e : None ≡ Some Write
 
 followed_by : (t : Setup) (job : Job) (kind : Kind) → Followed (actions_by t job kind)
 followed_by t job (PutJob name bytes) =
-    followed_append append_actions _ followed_moves
-    (followed_append (store_actions t job bytes) _
-    (followed_none (store_actions t job bytes) (stores_all t job bytes NotGate (λ j s. tt)))
-    (followed_append append_actions _ followed_moves
-    (followed_none _ (tail_all t job NotGate (λ j o. tt) tt))))
-followed_by t job (GetJob name) = followed_append (read_actions t job.pinned) (End ∷ [])
-    (followed_none (read_actions t job.pinned) (reads_all t job.pinned NotGate (λ j o s. tt) (λ o s. tt)))
-    (followed_none (End ∷ []) (tt, tt))
+    followed_append append_actions _ followed_moves (followed_append _ _ (followed_none _ (stores_all t job
+    bytes NotGate (λ j s. tt))) (followed_append append_actions _ followed_moves (followed_none _
+    (tail_all t job NotGate (λ j o. tt) tt))))
+followed_by t job (GetJob name) = followed_append _ _ (followed_none _ (reads_all t job.pinned NotGate
+    (λ j o s. tt) (λ o s. tt))) (followed_none (End ∷ []) (tt, tt))
 followed_by t job (DropJob name) =
     followed_append append_actions _ followed_moves (followed_none _ (tail_all t job NotGate (λ j o. tt) tt))
 followed_by t job AuditJob =
@@ -182,8 +179,7 @@ gate_next w job h = (let here : slice_get (actions_by (setup_in w) job job.kind)
     let one : suc job.place ≡ job.place + 1 = omega arith in
     cc (
       next_is_by w (advanced job),
-      cond_false (is_idle_drop w (advanced job) job.kind) (Some End)
-          (slice_get (actions_by (setup_in w) (advanced job) job.kind) (job.place + 1)) (not_idle w job job.kind),
+      cond_false _ _ _ (not_idle w job job.kind),
       actions_by-advanced (setup_in w) job job.kind,
       followed_by (setup_in w) job job.kind job.place here,
     ))

@@ -84,9 +84,7 @@ file_named (RepairDue number counts ∷ rs) name file named h = file_named rs na
 writes_named : (w : State) (job : Job) (kind : Kind) (entry : Record) → IsNamedJob kind →
     Writes w job kind entry → IsNamed entry
 writes_named w job (PutJob name bytes) entry named h = elim (cases_Bool (is_first_append job)) [
-  | inl t ↦ subst IsNamed
-      (sym (h ∙ cond_true (is_first_append job) (PutStart (next_id w.records) name)
-      (done_record (version_of w.records) job.subject (length bytes) job.profile) t)) named
+  | inl t ↦ subst IsNamed (sym (h ∙ cond_true _ _ _ t)) named
   | inr f ↦ subst IsNamed (cc) (by_version (version_of w.records) job.subject (length bytes) job.profile
       IsNamed tt tt)
 ]
@@ -105,7 +103,7 @@ some_none o x a b = (let e : None ≡ Some x = sym a ∙ b in cc)
 begun_named : (limit : ℕ) (w : State) (kind : Kind) (wish : Option ℕ) →
     refusal_of_begin limit w kind wish ≡ None → IsNamedJob kind
 begun_named limit w (PutJob name bytes) wish h =
-    go w.is_barred (is_busy limit (sight_of w) (aim_of (PutJob name bytes))) (is_name name) _ h
+    go _ _ _ _ h
   where
     go : (barred busy ok : Bool) (rest : Option Refusal) →
         cond barred (Some refusal.MustReopen)
@@ -184,8 +182,7 @@ stored_named limit start ms name file clean run h =
 get_refusal : (limit : ℕ) (w : State) (name : List ℕ) (file : File) (why : Refusal) → is_name name ≡ true →
     file_in w name ≡ Some file → begin_refusal limit w (GetJob name) ≡ Some why → IsGetRefusal why
 get_refusal limit w name file why named h e =
-    go w.is_barred (is_busy limit (sight_of w) (aim_of (GetJob name))) (is_name name) (is_stored (sight_of w)
-    name) named (cc (stored-file w name)) e
+    go _ _ _ _ named (cc (stored-file w name)) e
   where
     go : (barred busy ok there : Bool) → ok ≡ true → there ≡ true →
         cond barred (Some refusal.MustReopen)

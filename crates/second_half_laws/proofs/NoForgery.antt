@@ -39,15 +39,9 @@ no_forgery limit mark start ms clean run F calm number job name file runs kind i
 
     of_now : HoldsForgery (file_object (now start ms) file) ((now start ms).bytes file.id) job.number
         (heard_by (Some job)) → ⊥
-    of_now h =
-        (let f = h.forgery in
-        let few = few_there mark start ms F calm number job
-        (pinned_file (begin_of start ms job) file) h.stripe runs
-        (ap relies kind) in_file f.row_in.stripe_in in
-        f.forged.other (own_row (file_object (now start ms) file)
-        ((now start ms).bytes file.id) file.profile h.stripe h.place
-        (blocks_given job.given (setup_in (now start ms)).n file.id h.stripe) f.opened f.row refl
-        (runs_shape limit start ms clean run number job runs) f.row_in few
-        (subst (λ (seen : List SeenBlock). AllOpen (file_object (now start ms) file) h.stripe 0 seen f.opened)
-        (heard_blocks job name (setup_in (now start ms)).n file.id h.stripe kind) f.opens)
-        f.forged.accepted))
+    of_now h = (let f = h.forgery in
+        let few = few_there mark start ms F calm number job (pinned_file (begin_of start ms job) file)
+        h.stripe runs (ap relies kind) in_file f.row_in.stripe_in in
+        f.forged.other (own_row _ _ _ _ _ _ _ f.row refl (runs_shape limit start ms clean run number job runs)
+        f.row_in few (subst (λ (seen : List SeenBlock). AllOpen (file_object (now start ms) file) h.stripe 0
+        seen f.opened) (heard_blocks job name _ _ _ kind) f.opens) f.forged.accepted))

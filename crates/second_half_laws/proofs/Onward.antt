@@ -190,7 +190,7 @@ module _ (old : State) where
 -- in a run no event makes a count of a device fall, and providers go on telling
 pub run_onward : (limit : ℕ) (start : State) (m : Moment) (ms : List Moment) → IsRun limit start (m ∷ ms) →
     AllOnward (now start ms) m.state
-run_onward limit start m ms run = onward (now start ms) limit (length ms) m.event m.outcome m.state run.1
+run_onward limit start m ms run = onward _ limit _ _ _ m.state run.1
 
 -- where all providers tell what they hold at the start, they do in the whole run
 pub all_tell : (limit : ℕ) (start : State) (ms : List Moment) → AllTell start → IsRun limit start ms →

@@ -69,7 +69,7 @@ module _ (old : State) where
           (let new = record (going_on old (advanced_with job (Fetched j o s block)))
           { providers = with_provider old.providers j p } in
           is_given new (Fetched j o s block) refl (found_by j o s block p new call refl));
-      asks = λ j o round symbol p next call. is_given _ (Answered j o round symbol) refl tt;
+      asks = λ j o round symbol p next call. is_given _ _ refl tt;
       works = λ o s symbols next gives. is_given _ (Worked o s symbols) refl tt;
       removes = λ j o p next call. goes_on _ (advanced job) refl refl refl refl refl;
       ends = λ action how next last. ends _ refl;
@@ -166,4 +166,4 @@ pub came_of : (limit : ℕ) (start : State) → IsStart start → (ms : List Mom
 came_of limit start clean [] run = λ k job j o s block h i. absurd (found_none start.jobs k job clean.jobs h)
 came_of limit start clean (m ∷ ms) run =
     step_came start m ms (all limit start clean ms run.2).held.begun (came_of limit start clean ms run.2)
-    (gifts (now start ms) limit (length ms) m.event m.outcome m.state run.1)
+    (gifts _ limit _ _ _ m.state run.1)

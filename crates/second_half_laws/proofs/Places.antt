@@ -42,7 +42,7 @@ each_not P a (x ∷ xs) bad h = (λ e. bad (subst P e h.0), each_not P a xs bad 
 
 fetches_stand : (t : Setup) (id st i : ℕ) → i < t.n →
     Stands (Fetch i id st) (on_each_provider t (λ j. Fetch j id st))
-fetches_stand t id st i l = stands_map (λ j. Fetch j id st) (upto t.n) i (in_upto t.n i l)
+fetches_stand t id st i l = stands_map _ _ i (in_upto t.n i l)
 
 open_behind : (t : Setup) (id st i o s : ℕ) → i < t.n → Behind (Fetch i o s) (Work o s) (open_actions t id st)
 open_behind t id st i o s l p h =
@@ -76,11 +76,8 @@ repair_piece t job id st = open_actions t id st ++ rewrite_actions t job id st
 
 piece_opens : (t : Setup) (job : Job) (id st i o s : ℕ) → i < t.n →
     Behind (Fetch i o s) (Work o s) (repair_piece t job id st)
-piece_opens t job id st i o s l = behind_append (Fetch i o s) (Work o s) (open_actions t id st)
-    (rewrite_actions t job id st) (open_behind t id st i o s l)
-    (behind_none (Fetch i o s) (Work o s) (rewrite_actions t job id st)
-    (each_not NoWork (Work o s) (rewrite_actions t job id st) (λ z. z)
-    (rewrites_fair t job NoWork id st (λ j. tt))))
+piece_opens t job id st i o s l = behind_append _ _ _ _ (open_behind t id st i o s l) (behind_none _ _ _
+    (each_not NoWork _ _ (λ z. z) (rewrites_fair t job NoWork id st (λ j. tt))))
 
 -- a store of this stripe of this object
 abbrev IsOf : ℕ → ℕ → Action → Type 0
@@ -89,8 +86,7 @@ IsOf id st action = Unit {0}
 
 opens_nothing : (t : Setup) (P : Action → Type 0) (id st : ℕ) → ((j : ℕ) → P (Fetch j id st)) →
     P (Work id st) → Each P (open_actions t id st)
-opens_nothing t P id st f g = each_append P (on_each_provider t (λ j. Fetch j id st)) (Work id st ∷ [])
-    (each_map P (λ j. Fetch j id st) (upto t.n) f) (g, tt)
+opens_nothing t P id st f g = each_append P _ _ (each_map P (λ j. Fetch j id st) (upto t.n) f) (g, tt)
 
 piece_stores : (t : Setup) (job : Job) (id st i o s : ℕ) →
     Behind (Work o s) (Store i o s) (repair_piece t job id st)
@@ -133,12 +129,10 @@ stores_all t job bytes P h = each_flat P (λ stripe. on_each_provider t (λ j. S
 -- what holds of every ask holds of those of an audit
 pub asks_all : (t : Setup) (job : Job) (P : Action → Type 0) → ((j o r : ℕ) → P (Ask j o r)) →
     Each P (ask_actions t job)
-asks_all t job P h = each_flat P
-    (λ (f : Pinned). flat_map (λ round. on_each_provider t (λ j. Ask j f.id round))
-    (rounds_of (profiled t f.profile) (length f.bytes))) job.pinned
-    (λ f. each_flat P (λ round. on_each_provider t (λ j. Ask j f.id round))
-    (rounds_of (profiled t f.profile) (length f.bytes))
-    (λ round. each_map P (λ j. Ask j f.id round) (upto t.n) (λ j. h j f.id round)))
+asks_all t job P h = each_flat P (λ (f : Pinned). flat_map (λ round. on_each_provider t (λ j. Ask j f.id
+    round)) (rounds_of (profiled t f.profile) (length f.bytes))) job.pinned (λ f. each_flat P
+    (λ round. on_each_provider t (λ j. Ask j f.id round)) (rounds_of (profiled t f.profile) (length f.bytes))
+    (λ round. each_map P _ _ (λ j. h j f.id round)))
 
 -- what holds of every removal and of the end holds of the last actions of a put or a drop
 pub tail_all : (t : Setup) (job : Job) (P : Action → Type 0) → ((j o : ℕ) → P (Remove j o)) → P End →
@@ -214,23 +208,17 @@ fetched_before_work w job o s i h l =
 pub reads_all : (t : Setup) (pinned : List Pinned) (P : Action → Type 0) → ((j o st : ℕ) → P (Fetch j o st)) →
     ((o st : ℕ) → P (Work o st)) → Each P (read_actions t pinned)
 reads_all t pinned P f g =
-    each_flat P (λ (f : Pinned). on_each_stripe (profiled t f.profile) (length f.bytes) (open_actions t f.id))
-    pinned
-    (λ h. each_flat P (open_actions t h.id) (upto (pinned_stripes t h))
-    (λ st. opens_nothing t P h.id st (λ j. f j h.id st) (g h.id st)))
+    each_flat P _ pinned (λ h. each_flat P _ _ (λ st. opens_nothing t P h.id st (λ j. f j h.id st)
+    (g h.id st)))
 
 reads_call : (t : Setup) (pinned : List Pinned) → Each IsCall (read_actions t pinned)
 reads_call t pinned = reads_all t pinned IsCall (λ j o st. tt) (λ o st. tt)
 
 fetch_stands : (t : Setup) (job : Job) (name : List ℕ) (f : Pinned) (s i : ℕ) → In f job.pinned →
     s < pinned_stripes t f → i < t.n → Stands (Fetch i f.id s) (read_actions t job.pinned)
-fetch_stands t job name f s i in_f l k = stands_flat
-    (λ (g : Pinned). on_each_stripe (profiled t g.profile) (length g.bytes) (open_actions t g.id)) job.pinned
-    f (Fetch i f.id s) in_f
-    (stands_flat (open_actions t f.id) (upto (pinned_stripes t f)) s (Fetch i f.id s)
-    (in_upto (pinned_stripes t f) s l)
-    (stands_left (on_each_provider t (λ j. Fetch j f.id s)) (Work f.id s ∷ []) (Fetch i f.id s)
-    (fetches_stand t f.id s i k)))
+fetch_stands t job name f s i in_f l k = stands_flat _ _ f _ in_f (stands_flat _ _ s _
+    (in_upto (pinned_stripes t f) s l) (stands_left (on_each_provider t (λ j. Fetch j f.id s))
+    (Work f.id s ∷ []) (Fetch i f.id s) (fetches_stand t f.id s i k)))
 
 -- the next action of a get is the one at its place
 get_stands : (w : State) (job : Job) (name : List ℕ) (action : Action) → job.kind ≡ GetJob name →
@@ -242,10 +230,9 @@ pub fetched_before_end : (w : State) (job : Job) (name : List ℕ) (f : Pinned) 
     job.kind ≡ GetJob name → next_action w job ≡ Some End → In f job.pinned →
     s < pinned_stripes (setup_in w) f → i < (setup_in w).n → HasMade (setup_in w) job (Fetch i f.id s)
 fetched_before_end w job name f s i kind h in_f l k =
-    (let r = stands_before (read_actions (setup_in w) job.pinned) (End ∷ []) (Fetch i f.id s) End job.place
-    (fetch_stands (setup_in w) job name f s i in_f l k)
-    (each_not IsCall End (read_actions (setup_in w) job.pinned) (λ z. z) (reads_call (setup_in w) job.pinned))
-    (by_kind (setup_in w) job (GetJob name) job.place End kind (get_stands w job name End kind h)) in
+    (let r = stands_before _ _ _ End _ (fetch_stands (setup_in w) job name f s i in_f l k) (each_not IsCall
+    End _ (λ z. z) (reads_call (setup_in w) job.pinned)) (by_kind (setup_in w) job (GetJob name) job.place End
+    kind (get_stands w job name End kind h)) in
     record {
       place = r.0;
       made = r.1;
@@ -264,19 +251,13 @@ pub repairs_all : (t : Setup) (job : Job) (P : Action → Type 0) →
     ((f : Pinned) (st : ℕ) → In f job.pinned → st < pinned_stripes t f →
     ((j : ℕ) → P (Fetch j f.id st)) × P (Work f.id st) × ((j : ℕ) → P (Store j f.id st))) →
     Each P (repair_actions t job)
-repairs_all t job P h =
-    each_flat_in P (λ (f : Pinned). on_each_stripe (profiled t f.profile) (length f.bytes)
-    (λ stripe. open_actions t f.id stripe ++ rewrite_actions t job f.id stripe)) job.pinned
-    (λ f in_f. each_flat_in P (λ stripe. open_actions t f.id stripe ++ rewrite_actions t job f.id stripe)
-    (upto (pinned_stripes t f))
-    (λ st in_st. (let g = h f st in_f (upto_in (pinned_stripes t f) st in_st) in
-    each_append P (open_actions t f.id st) (rewrite_actions t job f.id st) (opens_nothing t P f.id st g.0 g.1)
-    (rewrites_fair t job P f.id st g.2))))
+repairs_all t job P h = each_flat_in P _ _ (λ f in_f. each_flat_in P _ _ (λ st in_st. (let g =
+    h f st in_f (upto_in (pinned_stripes t f) st in_st) in
+    each_append P _ _ (opens_nothing t P f.id st g.0 g.1) (rewrites_fair t job P f.id st g.2))))
 
 store_pinned : (t : Setup) (job : Job) → Each (IsPinnedStore t job) (actions_by t job RepairJob)
-store_pinned t job = each_append (IsPinnedStore t job) (repair_actions t job) (append_actions ++ End ∷ [])
-    (repairs_all t job (IsPinnedStore t job) (λ f st in_f l. (λ j. tt, tt, λ j. (f, in_f, refl, l))))
-    (tt, (tt, (tt, (tt, (tt, tt)))))
+store_pinned t job = each_append _ _ _ (repairs_all t job (IsPinnedStore t job)
+    (λ f st in_f l. (λ j. tt, tt, λ j. (f, in_f, refl, l)))) (tt, (tt, (tt, (tt, (tt, tt)))))
 
 stores_behind : (t : Setup) (job : Job) (i o s : ℕ) →
     Behind (Work o s) (Store i o s) (actions_by t job RepairJob)
@@ -309,9 +290,8 @@ worked_before_store w job i o s kind h =
     (let at = next_stands w job (Store i o s) h (λ e. cc) in
     let r = work_before_store (setup_in w) job job.place i o s kind at in (
       record { place = r.0; made = r.1; action = r.2 },
-      each_get (IsPinnedStore (setup_in w) job) (actions_by (setup_in w) job RepairJob) job.place
-          (Store i o s) (store_pinned (setup_in w) job)
-          (by_kind (setup_in w) job RepairJob job.place (Store i o s) kind at),
+      each_get _ _ _ _ (store_pinned (setup_in w) job) (by_kind (setup_in w) job RepairJob job.place
+          (Store i o s) kind at),
     ))
 
 repair_calls : (t : Setup) (job : Job) → Each IsCall (repair_actions t job)
@@ -320,13 +300,8 @@ repair_calls t job = repairs_all t job IsCall (λ f st in_f l. (λ j. tt, tt, λ
 -- each store of its files on a flagged provider is among those of a repair
 pub store_in_repair : (t : Setup) (job : Job) (f : Pinned) (i s : ℕ) → In f job.pinned →
     job.flagged i ≡ true → i < t.n → s < pinned_stripes t f → Stands (Store i f.id s) (repair_actions t job)
-store_in_repair t job f i s in_f flag k l = stands_flat (λ (g : Pinned). on_each_stripe (profiled t g.profile)
-    (length g.bytes) (λ stripe. open_actions t g.id stripe ++ rewrite_actions t job g.id stripe)) job.pinned f
-    (Store i f.id s) in_f (stands_flat (λ stripe. open_actions t f.id stripe ++ rewrite_actions t job f.id
-    stripe) (upto (pinned_stripes t f)) s (Store i f.id s) (in_upto (pinned_stripes t f) s l)
-    (stands_right (open_actions t f.id s) (rewrite_actions t job f.id s) (Store i f.id s)
-    (stands_flat (λ j. cond (job.flagged j) (Store j f.id s ∷ []) []) (upto t.n) i (Store i f.id s)
-    (in_upto t.n i k) (0, cc))))
+store_in_repair t job f i s in_f flag k l = stands_flat _ _ f _ in_f (stands_flat _ _ s _
+    (in_upto (pinned_stripes t f) s l) (stands_right _ _ _ (stands_flat _ _ i _ (in_upto t.n i k) (0, cc))))
 
 -- each store of its files on a flagged provider stands in a repair's list of actions
 pub store_stands : (t : Setup) (job : Job) (f : Pinned) (i s : ℕ) → job.kind ≡ RepairJob → In f job.pinned →
@@ -362,8 +337,7 @@ pub gate_behind : (w : State) (job : Job) (p i o s : ℕ) → job.kind ≡ Repai
     next_action w job ≡ Some WriteGate → slice_get (actions_of (setup_in w) job) p ≡ Some (Store i o s) →
     p < job.place
 gate_behind w job p i o s kind h at =
-    (let late = move_behind (setup_in w) job job.place WriteGate kind
-    (next_stands w job WriteGate h (λ e. cc)) (λ z. z) in
+    (let late = move_behind _ job _ _ kind (next_stands w job WriteGate h (λ e. cc)) (λ z. z) in
     let early = store_within (setup_in w) job p i o s kind at in omega arith)
 
 -- ---- the stores of a put
@@ -374,9 +348,7 @@ pub put_store_at : (t : Setup) (job : Job) (name bytes : List ℕ) (i s : ℕ) �
     (p : ℕ) × (p < 4 + length (store_actions t job bytes)) ×
     (slice_get (actions_of t job) p ≡ Some (Store i job.subject s))
 put_store_at t job name bytes i s kind k l =
-    (let at = stands_flat (λ stripe. on_each_provider t (λ j. Store j job.subject stripe))
-    (upto (put_stripes t job bytes)) s (Store i job.subject s) (in_upto (put_stripes t job bytes) s l)
-    (stands_map (λ j. Store j job.subject s) (upto t.n) i (in_upto t.n i k)) in
+    (let at = stands_flat _ _ s _ (in_upto _ s l) (stands_map _ _ i (in_upto t.n i k)) in
     let early = slice_get_within (store_actions t job bytes) at.0 (Store i job.subject s) at.1 in (
       length append_actions + at.0,
       omega (arith, early),
@@ -436,12 +408,7 @@ pub ask_at : (t : Setup) (job : Job) (f : Pinned) (i r : ℕ) → job.kind ≡ A
     i < t.n → In r (rounds_of (profiled t f.profile) (length f.bytes)) →
     (p : ℕ) × (p < 4 + length (ask_actions t job)) × (slice_get (actions_of t job) p ≡ Some (Ask i f.id r))
 ask_at t job f i r kind in_f k in_r =
-    (let at = stands_flat
-    (λ (g : Pinned). flat_map (λ round. on_each_provider t (λ j. Ask j g.id round))
-    (rounds_of (profiled t g.profile) (length g.bytes))) job.pinned f (Ask i f.id r) in_f
-    (stands_flat (λ round. on_each_provider t (λ j. Ask j f.id round))
-    (rounds_of (profiled t f.profile) (length f.bytes)) r (Ask i f.id r) in_r
-    (stands_map (λ j. Ask j f.id r) (upto t.n) i (in_upto t.n i k))) in
+    (let at = stands_flat _ _ f _ in_f (stands_flat _ _ r _ in_r (stands_map _ _ i (in_upto t.n i k))) in
     let early = slice_get_within (ask_actions t job) at.0 (Ask i f.id r) at.1 in (
       length append_actions + at.0,
       omega (arith, early),

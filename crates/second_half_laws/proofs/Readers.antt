@@ -35,7 +35,7 @@ block_in (Fetched k p t b ∷ more) o s i block h = by_test (block_in more o s i
     by_test : (block_given more o s i ≡ Some block → In (Fetched i o s (Some block)) more) →
         In (Fetched i o s (Some block)) (Fetched k p t b ∷ more)
     by_test rest = elim (cases_Bool (((k == i) && (p == o)) && (t == s))) [
-      | inl same ↦ (let q = and_parts ((k == i) && (p == o)) (t == s) same in
+      | inl same ↦ (let q = and_parts _ _ same in
           let r = and_parts (k == i) (p == o) q.0 in let b_is : b ≡ Some block = cc in
           inl (λ z. Fetched (sym (eqb-true k i r.0) z) (sym (eqb-true p o r.1) z) (sym (eqb-true t s q.1) z)
           (sym b_is z)))
@@ -74,8 +74,7 @@ few_of w ms from given f s calm gave =
 -- a block that a repair has stored is of one of its files
 pub made_pin : (t : Setup) (x : Job) (i o s : ℕ) → x.kind ≡ RepairJob → HasMadeStore t x i o s → HasPin x o
 made_pin t x i o s kind made =
-    each_get (IsFair x RepairJob) (actions_by t x RepairJob) made.place (Store i o s) (fair t x RepairJob)
-    (by_kind t x RepairJob made.place (Store i o s) kind made.action)
+    each_get _ _ _ _ (fair t x RepairJob) (by_kind t x RepairJob made.place (Store i o s) kind made.action)
 
 -- of each file that a job works on which relies on providers, at most b of them gave it a wrong block of a
 -- stripe
@@ -409,8 +408,7 @@ module _ (limit : ℕ) (mark : Mark) (start : State) (m : Moment) (ms : List Mom
     | Block_is.same e ↦ F.rewrote k x i o s b runs kind made (replaced_less x.begun i none) (sym e ∙ told)
     | Block_is.replaced r ↦
         absurd (false≢true (sym none ∙ since_now x.begun i m ms r (A.held.begun k x runs)))
-    | Block_is.stored y runs_y next_y is ↦
-        (let b_is = some_told (block_to_store u y y.kind i o s) (u.providers i).held b (sym is ∙ told) in
+    | Block_is.stored y runs_y next_y is ↦ (let b_is = some_told _ _ b (sym is ∙ told) in
         let p = made_pin (setup_in u) x i o s kind made in
         let at_x = subst (λ n. job_of u.jobs n ≡ Some x) (sym (number_of u.jobs k x runs)) runs in
         elim (store_kinds y y.kind i o s refl (is_fair u y (Store i o s) next_y)) [

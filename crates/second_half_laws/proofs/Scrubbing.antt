@@ -52,8 +52,7 @@ stored_told providers i o s block p call b told =
     by_held None is t = (let z : None ≡ Some b = cc in cc)
     by_held (Some held) is t = (let z : Some (with_block o s block held o s) ≡ Some b = cc in
         let y : with_block o s block held o s ≡ b = cc in
-        sym y ∙ cond_true ((o == o) && (s == s)) (Some block) (held o s) (and_from (o == o) (s == s)
-        (eq-eqb o o refl) (eq-eqb s s refl)))
+        sym y ∙ cond_true _ _ _ (and_from (o == o) (s == s) (eq-eqb o o refl) (eq-eqb s s refl)))
 
 module _ (moment : ℕ) (old : State) (lone : IsLone old)
     (opened : (scrub : Scrub) → old.alone ≡ Some (Scrubbing scrub) → old.is_open ≡ true) where

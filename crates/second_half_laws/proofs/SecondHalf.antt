@@ -65,8 +65,7 @@ start_audited start clean = record {
 pub calm_scrub : (mark : Mark) (start : State) → IsStart start → (ms : List Moment) → AreScrubsCalm mark ms →
     (scrub : Scrub) → (now start ms).alone ≡ Some (Scrubbing scrub) →
     replaced_count (now start ms) (scrub_mark mark ms scrub) ms ≤ (setup_in (now start ms)).b
-calm_scrub mark start clean [] calm scrub h =
-    absurd (some-not-none start.alone (Scrubbing scrub) h clean.none_alone)
+calm_scrub mark start clean [] calm scrub h = absurd (some-not-none _ _ h clean.none_alone)
 calm_scrub mark start clean (m ∷ ms) calm scrub h = calm.0 scrub h
 
 -- how a scrub that runs came to be what it is
@@ -94,7 +93,7 @@ pub marked_scrubs : (limit : ℕ) (mark : Mark) (start : State) → IsStart star
     (ms : List Moment) → IsRun limit start ms → AreScrubsCalm mark ms → AreMarks mark start ms →
     (scrub : Scrub) → (now start ms).alone ≡ Some (Scrubbing scrub) → Scrubbed mark start ms scrub
 marked_scrubs limit mark start clean tell [] run calm marks =
-    λ scrub h. absurd (some-not-none start.alone (Scrubbing scrub) h clean.none_alone)
+    λ scrub h. absurd (some-not-none _ _ h clean.none_alone)
 marked_scrubs limit mark start clean tell (m ∷ ms) run calm marks =
     scrub_on limit mark start m ms clean tell run calm.1 (mark_now mark start ms marks.1)
     (marked_scrubs limit mark start clean tell ms run.2 calm.1 marks.1)
@@ -175,7 +174,7 @@ pub both : (limit : ℕ) (start : State) → IsStart start → AllTell start →
 both limit start clean tell [] run calm scrubs missed = record {
   facts = start_facts (since start) start clean (start_moment start clean);
   audited = start_audited start clean;
-  scrubs = λ scrub h. absurd (some-not-none start.alone (Scrubbing scrub) h clean.none_alone);
+  scrubs = λ scrub h. absurd (some-not-none _ _ h clean.none_alone);
 }
 both limit start clean tell (m ∷ ms) run calm scrubs missed =
     both_step limit start m ms clean tell run calm.1 scrubs.1 missed.0
@@ -208,7 +207,7 @@ pub some_rose : (w v : State) (n : ℕ) → ((i : ℕ) × (i < n) × RoseSince w
 some_rose w v zero = inr (λ i l rose. omega (arith, l))
 some_rose w v (suc n) = elim (some_rose w v n) [
   | inl p ↦ inl (p.0, (let l = p.1 in omega (arith, l)), p.2)
-  | inr none ↦ elim (rose_or_not (w.providers n).other_faults (v.providers n).other_faults) [
+  | inr none ↦ elim (rose_or_not _ _) [
     | inl rose ↦ inl (n, omega arith, rose)
     | inr other ↦ inr (λ i l rose. elim (cases_lt i n) [
       | inl k ↦ none i k rose

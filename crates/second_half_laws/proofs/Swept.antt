@@ -181,9 +181,8 @@ module _ (limit : ℕ) (mark : Mark) (start : State) (m : Moment) (ms : List Mom
           | Block_is.replaced r ↦ absurd (false≢true (cc (since_now scrub.begun i m ms r K.begun)))
           | Block_is.stored x runs next_is is ↦ absurd (found_none here.jobs x.number x none runs)
           | Block_is.scrubbed other rest at_other next_is is ↦
-              inr (some_told (block_to_scrub here other i f.id s) (here.providers i).held c (sym is ∙ told)
-              ∙ ap Some (stores_own mark start ms A scrub at K f i s in_f other rest at_other next_is
-              ∙ columns_are f i s))
+              inr (some_told _ _ c (sym is ∙ told) ∙ ap Some (stores_own mark start ms A scrub at K f i s in_f
+              other rest at_other next_is ∙ columns_are f i s))
           | Block_is.removed x runs next_is ↦ absurd (found_none here.jobs x.number x none runs)
         ]
 
@@ -195,9 +194,8 @@ module _ (limit : ℕ) (mark : Mark) (start : State) (m : Moment) (ms : List Mom
           | Block_is.replaced r ↦ inr (inl (since_now scrub.begun i m ms r K.begun))
           | Block_is.stored x runs next_is is ↦ absurd (found_none here.jobs x.number x none runs)
           | Block_is.scrubbed other rest at_other next_is is ↦
-              inl (some_told (block_to_scrub here other i f.id s) (here.providers i).held block (sym is
-              ∙ told) ∙ ap Some (stores_own mark start ms A scrub at K f i s in_f other rest at_other next_is
-              ∙ columns_are f i s))
+              inl (some_told _ _ block (sym is ∙ told) ∙ ap Some (stores_own mark start ms A scrub at K f i s
+              in_f other rest at_other next_is ∙ columns_are f i s))
           | Block_is.removed x runs next_is ↦ absurd (found_none here.jobs x.number x none runs)
         ]
 
@@ -223,8 +221,8 @@ module _ (limit : ℕ) (mark : Mark) (start : State) (m : Moment) (ms : List Mom
     swept_stored : (i o s : ℕ) (rest : List Action) → scrub.todo ≡ Store i o s ∷ rest →
         ((c : Option (List ℕ)) → told_block m.state i o s ≡ Some c →
         c ≡ Some (block_to_scrub here scrub i o s)) → Swept start (m ∷ ms) (record scrub { todo = rest })
-    swept_stored i o s rest todo told = sweeps (record scrub { todo = rest }) refl refl C.seen leave
-        (ended_tail (Store i o s) rest tt (subst IsEnded todo C.ended))
+    swept_stored i o s rest todo told = sweeps _ refl refl C.seen leave (ended_tail (Store i o s) rest tt
+        (subst IsEnded todo C.ended))
       where
         Told : ℕ → ℕ → ℕ → Type 0
         Told a p q = (c : Option (List ℕ)) → told_block m.state a p q ≡ Some c →

@@ -9,22 +9,20 @@ other_with : (js : List Job) (y : Job) (k : ℕ) → (k ≡ y.number → ⊥) �
 other_with [] y k apart = refl
 other_with (x ∷ js) y k apart = elim (cases_Bool (x.number == y.number)) [
   | inl t ↦ cc (
-    cond_true (x.number == y.number) (y ∷ js) (x ∷ with_job js y) t,
-    cond_false (y.number == k) (Some y) (job_of js k) (ne_eqb y.number k (λ e. apart (sym e))),
-    cond_false (x.number == k) (Some x) (job_of js k) (ne_eqb x.number k (λ e. apart (sym e
-        ∙ eqb-true x.number y.number t))),
+    cond_true _ _ _ t,
+    cond_false _ _ _ (ne_eqb y.number k (λ e. apart (sym e))),
+    cond_false _ _ _ (ne_eqb x.number k (λ e. apart (sym e ∙ eqb-true x.number y.number t))),
   )
-  | inr f ↦ cc (cond_false (x.number == y.number) (y ∷ js) (x ∷ with_job js y) f, other_with js y k apart)
+  | inr f ↦ cc (cond_false _ _ _ f, other_with js y k apart)
 ]
 
 other_without : (js : List Job) (n k : ℕ) → (k ≡ n → ⊥) → job_of (without_job js n) k ≡ job_of js k
 other_without [] n k apart = refl
 other_without (x ∷ js) n k apart = elim (cases_Bool (x.number == n)) [
   | inl t ↦ ap (λ l. job_of l k) (cc) ∙ (other_without js n k apart
-      ∙ sym (cond_false (x.number == k) (Some x) (job_of js k) (ne_eqb x.number k (λ e. apart (sym e
-      ∙ eqb-true x.number n t)))))
+      ∙ sym (cond_false _ _ _ (ne_eqb x.number k (λ e. apart (sym e ∙ eqb-true x.number n t)))))
   | inr f ↦ cc (
-    cond_false (x.number == n) (without_job js n) (x ∷ without_job js n) f,
+    cond_false _ _ _ f,
     other_without js n k apart,
   )
 ]
@@ -201,8 +199,7 @@ module _ (old : State) where
           (λ e. absurd (no_sync WriteBody tt e)) refl refl refl refl (inl refl) same_open;
       gates_not = λ a next flight mine. ends_so WriteGate _ next
           (λ e. absurd (no_sync WriteGate tt e)) refl refl refl refl (inr refl) same_open;
-      stores = λ j o s p next call.
-          goes_on (Store j o s) _ (advanced job) next tt refl refl refl refl refl no_new same_open;
+      stores = λ j o s p next call. goes_on _ _ _ next tt refl refl refl refl refl no_new same_open;
       stores_not = λ j o s p how next call. ends_so (Store j o s) _ next
           (λ e. absurd (no_sync (Store j o s) tt e)) refl refl refl refl (inl refl) same_open;
       fetches = λ j o s block p next call.
@@ -211,8 +208,7 @@ module _ (old : State) where
           goes_on (Ask j o round) _ _ next tt refl refl refl refl refl no_new same_open;
       works = λ o s symbols next gives.
           goes_on (Work o s) _ _ next tt refl refl refl refl refl no_new same_open;
-      removes = λ j o p next call.
-          goes_on (Remove j o) _ (advanced job) next tt refl refl refl refl refl no_new same_open;
+      removes = λ j o p next call. goes_on _ _ _ next tt refl refl refl refl refl no_new same_open;
       ends = λ action how next last. ends_so action _ next
           (λ e. absurd (subst (λ a. IsLast old job a how) e last)) refl refl refl refl (inl refl) same_open;
     }
@@ -257,10 +253,9 @@ module _ (old : State) where
     alone = λ number x r new at is_open unbarred h. (let a = steps_aside old x r new h in
         quiet new a.doubt a.records a.audits a.append (λ g. (sym a.is_open ∙ g, λ z. unbarred))
         (λ k j g. cc));
-    begins = λ kind is_open allowed. quiet _ refl refl refl refl same_open
-        (λ k j h. still_found old.jobs (beginning old moment kind None) k j h);
+    begins = λ kind is_open allowed. quiet _ refl refl refl refl same_open (λ k j h. still_found _ _ k j h);
     begins_at = λ profile name bytes is_open allowed. quiet _ refl refl refl refl same_open
-        (λ k j h. still_found old.jobs (beginning old moment (PutJob name bytes) (Some profile)) k j h);
+        (λ k j h. still_found _ _ k j h);
     scrub = λ allowed. quiet _ refl refl refl refl same_open (λ k j h. h);
     pack = λ allowed. quiet _ refl refl refl refl same_open (λ k j h. h);
     stops = λ picks rs js area so. settles_all _ refl refl (inl refl) (λ k j h. Stay_is.shut refl);

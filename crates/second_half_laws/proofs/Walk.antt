@@ -268,9 +268,8 @@ module _ (moment : ℕ) (old : State) where
     begins = λ kind is_open allowed. begins (Begin kind) kind None;
     begins_at = λ profile name bytes is_open allowed.
         begins (BeginAt profile name bytes) (PutJob name bytes) (Some profile);
-    scrub = λ allowed. leaves BeginScrub (Begun old.next_job) _ (begun_not BeginScrub old.next_job) refl refl
-        refl;
-    pack = λ allowed. leaves BeginPack (Begun old.next_job) _ (begun_not BeginPack old.next_job) refl refl refl;
+    scrub = λ allowed. leaves _ _ _ (begun_not BeginScrub old.next_job) refl refl refl;
+    pack = λ allowed. leaves _ _ _ (begun_not BeginPack old.next_job) refl refl refl;
     stops = λ picks rs js area so. gives_up (Stop picks) Stopped _ refl refl;
     opens = λ rs js area so up faults low. gives_up Reopen Opened _ refl refl;
     opens_not = λ why rs js area so faults low. gives_up Reopen (Refused why) _ refl refl;

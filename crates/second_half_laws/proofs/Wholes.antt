@@ -33,8 +33,7 @@ made_less start ms job bound less l h p action k at = h p action (omega (arith, 
 -- of the job that wrote a record in doubt
 made_advanced : (start : State) (ms : List Moment) (x : Job) (entry : Record) → Done start ms x entry →
     MadeAll start ms (advanced x) x.place
-made_advanced start ms x entry d p action l at =
-    d.made p action l (cc (advanced_list (setup_in (now start ms)) x))
+made_advanced start ms x entry d p action l at = d.made p action l (cc (advanced_list _ x))
 
 -- ---- puts
 
@@ -52,10 +51,9 @@ put_whole start ms job name bytes kind late made own = record {
   profile_is = refl;
   drawn = own.below;
   bytes_are = own.bytes_are;
-  stored = λ j stripe k l. (let at =
-      put_store_at (setup_in (now start ms)) job name bytes j stripe kind k l in
+  stored = λ j stripe k l. (let at = put_store_at _ job name bytes j stripe kind k l in
       (made at.0 (Store j job.subject stripe) at.1 at.2).0);
-  placed = λ j stripe k l. put_stores (setup_in (now start ms)) job name bytes j stripe kind late k l;
+  placed = λ j stripe k l. put_stores _ job name bytes j stripe kind late k l;
 }
 
 put_of : (start : State) (ms : List Moment) (job : Job) (id size profile bound : ℕ) (kind : Kind) →
@@ -67,12 +65,10 @@ put_of : (start : State) (ms : List Moment) (job : Job) (id size profile bound :
     PutIsWhole start ms job id size profile
 put_of start ms job id size profile bound (PutJob name bytes) is low made late own h =
     (let l = late name bytes refl in
-    subst (λ n. PutIsWhole start ms job n size profile) h.0
-    (subst (λ n. PutIsWhole start ms job job.subject n profile) h.1
-    (subst (λ p. PutIsWhole start ms job job.subject (length bytes) p) h.2
-    (put_whole start ms job name bytes is (omega (arith, l, low))
-    (made_less start ms job bound (4 + length (store_actions (setup_in (now start ms)) job bytes)) l
-    made) (own name bytes refl)))))
+    subst (λ n. PutIsWhole start ms job n size profile) h.0 (subst (λ n. PutIsWhole start ms job job.subject n
+    profile) h.1 (subst (λ p. PutIsWhole start ms job job.subject (length bytes) p) h.2 (put_whole start ms
+    job name bytes is (omega (arith, l, low)) (made_less start ms job bound _ l made)
+    (own name bytes refl)))))
 put_of start ms job id size profile bound kind is low made late own h = absurd h
 
 put_bound : (t : Setup) (x : Job) (id size profile : ℕ) (kind : Kind) (name bytes : List ℕ) →
@@ -127,7 +123,7 @@ module _ (limit : ℕ) (start : State) (clean : IsStart start) (ms : List Moment
       FinalRepair (setup_in here) job id kind → RepairIsWhole start ms job id
   repair_of job id bound RepairJob is low made late h = (let l = late refl in
       subst (RepairIsWhole start ms job) h.0 (repair_whole job is (omega (arith, l, low)) (made_less start ms
-      job bound (length (repair_actions (setup_in here) job)) l made)))
+      job bound _ l made)))
   repair_of job id bound kind is low made late h = absurd h
 
 repair_bound : (t : Setup) (x : Job) (id : ℕ) (kind : Kind) → FinalRepair t x id kind → kind ≡ RepairJob →
@@ -151,11 +147,9 @@ audit_whole start ms job undecided counts kind made came sums = record {
   subject = refl;
   asked = λ file j round in_f k in_r.
       (let at = ask_at (setup_in (now start ms)) job file j round kind (contains_in job.pinned file in_f) k
-      (contains_in (rounds_of (profiled (setup_in (now start ms)) file.profile) (length file.bytes)) round
-      in_r) in
-      let g = (made at.0 (Ask j file.id round) at.1 at.2).1 in
-      came (Answered j file.id round (answer_given job.given file.id round j))
-      (given_answer job.given j file.id round g.0 g.1));
+      (contains_in _ round in_r) in let g = (made at.0 (Ask j file.id round) at.1 at.2).1 in
+      came (Answered j file.id round (answer_given job.given file.id round j)) (given_answer job.given j
+      file.id round g.0 g.1));
   sums = sums;
 }
 
@@ -205,10 +199,8 @@ on_top olds e r news is h = (let f : Some e ≡ Some r =
 
 none_came : (olds news : List Record) (r : Record) → (length news ≡ suc (length olds) → ⊥) →
     came_by olds news ≡ Some r → ⊥
-none_came olds news r apart h =
-    (let f : None ≡ Some r =
-    sym (cond_false (length news == suc (length olds)) (newest news) None
-    (ne_eqb (length news) (suc (length olds)) apart)) ∙ h in cc)
+none_came olds news r apart h = (let f : None ≡ Some r =
+    sym (cond_false (length news == suc (length olds)) (newest news) None (ne_eqb _ _ apart)) ∙ h in cc)
 
 -- a record that came into effect was in doubt, or is a setup, or a job made its fourth move
 pub came_is : (old new : State) (r : Record) → Records_is old new → came old new ≡ Some r → Came_is old r
@@ -255,14 +247,13 @@ module _ (limit : ℕ) (start : State) (clean : IsStart start) (ms : List Moment
       job.kind ≡ PutJob name bytes → 4 + length (store_actions (setup_in w) job bytes) ≤ job.place →
       PutIsWhole start ms job job.subject (length bytes) job.profile
   put_running k job name bytes runs kind late = put_whole start ms job name bytes kind late (made_less start
-      ms job job.place (4 + length (store_actions (setup_in w) job bytes)) late (made_running k job runs))
-      (own_stands k job name bytes runs kind (omega (arith, late)))
+      ms job _ _ late (made_running k job runs)) (own_stands k job name bytes runs kind (omega (arith, late)))
 
   -- a running repair that is past its stores has rewritten each file on each flagged provider
   pub repair_running : (k : ℕ) (job : Job) → job_of w.jobs k ≡ Some job → job.kind ≡ RepairJob →
       length (repair_actions (setup_in w) job) ≤ job.place → RepairIsWhole start ms job job.subject
   repair_running k job runs kind late = repair_whole limit start clean ms run job kind late (made_less start
-      ms job job.place (length (repair_actions (setup_in w) job)) late (made_running k job runs))
+      ms job _ _ late (made_running k job runs))
 
   final_of : (a : Append) (x : Job) (k : ℕ) (r : Record) → w.append ≡ Some a → job_of w.jobs k ≡ Some x →
       a.job ≡ k → a.entry ≡ r → Final (setup_in w) x r x.kind
@@ -274,7 +265,7 @@ module _ (limit : ℕ) (start : State) (clean : IsStart start) (ms : List Moment
       job_of w.jobs k ≡ Some x → a.job ≡ k → a.entry ≡ AuditDone id undecided counts →
       AuditIsWhole start ms x id undecided counts
   audit_running a x k id undecided counts flight runs mine is =
-      (let f = final_of a x k (AuditDone id undecided counts) flight runs mine is in
+      (let f = final_of a x k _ flight runs mine is in
       audit_of start ms x id undecided counts x.place x.kind refl (made_running k x runs)
       (λ gift i. now_facts.made.came k x gift runs i) (audit_bound (setup_in w) x id undecided counts x.kind
       f) f)
@@ -343,7 +334,7 @@ module _ (limit : ℕ) (start : State) (clean : IsStart start) (m : Moment) (ms 
   pub came_put : (version id size profile : ℕ) → came u m.state ≡ Some (done_record version id size profile) →
       ((version == 2) ≡ false → profile ≡ (setup_in u).profile) → (job : Job) × PutIsWhole start ms job id
       size profile
-  came_put version id size profile h own = elim (came_now (done_record version id size profile) h) [
+  came_put version id size profile h own = elim (came_now _ h) [
     | Came_is.by_step x a runs flight mine is ↦
         (let f = final_done (setup_in u) x version id size profile x.kind own (final_of limit start clean ms
         run.2 a x x.number (done_record version id size profile) flight runs mine is) in (
@@ -386,7 +377,7 @@ module _ (limit : ℕ) (start : State) (clean : IsStart start) (m : Moment) (ms 
   pub came_audit : (id undecided : ℕ) (counts : List ℕ) →
       came u m.state ≡ Some (AuditDone id undecided counts) → (job : Job) × AuditIsWhole start ms job id
       undecided counts
-  came_audit id undecided counts h = elim (came_now (AuditDone id undecided counts) h) [
+  came_audit id undecided counts h = elim (came_now _ h) [
     | Came_is.by_step x a runs flight mine is ↦
         (x, audit_running limit start clean ms run.2 a x x.number id undecided counts flight runs mine is)
     | Came_is.by_doubt d in_doubt is ↦
