@@ -4,8 +4,8 @@
 --   plain u                   == the state with its journal for its history
 --   Carried u v Happened      == what happened in `plain u` and left v happens in u, and leaves a state that is
 --                                v but for its history
-use Rattle.job_laws.proofs.Words.{◌≡◌, ℕ, suc, ◌+◌, ◌==◌, ◌&&◌, Bool, true, false, cond, List, [], ◌∷◌, ◌++◌, length, Option, Some, None, refl, ap, sym, subst, ◌∙◌, ◌⊎◌, inl, inr, arith, is_some, slice_get, flat_map, option_map, cases_Bool, honest_answer, columns, column_of_symbols, Object, GivesSymbols, LosesRow, Sums, upto, Stores, Fetches, Asks, Provider, Record, Setup, PutStart, AuditStart, AuditDone, next_id, next_audit, version_of, Area, AreAlike, Action, WriteBody, SyncBody, WriteGate, SyncGate, Store, Fetch, Ask, Work, Remove, End, actions_of, Scrubs, StepsScrub, StepsAlone, scrubbing, unalone, opened_scrub, found_more, differs, scrub_actions, new_scrub, number_alone, Answer, Put, Got, Dropped, Audited, Repaired, Upgraded, Scrubbed, Lost, ProviderFault, DiskFault, Memory, Moves, Writes, is_first_append, done_record, subject_drawn, bytes_drawn, audits_drawn, removable, taken_out, begun_append, moved, doubted, done_append, barred, unappended, HasSums, asked_challenge, pinned_file, pins_by, due_number, due_flags, subject_at_begin, chosen, beginning, BeginsAt, pin_all, machine_pins, Step, BeginScrub, Outcome, Refused, More, Waiting, Begun, Ended, Closed, IsSpelledKind, block_given, blocks_given, symbols_given, file_given, pinned_profile, Entry, heard_by, Kind, PutJob, GetJob, DropJob, AuditJob, RepairJob, UpgradeJob, aim_of, Pinned, Fetched, Answered, Worked, Job, job_of, advanced, advanced_with, Happens, MustReopen, NoSuchJob, first_refusal, Moment, now, profiled, object_of, setup_or_none, sight_of, aims_of, causes, reserved, StandsPlain, StandsWithDoubt, StandsSwitched, StandsForState, State, Append, Alone, Scrubbing, Packing, Scrub, setup_in, file_in, object_among, worked_object, going_on, ended, with_provider, journal_end, block_to_store, GotBytes, Ends, Acts, is_idle_drop, next_action, holder_of, ActsOrWaits, StepsOn, StepsJob, StepsMine, StepsOne, StepsOpen, Steps, PartRan, AreSteps, GoesOnTo, outside, SameOutside, RanAlone, Seen, AreHanded, IsOpenAtRest, IsSound, events-sound, MayName, walk-begin}
-use Rattle.std.specs.Prelude.{not, map, sum_by}
+use Rattle.job_laws.proofs.Words.{◌≡◌, ℕ, suc, ◌+◌, ◌==◌, Bool, true, false, cond, List, [], ◌∷◌, ◌++◌, length, Option, Some, None, refl, ap, sym, subst, ◌∙◌, ◌⊎◌, inl, inr, arith, is_some, slice_get, flat_map, option_map, cases_Bool, honest_answer, columns, column_of_symbols, Object, GivesSymbols, LosesRow, Sums, upto, Stores, Fetches, Asks, Provider, Record, Setup, AuditStart, AuditDone, next_audit, Area, AreAlike, Action, WriteBody, SyncBody, WriteGate, SyncGate, Store, Fetch, Ask, Work, Remove, End, actions_of, Scrubs, StepsScrub, StepsAlone, scrubbing, unalone, opened_scrub, found_more, differs, scrub_actions, new_scrub, number_alone, Answer, Put, Got, Dropped, Audited, Repaired, Upgraded, Scrubbed, Lost, ProviderFault, DiskFault, Memory, Moves, Writes, is_first_append, subject_drawn, bytes_drawn, audits_drawn, taken_out, begun_append, moved, doubted, done_append, barred, unappended, HasSums, asked_challenge, pinned_file, pins_by, due_number, due_flags, subject_at_begin, chosen, beginning, BeginsAt, pin_all, machine_pins, Step, BeginScrub, Outcome, Refused, More, Waiting, Begun, Ended, Closed, IsSpelledKind, block_given, blocks_given, symbols_given, file_given, pinned_profile, Entry, Kind, PutJob, GetJob, DropJob, AuditJob, RepairJob, UpgradeJob, aim_of, Pinned, Fetched, Answered, Worked, Job, job_of, advanced, advanced_with, Happens, MustReopen, NoSuchJob, first_refusal, Moment, now, profiled, object_of, setup_or_none, sight_of, aims_of, causes, reserved, StandsPlain, StandsWithDoubt, StandsSwitched, StandsForState, State, Append, Alone, Scrubbing, Packing, Scrub, setup_in, file_in, object_among, worked_object, going_on, ended, with_provider, journal_end, block_to_store, GotBytes, Ends, Acts, is_idle_drop, next_action, holder_of, ActsOrWaits, StepsOn, StepsJob, StepsMine, StepsOne, StepsOpen, Steps, PartRan, AreSteps, GoesOnTo, outside, SameOutside, RanAlone, Seen, AreHanded, IsOpenAtRest, IsSound, events-sound, MayName, walk-begin}
+use Rattle.std.specs.Prelude.{map, sum_by}
 use Rattle.device_defs.specs.Cells.{Cells}
 use Rattle.command_defs.specs.Scrubs.{RanScrub}
 use Rattle.state_laws.proofs.Packs.{file-alike}

@@ -1,5 +1,5 @@
 -- What an audit leaves whose job was the only one.
-use Rattle.job_laws.proofs.Words.{◌≡◌, ℕ, ◌<◌, ◌≤◌, ◌⊎◌, List, [], ◌∷◌, ◌++◌, length, take, Option, None, Some, refl, ap, sym, subst, ◌∙◌, inl, inr, arith, slice_get, IfSome, option_map, flat_map, cases_lt, Each, each_get, each_append, each_map, each_flat, each_take, upto, challenge_of, honest_answer, Sums, Judges, Held, Provider, rose-before, Setup, Record, AuditStart, AuditDone, File, next_audit, files_of, AuditJob, Pinned, Given, Answered, Job, profiled, object_of, Action, WriteBody, SyncBody, WriteGate, SyncGate, Store, Fetch, Ask, Work, Remove, End, append_actions, ask_actions, rounds_of, actions_of, appends_left, Answer, challenge_in, HasSums, JudgesFiles, answer_given, answers_given, pinned_size, Entry, entries_of, heard_by_kind, State, Doubt, setup_in, ended, next_action, EndsAs, next_stands, Question, files_by_number, questions, challenge_at, answer_heard, answer_entries, HearsRounds, JudgesOne, no_sums, CountsHeard, audit_records, AuditIsCut, AuditGives, AuditLeaves, RunsJob, Leaves, Ran, ran_from, object_at_begin, IsWhole, IsTruthful, valid-shape, audit_rest, audit-list, audit-first, audit-later, setup-valid, With, Made, object_made, IsOpenAtRest, MayName, RecordsAre, with_job_of, Walked, made-split, Wrote, wrote, runs, opened-sound, first-body, Object}
+use Rattle.job_laws.proofs.Words.{◌≡◌, ℕ, ◌<◌, ◌≤◌, ◌⊎◌, List, [], ◌∷◌, ◌++◌, length, take, Option, None, Some, refl, ap, sym, subst, ◌∙◌, inl, inr, arith, slice_get, IfSome, option_map, flat_map, cases_lt, Each, each_get, each_append, each_map, each_flat, each_take, upto, honest_answer, Sums, Judges, Held, Provider, rose-before, Setup, Record, AuditStart, AuditDone, File, next_audit, files_of, AuditJob, Pinned, Given, Answered, Job, profiled, object_of, Action, WriteBody, Store, Fetch, Ask, Work, Remove, End, append_actions, ask_actions, rounds_of, actions_of, appends_left, Answer, challenge_in, HasSums, JudgesFiles, answer_given, answers_given, pinned_size, Entry, entries_of, State, Doubt, setup_in, ended, next_action, EndsAs, next_stands, Question, files_by_number, questions, challenge_at, answer_heard, answer_entries, HearsRounds, JudgesOne, no_sums, CountsHeard, audit_records, AuditIsCut, AuditGives, AuditLeaves, RunsJob, Leaves, Ran, ran_from, object_at_begin, IsWhole, IsTruthful, valid-shape, audit_rest, audit-list, audit-first, audit-later, setup-valid, With, Made, object_made, IsOpenAtRest, MayName, RecordsAre, with_job_of, Walked, made-split, Wrote, wrote, runs, opened-sound, first-body}
 use Rattle.std.proofs.Common.{map}
 use Rattle.machine_defs.specs.Answers as answer
 use Rattle.job_laws.proofs.Runs.{Ends, job-ends}

@@ -1,6 +1,6 @@
 -- Where nothing runs, a begin of the machine is refused as that of a command over the journal that the disk
 -- holds.
-use Rattle.job_laws.proofs.Words.{◌≡◌, ℕ, ◌+◌, ◌==◌, ◌^◌, ◌||◌, Option, None, ◌∙◌, Bool, false, List, [], ◌∷◌, ap, refl, sym, length, add-zero, is_some, nat_lt, Record, version_of, Area, A, B, end_in, is_too_long, pack_refusal, Kind, PutJob, GetJob, DropJob, AuditJob, RepairJob, UpgradeJob, aim_of, Job, Refusal, first_refusal, setup_or_none, State, Alone, setup_in, reserved, Sight, aims_of, sight_of, causes, refusal_of_begin, IsOpenAtRest}
+use Rattle.job_laws.proofs.Words.{◌≡◌, ℕ, ◌+◌, ◌==◌, ◌||◌, Option, None, ◌∙◌, Bool, false, List, [], ◌∷◌, ap, refl, sym, length, add-zero, is_some, nat_lt, Record, Area, A, B, end_in, is_too_long, pack_refusal, Kind, PutJob, aim_of, Job, Refusal, first_refusal, setup_or_none, State, Alone, setup_in, reserved, Sight, aims_of, sight_of, causes, refusal_of_begin, IsOpenAtRest}
 use Rattle.std.specs.Prelude.{sum_by}
 use Rattle.machine_defs.specs.Refusals as refusal
 use Rattle.command_defs.specs.Refusals as commands

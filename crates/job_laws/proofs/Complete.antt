@@ -1,8 +1,7 @@
 -- Few providers that are wrong or fail do no harm to a get.
-use Rattle.job_laws.proofs.Words.{◌≡◌, ℕ, zero, suc, ◌+◌, ◌<◌, ◌≤◌, ◌==◌, ◌&&◌, ◌||◌, ◌⊎◌, Bool, true, false, cond, List, length, get_or, Option, None, Some, refl, ap, sym, subst, ◌∙◌, inl, inr, arith, IfSome, nat_lt, nat_le, is_some, is_none, range_with_len, list_any, cases_Bool, cases_eq, and_parts, false≢true, or_parts, get-map_range, IsShape, upto, Object, stripes, symbols_in, columns, is_wrong_block, is_wrong, row_polynomial, SeenBlock, OpensFile, block_at, is_agreeing, IsForgery, count_of-within, row-right, profile-room, Rose, last_count, Held, sized, File, file_of, profiled, stripes_of, Answer, AreBytes, Entry, HoldsForgery, State, setup_in, cond_true, cond_false, same_value, block_heard, blocks_heard, HearsStripes, GetGives, GetLeaves, PutLeaves, DropLeaves, UpgradeLeaves, AuditGives, Ran, ran_from, setup_at_begin, object_at_begin, stripes_at_begin, job_number, missing, IsTruthful, valid-shape, setup-valid, IsOpenAtRest, opened-sound, has_risen, is_bad_with, is_bad, bad_count}
-use Rattle.std.proofs.Common.{not, map}
+use Rattle.job_laws.proofs.Words.{◌≡◌, ℕ, zero, suc, ◌+◌, ◌<◌, ◌≤◌, ◌==◌, ◌&&◌, ◌||◌, ◌⊎◌, Bool, true, false, cond, List, length, get_or, Option, None, Some, refl, ap, sym, subst, ◌∙◌, inl, inr, arith, IfSome, nat_lt, nat_le, is_some, is_none, range_with_len, list_any, cases_Bool, cases_eq, and_parts, false≢true, or_parts, get-map_range, IsShape, upto, Object, stripes, symbols_in, is_wrong_block, is_wrong, row_polynomial, SeenBlock, OpensFile, block_at, is_agreeing, IsForgery, count_of-within, row-right, profile-room, Rose, last_count, Held, sized, File, file_of, profiled, stripes_of, Answer, AreBytes, Entry, HoldsForgery, State, setup_in, block_heard, blocks_heard, HearsStripes, GetGives, GetLeaves, PutLeaves, DropLeaves, UpgradeLeaves, AuditGives, Ran, ran_from, setup_at_begin, object_at_begin, stripes_at_begin, job_number, missing, IsTruthful, valid-shape, setup-valid, IsOpenAtRest, opened-sound, has_risen, is_bad_with, is_bad, bad_count}
+use Rattle.std.proofs.Common.{map}
 use Rattle.std.proofs.lemmas.Bool.Decides.{nat_tests}
-use Rattle.code_defs.specs.ServerCode.{differences}
 use Rattle.machine_defs.specs.Answers as answer
 use Rattle.run_laws.proofs.Files.{file_or_forged}
 

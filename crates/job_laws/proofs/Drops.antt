@@ -1,5 +1,5 @@
 -- What a drop leaves whose job was the only one.
-use Rattle.job_laws.proofs.Words.{◌≡◌, ℕ, ◌-◌, ◌<◌, ◌==◌, true, false, List, [], ◌∷◌, ◌++◌, length, take, Option, None, Some, refl, ap, sym, subst, ◌∙◌, inl, inr, arith, slice_get, is_some, cases_Bool, and_parts, eqb-true, false≢true, Each, each_get, each_append, each_map, each_flat, each_take, upto, Rose, Goes, Provider, rose-before, Setup, File, file_of, DropJob, Given, Job, Action, WriteBody, SyncBody, WriteGate, SyncGate, Store, Fetch, Ask, Work, Remove, End, append_actions, on_each_provider, remove_actions, actions_of, Answer, Ended, Entry, heard_by_kind, State, setup_in, file_in, ended, Moves, removable, is_idle_drop, next_action, split_get, DroppedFrom, DropsFile, DropLeaves, Leaves, Ran, ran_from, SameHeld, NoFetches, drop_rest, With, Made, IsOpenAtRest, with_job_of, appends-whole, made-split}
+use Rattle.job_laws.proofs.Words.{◌≡◌, ℕ, ◌-◌, ◌<◌, ◌==◌, true, false, List, [], ◌∷◌, ◌++◌, length, take, None, Some, refl, ap, sym, subst, ◌∙◌, inl, inr, arith, slice_get, is_some, cases_Bool, and_parts, eqb-true, false≢true, Each, each_get, each_append, each_map, each_flat, each_take, upto, Rose, Goes, Provider, rose-before, Setup, File, file_of, DropJob, Given, Job, Action, WriteBody, SyncBody, WriteGate, SyncGate, Store, Work, Remove, End, append_actions, on_each_provider, remove_actions, actions_of, Answer, Ended, Entry, State, setup_in, file_in, ended, Moves, removable, is_idle_drop, next_action, split_get, DroppedFrom, DropsFile, DropLeaves, Leaves, Ran, ran_from, SameHeld, NoFetches, drop_rest, With, Made, IsOpenAtRest, with_job_of, appends-whole, made-split}
 use Rattle.std.proofs.Common.{not}
 use Rattle.machine_defs.specs.Answers as answer
 use Rattle.machine_defs.specs.Steps as step

@@ -1,6 +1,6 @@
 -- What the ends of all jobs have in common: where a job stood at its last step, what a failed move leaves,
 -- and what had come about where it came to its end.
-use Rattle.job_laws.proofs.Words.{◌≡◌, ℕ, ◌+◌, ◌<◌, ◌⊎◌, false, List, [], ◌∷◌, ◌++◌, take, drop, Option, None, Some, refl, ap, sym, subst, ◌∙◌, inl, inr, arith, slice_get, option_map, take-append-drop, drop-get, Setup, Record, Kind, Job, Action, WriteBody, SyncBody, WriteGate, SyncGate, Store, Fetch, Ask, Work, Remove, End, actions_of, actions_left, appends_left, Answer, Ended, Entry, State, Append, Doubt, setup_in, ended, Moves, is_idle_drop, next_action, holder_of, Acts, cond_false, next_stands, ran_from, IsWhole, IsCut, IsCutInDoubt, moves_made, IsInOrder, appends_in, appends-cons, IsOpenAtRest, Made, appends_of, first_record, RecordsAre, with_job_at, WalkedAt, made-append, made-one, Wrote, wrote, runs, left-start}
+use Rattle.job_laws.proofs.Words.{◌≡◌, ℕ, ◌+◌, ◌<◌, ◌⊎◌, false, List, [], ◌∷◌, ◌++◌, take, drop, Option, None, Some, refl, ap, sym, subst, ◌∙◌, inl, inr, arith, slice_get, option_map, take-append-drop, drop-get, Setup, Record, Kind, Job, Action, WriteBody, SyncBody, WriteGate, SyncGate, Store, Fetch, Ask, Work, Remove, End, actions_of, actions_left, appends_left, Answer, Ended, Entry, State, Append, Doubt, setup_in, ended, Moves, is_idle_drop, next_action, Acts, next_stands, ran_from, IsWhole, IsCut, IsCutInDoubt, moves_made, IsInOrder, appends_in, appends-cons, IsOpenAtRest, Made, appends_of, first_record, RecordsAre, with_job_at, WalkedAt, made-append, made-one, Wrote, wrote, runs, left-start}
 use Rattle.machine_defs.specs.Answers as answer
 use Rattle.machine_defs.specs.Steps as step
 use Rattle.job_laws.proofs.Runs.{Ends}

@@ -1,9 +1,9 @@
 -- What a get leaves whose job was the only one.
-use Rattle.job_laws.proofs.Words.{◌≡◌, ℕ, zero, suc, ◌+◌, ◌-◌, ◌<◌, ◌≤◌, ◌==◌, ◌⊎◌, cond, List, [], ◌∷◌, ◌++◌, length, take, Option, None, Some, refl, ap, sym, subst, ◌∙◌, inl, inr, arith, slice_get, IfSome, option_map, flat_map, range_with_len, cases_eq, eq-eqb, ne_eqb, append_assoc, append-nil, sum_by-cons, sum_by-append, Each, each_get, each_append, each_map, upto, Object, GivesSymbols, LosesRow, OpensFile, last_count, Held, Provider, sized, Fetches, FetchGives, FailsToGive, Setup, Record, File, GetJob, Given, Fetched, Worked, Job, profiled, object_of, stripes_of, Action, WriteBody, SyncBody, WriteGate, SyncGate, Store, Fetch, Ask, Work, Remove, End, on_each_provider, open_actions, read_actions, actions_by, actions_of, actions_left, Answer, pinned_file, pin_found, Ended, block_given, blocks_given, symbols_given, file_given, Entry, entries_of, given_to, heard_by_kind, State, Doubt, setup_in, file_in, worked_object, Acts, GotBytes, cond_true, cond_false, split_get, symbols_given-newest, block_heard, blocks_heard, HearsStripes, GetGives, GetLeaves, Leaves, Ran, ran_from, object_at_begin, stripes_at_begin, missing, IsTruthful, moves_made, appends-order, get-none, With, Did, Made, object_made, IsOpenAtRest, RecordsAre, with_job_of, Walked, made-split, take-append-add, runs}
+use Rattle.job_laws.proofs.Words.{◌≡◌, ℕ, zero, suc, ◌+◌, ◌-◌, ◌<◌, ◌≤◌, ◌==◌, ◌⊎◌, cond, List, [], ◌∷◌, ◌++◌, length, take, Option, None, Some, refl, ap, sym, subst, ◌∙◌, inl, inr, arith, slice_get, IfSome, option_map, flat_map, range_with_len, cases_eq, eq-eqb, ne_eqb, append_assoc, append-nil, sum_by-cons, sum_by-append, Each, each_get, each_append, each_map, upto, Object, GivesSymbols, LosesRow, OpensFile, last_count, Held, Provider, sized, Fetches, FetchGives, FailsToGive, Setup, Record, File, GetJob, Given, Fetched, Worked, Job, profiled, object_of, stripes_of, Action, Fetch, Ask, Work, End, on_each_provider, open_actions, read_actions, actions_by, actions_of, actions_left, Answer, pinned_file, Ended, block_given, blocks_given, symbols_given, file_given, Entry, entries_of, State, Doubt, setup_in, file_in, worked_object, Acts, GotBytes, cond_true, cond_false, split_get, symbols_given-newest, block_heard, blocks_heard, HearsStripes, GetGives, GetLeaves, Leaves, Ran, ran_from, object_at_begin, stripes_at_begin, missing, IsTruthful, moves_made, appends-order, get-none, With, Did, Made, object_made, IsOpenAtRest, RecordsAre, with_job_of, Walked, made-split, take-append-add, runs}
 use Rattle.std.proofs.Common.{map, sum_by}
 use Rattle.machine_defs.specs.Answers as answer
 use Rattle.machine_defs.specs.Steps as step
-use Rattle.machine_defs.proofs.Numbers.{next_by, next_is_by}
+use Rattle.machine_defs.proofs.Numbers.{next_is_by}
 use Rattle.job_laws.proofs.Runs.{Ends}
 use Rattle.job_laws.proofs.Given.{block-heard}
 use Rattle.job_laws.proofs.Providers.{Called, made-keeps}

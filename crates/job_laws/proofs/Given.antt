@@ -1,5 +1,5 @@
 -- What a job heard, and what it was given.
-use Rattle.job_laws.proofs.Words.{◌≡◌, ℕ, ◌==◌, ◌&&◌, cond, List, [], ◌∷◌, refl, ap, ◌∙◌, Given, Fetched, Answered, Worked, block_given, answer_given, entries_of, given_to, given_to-more}
+use Rattle.job_laws.proofs.Words.{◌≡◌, ℕ, List, [], ◌∷◌, refl, Given, Fetched, Answered, Worked, block_given, answer_given, entries_of, given_to, given_to-more}
 
 -- what a job was given by what it heard gives the same blocks and answers
 pub block-heard : (n : ℕ) (given : List Given) (object stripe j : ℕ) →

@@ -1,5 +1,5 @@
 -- What a job heard is an entry for each of its fetches and asks, in the order in which it made them.
-use Rattle.job_laws.proofs.Words.{◌≡◌, ℕ, zero, suc, ◌+◌, ◌<◌, ◌≤◌, ◌==◌, ◌&&◌, true, List, [], ◌∷◌, ◌++◌, Option, refl, ap, sym, ◌∙◌, inl, inr, arith, flat_map, range_with_len, cases_Bool, eqb-true, eq-eqb, and_parts, and_from, append_assoc, append-nil, Each, each_append, each_mono, Provider, Given, Fetched, Answered, Action, WriteBody, SyncBody, WriteGate, SyncGate, Store, Fetch, Ask, Work, Remove, End, block_given, answer_given, symbols_given, Entry, entries_of, cond_true, cond_false, With, Did, Made}
+use Rattle.job_laws.proofs.Words.{◌≡◌, ℕ, zero, suc, ◌+◌, ◌<◌, ◌≤◌, ◌==◌, ◌&&◌, true, List, [], ◌∷◌, ◌++◌, Option, refl, ap, ◌∙◌, inl, inr, arith, flat_map, range_with_len, cases_Bool, eqb-true, eq-eqb, and_parts, and_from, append_assoc, append-nil, Each, each_append, each_mono, Provider, Given, Fetched, Answered, Action, Fetch, Ask, Work, block_given, answer_given, symbols_given, Entry, entries_of, cond_true, With, Did, Made}
 use Rattle.std.proofs.Common.{map}
 
 -- ---- actions of which no two are the same

@@ -1,5 +1,5 @@
 -- A job that runs alone keeps the area, and puts the same records on top of the journal and of the history.
-use Rattle.job_laws.proofs.Words.{◌≡◌, ℕ, ◌+◌, List, [], ◌∷◌, ◌++◌, Option, Some, refl, ap, sym, subst, ◌∙◌, append_assoc, Record, Kind, Job, Action, WriteBody, SyncBody, WriteGate, SyncGate, Store, Fetch, Ask, Work, Remove, End, Answer, IsSpelledKind, Outcome, Begun, More, Ended, Waiting, Entry, State, Append, setup_in, BeginsAt, chosen, beginning, Moves, Acts, Moment, now, IsOpenAtRest, AreSteps, GoesOnTo, RunsJob, MayName, WalkedAt, walk-begin, step-acts}
+use Rattle.job_laws.proofs.Words.{◌≡◌, ℕ, ◌+◌, List, [], ◌∷◌, ◌++◌, Option, Some, refl, sym, subst, ◌∙◌, append_assoc, Record, Kind, Job, Action, WriteBody, SyncBody, WriteGate, SyncGate, Store, Fetch, Ask, Work, Remove, End, Answer, IsSpelledKind, Outcome, Begun, More, Ended, Entry, State, Append, setup_in, BeginsAt, chosen, beginning, Moves, Acts, Moment, now, IsOpenAtRest, AreSteps, GoesOnTo, RunsJob, MayName, WalkedAt, walk-begin, step-acts}
 use Rattle.machine_defs.specs.Answers as answer
 use Rattle.job_laws.proofs.Runs.{walk-steps}
 

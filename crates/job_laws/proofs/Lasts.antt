@@ -1,8 +1,7 @@
 -- The last step of a job: what it does to the records, to what is in doubt and to the disk's count.
-use Rattle.job_laws.proofs.Words.{barred, ended, ◌≡◌, ℕ, ◌<◌, ◌≤◌, ◌==◌, ◌⊎◌, Bool, true, false, cond, [], ◌∷◌, Option, Some, None, refl, ap, sym, subst, ◌∙◌, inl, inr, arith, Rose, Kind, Job, job_of, advanced, Action, WriteBody, SyncBody, WriteGate, SyncGate, actions_left, appends_left, Ended, State, Append, Doubt, setup_in, Writes, Moves, next_action, holder_of, number_of, moves_made, IsGatedDoubt, IsDoubtOf, appends-order, body-left, IsOpenAtRest, WalkedAt, runs}
+use Rattle.job_laws.proofs.Words.{barred, ended, ◌≡◌, ℕ, ◌<◌, ◌≤◌, ◌==◌, ◌⊎◌, Bool, true, false, cond, [], ◌∷◌, Option, Some, None, refl, sym, subst, inl, inr, arith, Rose, Kind, Job, job_of, advanced, Action, WriteBody, SyncBody, WriteGate, SyncGate, actions_left, appends_left, Ended, State, Append, Doubt, setup_in, Writes, Moves, next_action, holder_of, number_of, moves_made, IsGatedDoubt, IsDoubtOf, appends-order, body-left, IsOpenAtRest, WalkedAt, runs}
 use Rattle.algebra_laws.proofs.Options.{some-not-none}
 use Rattle.machine_defs.specs.Answers as answer
-use Rattle.state_laws.proofs.JobLists.{mine}
 
 module _ (start : State) (O : IsOpenAtRest start 1) (kind : Kind) {profile : ℕ} (w : State) (job : Job)
     (W : WalkedAt start kind profile w job) where

@@ -1,5 +1,5 @@
 -- What every job leaves: no count of faults falls, and providers beyond the setup's stay as they are.
-use Rattle.job_laws.proofs.Words.{◌≡◌, ℕ, zero, suc, ◌+◌, ◌<◌, ◌≤◌, Bool, true, false, cond, List, [], ◌∷◌, ◌++◌, length, take, Option, Some, refl, ap, sym, subst, ◌∙◌, inl, inr, arith, slice_get, flat_map, range_with_len, Each, each_get, each_append, each_flat, each_take, upto, Provider, StoreCounts, Setup, Kind, PutJob, GetJob, DropJob, AuditJob, RepairJob, UpgradeJob, Pinned, Job, profiled, stripes_of, Action, WriteBody, SyncBody, WriteGate, SyncGate, Store, Fetch, Ask, Work, Remove, End, append_actions, on_each_provider, on_each_stripe, open_actions, store_actions, read_actions, rewrite_actions, repair_actions, rounds_of, ask_actions, remove_actions, actions_by, actions_of, Answer, Ended, State, Append, setup_in, Entry, chosen, Moves, Acts, next_stands, ran_from, CountsRise, With, CallsOne, Made, IsOpenAtRest, with_job_at}
+use Rattle.job_laws.proofs.Words.{◌≡◌, ℕ, zero, suc, ◌+◌, ◌<◌, ◌≤◌, Bool, true, false, cond, List, [], ◌∷◌, ◌++◌, length, take, Option, Some, refl, ap, sym, subst, ◌∙◌, inl, inr, arith, flat_map, range_with_len, Each, each_get, each_append, each_flat, each_take, upto, Provider, StoreCounts, Setup, Kind, PutJob, GetJob, DropJob, AuditJob, RepairJob, UpgradeJob, Pinned, Job, profiled, stripes_of, Action, WriteBody, SyncBody, WriteGate, SyncGate, Store, Fetch, Ask, Work, Remove, End, append_actions, on_each_provider, on_each_stripe, open_actions, store_actions, read_actions, rewrite_actions, repair_actions, rounds_of, ask_actions, remove_actions, actions_by, actions_of, Answer, Ended, State, Append, setup_in, Entry, chosen, Moves, Acts, next_stands, ran_from, CountsRise, With, CallsOne, Made, IsOpenAtRest, with_job_at}
 use Rattle.machine_defs.specs.Answers as answer
 use Rattle.job_laws.proofs.Runs.{Ends}
 use Rattle.job_laws.proofs.Providers.{calls-at, Rises, rises-same, rises-more, IsBelow, called-below, each-upto, made-keeps}

@@ -1,5 +1,5 @@
 -- Few providers that are wrong or fail lose a repair no row.
-use Rattle.job_laws.proofs.Words.{◌≡◌, ℕ, zero, suc, ◌+◌, ◌<◌, ◌≤◌, ◌&&◌, ◌⊎◌, Bool, true, false, cond, List, [], ◌∷◌, ◌++◌, length, get_or, Option, None, Some, refl, ap, sym, subst, ◌∙◌, inl, inr, arith, IfSome, is_some, is_none, flat_map, range_with_len, cases_Bool, false≢true, or_parts, Each, each_append, each_middle, IsShape, upto, Object, stripes, symbols_in, is_wrong_block, is_wrong, row_polynomial, LosesRow, block_at, count_of, count_of-within, row-right, profile-room, Rose, Held, Setup, File, file_of, files_of, AreAccepted, profiled, stripes_of, Answer, cond_true, listed_file, files_by_number, Ran, setup_at_begin, object_at_begin, object_numbered, profile_among, Place, blocks_at, held_at, flags, LosesAtPlace, RepairLeaves, missing, IsTruthful, has_risen, is_bad_with, is_bad_for, bad_count}
+use Rattle.job_laws.proofs.Words.{◌≡◌, ℕ, zero, suc, ◌+◌, ◌<◌, ◌≤◌, ◌&&◌, ◌⊎◌, Bool, true, false, cond, List, [], ◌∷◌, ◌++◌, length, get_or, Option, None, Some, refl, sym, subst, ◌∙◌, inl, inr, arith, IfSome, is_some, is_none, flat_map, range_with_len, cases_Bool, false≢true, or_parts, Each, each_append, each_middle, IsShape, upto, Object, stripes, symbols_in, is_wrong_block, is_wrong, row_polynomial, LosesRow, block_at, count_of, count_of-within, row-right, profile-room, Rose, Held, Setup, File, file_of, files_of, AreAccepted, profiled, stripes_of, Answer, listed_file, files_by_number, Ran, setup_at_begin, object_at_begin, object_numbered, profile_among, Place, blocks_at, held_at, flags, LosesAtPlace, RepairLeaves, missing, IsTruthful, has_risen, is_bad_with, is_bad_for, bad_count}
 use Rattle.std.proofs.Common.{map}
 use Rattle.machine_defs.specs.Answers as answer
 use Rattle.job_laws.proofs.Asked.{each-by_number}

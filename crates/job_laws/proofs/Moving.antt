@@ -1,7 +1,7 @@
 -- A put or an audit at a move of one of its two appends: at its first one it has done nothing else, and at
 -- its second one all that stands
 -- between them.
-use Rattle.job_laws.proofs.Words.{◌≡◌, ℕ, zero, suc, ◌+◌, ◌-◌, ◌<◌, ◌≤◌, List, [], ◌∷◌, ◌++◌, length, take, Some, ap, sym, subst, ◌∙◌, inl, inr, arith, slice_get, Each, each_get, Provider, Given, Action, WriteBody, SyncBody, WriteGate, SyncGate, Store, Fetch, Ask, Work, Remove, End, append_actions, split_get, With, Did, Made, take-append-add, made-split}
+use Rattle.job_laws.proofs.Words.{◌≡◌, ℕ, zero, suc, ◌+◌, ◌-◌, ◌<◌, ◌≤◌, List, [], ◌∷◌, ◌++◌, length, take, Some, sym, subst, ◌∙◌, inl, inr, arith, slice_get, Each, each_get, Provider, Given, Action, WriteBody, SyncBody, WriteGate, SyncGate, append_actions, split_get, With, Did, Made, take-append-add, made-split}
 
 -- a move of an append
 abbrev pub IsMove : Action → Type 0

@@ -1,5 +1,5 @@
 -- What the places of a repair gave and were given.
-use Rattle.job_laws.proofs.Words.{◌≡◌, ℕ, zero, suc, ◌+◌, ◌-◌, ◌<◌, ◌≤◌, ◌==◌, ◌⊎◌, Bool, true, false, cond, List, [], ◌∷◌, ◌++◌, length, take, None, Some, refl, ap, sym, subst, ◌∙◌, inl, inr, arith, slice_get, flat_map, range_with_len, cases_eq, eq-eqb, ne_eqb, append_assoc, append-nil, sum_by-append, Each, In, each_get, each_append, each_map, each_mono, in_left, in_right, upto, SeenBlock, GivesSymbols, Held, sized, Setup, RepairJob, Given, Job, Action, WriteBody, SyncBody, WriteGate, SyncGate, Store, Fetch, Ask, Work, Remove, End, open_actions, rewrite_actions, block_given, blocks_given, symbols_given, cond_true, cond_false, split_get, Place, missing, With, object_made, take-append-add}
+use Rattle.job_laws.proofs.Words.{◌≡◌, ℕ, zero, suc, ◌+◌, ◌-◌, ◌<◌, ◌≤◌, ◌==◌, ◌⊎◌, Bool, true, false, cond, List, [], ◌∷◌, ◌++◌, length, take, None, Some, refl, ap, sym, subst, ◌∙◌, inl, inr, arith, slice_get, flat_map, range_with_len, cases_eq, eq-eqb, ne_eqb, append_assoc, append-nil, sum_by-append, Each, In, each_get, each_append, each_map, each_mono, in_left, in_right, upto, SeenBlock, GivesSymbols, Held, sized, Setup, RepairJob, Given, Job, Action, Store, Fetch, Work, open_actions, rewrite_actions, block_given, blocks_given, symbols_given, cond_true, cond_false, split_get, Place, missing, With, object_made, take-append-add}
 use Rattle.std.proofs.Common.{sum_by}
 use Rattle.job_laws.proofs.Heard.{IsNot}
 use Rattle.job_laws.proofs.Truth.{lacks, range-hit}

@@ -1,5 +1,5 @@
 -- The places of a repair, and the actions of each.
-use Rattle.job_laws.proofs.Words.{◌≡◌, ℕ, zero, suc, ◌+◌, ◌-◌, ◌<◌, ◌≤◌, Bool, true, false, cond, List, [], ◌∷◌, ◌++◌, length, take, Some, refl, ap, sym, subst, ◌∙◌, inl, inr, arith, slice_get, flat_map, range_with_len, flat_map-append, append_assoc, take-append-le, Each, each_append, each_map, each_flat, each_mono, upto, Setup, File, Pinned, Job, profiled, stripes_of, Action, WriteBody, SyncBody, WriteGate, SyncGate, Store, Fetch, Ask, Work, Remove, End, on_each_stripe, open_actions, rewrite_actions, repair_actions, pinned_file, pin_all, State, split_get, files_by_number, Place, places, AreAscending, take-append-add}
+use Rattle.job_laws.proofs.Words.{◌≡◌, ℕ, zero, suc, ◌+◌, ◌-◌, ◌<◌, ◌≤◌, Bool, true, false, cond, List, [], ◌∷◌, ◌++◌, length, take, Some, refl, ap, sym, subst, ◌∙◌, inl, inr, arith, slice_get, flat_map, range_with_len, flat_map-append, append_assoc, take-append-le, Each, each_append, each_map, each_flat, each_mono, upto, Setup, File, Pinned, Job, profiled, stripes_of, Action, Store, Fetch, Work, on_each_stripe, open_actions, rewrite_actions, repair_actions, pinned_file, pin_all, State, split_get, files_by_number, Place, places, AreAscending, take-append-add}
 use Rattle.std.proofs.Common.{map}
 use Rattle.job_laws.proofs.Asked.{pinned-by_number, each-by_number}
 use Rattle.job_laws.proofs.Heard.{IsNot}

@@ -1,5 +1,5 @@
 -- The object of a number among the files that a job works on, or among those in effect, is that of its file.
-use Rattle.job_laws.proofs.Words.{◌≡◌, ℕ, ◌==◌, true, false, cond, List, [], ◌∷◌, Option, Some, refl, ap, sym, ◌∙◌, inl, inr, nat_lt, cases_Bool, eqb-true, eq-eqb, Each, In, Setup, Record, File, files_of, file_of, AreAccepted, Kind, GetJob, Job, profiled, object_of, pinned_file, pin_found, pin_all, pinned_for, pinned_profile, State, setup_in, file_in, worked_object, cond_true, cond_false, same_value, listed_file, Ran, setup_at_begin, object_at_begin, object_numbered, profile_among, with_number, files_by_number, sound-accepted, IsOpenAtRest, object_made, with_job_of, Walked}
+use Rattle.job_laws.proofs.Words.{◌≡◌, ℕ, ◌==◌, true, false, cond, List, [], ◌∷◌, Some, refl, ap, sym, ◌∙◌, inl, inr, nat_lt, cases_Bool, eqb-true, eq-eqb, Each, In, Record, File, files_of, file_of, AreAccepted, Kind, GetJob, Job, profiled, object_of, pinned_file, pin_all, pinned_for, pinned_profile, State, setup_in, file_in, worked_object, cond_true, cond_false, listed_file, Ran, setup_at_begin, object_at_begin, object_numbered, profile_among, with_number, files_by_number, sound-accepted, IsOpenAtRest, object_made, with_job_of, Walked}
 use Rattle.std.proofs.Common.{map}
 use Rattle.job_laws.proofs.Asked.{pinned-by_number, each-by_number}
 use Rattle.job_laws.proofs.Questions.{each-in}

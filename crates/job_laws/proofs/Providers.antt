@@ -1,5 +1,5 @@
 -- What actions that were made did to one provider.
-use Rattle.job_laws.proofs.Words.{◌≡◌, ℕ, zero, suc, ◌+◌, ◌<◌, ◌≤◌, ◌==◌, ◌⊎◌, List, [], ◌∷◌, Option, ap, sym, subst, ◌∙◌, inl, inr, arith, range_with_len, cases_Bool, eqb-true, Each, honest_answer, Provider, Stores, Fetches, Asks, Removes, Given, Fetched, Answered, Action, WriteBody, SyncBody, WriteGate, SyncGate, Store, Fetch, Ask, Work, Remove, End, cond_true, cond_false, With, block_stored, challenge_made, CallsOne, Did, Made, object_made}
+use Rattle.job_laws.proofs.Words.{◌≡◌, ℕ, zero, suc, ◌+◌, ◌<◌, ◌≤◌, ◌==◌, ◌⊎◌, List, [], ◌∷◌, Option, ap, sym, subst, ◌∙◌, inl, inr, arith, range_with_len, cases_Bool, eqb-true, Each, honest_answer, Provider, Stores, Fetches, Asks, Removes, Given, Fetched, Answered, Action, Store, Fetch, Ask, Work, Remove, cond_true, cond_false, With, block_stored, challenge_made, CallsOne, Did, Made, object_made}
 use Rattle.std.proofs.Common.{map}
 
 -- what an action did to the provider that it called, if that is the one of this number

@@ -1,5 +1,5 @@
 -- What a put leaves whose job was the only one.
-use Rattle.job_laws.proofs.Words.{◌≡◌, ℕ, zero, suc, ◌+◌, ◌-◌, ◌<◌, ◌≤◌, ◌==◌, ◌&&◌, ◌⊎◌, List, [], ◌∷◌, ◌++◌, length, take, drop, Option, None, Some, refl, ap, sym, subst, ◌∙◌, inl, inr, arith, slice_get, option_map, flat_map, range_with_len, cases_Bool, cases_eq, cases_lt, eq-eqb, eqb-true, and_parts, and_from, append_assoc, Each, each_get, each_append, each_map, each_flat, each_take, drop-get, upto, columns, Object, stripes, Rose, Goes, Held, Provider, with_block, Stores, rose-before, Setup, Record, PutStart, File, version_of, file_of, next_id, PutJob, Pinned, Given, Job, profiled, object_of, stripes_of, Action, WriteBody, SyncBody, WriteGate, SyncGate, Store, Fetch, Ask, Work, Remove, End, append_actions, on_each_provider, store_actions, remove_actions, actions_of, appends_left, Answer, Ended, Entry, heard_by_kind, State, Doubt, setup_in, ended, chosen, done_record, next_action, Acts, cond_true, cond_false, split_get, next_stands, StoredOn, PartlyStored, DroppedFrom, put_done, StoresFile, StoresAll, PutIsCut, StoresPart, PutLeaves, Leaves, Ran, ran_from, NoFetches, moves_made, IsInOrder, put_rest, put-list, put-first, put-later, appends_in, appends-append, moves-first, sound-accepted, With, Made, IsOpenAtRest, RecordsAre, with_job_at, made-split, Wrote, wrote, runs, first-body}
+use Rattle.job_laws.proofs.Words.{◌≡◌, ℕ, zero, suc, ◌+◌, ◌-◌, ◌<◌, ◌≤◌, ◌==◌, ◌&&◌, ◌⊎◌, List, [], ◌∷◌, ◌++◌, length, take, drop, Option, None, Some, refl, ap, sym, subst, ◌∙◌, inl, inr, arith, slice_get, option_map, flat_map, range_with_len, cases_Bool, cases_eq, cases_lt, eq-eqb, eqb-true, and_parts, and_from, append_assoc, Each, each_get, each_append, each_map, each_flat, each_take, drop-get, upto, columns, Object, stripes, Rose, Goes, Held, Provider, with_block, Stores, rose-before, Setup, Record, PutStart, File, version_of, file_of, next_id, PutJob, Pinned, Given, Job, profiled, object_of, stripes_of, Action, WriteBody, SyncBody, WriteGate, SyncGate, Store, Fetch, Ask, Work, Remove, End, append_actions, on_each_provider, store_actions, remove_actions, actions_of, appends_left, Answer, Ended, Entry, State, Doubt, setup_in, ended, chosen, done_record, next_action, Acts, cond_true, split_get, next_stands, StoredOn, PartlyStored, DroppedFrom, put_done, StoresFile, StoresAll, PutIsCut, StoresPart, PutLeaves, Leaves, Ran, ran_from, NoFetches, moves_made, IsInOrder, put_rest, put-list, put-first, put-later, appends_in, appends-append, moves-first, sound-accepted, With, Made, IsOpenAtRest, RecordsAre, with_job_at, made-split, Wrote, wrote, runs, first-body}
 use Rattle.machine_defs.specs.Answers as answer
 use Rattle.machine_defs.specs.Steps as step
 use Rattle.job_laws.proofs.Runs.{Ends}
@@ -10,7 +10,7 @@ use Rattle.job_laws.proofs.Moving.{IsMove, IsUnmoved, moved-first, moved-second}
 use Rattle.job_laws.proofs.Leaving.{below, counts-rise, others-stay}
 use Rattle.job_laws.proofs.Gets.{take-within}
 use Rattle.job_laws.proofs.Removals.{left-within, row-hit, goes-same, goes-more, goes-map, goes-mono, IsWriting, writing-fetches, moves-made, dropped-over, OlderGoes, older-goes}
-use Rattle.job_laws.proofs.Endings.{listed, last-kept, move-ends, act-ends, left-same, first-doubted, Stand, two-stand, two-cut, end-left, end-sure, end-made}
+use Rattle.job_laws.proofs.Endings.{listed, last-kept, move-ends, act-ends, first-doubted, Stand, two-stand, two-cut, end-left, end-sure, end-made}
 use Rattle.job_laws.proofs.Tails.{IsTail, tail-list}
 
 -- ---- blocks that are set

@@ -1,5 +1,5 @@
 -- What the asks of an audit gave, question by question.
-use Rattle.job_laws.proofs.Words.{◌≡◌, ℕ, zero, suc, ◌+◌, ◌<◌, ◌≤◌, ◌==◌, ◌⊎◌, true, false, List, [], ◌∷◌, ◌++◌, length, Option, None, refl, ap, sym, subst, ◌∙◌, inl, inr, arith, All, range_with_len, cases_eq, cases_Bool, eqb-true, eq-eqb, ne_eqb, sum_by-append, Each, In, each_append, each_map, honest_answer, Held, Setup, File, files_of, Given, profiled, Action, Ask, rounds_of, pinned_file, answer_given, pinned_size, State, cond_true, cond_false, listed_file, Question, missing, With, challenge_made, IsOpenAtRest}
+use Rattle.job_laws.proofs.Words.{◌≡◌, ℕ, zero, suc, ◌+◌, ◌<◌, ◌≤◌, ◌==◌, ◌⊎◌, true, false, List, [], ◌∷◌, ◌++◌, length, Option, None, refl, subst, ◌∙◌, inl, inr, arith, All, range_with_len, cases_eq, cases_Bool, eqb-true, eq-eqb, ne_eqb, sum_by-append, Each, In, each_append, each_map, honest_answer, Held, Setup, File, files_of, Given, profiled, Action, Ask, rounds_of, pinned_file, answer_given, pinned_size, State, cond_true, cond_false, listed_file, Question, missing, With, challenge_made, IsOpenAtRest}
 use Rattle.std.proofs.Common.{map, sum_by}
 use Rattle.std.proofs.lemmas.List.Elements.{All-cons}
 use Rattle.job_laws.proofs.Asked.{asks_one, asks_of, questions_in}

@@ -1,5 +1,5 @@
 -- Why a begin is refused that finds no other job.
-use Rattle.job_laws.proofs.Words.{◌≡◌, ℕ, true, false, List, Option, None, Some, refl, ap, sym, ◌∙◌, is_some, false≢true, File, DropJob, aim_of, State, file_in, begin_refusal, sight_of, causes, none-applies}
+use Rattle.job_laws.proofs.Words.{◌≡◌, ℕ, true, false, List, Option, None, Some, refl, sym, ◌∙◌, is_some, false≢true, File, DropJob, aim_of, State, file_in, begin_refusal, sight_of, causes, none-applies}
 use Rattle.std.proofs.Common.{not}
 use Rattle.machine_defs.proofs.Sights.{stored-file}
 

@@ -1,5 +1,5 @@
 -- Calls of one provider after the other, what removals leave, and what jobs keep that fetch nothing.
-use Rattle.job_laws.proofs.Words.{◌≡◌, ℕ, zero, suc, ◌+◌, ◌<◌, ◌≤◌, ◌==◌, List, [], ◌∷◌, ◌++◌, length, drop, Option, None, Some, refl, ap, sym, subst, ◌∙◌, inl, inr, arith, option_map, flat_map, list_any, range_with_len, cases_eq, eq-eqb, ne_eqb, append-nil, Each, Rose, Goes, Held, Provider, without_object, LosesPart, Removes, StoreCounts, Setup, File, Given, Pinned, Job, Action, WriteBody, SyncBody, WriteGate, SyncGate, Store, Fetch, Ask, Work, Remove, End, on_each_provider, remove_actions, is_pinned, removable, State, cond_true, cond_false, DroppedFrom, appends_in, appends-append, With, CallsOne, Did, Made}
+use Rattle.job_laws.proofs.Words.{◌≡◌, ℕ, zero, suc, ◌+◌, ◌<◌, ◌≤◌, ◌==◌, List, [], ◌∷◌, ◌++◌, length, drop, Option, None, Some, refl, ap, sym, subst, ◌∙◌, inl, inr, arith, option_map, flat_map, range_with_len, cases_eq, eq-eqb, ne_eqb, append-nil, Each, Rose, Goes, Held, Provider, without_object, LosesPart, Removes, StoreCounts, Setup, File, Given, Job, Action, WriteBody, SyncBody, WriteGate, SyncGate, Store, Fetch, Ask, Work, Remove, on_each_provider, remove_actions, removable, State, cond_true, cond_false, DroppedFrom, appends_in, appends-append, With, CallsOne, Did, Made}
 use Rattle.std.proofs.Common.{map}
 use Rattle.job_laws.proofs.Providers.{Called, calls-at, made-keeps}
 use Rattle.job_laws.proofs.Truth.{call-hit, call-miss}

@@ -1,5 +1,5 @@
 -- What a repair leaves whose job was the only one.
-use Rattle.job_laws.proofs.Words.{◌≡◌, ℕ, zero, suc, ◌-◌, ◌<◌, ◌≤◌, ◌==◌, ◌⊎◌, Bool, true, false, List, [], ◌∷◌, ◌++◌, length, take, drop, Option, None, Some, refl, ap, sym, subst, ◌∙◌, inl, inr, arith, All, Contains, slice_get, IfSome, option_map, flat_map, eq-eqb, false≢true, append_assoc, append-nil, Each, In, each_get, each_append, each_map, each_mono, each_take, in_contains, in_left, in_right, upto, Object, GivesSymbols, LosesRow, Rose, Held, Provider, sized, FailsToStore, FindsNoMemory, StoreCounts, Goes, rose-before, Setup, RepairDone, Due, files_of, due_of, RepairJob, Given, Job, Action, WriteBody, SyncBody, WriteGate, SyncGate, Store, Fetch, Ask, Work, Remove, End, append_actions, open_actions, rewrite_actions, repair_actions, actions_of, appends_left, Answer, due_number, due_flags, Ended, block_given, blocks_given, symbols_given, Entry, heard_by_kind, State, Doubt, setup_in, worked_object, with_provider, ended, Moves, next_action, Acts, EndsAs, split_get, cond_true, RunsJob, Leaves, Ran, ran_from, object_numbered, EachHeldGoes, IsWhole, IsCut, IsCutInDoubt, Place, places, Gave, blocks_at, held_at, IsTruth, GivesPlace, RewrittenOn, PartlyRewrittenOn, IfFlagged, flags, RewritesAll, RewritesPart, RewritesSome, LosesAtPlace, RepairGives, IsTruthful, moves_made, moves_before, AreAscending, begun-repair, moves-next, appends_in, is_some-at, With, Made, object_made, IsOpenAtRest, MayName, first_record, with_job_of, Walked, repair-list, audit-within, runs}
+use Rattle.job_laws.proofs.Words.{◌≡◌, ℕ, zero, suc, ◌-◌, ◌<◌, ◌≤◌, ◌==◌, ◌⊎◌, Bool, true, false, List, [], ◌∷◌, ◌++◌, length, take, drop, Option, None, Some, refl, ap, sym, subst, ◌∙◌, inl, inr, arith, All, Contains, slice_get, IfSome, option_map, flat_map, eq-eqb, false≢true, append_assoc, append-nil, Each, In, each_get, each_append, each_map, each_mono, each_take, in_contains, in_left, in_right, upto, Object, GivesSymbols, LosesRow, Rose, Held, Provider, sized, FailsToStore, FindsNoMemory, StoreCounts, Goes, rose-before, Setup, RepairDone, Due, files_of, due_of, RepairJob, Given, Job, Action, WriteBody, SyncBody, WriteGate, SyncGate, Store, Fetch, Ask, Work, Remove, End, append_actions, open_actions, rewrite_actions, repair_actions, actions_of, appends_left, Answer, due_flags, Ended, block_given, blocks_given, symbols_given, Entry, State, Doubt, setup_in, worked_object, with_provider, ended, Moves, next_action, Acts, EndsAs, split_get, cond_true, RunsJob, Leaves, Ran, ran_from, object_numbered, EachHeldGoes, IsWhole, IsCut, IsCutInDoubt, Place, places, Gave, blocks_at, held_at, IsTruth, GivesPlace, RewrittenOn, PartlyRewrittenOn, IfFlagged, flags, RewritesAll, RewritesPart, RewritesSome, LosesAtPlace, RepairGives, IsTruthful, moves_made, moves_before, AreAscending, begun-repair, moves-next, appends_in, is_some-at, With, Made, object_made, IsOpenAtRest, MayName, first_record, with_job_of, Walked, repair-list, audit-within, runs}
 use Rattle.machine_defs.specs.Answers as answer
 use Rattle.job_laws.proofs.Runs.{Ends, job-ends}
 use Rattle.job_laws.proofs.Providers.{Called, calls-at, made-keeps}
@@ -8,7 +8,7 @@ use Rattle.job_laws.proofs.Lasts.{Faults, NoRoom, none-moving}
 use Rattle.job_laws.proofs.Truth.{made-rises}
 use Rattle.job_laws.proofs.Leaving.{counts-rise, others-stay}
 use Rattle.job_laws.proofs.Moving.{IsMove}
-use Rattle.job_laws.proofs.Endings.{listed, move-ends, act-ends, end-stands, end-left, end-sure, none-written, one-whole, one-doubted, one-cut}
+use Rattle.job_laws.proofs.Endings.{listed, move-ends, act-ends, end-left, end-sure, none-written, one-whole, one-doubted, one-cut}
 use Rattle.job_laws.proofs.Questions.{each-in, held-sizes, all-each}
 use Rattle.job_laws.proofs.Heard.{IsNot}
 use Rattle.job_laws.proofs.Rewritten.{IsNoneOf, IsBefore, AreOrdered, IsRepairing, column_at, after, after-either, after-none, after-some, Told, made-told, works-opened}

@@ -1,6 +1,6 @@
 -- What the fetches, the works and the stores of a repair gave and left, of one provider, by the list of its
 -- actions alone.
-use Rattle.job_laws.proofs.Words.{◌≡◌, ℕ, ◌+◌, ◌<◌, ◌≤◌, ◌==◌, ◌&&◌, ◌⊎◌, true, cond, List, [], ◌∷◌, Option, None, Some, refl, ap, sym, subst, ◌∙◌, inl, inr, arith, option_map, cases_Bool, cases_eq, eq-eqb, ne_eqb, eqb-true, and_parts, and_from, sum_by-cons, Each, In, each_mono, upto, column_of_symbols, GivesSymbols, last_count, Held, Provider, sized, with_block, Stores, Fetches, FetchGives, FailsToGive, RepairJob, Given, Action, WriteBody, SyncBody, WriteGate, SyncGate, Store, Fetch, Ask, Work, Remove, End, block_given, blocks_given, symbols_given, cond_true, cond_false, symbols_given-newest, With, block_stored, Did, Made, object_made}
+use Rattle.job_laws.proofs.Words.{◌≡◌, ℕ, ◌+◌, ◌<◌, ◌≤◌, ◌==◌, ◌&&◌, ◌⊎◌, true, cond, List, [], ◌∷◌, Option, None, Some, refl, ap, sym, subst, ◌∙◌, inl, inr, arith, cases_Bool, cases_eq, eq-eqb, ne_eqb, eqb-true, and_parts, and_from, sum_by-cons, Each, In, each_mono, upto, column_of_symbols, GivesSymbols, last_count, Held, Provider, sized, with_block, Stores, Fetches, FetchGives, FailsToGive, RepairJob, Given, Action, WriteBody, SyncBody, WriteGate, SyncGate, Store, Fetch, Ask, Work, Remove, End, block_given, blocks_given, symbols_given, cond_true, cond_false, symbols_given-newest, With, block_stored, Did, Made, object_made}
 use Rattle.std.proofs.Common.{map, sum_by}
 use Rattle.job_laws.proofs.Heard.{IsNot, block-later, block-newest, symbols-later}
 use Rattle.job_laws.proofs.Truth.{call-hit, call-miss, lacks, lacks-same, lacks-few, made-rises}

@@ -1,5 +1,5 @@
 -- The job of a command walks to its last step.
-use Rattle.job_laws.proofs.Words.{◌≡◌, ℕ, ◌+◌, ◌==◌, List, [], ◌∷◌, length, Option, Some, None, refl, ap, sym, subst, ◌∙◌, arith, eq-eqb, Kind, Job, with_job, Action, WriteBody, SyncBody, WriteGate, SyncGate, Store, Fetch, Ask, Work, Remove, Answer, Step, More, Ended, Waiting, IsSpelledKind, State, Append, setup_in, chosen, beginning, Moves, next_action, holder_of, Acts, Happens, cond_true, Moment, now, Entry, heard_by, IsOpenAtRest, AreSteps, GoesOnTo, RunsJob, MayName, WalkedAt, walk-begin, walk-step, walk-last, step-acts, found}
+use Rattle.job_laws.proofs.Words.{◌≡◌, ℕ, ◌+◌, List, [], ◌∷◌, length, Option, Some, None, refl, subst, arith, Kind, Job, with_job, Action, WriteBody, SyncBody, WriteGate, SyncGate, Store, Fetch, Ask, Work, Remove, Answer, Step, More, Ended, IsSpelledKind, State, Append, setup_in, chosen, beginning, Moves, next_action, holder_of, Acts, Happens, Moment, now, Entry, heard_by, IsOpenAtRest, AreSteps, GoesOnTo, RunsJob, MayName, WalkedAt, walk-begin, walk-step, walk-last, step-acts, found}
 
 -- the last step of a job, and the state and the job before it
 pub record Ends (start : State) (kind : Kind) (own : Option ℕ) (answer : Answer) (heard : List Entry)

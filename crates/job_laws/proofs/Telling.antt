@@ -1,5 +1,5 @@
 -- From the run of a job, as a command tells it, to what it leaves.
-use Rattle.job_laws.proofs.Words.{◌≡◌, ◌≢◌, ℕ, zero, suc, ◌<◌, ◌≤◌, ◌⊎◌, false, List, [], ◌∷◌, ◌++◌, length, Option, None, Some, refl, ap, sym, subst, ◌∙◌, inl, inr, arith, slice_get, IsSomeAnd, option_map, cases_lt, false≢true, Provider, each_image-mono, Record, Area, StandsActive, Kind, PutJob, GetJob, DropJob, AuditJob, RepairJob, UpgradeJob, Answer, IsSpelledKind, Entry, State, Doubt, StandsPlain, StandsWithDoubt, StandsSwitched, Seen, nobody, provider_at, setup_in_effect, ran_from, ran_alone, AreHanded, IsOpenAtRest, IsJustOpened, RunsJob, Leaves, LeftAlone, RanAlone, RunsAlone, SameOutside, MayName}
+use Rattle.job_laws.proofs.Words.{◌≡◌, ◌≢◌, ℕ, zero, suc, ◌<◌, ◌≤◌, ◌⊎◌, false, List, [], ◌∷◌, ◌++◌, length, Option, None, Some, refl, sym, subst, ◌∙◌, inl, inr, arith, slice_get, IsSomeAnd, option_map, cases_lt, false≢true, Provider, each_image-mono, Record, Area, StandsActive, Kind, PutJob, GetJob, DropJob, AuditJob, RepairJob, UpgradeJob, Answer, IsSpelledKind, Entry, State, Doubt, StandsPlain, StandsWithDoubt, StandsSwitched, Seen, nobody, provider_at, setup_in_effect, ran_from, ran_alone, AreHanded, IsOpenAtRest, IsJustOpened, RunsJob, Leaves, LeftAlone, RanAlone, RunsAlone, SameOutside, MayName}
 use Rattle.command_defs.specs.Opens as opens
 use Rattle.opening_defs.proofs.Opened.{has-setup, state_with, opened-with}
 use Rattle.job_laws.proofs.Runs.{job-ends}

@@ -1,7 +1,7 @@
 -- What a provider that tells gave a job: what it held, or nothing; and nothing, though something was held, at
 -- most as often as its
 -- count of faults rose.
-use Rattle.job_laws.proofs.Words.{◌≡◌, ℕ, zero, suc, ◌+◌, ◌<◌, ◌≤◌, ◌==◌, ◌&&◌, ◌⊎◌, Bool, true, false, cond, List, [], ◌∷◌, Option, None, Some, refl, ap, sym, subst, ◌∙◌, inl, inr, arith, is_some, is_none, range_with_len, cases_eq, eq-eqb, ne_eqb, sum_by-cons, Each, honest_answer, last_count, Held, Provider, Fetches, Asks, AskGives, FailsToGive, Given, Action, WriteBody, SyncBody, WriteGate, SyncGate, Store, Fetch, Ask, Work, Remove, End, answer_given, cond_true, cond_false, With, challenge_made, CallsOne, Did, Made, object_made}
+use Rattle.job_laws.proofs.Words.{◌≡◌, ℕ, zero, suc, ◌+◌, ◌<◌, ◌≤◌, ◌==◌, ◌&&◌, ◌⊎◌, Bool, true, false, cond, List, [], ◌∷◌, Option, None, Some, refl, ap, sym, subst, ◌∙◌, inl, inr, arith, is_some, is_none, range_with_len, cases_eq, eq-eqb, ne_eqb, sum_by-cons, Each, honest_answer, last_count, Held, Provider, Fetches, Asks, AskGives, FailsToGive, Given, Action, Store, Fetch, Ask, Work, Remove, answer_given, cond_true, cond_false, With, challenge_made, CallsOne, Did, Made, object_made}
 use Rattle.std.proofs.Common.{map, sum_by}
 use Rattle.job_laws.proofs.Providers.{Rises, rises-same, rises-more, called-rises, made-keeps}
 use Rattle.job_laws.proofs.Heard.{IsOver, AreDistinct, answer-later, answer-newest}

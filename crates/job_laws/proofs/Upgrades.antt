@@ -1,5 +1,5 @@
 -- What an upgrade leaves whose job was the only one.
-use Rattle.job_laws.proofs.Words.{◌≡◌, ℕ, List, [], take, None, Some, refl, ap, sym, subst, ◌∙◌, Each, each_get, each_take, Provider, rose-before, UpgradeJob, Given, Action, WriteBody, SyncBody, WriteGate, SyncGate, Store, Fetch, Ask, Work, Remove, End, actions_of, Answer, Ended, Entry, heard_by_kind, State, setup_in, ended, Moves, next_action, UpgradeLeaves, Leaves, Ran, ran_from, SameHeld, NoFetches, With, IsOpenAtRest, with_job_of, upgrade-list}
+use Rattle.job_laws.proofs.Words.{◌≡◌, ℕ, List, [], take, None, Some, refl, ap, sym, subst, ◌∙◌, Each, each_get, each_take, Provider, rose-before, UpgradeJob, Given, Action, Store, Fetch, Ask, Work, Remove, End, actions_of, Answer, Ended, Entry, State, setup_in, ended, Moves, next_action, UpgradeLeaves, Leaves, Ran, ran_from, SameHeld, NoFetches, With, IsOpenAtRest, with_job_of, upgrade-list}
 use Rattle.machine_defs.specs.Answers as answer
 use Rattle.machine_defs.specs.Steps as step
 use Rattle.job_laws.proofs.Runs.{Ends}

@@ -1,9 +1,8 @@
 -- Blocks that are absent take nothing from accepted rows: only wrong ones that are there could forge one.
-use Rattle.second_half_laws.proofs.Words.{◌*◌, ◌&&◌, true, refl, ap, sym, ◌∙◌, inl, inr, arith, is_some, slice_index, and_parts, and_from, false≢true, get_or_from_slice_get, map-range_at, same_or_other, IsShape, upto, values_at, profile_of, Object, stripes, symbols_in, kept_by, point, primary_row, is_wrong_block, SeenBlock, OpensTo, AllOpen, symbol_in, block_at, AcceptsRow, AcceptsSymbols, GivesSymbols, count_of, is_agreeing, IsRow, IsStripeForgery, profile-room, kept-symbol, count_of-within, opens-at, is_wrong_seen}
+use Rattle.second_half_laws.proofs.Words.{◌*◌, ◌&&◌, true, refl, ap, sym, ◌∙◌, inl, inr, arith, is_some, and_parts, and_from, false≢true, get_or_from_slice_get, map-range_at, same_or_other, IsShape, upto, values_at, profile_of, Object, stripes, symbols_in, point, primary_row, is_wrong_block, SeenBlock, OpensTo, AllOpen, symbol_in, block_at, AcceptsRow, AcceptsSymbols, GivesSymbols, count_of, is_agreeing, IsRow, IsStripeForgery, profile-room, kept-symbol, count_of-within, opens-at, is_wrong_seen}
 use Rattle.std.proofs.Common.{◌≡◌, ℕ, ◌+◌, ◌<◌, ◌≤◌, List, length, Some, None}
 use Rattle.algebra_laws.specs.Poly.{is_seen as is_seen_over}
 use Rattle.code_defs.specs.Polynomials.{value, is_seen}
-use Rattle.code_defs.specs.ServerCode.{codeword}
 use Rattle.column_laws.proofs.OtherRows.{forgery-of_other}
 use Rattle.run_laws.proofs.Files.{IsRightRow, right-symbols}
 

@@ -1,12 +1,12 @@
 -- Audits, what is due, repairs and the mark, in a calm run in which no audit missed damage.
-use Rattle.second_half_laws.proofs.Words.{true, ◌⊎◌, refl, ap, sym, subst, ◌∙◌, inl, inr, arith, slice_get, cases_Bool, cases_eq, In, is_flagged, flags_some, Record, Setup, SetUp, PutStart, PutDone, Drop, AuditStart, AuditDone, RepairDone, PutDoneIn, Version, Resume, InEffect, RepairDue, File, Due, setup_of, next_audit, file_of, due_of, AuditJob, RepairJob, Job, job_of, Action, WriteBody, SyncGate, Store, actions_of, profiled, stripes_of, State, Doubt, IsStart, setup_in, file_in, refusal_of_begin, pinned_file, due_number, due_flags, beginning, subject_drawn, next_action, block_to_store, Moment, now, first_moments, is_replaced_since, came, IsRun, Mark, settled_by, mark_after, since, Misses, MissesNone, told_block, cond_true, cond_false, same_value, number_of, Job_is, Changes, audits, Pins_is, pins_is, setup_same, All, first_more, first_all, IsBad, IsReplaced, WasWrong, WrongAt, Remains, IsFlaggedBy, Never, PrecedesPuts, IsClear}
+use Rattle.second_half_laws.proofs.Words.{true, ◌⊎◌, refl, ap, sym, subst, ◌∙◌, inl, inr, arith, cases_Bool, cases_eq, In, is_flagged, flags_some, Record, Setup, SetUp, AuditDone, RepairDone, File, Due, setup_of, next_audit, due_of, AuditJob, RepairJob, Job, job_of, Action, WriteBody, SyncGate, Store, profiled, stripes_of, State, Doubt, IsStart, setup_in, file_in, refusal_of_begin, pinned_file, beginning, next_action, block_to_store, Moment, now, first_moments, is_replaced_since, came, IsRun, Mark, settled_by, mark_after, since, Misses, MissesNone, told_block, cond_true, cond_false, number_of, Job_is, Changes, audits, Pins_is, pins_is, setup_same, All, first_more, first_all, IsBad, IsReplaced, WasWrong, WrongAt, Remains, IsFlaggedBy, Never, PrecedesPuts, IsClear}
 use Rattle.std.proofs.Common.{◌≡◌, ℕ, ◌+◌, ◌<◌, false, List, ◌∷◌, length, Option, Some, None}
 use Rattle.machine_defs.proofs.Numbers as num
 use Rattle.run_laws.proofs.InEffect as eff
 use Rattle.second_half_laws.proofs.Turns.{Doubt_now, Turns}
 use Rattle.second_half_laws.proofs.Blocks.{since_more, since_now, bad_wrong, due_done, none_flagged}
 use Rattle.second_half_laws.proofs.Places.{store_stands, gate_behind}
-use Rattle.second_half_laws.proofs.MovePlaces.{next_repairs, same_actions}
+use Rattle.second_half_laws.proofs.MovePlaces.{same_actions}
 use Rattle.second_half_laws.proofs.Files.{all_pinned}
 use Rattle.second_half_laws.proofs.Points as pt
 use Rattle.second_half_laws.proofs.Points.{Facts, ScrubsRight, rows_right}

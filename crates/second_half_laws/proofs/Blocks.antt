@@ -1,5 +1,5 @@
 -- Lemmas on wrong blocks, on replacements and on what records fold to.
-use Rattle.second_half_laws.proofs.Words.{true, cond, ◌⊎◌, ◌&&◌, refl, ap, sym, subst, ◌∙◌, inl, inr, arith, nat_le, nat_lt, is_some, option_map, cases_Bool, and_parts, and_from, or_cases, or_left, or_right, leb-true, le-leb, le-ltb, eq-eqb, false≢true, some-not-none, Object, stripes, columns, is_wrong_block, is_flagged, flags_some, length-column_of_symbols, Record, Setup, SetUp, PutStart, PutDone, Drop, AuditStart, AuditDone, RepairDone, PutDoneIn, Version, Resume, InEffect, RepairDue, File, Due, file_as, setup_of, profile_in, started_as, is_start_of, is_same_name, file_of, due_of, exceeds, Held, sized, State, AreFirst, file_object, done_record, Moment, is_replacement, is_replaced_since, is_wrong_told, is_wrong_now, told_block, cond_true, cond_false, IsAppended, put_ended, done-ended, IsBad, IsReplaced, IsEndOfPut}
+use Rattle.second_half_laws.proofs.Words.{true, cond, ◌⊎◌, ◌&&◌, refl, ap, sym, subst, ◌∙◌, inl, inr, arith, nat_le, nat_lt, is_some, option_map, cases_Bool, and_parts, and_from, or_cases, or_left, or_right, leb-true, le-leb, le-ltb, eq-eqb, false≢true, some-not-none, Object, stripes, columns, is_wrong_block, is_flagged, flags_some, length-column_of_symbols, Record, Setup, SetUp, PutDone, Drop, AuditDone, RepairDone, PutDoneIn, Resume, InEffect, RepairDue, File, Due, file_as, setup_of, profile_in, started_as, is_start_of, is_same_name, file_of, due_of, exceeds, Held, sized, State, AreFirst, file_object, done_record, Moment, is_replacement, is_replaced_since, is_wrong_told, is_wrong_now, told_block, cond_true, cond_false, IsAppended, put_ended, done-ended, IsBad, IsReplaced, IsEndOfPut}
 use Rattle.std.proofs.Common.{◌≡◌, ℕ, suc, zero, ◌≤◌, ◌<◌, ◌==◌, Bool, false, List, [], ◌∷◌, length, Option, Some, None}
 use Rattle.code_defs.proofs.Codewords.{differences-same}
 use Rattle.column_defs.proofs.ForgeryLaws.{wrong-block}

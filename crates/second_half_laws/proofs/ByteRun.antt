@@ -1,6 +1,6 @@
 -- A put of one byte and a get of it are a run, the get computed from its turns, and what it writes.
 use Rattle.second_half_laws.proofs.Words.{drop, codes, refl, arith, PutJob, GetJob, actions_of, Got, Begin, Step, Reopen, Begun, Ended, Happens, Moment, IsRun, now, setup_in, Once, RunJob, CarriesOut, set_up, begun, not_more, fits_two, state_15, stored, stored_lines}
-use Rattle.std.specs.Prelude.{◌≡◌, ℕ, zero, suc, ◌<◌, List, [], ◌∷◌, ◌++◌, take, Some}
+use Rattle.std.specs.Prelude.{◌≡◌, ℕ, suc, ◌<◌, List, [], ◌∷◌, ◌++◌, take, Some}
 use Rattle.std.specs.Fmt.{digits}
 use Rattle.machine_defs.proofs.PutRun.{is_run as is_stored}
 use Rattle.made_runs.specs.Turns.{Turn, Works, Came, Gives, job_run}

@@ -1,5 +1,5 @@
 -- What providers hold of one byte, and what a get of it makes of that.
-use Rattle.std.specs.Prelude.{◌≡◌, ℕ, ◌==◌, List, [], ◌∷◌, length, take, Some, None}
+use Rattle.std.specs.Prelude.{◌≡◌, ℕ, List, [], ◌∷◌, length, take, Some, None}
 use Rattle.second_half_laws.proofs.Words.{flat_map, refl, arith, sym, upto, bytes_back, eq-eqb, symbols_in, bytes_of_symbols, columns, GivesSymbols, length-column_of_symbols, sized, object_of, four, cond_true, own_blocks}
 use Rattle.second_half_laws.proofs.GivesRight.{own_give}
 

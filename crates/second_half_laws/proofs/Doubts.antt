@@ -1,5 +1,5 @@
 -- What stands of the job that wrote a record in doubt; and that setups stay.
-use Rattle.second_half_laws.proofs.Words.{refl, ap, sym, subst, ◌∙◌, slice_get, In, Setup, Record, SetUp, setup_of, Kind, PutJob, Given, Job, job_of, advanced, Action, actions_of, State, Append, Doubt, IsStart, setup_in, Moment, now, IsRun, Records_is, Changes, IsWritten, changes, objects, Draws, setup_same, wrote_setup, All, all, stands_by, WasMade}
+use Rattle.second_half_laws.proofs.Words.{refl, ap, sym, subst, ◌∙◌, slice_get, In, Setup, Record, SetUp, setup_of, Kind, PutJob, Given, Job, job_of, advanced, Action, actions_of, State, Append, Doubt, IsStart, setup_in, Moment, now, IsRun, Records_is, Changes, IsWritten, changes, setup_same, wrote_setup, All, all, stands_by, WasMade}
 use Rattle.std.proofs.Common.{◌≡◌, ℕ, ◌<◌, ◌≤◌, List, [], ◌∷◌, ◌++◌, length, Some, None}
 use Rattle.machine_defs.proofs.PutProfiles as own
 use Rattle.run_laws.proofs.InEffect as eff

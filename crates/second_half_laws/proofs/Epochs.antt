@@ -1,5 +1,5 @@
 -- A mark may move to a later moment since which all damage is new, while no get and no repair runs.
-use Rattle.second_half_laws.proofs.Words.{true, refl, sym, subst, arith, nat_le, IsTrue, le-leb, lt-leb, Job, job_of, State, setup_in, Moment, now, first_moments, IsRun, is_replaced_since, Mark, relies, replaced_count, IsCalm, DamagesOnly, Relies, NoneRuns, cond_true, cond_false, begun_later, first_enough, first_fewer, among_since, IsMark, BeginsNoScrub, AreMarks, IsMarkedRun}
+use Rattle.second_half_laws.proofs.Words.{true, refl, sym, subst, arith, IsTrue, le-leb, lt-leb, Job, job_of, State, setup_in, Moment, now, first_moments, IsRun, is_replaced_since, Mark, relies, replaced_count, IsCalm, DamagesOnly, Relies, NoneRuns, cond_true, cond_false, begun_later, first_enough, first_fewer, among_since, IsMark, BeginsNoScrub, AreMarks, IsMarkedRun}
 use Rattle.std.proofs.Common.{◌≡◌, ℕ, ◌≤◌, ◌<◌, List, [], ◌∷◌, ◌++◌, length, Some, append_assoc}
 use Rattle.second_half_laws.specs.Epochs.{moved_mark}
 use Rattle.second_half_laws.proofs.FewDamaged.{AreFew, few_now, few_before}

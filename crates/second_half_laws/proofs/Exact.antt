@@ -1,6 +1,6 @@
 -- Blocks of files in effect that are the providers' own columns stay so, unless their providers are replaced,
 -- and a put brings in such blocks.
-use Rattle.second_half_laws.proofs.Words.{true, ◌⊎◌, refl, ap, sym, ◌∙◌, inl, inr, cases_Bool, false≢true, In, columns, Setup, File, started_as, Pinned, Job, job_of, Store, Remove, object_of, profiled, stripes_of, State, IsStart, setup_in, object_in, file_object, file_in, block_to_scrub, next_action, block_to_store, Moment, now, is_replacement, is_replaced_since, IsRun, begun_of, told_block, Block_is, Changes, some_told, audits, is_fair, setup_same, All, store_kinds, remove_kinds, replaced_before, PrecedesPuts}
+use Rattle.second_half_laws.proofs.Words.{true, ◌⊎◌, refl, ap, sym, ◌∙◌, inl, inr, cases_Bool, false≢true, In, columns, File, started_as, Pinned, Job, job_of, Store, Remove, profiled, stripes_of, State, IsStart, setup_in, object_in, file_object, file_in, next_action, block_to_store, Moment, now, is_replacement, is_replaced_since, IsRun, begun_of, told_block, Block_is, Changes, some_told, audits, is_fair, setup_same, All, store_kinds, remove_kinds, replaced_before, PrecedesPuts}
 use Rattle.std.proofs.Common.{◌≡◌, ℕ, ◌<◌, false, List, ◌∷◌, length, Option, Some, None}
 use Rattle.machine_defs.proofs.Numbers as num
 use Rattle.run_laws.proofs.InEffect as eff

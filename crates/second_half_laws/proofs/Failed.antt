@@ -1,6 +1,6 @@
 -- Failed calls are at most as many as the counts rose.
-use Rattle.second_half_laws.proofs.Words.{true, refl, ap, sym, subst, ◌∙◌, inl, inr, arith, cases_lt, eq-eqb, Rose, last_count, Provider, Removes, Kind, PutJob, Job, Fetched, Answered, job_of, advanced, advanced_with, Action, WriteBody, SyncBody, WriteGate, SyncGate, Store, Fetch, Ask, Remove, End, Answer, Event, Init, Step, Reopen, Outcome, Refused, More, Ended, State, Append, Scrub, Pack, Alone, Scrubbing, Packing, with_provider, going_on, Moves, holder_of, Ends, FetchStep, AskStep, Acts, ActsOrWaits, StepsOn, StepsJob, StepsOne, StepsOpen, Steps, Scrubs, StepsScrub, Packs, StepsAlone, InitsBy, Inits, Reopens, Happens, Moment, now, IsRun, Makes, cond_true, found_itself, is_setup}
-use Rattle.std.proofs.Common.{◌≡◌, ℕ, zero, suc, ◌≤◌, ◌==◌, false, List, [], ◌∷◌, ◌++◌, length, Option, Some, None}
+use Rattle.second_half_laws.proofs.Words.{true, refl, ap, sym, subst, ◌∙◌, inl, inr, arith, cases_lt, eq-eqb, Rose, last_count, Provider, Removes, Kind, PutJob, Job, Fetched, Answered, job_of, advanced, advanced_with, Action, WriteBody, SyncBody, WriteGate, SyncGate, Store, Fetch, Ask, Remove, End, Answer, Event, Init, Step, Reopen, Outcome, Refused, More, Ended, State, Append, Scrub, Pack, Alone, Scrubbing, Packing, with_provider, going_on, Moves, Ends, FetchStep, AskStep, Acts, ActsOrWaits, StepsOn, StepsJob, StepsOne, StepsOpen, Steps, Scrubs, StepsScrub, Packs, StepsAlone, InitsBy, Inits, Reopens, Happens, Moment, now, IsRun, Makes, cond_true, found_itself, is_setup}
+use Rattle.std.proofs.Common.{◌≡◌, ℕ, zero, suc, ◌≤◌, ◌==◌, false, List, [], ◌∷◌, ◌++◌, Option, Some, None}
 use Rattle.machine_defs.specs.Refusals as refusal
 use Rattle.machine_defs.specs.Answers as answer
 use Rattle.machine_defs.specs.Failures.{Count, OfDisk, OfStores, OfOthers, count_in, IsDiskFault, IsStoreFault, GaveAmiss, IsFailure, HasFailures, RoseBy}

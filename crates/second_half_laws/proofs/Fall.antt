@@ -1,5 +1,5 @@
 -- Steps left fall.
-use Rattle.second_half_laws.proofs.Words.{◌⊎◌, ◌-◌, ◌&&◌, true, cond, refl, ap, sym, subst, ◌∙◌, inl, inr, arith, slice_get, drop, count_by, nat_lt, flat_map, cases_Bool, and_parts, and_from, lt-ltb, ltb-true, false≢true, Each, each_get, get_behind, upto, Setup, File, Kind, PutJob, GetJob, DropJob, AuditJob, RepairJob, UpgradeJob, aim_of, Given, Job, job_of, advanced, advanced_with, profiled, stripes_of, Action, WriteBody, SyncBody, WriteGate, SyncGate, Store, Fetch, Ask, Work, Remove, End, append_actions, on_each_provider, on_each_stripe, store_actions, read_actions, repair_actions, ask_actions, remove_actions, actions_by, actions_of, ends_append, Step, More, State, IsStart, setup_in, file_in, is_pinned, removable, is_first_append, subject_drawn, taken_out, next_action, Moment, now, IsRun, cond_true, cond_false, same_value, found_none, split_get, Changes, changes, setup_stays, first_above, first_below, All, all, actions_are, PutAt, put_at, gate_is_last, actions_by-advanced}
+use Rattle.second_half_laws.proofs.Words.{◌⊎◌, ◌-◌, ◌&&◌, true, cond, refl, ap, sym, subst, ◌∙◌, inl, inr, arith, slice_get, drop, count_by, nat_lt, flat_map, cases_Bool, and_parts, and_from, lt-ltb, ltb-true, false≢true, Each, each_get, get_behind, upto, Setup, File, Kind, PutJob, GetJob, DropJob, AuditJob, RepairJob, UpgradeJob, aim_of, Given, Job, job_of, advanced, advanced_with, profiled, stripes_of, Action, SyncBody, WriteGate, SyncGate, Store, Fetch, Ask, Work, Remove, End, append_actions, on_each_provider, on_each_stripe, store_actions, read_actions, repair_actions, ask_actions, remove_actions, actions_by, actions_of, ends_append, Step, More, State, IsStart, setup_in, file_in, is_pinned, removable, is_first_append, subject_drawn, taken_out, next_action, Moment, now, IsRun, cond_false, found_none, split_get, Changes, changes, setup_stays, first_above, All, all, actions_are, PutAt, put_at, gate_is_last}
 use Rattle.std.proofs.Common.{◌≡◌, ℕ, zero, suc, ◌+◌, ◌<◌, ◌≤◌, Bool, false, List, [], ◌∷◌, ◌++◌, length, map, Option, Some, None}
 use Rattle.std.proofs.lemmas.List.{length-append, length-map, map-append, drop-map, length-drop}
 use Rattle.std.proofs.lemmas.List.FromFn.{length-map-range_with_len}
@@ -9,7 +9,7 @@ use Rattle.machine_defs.specs.Left.{removes_older, is_undecided, most_left}
 use Rattle.second_half_laws.specs.Skips.{SkipsRemovals}
 use Rattle.second_half_laws.proofs.Walk.{IsGift, IsSilent, Passed, Went, Walked, walked}
 use Rattle.second_half_laws.proofs.Places.{by_kind, tail_all}
-use Rattle.second_half_laws.proofs.Passing.{passed_place, passed_not_end, list_before, list_now, same_given, list_is}
+use Rattle.second_half_laws.proofs.Passing.{passed_place, passed_not_end, list_before, list_now, list_is}
 use Rattle.second_half_laws.proofs.MadeFacts as made
 
 -- ---- lists of actions alike in length and in where their fourth moves stand

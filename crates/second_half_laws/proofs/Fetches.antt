@@ -1,5 +1,5 @@
 -- What a fetch gives a job is what its provider holds then, or none where a count rose.
-use Rattle.second_half_laws.proofs.Words.{true, refl, sym, subst, inl, inr, eq-eqb, Provider, FailsToGive, Job, Fetched, job_of, advanced_with, Action, Fetch, Answer, Event, Outcome, Ready, Refused, Opened, Begun, More, Waiting, Ended, Replaced, NothingHeld, Stopped, Listed, Closed, Continued, State, Alone, next_action, holder_of, Acts, ActsOrWaits, StepsOn, StepsJob, StepsOne, StepsOpen, Steps, FetchStep, Happens, Moment, now, IsRun, Makes, cond_true, found_itself}
+use Rattle.second_half_laws.proofs.Words.{true, refl, sym, subst, inl, inr, eq-eqb, Provider, FailsToGive, Job, job_of, Action, Fetch, Answer, Event, Outcome, More, Ended, State, Alone, next_action, holder_of, Acts, ActsOrWaits, StepsOn, StepsJob, StepsOne, StepsOpen, Steps, FetchStep, Happens, Moment, now, IsRun, Makes, cond_true, found_itself}
 use Rattle.std.proofs.Common.{◌≡◌, ℕ, ◌==◌, false, List, ◌∷◌, length, Option, Some, None}
 use Rattle.second_half_laws.specs.Fetching.{GaveFetched}
 

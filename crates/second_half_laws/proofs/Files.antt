@@ -1,5 +1,5 @@
 -- Every file in effect is among those that an audit or a repair works on.
-use Rattle.second_half_laws.proofs.Words.{true, cond, refl, ap, sym, subst, ◌∙◌, inl, inr, nat_lt, cases_Bool, false≢true, In, some-not-none, Record, SetUp, PutStart, PutDone, Drop, AuditStart, AuditDone, RepairDone, PutDoneIn, Version, Resume, InEffect, RepairDue, File, started_as, is_same_name, is_name_before, is_start_of, file_of, files_of, with_put, with_file, without_file, file_as, setup_of, profile_in, same-eq, same-refl, Pinned, State, file_in, machine_pins, pinned_file, pin_by, pin_all, cond_true, cond_false}
+use Rattle.second_half_laws.proofs.Words.{true, cond, refl, sym, subst, ◌∙◌, inl, inr, nat_lt, cases_Bool, false≢true, In, some-not-none, Record, SetUp, PutStart, PutDone, Drop, AuditStart, AuditDone, RepairDone, PutDoneIn, Version, Resume, InEffect, RepairDue, File, started_as, is_same_name, is_name_before, is_start_of, file_of, files_of, with_put, with_file, without_file, file_as, setup_of, profile_in, same-eq, same-refl, Pinned, State, file_in, machine_pins, pinned_file, pin_by, pin_all, cond_true, cond_false}
 use Rattle.std.proofs.Common.{◌≡◌, ℕ, Bool, false, List, [], ◌∷◌, Option, Some, None}
 
 -- a file that a record brings in has the name, or the one before has

@@ -1,6 +1,6 @@
 -- What stands of the job whose append is in flight.
-use Rattle.second_half_laws.proofs.Words.{cond, refl, ap, sym, subst, ◌∙◌, inl, inr, arith, slice_get, replicate, flat_map, upto, cases_lt, cases_Bool, challenge_of, Sums, Judges, Setup, Record, SetUp, PutStart, PutDone, Drop, AuditStart, AuditDone, RepairDone, PutDoneIn, Version, Resume, InEffect, RepairDue, version_of, next_id, Kind, PutJob, GetJob, DropJob, AuditJob, RepairJob, UpgradeJob, Pinned, Given, Job, job_of, advanced, advanced_with, object_of, profiled, Action, WriteBody, SyncBody, WriteGate, SyncGate, Store, Fetch, Ask, Work, Remove, End, on_each_provider, on_each_stripe, open_actions, store_actions, repair_actions, rounds_of, ask_actions, actions_of, State, Append, IsStart, setup_in, answers_given, JudgesRound, JudgesRounds, JudgesFiles, HasSums, done_record, is_first_append, subject_drawn, taken_out, Writes, next_action, holder_of, Moment, now, cond_true, cond_false, same_value, found_none, Append_is, Changes, first_above, first_below, drawn_later, All, next_stands, setup_stays}
-use Rattle.std.proofs.Common.{◌≡◌, ℕ, ◌+◌, ◌≤◌, ◌==◌, Bool, false, List, [], ◌∷◌, ◌++◌, length, Option, Some, None}
+use Rattle.second_half_laws.proofs.Words.{cond, refl, sym, subst, ◌∙◌, inl, inr, arith, slice_get, replicate, flat_map, upto, cases_lt, cases_Bool, challenge_of, Sums, Judges, Setup, Record, SetUp, PutStart, PutDone, AuditDone, RepairDone, PutDoneIn, Resume, InEffect, RepairDue, version_of, next_id, Kind, PutJob, GetJob, DropJob, AuditJob, RepairJob, UpgradeJob, Pinned, Given, Job, job_of, advanced, advanced_with, object_of, profiled, Action, WriteBody, Store, Fetch, Ask, Work, on_each_provider, on_each_stripe, open_actions, store_actions, repair_actions, rounds_of, ask_actions, actions_of, State, Append, IsStart, setup_in, answers_given, JudgesRound, JudgesRounds, JudgesFiles, HasSums, done_record, is_first_append, subject_drawn, taken_out, Writes, next_action, holder_of, Moment, now, cond_true, cond_false, same_value, found_none, Append_is, Changes, first_above, first_below, drawn_later, All, next_stands, setup_stays}
+use Rattle.std.proofs.Common.{◌≡◌, ℕ, ◌+◌, ◌≤◌, ◌==◌, Bool, false, List, [], ◌∷◌, ◌++◌, length, Some, None}
 use Rattle.machine_defs.proofs.PutProfiles.{setup_profile}
 use Rattle.machine_defs.proofs.PutProfiles as own
 use Rattle.second_half_laws.proofs.Walk.{IsGift, Passed, Went, Walked}

@@ -1,6 +1,6 @@
 -- A finished scrub is a mark, and so the second half holds of runs that are calm counted from finished
 -- scrubs; who was not replaced since its begin holds the own columns; where no scrub begins, scrubs are calm.
-use Rattle.second_half_laws.proofs.Words.{true, ◌⊎◌, refl, ap, sym, subst, ◌∙◌, inl, inr, arith, IsSome, nat_lt, option_map, false≢true, In, some-not-none, stripes, columns, is_wrong_block, Setup, is_setup, File, Held, with_symbol, without_block, HasPlace, Job, job_of, Action, Store, Work, End, pinned_stripes, Event, Init, Begin, BeginAt, BeginScrub, BeginPack, Step, Alter, Lose, Stop, Reopen, Names, Continue, Outcome, Ended, State, Scrub, Alone, Scrubbing, Packing, IsStart, setup_in, file_object, file_in, pinned_file, unalone, Scrubs, StepsScrub, StepsJob, StepsMine, StepsOne, StepsOpen, Steps, InitsBy, Inits, ReplacesIf, Lists, Happens, Moment, now, IsRun, Mark, relies, IsCalm, scrub_begun, mark_scrubbed, scrubbed, AreScrubsCalm, IsScrubCalm, AllTell, SecondHalf, told_block, found_none, IsLone, changes, all, IsBad, IsReplaced, PrecedesPuts, IsMark, IsExact, AreMarks, IsMarkedRun, BeginsNoScrub}
+use Rattle.second_half_laws.proofs.Words.{true, ◌⊎◌, refl, subst, inl, inr, arith, IsSome, nat_lt, false≢true, In, some-not-none, stripes, columns, Setup, is_setup, File, Held, with_symbol, without_block, HasPlace, Job, job_of, Action, Store, Work, End, pinned_stripes, Event, Init, Step, Alter, Lose, Names, Outcome, Ended, State, Scrub, Alone, Scrubbing, IsStart, setup_in, file_object, file_in, pinned_file, unalone, Scrubs, StepsScrub, StepsJob, StepsMine, StepsOne, StepsOpen, Steps, InitsBy, Inits, ReplacesIf, Lists, Happens, Moment, now, IsRun, Mark, relies, IsCalm, scrub_begun, mark_scrubbed, scrubbed, AreScrubsCalm, IsScrubCalm, AllTell, SecondHalf, told_block, found_none, IsLone, changes, all, IsBad, IsReplaced, PrecedesPuts, IsMark, IsExact, AreMarks, IsMarkedRun, BeginsNoScrub}
 use Rattle.std.proofs.Common.{◌≡◌, ℕ, ◌<◌, ◌==◌, Bool, false, List, [], ◌∷◌, ◌++◌, length, Option, Some, None}
 use Rattle.machine_defs.specs.Answers as answer
 use Rattle.run_laws.proofs.InEffect as eff

@@ -1,5 +1,5 @@
 -- Where the one audit of a run flags who was damaged, it missed nobody.
-use Rattle.second_half_laws.proofs.Words.{◌⊎◌, true, refl, ap, sym, subst, ◌∙◌, inl, inr, is_some, nat_le, cases_Bool, false≢true, In, some-not-none, Sums, is_flagged, Record, Setup, SetUp, AuditDone, File, setup_of, Kind, AuditJob, Job, job_of, WriteGate, End, Audited, Begin, Step, Begun, Ended, HasSums, State, Append, Doubt, IsStart, setup_in, file_in, Ends, next_action, Moment, now, first_moments, came, IsRun, Misses, MissesNone, NoneMissed, is_wrong_now, AllTell, NoneBegan, NoneBeganFor, NoneRuns, DamagesOnly, cond_true, cond_false, found_none, changes, all, event_end, next_stands, audits, setup_same, among_all, run_back, none_ran, none_on, none_left, only_its, ended_of_kind, valid_shape, shape_in}
+use Rattle.second_half_laws.proofs.Words.{◌⊎◌, true, refl, ap, sym, subst, ◌∙◌, inl, inr, is_some, nat_le, cases_Bool, false≢true, In, some-not-none, Sums, is_flagged, Record, Setup, SetUp, AuditDone, File, setup_of, Kind, AuditJob, Job, job_of, WriteGate, End, Audited, Begin, Step, Begun, Ended, HasSums, State, Append, Doubt, IsStart, setup_in, file_in, Ends, next_action, Moment, now, first_moments, came, IsRun, Misses, MissesNone, NoneMissed, is_wrong_now, AllTell, NoneBegan, NoneBeganFor, NoneRuns, DamagesOnly, found_none, changes, all, event_end, next_stands, audits, setup_same, among_all, run_back, none_ran, none_on, none_left, only_its, ended_of_kind, valid_shape, shape_in}
 use Rattle.std.proofs.Common.{◌≡◌, ℕ, ◌≤◌, ◌<◌, List, [], ◌∷◌, ◌++◌, length, Option, Some, None, append_assoc}
 use Rattle.machine_defs.proofs.Survive.{came_none, came_one}
 use Rattle.machine_defs.proofs.Numbers as num

@@ -1,6 +1,6 @@
 -- How gets end, and that few wrong blocks leave a get its file.
-use Rattle.second_half_laws.proofs.Words.{true, refl, ap, sym, subst, ◌∙◌, arith, slice_get, Each, each_get, each_append, each_map, each_flat, flat_map-range_same, IsShape, upto, Object, stripes, symbols_in, bytes_of_symbols, row_polynomial, is_wrong_block, GivesSymbols, LosesRow, OpensFile, block_at, count_of, count_of-within, profile-room, row-right, symbols-right, Setup, File, setup_of, Kind, GetJob, Pinned, Given, Job, job_of, object_of, profiled, pinned_stripes, Action, WriteBody, SyncBody, WriteGate, SyncGate, Store, Fetch, Ask, Work, Remove, End, on_each_provider, on_each_stripe, open_actions, read_actions, Answer, Event, Step, Outcome, Ended, State, Alone, IsStart, setup_in, object_in, file_object, pinned_object, file_in, refusal_of_begin, pinned_file, pin_found, pinned_for, block_given, blocks_given, next_action, holder_of, Ends, Acts, ActsOrWaits, StepsOn, StepsJob, StepsOne, StepsOpen, Steps, Happens, Moment, now, first_moments, IsRun, heard_by, given_to, same_value, found_none, IsLone, Changes, changes, next_by, next_is_by, Pins_is, pins_is, setup_same, setup_kept, All, all, first_more, first_all, HasFile, own_profile, got_is_opened, heard_blocks, get_file, block_at-given, bytes_back, valid_setup, valid_shape, held_file, first_run, shape_in, IsFewWrong}
-use Rattle.std.proofs.Common.{◌≡◌, ℕ, ◌<◌, ◌≤◌, Bool, false, List, [], ◌∷◌, ◌++◌, length, take, Option, Some, None}
+use Rattle.second_half_laws.proofs.Words.{true, refl, ap, sym, subst, ◌∙◌, arith, slice_get, Each, each_get, each_append, each_map, each_flat, flat_map-range_same, IsShape, upto, Object, stripes, symbols_in, bytes_of_symbols, row_polynomial, is_wrong_block, GivesSymbols, LosesRow, OpensFile, block_at, count_of, count_of-within, profile-room, row-right, symbols-right, Setup, File, Kind, GetJob, Pinned, Given, Job, job_of, object_of, profiled, pinned_stripes, Action, Fetch, Work, End, on_each_provider, on_each_stripe, open_actions, read_actions, Answer, Event, Step, Outcome, Ended, State, Alone, IsStart, setup_in, object_in, file_object, pinned_object, file_in, pinned_file, block_given, blocks_given, next_action, Ends, Acts, ActsOrWaits, StepsOn, StepsJob, StepsOne, StepsOpen, Steps, Happens, Moment, now, first_moments, IsRun, heard_by, given_to, found_none, IsLone, Changes, changes, next_is_by, Pins_is, pins_is, setup_same, setup_kept, All, all, first_more, first_all, HasFile, own_profile, got_is_opened, heard_blocks, get_file, block_at-given, bytes_back, valid_setup, valid_shape, held_file, first_run, shape_in, IsFewWrong}
+use Rattle.std.proofs.Common.{◌≡◌, ℕ, ◌<◌, ◌≤◌, Bool, false, List, [], ◌∷◌, ◌++◌, length, Option, Some, None}
 use Rattle.code_defs.proofs.Profiles.{some_kept}
 use Rattle.machine_defs.specs.Answers as answer
 

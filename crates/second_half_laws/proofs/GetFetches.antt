@@ -1,5 +1,5 @@
 -- What a get was given that a step ended.
-use Rattle.second_half_laws.proofs.Words.{refl, ap, sym, subst, ◌∙◌, inl, arith, In, stripes, Setup, File, GetJob, Fetched, Job, job_of, profiled, stripes_of, Fetch, Work, Got, Lost, Step, Ended, State, IsStart, setup_in, file_object, file_in, pinned_file, block_given, next_action, Moment, now, first_moments, IsRun, same_value, event_end, all, setup_same, next_stands, WasFetched}
+use Rattle.second_half_laws.proofs.Words.{refl, sym, subst, inl, arith, In, stripes, Setup, File, GetJob, Fetched, Job, job_of, profiled, stripes_of, Fetch, Work, Got, Lost, Step, Ended, State, IsStart, setup_in, file_object, file_in, pinned_file, block_given, next_action, Moment, now, first_moments, IsRun, event_end, all, setup_same, next_stands, WasFetched}
 use Rattle.std.proofs.Common.{◌≡◌, ℕ, ◌<◌, List, [], ◌∷◌, length, Some}
 use Rattle.second_half_laws.proofs.GetEnds.{begin_of, have_files, Get_ends, get_ends}
 use Rattle.second_half_laws.proofs.Places.{fetched_before_end}

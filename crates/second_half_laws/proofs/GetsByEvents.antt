@@ -1,5 +1,5 @@
 -- What a get of a stored file gives, told by events.
-use Rattle.second_half_laws.proofs.Words.{◌⊎◌, ap, sym, subst, ◌∙◌, inl, inr, File, GetJob, job_of, Answer, Got, Refusal, Begin, Step, Refused, State, IsStart, file_in, Moment, now, first_moments, IsRun, Mark, IsGetRefusal, same_value, first_behind, run_back, ended_of_kind, Stored, GetEnds, IsMarkedRun, IsLostByFaults, GivesOrIsLost}
+use Rattle.second_half_laws.proofs.Words.{◌⊎◌, subst, inl, inr, File, GetJob, job_of, Answer, Got, Refusal, Begin, Refused, State, IsStart, file_in, Moment, now, first_moments, IsRun, Mark, IsGetRefusal, first_behind, run_back, ended_of_kind, Stored, GetEnds, IsMarkedRun, IsLostByFaults, GivesOrIsLost}
 use Rattle.std.proofs.Common.{◌≡◌, ℕ, List, ◌∷◌, ◌++◌, Some}
 use Rattle.run_laws.proofs.ByEvents.{stored_is_kept}
 use Rattle.second_half_laws.proofs.Names.{begins_stored}

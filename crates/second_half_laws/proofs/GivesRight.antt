@@ -1,6 +1,6 @@
 -- The own blocks of all providers give a stripe's symbols.
-use Rattle.second_half_laws.proofs.Words.{option_and_then, range_with_len, arith, ap, refl, ◌∙◌, IsShape, upto, profile_of, Object, symbols_in, columns, is_wrong_block, SeenBlock, bare, AllOpen, GivesSymbols, block_at, count_of, given-right, own_blocks}
-use Rattle.std.specs.Prelude.{◌≡◌, ℕ, zero, suc, ◌+◌, ◌<◌, ◌≤◌, Bool, false, List, map, Option, Some}
+use Rattle.second_half_laws.proofs.Words.{range_with_len, arith, refl, IsShape, upto, profile_of, Object, symbols_in, columns, is_wrong_block, bare, AllOpen, GivesSymbols, block_at, count_of, given-right, own_blocks}
+use Rattle.std.specs.Prelude.{◌≡◌, ℕ, zero, suc, ◌+◌, ◌<◌, ◌≤◌, Bool, false, List, map, Some}
 use Rattle.column_laws.proofs.Worked.{column-right, opens-own}
 use Rattle.second_half_laws.proofs.Lists.{get_map_upto}
 

@@ -1,5 +1,5 @@
 -- What an audit or a repair whose record is in doubt worked on, whether its job runs on or has ended.
-use Rattle.second_half_laws.proofs.Words.{true, ◌⊎◌, refl, ap, sym, subst, ◌∙◌, inl, inr, arith, slice_get, cases_Bool, cases_lt, false≢true, In, some-not-none, columns, Setup, setup_of, next_id, started_as, AuditJob, RepairJob, aim_of, Pinned, Job, job_of, advanced, WriteGate, Store, Remove, actions_of, object_of, profiled, pinned_profile, State, Doubt, Scrubbing, IsStart, setup_in, object_among, worked_object, is_check, next_action, Moment, now, first_moments, is_replacement, is_replaced_since, IsRun, Mark, IsCalm, relies, AllTell, told_block, HasMadeStore, same_value, found_none, Block_is, Changes, changes, audits, is_fair, store_place, setup_same, All, all, actions_are, first_more, replaced_before, store_kinds, remove_kinds, next_stands, actions_by-advanced, AreMarks}
+use Rattle.second_half_laws.proofs.Words.{true, ◌⊎◌, refl, ap, sym, subst, ◌∙◌, inl, inr, arith, slice_get, cases_Bool, cases_lt, false≢true, In, some-not-none, columns, Setup, setup_of, next_id, started_as, AuditJob, RepairJob, Pinned, Job, job_of, advanced, WriteGate, Store, Remove, actions_of, State, Doubt, Scrubbing, IsStart, setup_in, worked_object, next_action, Moment, now, first_moments, is_replacement, is_replaced_since, IsRun, Mark, IsCalm, relies, AllTell, told_block, HasMadeStore, same_value, found_none, Block_is, Changes, changes, audits, is_fair, store_place, setup_same, All, all, actions_are, first_more, replaced_before, store_kinds, remove_kinds, next_stands, actions_by-advanced, AreMarks}
 use Rattle.std.proofs.Common.{◌≡◌, ℕ, suc, ◌+◌, ◌≤◌, ◌<◌, false, List, [], ◌∷◌, length, Option, Some}
 use Rattle.machine_defs.proofs.Numbers as num
 use Rattle.run_laws.proofs.InEffect as eff

@@ -1,5 +1,5 @@
 -- What holds in runs that are calm, for the laws.
-use Rattle.second_half_laws.proofs.Words.{true, ◌⊎◌, refl, ap, sym, subst, inl, inr, arith, list_any, range_with_len, option_map, or_cases, false≢true, Object, stripes, columns, is_wrong, is_wrong_block, Record, File, Held, State, Doubt, IsStart, setup_in, object_in, file_object, file_in, Moment, IsRun, now, is_replaced_since, came, Mark, since, relies, IsCalm, is_wrong_told, is_wrong_now, AreScrubsCalm, begun_of, AllTell, told_block, audits, changes, all, IsBad, IsReplaced, IsEndOfPut, Never, PrecedesPuts, IsClear, IsMark, AreMarks, IsMarkedRun, IsCalmRun}
+use Rattle.second_half_laws.proofs.Words.{true, ◌⊎◌, refl, sym, subst, inl, inr, arith, list_any, range_with_len, or_cases, false≢true, Object, stripes, columns, is_wrong, is_wrong_block, Record, File, Held, State, Doubt, IsStart, setup_in, object_in, file_object, file_in, Moment, IsRun, now, is_replaced_since, came, Mark, since, relies, IsCalm, is_wrong_told, is_wrong_now, AreScrubsCalm, begun_of, AllTell, told_block, audits, changes, all, IsBad, IsReplaced, IsEndOfPut, Never, PrecedesPuts, IsClear, IsMark, AreMarks, IsMarkedRun, IsCalmRun}
 use Rattle.std.proofs.Common.{◌≡◌, ℕ, zero, suc, ◌+◌, ◌<◌, Bool, false, List, [], ◌∷◌, length, Option, Some, None}
 use Rattle.machine_defs.proofs.Numbers as num
 use Rattle.run_laws.proofs.InEffect as eff

@@ -1,6 +1,6 @@
 -- Blocks of files in effect, and of those that jobs work on, change only by replacements and by the stores of
 -- repairs.
-use Rattle.second_half_laws.proofs.Words.{◌⊎◌, refl, ap, sym, ◌∙◌, inl, inr, arith, option_map, Contains, In, File, started_as, Pinned, Job, job_of, Store, Remove, State, Scrubbing, IsStart, file_in, block_to_store, Moment, now, IsRun, found_none, Block_is, Changes, changes, is_fair, store_place, contains_in, All, all, store_kinds, remove_kinds}
+use Rattle.second_half_laws.proofs.Words.{◌⊎◌, refl, ap, ◌∙◌, inl, inr, arith, option_map, Contains, In, File, started_as, Pinned, Job, job_of, Store, Remove, State, Scrubbing, IsStart, file_in, block_to_store, Moment, now, IsRun, found_none, Block_is, Changes, changes, is_fair, store_place, contains_in, All, all, store_kinds, remove_kinds}
 use Rattle.std.proofs.Common.{◌≡◌, ℕ, List, ◌∷◌, length, Some, None}
 use Rattle.second_half_laws.specs.Stays.{IsScrubbed, Stays}
 

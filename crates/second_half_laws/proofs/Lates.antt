@@ -1,5 +1,5 @@
 -- Behind its asks an audit hears nothing more: its verdict is the same at each later moment.
-use Rattle.second_half_laws.proofs.Words.{ap, sym, subst, ◌∙◌, arith, slice_get, Setup, setup_of, AuditJob, Job, job_of, Action, ask_actions, actions_by, State, IsStart, setup_in, next_action, Moment, now, IsRun, NoneBegan, same_value, Gave, Job_is, changes, all, objects, next_by, next_is_by, first_above, drawn_later, setup_same}
+use Rattle.second_half_laws.proofs.Words.{ap, sym, subst, ◌∙◌, arith, slice_get, Setup, setup_of, AuditJob, Job, job_of, Action, ask_actions, actions_by, State, IsStart, setup_in, next_action, Moment, now, IsRun, NoneBegan, same_value, Gave, Job_is, changes, all, objects, next_is_by, first_above, drawn_later, setup_same}
 use Rattle.std.proofs.Common.{◌≡◌, ℕ, ◌+◌, ◌≤◌, List, [], ◌∷◌, ◌++◌, length, Some}
 use Rattle.machine_defs.proofs.Began.{Came, came_all}
 use Rattle.machine_defs.proofs.Numbers as num

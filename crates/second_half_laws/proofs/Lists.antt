@@ -1,5 +1,5 @@
 -- Where elements stand in lists that are put together of others.
-use Rattle.second_half_laws.proofs.Words.{◌-◌, refl, ap, sym, subst, ◌∙◌, inl, inr, arith, slice_get, flat_map, range_with_len, slice_get_within, cases_eq, Each, In, each_get, get_behind, get-map_range, upto, split_get, get_left}
+use Rattle.second_half_laws.proofs.Words.{◌-◌, refl, ap, subst, ◌∙◌, inl, inr, arith, slice_get, flat_map, range_with_len, slice_get_within, cases_eq, Each, In, each_get, get_behind, get-map_range, upto, split_get, get_left}
 use Rattle.std.proofs.Common.{◌≡◌, ℕ, zero, suc, ◌+◌, ◌<◌, ◌≤◌, List, [], ◌∷◌, ◌++◌, length, map, Some, None}
 
 -- the only element of a list

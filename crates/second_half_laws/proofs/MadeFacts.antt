@@ -1,5 +1,5 @@
 -- What running jobs have made, and what it gave them.
-use Rattle.second_half_laws.proofs.Words.{◌⊎◌, true, ◌&&◌, refl, ap, sym, subst, ◌∙◌, inl, inr, arith, slice_get, cases_Bool, cases_lt, and_parts, and_from, eqb-true, eq-eqb, false≢true, In, each_get, each_append, honest_answer, challenge_of, SeenBlock, GivesSymbols, block_at, Held, AskGives, Setup, Kind, PutJob, GetJob, DropJob, AuditJob, RepairJob, UpgradeJob, Pinned, Given, Fetched, Answered, Worked, Job, job_of, object_of, profiled, Action, WriteBody, SyncBody, WriteGate, SyncGate, Store, Remove, Fetch, Ask, Work, End, append_actions, store_actions, read_actions, repair_actions, ask_actions, remove_actions, actions_by, actions_of, Step, State, IsStart, setup_in, block_given, blocks_given, answer_given, symbols_given, pinned_size, pinned_profile, next_action, Moment, now, IsRun, Makes, cond_true, cond_false, same_value, found_none, split_get, Changes, changes, setup_stays, All, all, block_at-given, next_stands, IsHeldThen, IsEarlier, WasMade, WasFetched, WasAsked, WasOpened, IsAnsweredThen, HasMade}
+use Rattle.second_half_laws.proofs.Words.{◌⊎◌, true, ◌&&◌, refl, ap, sym, subst, ◌∙◌, inl, inr, arith, slice_get, cases_Bool, cases_lt, and_parts, and_from, eqb-true, eq-eqb, false≢true, In, each_get, each_append, honest_answer, challenge_of, SeenBlock, GivesSymbols, block_at, Held, AskGives, Setup, Kind, PutJob, GetJob, DropJob, AuditJob, RepairJob, UpgradeJob, Pinned, Given, Fetched, Answered, Worked, Job, job_of, object_of, profiled, Action, SyncBody, WriteGate, Store, Remove, Fetch, Ask, Work, End, append_actions, store_actions, read_actions, repair_actions, ask_actions, remove_actions, actions_by, actions_of, State, IsStart, setup_in, block_given, blocks_given, answer_given, symbols_given, pinned_size, pinned_profile, next_action, Moment, now, IsRun, Makes, same_value, found_none, split_get, Changes, changes, setup_stays, All, all, block_at-given, next_stands, IsHeldThen, IsEarlier, WasMade, WasFetched, WasAsked, WasOpened, IsAnsweredThen, HasMade}
 use Rattle.std.proofs.Common.{◌≡◌, ℕ, suc, ◌<◌, ◌≤◌, ◌==◌, false, List, [], ◌∷◌, ◌++◌, length, Option, Some}
 use Rattle.std.proofs.lemmas.List.{append_assoc}
 use Rattle.second_half_laws.proofs.Places.{fetch_before_work, by_kind, moves_all, stores_all, tail_all, reads_all, repairs_all}

@@ -1,5 +1,5 @@
 -- The begin of an audit is a mark at the end of its repair.
-use Rattle.second_half_laws.proofs.Words.{refl, ap, sym, subst, ◌∙◌, inl, inr, arith, slice_get, each_get, next_audit, AuditJob, RepairJob, Job, job_of, Action, Store, End, append_actions, ask_actions, actions_by, actions_of, Answer, Audited, Repaired, Begin, Step, Begun, Ended, NoneBegan, State, IsStart, setup_in, Ends, next_action, Moment, now, IsRun, since, split_get, HasFailed, IsItsEnd, event_end, ended_of_kind, changes, all, run_back, audits, Draws, next_of_records, next_by, next_is_by, IsMark, IsCalmRun}
+use Rattle.second_half_laws.proofs.Words.{refl, sym, subst, ◌∙◌, inl, inr, arith, slice_get, each_get, next_audit, AuditJob, RepairJob, Job, job_of, Action, Store, End, append_actions, ask_actions, actions_by, actions_of, Answer, Audited, Repaired, Begin, Step, Begun, Ended, NoneBegan, State, IsStart, setup_in, Ends, next_action, Moment, now, IsRun, since, split_get, HasFailed, IsItsEnd, event_end, ended_of_kind, changes, all, run_back, audits, next_of_records, next_is_by, IsMark, IsCalmRun}
 use Rattle.std.proofs.Common.{◌≡◌, ℕ, ◌≤◌, ◌<◌, List, [], ◌∷◌, ◌++◌, length, Some}
 use Rattle.machine_defs.proofs.Numbers as num
 use Rattle.second_half_laws.specs.Mended.{IsMended}

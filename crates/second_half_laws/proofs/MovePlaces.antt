@@ -1,5 +1,5 @@
 -- Where moves and works stand in the lists of actions of puts and repairs.
-use Rattle.second_half_laws.proofs.Words.{◌-◌, ◌&&◌, true, cond, refl, ap, sym, subst, ◌∙◌, inl, inr, arith, not, is_some, slice_get, and_left, ne_eqb, false≢true, flat_map, Each, In, each_get, each_append, each_map, each_flat, each_flat_in, get_behind, upto, Setup, setup_of, file_of, Kind, PutJob, GetJob, DropJob, AuditJob, RepairJob, UpgradeJob, Pinned, Job, advanced, Action, WriteBody, SyncBody, WriteGate, SyncGate, Store, Fetch, Work, Remove, End, append_actions, on_each_provider, on_each_stripe, open_actions, store_actions, read_actions, remove_actions, repair_actions, ask_actions, actions_by, actions_of, profiled, pinned_stripes, State, setup_in, file_in, next_action, is_idle_drop, relies, split_get, next_by, next_is_by, stores_count, PutAt, put_next, actions_are, cond_false, setup_same, get_left, next_stands, actions_by-advanced}
+use Rattle.second_half_laws.proofs.Words.{◌-◌, true, cond, refl, ap, sym, subst, ◌∙◌, inl, inr, arith, not, is_some, slice_get, and_left, ne_eqb, false≢true, flat_map, Each, In, each_get, each_append, each_map, each_flat, each_flat_in, get_behind, upto, Setup, setup_of, Kind, PutJob, GetJob, DropJob, AuditJob, RepairJob, UpgradeJob, Pinned, Job, advanced, Action, WriteBody, SyncBody, WriteGate, SyncGate, Store, Fetch, Work, Remove, End, append_actions, on_each_provider, on_each_stripe, open_actions, store_actions, read_actions, remove_actions, repair_actions, ask_actions, actions_by, actions_of, profiled, pinned_stripes, State, setup_in, file_in, next_action, is_idle_drop, relies, split_get, next_by, next_is_by, stores_count, PutAt, put_next, actions_are, cond_false, setup_same, get_left, next_stands, actions_by-advanced}
 use Rattle.std.proofs.Common.{◌≡◌, ℕ, zero, suc, ◌+◌, ◌<◌, ◌≤◌, ◌==◌, Bool, false, List, [], ◌∷◌, ◌++◌, length, Some, None}
 use Rattle.second_half_laws.proofs.Lists.{upto_in}
 use Rattle.second_half_laws.proofs.Places.{by_kind, reads_all, repairs_all, stores_all, asks_all, tail_all}

@@ -1,8 +1,7 @@
 -- Names in effect are names of the grammar, so a get of one is not refused for its name.
-use Rattle.second_half_laws.proofs.Words.{true, cond, refl, ap, sym, subst, ◌∙◌, inl, inr, IsTrue, not, is_some, cases_Bool, false≢true, Record, SetUp, PutStart, PutDone, Drop, AuditStart, AuditDone, RepairDone, PutDoneIn, Version, Resume, InEffect, RepairDue, is_name, File, version_of, started_as, is_start_of, is_same_name, file_of, next_id, same-eq, Kind, PutJob, GetJob, DropJob, AuditJob, RepairJob, UpgradeJob, aim_of, Job, job_of, Refusal, Event, Begin, Outcome, Refused, State, Append, Doubt, AreFirst, IsStart, file_in, sight_of, is_busy, refusal_of_begin, begin_refusal, Begins, Writes, done_record, is_first_append, Happens, Moment, now, IsRun, IsGetRefusal, cond_true, cond_false, same_value, found_none, by_version, Job_is, Append_is, Records_is, Doubt_is, Changes, changes, objects}
+use Rattle.second_half_laws.proofs.Words.{true, cond, refl, sym, subst, ◌∙◌, inl, inr, IsTrue, not, cases_Bool, false≢true, Record, SetUp, PutStart, PutDone, Drop, AuditStart, AuditDone, RepairDone, PutDoneIn, Version, Resume, InEffect, RepairDue, is_name, File, version_of, started_as, is_start_of, is_same_name, file_of, same-eq, Kind, PutJob, GetJob, AuditJob, Job, job_of, Refusal, Event, Begin, Outcome, Refused, State, Append, Doubt, AreFirst, IsStart, file_in, refusal_of_begin, begin_refusal, Begins, Writes, is_first_append, Happens, Moment, now, IsRun, IsGetRefusal, cond_true, found_none, by_version, Job_is, Append_is, Records_is, Doubt_is, Changes, changes, objects}
 use Rattle.std.proofs.Common.{◌≡◌, ℕ, ◌==◌, Bool, false, List, [], ◌∷◌, length, Option, Some, None}
 use Rattle.machine_defs.specs.Refusals as refusal
-use Rattle.machine_defs.specs.Sights.{is_stored}
 use Rattle.machine_defs.proofs.Sights.{stored-file}
 use Rattle.machine_defs.proofs.Numbers as num
 

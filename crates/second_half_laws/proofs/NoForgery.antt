@@ -1,5 +1,5 @@
 -- No fetched row of a get is a forgery in a run that is calm by a mark.
-use Rattle.second_half_laws.proofs.Words.{refl, ap, sym, subst, ◌∙◌, inl, IsTrue, In, SeenBlock, AllOpen, Setup, File, GetJob, Job, job_of, object_of, profiled, State, IsStart, setup_in, file_object, file_in, pinned_file, blocks_given, Moment, now, IsRun, Mark, relies, replaced_count, heard_by, HoldsForgery, same_value, HasFile, heard_blocks, setup_same, runs_shape}
+use Rattle.second_half_laws.proofs.Words.{refl, ap, sym, subst, ◌∙◌, inl, IsTrue, In, SeenBlock, AllOpen, Setup, File, GetJob, Job, job_of, object_of, profiled, State, IsStart, setup_in, file_object, file_in, pinned_file, Moment, now, IsRun, Mark, relies, replaced_count, heard_by, HoldsForgery, same_value, HasFile, heard_blocks, setup_same, runs_shape}
 use Rattle.std.proofs.Common.{◌≡◌, ℕ, List, [], ◌∷◌, Some}
 use Rattle.std.specs.Prelude.{◌≤◌}
 use Rattle.second_half_laws.proofs.Absent.{own_row}

@@ -1,6 +1,6 @@
 -- Counts of devices never fall, and a provider that tells what it holds goes on telling.
-use Rattle.second_half_laws.proofs.Words.{true, refl, sym, subst, inl, inr, arith, IsSome, option_map, cases_Bool, eqb-true, false≢true, Held, Provider, LosesPart, with_block, without_object, Stores, FailsToStore, FindsNoMemory, Fetches, Asks, Removes, Replaces, Job, Event, Outcome, State, Alone, with_provider, Happens, Moment, now, IsRun, AllTell, Answer, IsUnstored, Acting, Beside, Cases, by_alone, by_event, cond_true, cond_false}
-use Rattle.std.proofs.Common.{◌≡◌, ℕ, ◌≤◌, ◌==◌, Bool, false, List, [], ◌∷◌, length, Option, Some, None}
+use Rattle.second_half_laws.proofs.Words.{true, refl, sym, subst, inl, inr, arith, IsSome, option_map, cases_Bool, eqb-true, false≢true, Held, Provider, LosesPart, with_block, without_object, Stores, FailsToStore, FindsNoMemory, Fetches, Asks, Removes, Replaces, Job, Event, Outcome, State, Alone, with_provider, Happens, Moment, now, IsRun, AllTell, Answer, IsUnstored, Acting, Beside, Cases, by_alone, by_event}
+use Rattle.std.proofs.Common.{◌≡◌, ℕ, ◌≤◌, ◌==◌, Bool, false, List, [], ◌∷◌, Option, Some, None}
 use Rattle.device_defs.specs.Told.{Goes}
 
 -- what is seen of a provider, from one moment to a later one

@@ -1,5 +1,5 @@
 -- Each block that a running job was given came of a fetch since its begin.
-use Rattle.second_half_laws.proofs.Words.{refl, ap, sym, subst, ◌∙◌, inl, inr, arith, eq-eqb, In, Provider, FailsToGive, Fetches, Kind, PutJob, Pinned, Job, Given, Fetched, Answered, Worked, job_of, with_job, without_job, advanced, advanced_with, Event, Outcome, State, IsStart, worked_object, with_provider, going_on, beginning, Happens, Moment, now, IsRun, steps_aside, Acting, Cases, by_event, cond_true, found_with, found_without, found_more, found_none, all, IsHeldThen, CameOf}
+use Rattle.second_half_laws.proofs.Words.{refl, ap, sym, subst, ◌∙◌, inl, inr, arith, eq-eqb, In, Provider, FailsToGive, Fetches, Kind, PutJob, Pinned, Job, Given, Fetched, Worked, job_of, with_job, without_job, advanced, advanced_with, Event, Outcome, State, IsStart, worked_object, with_provider, going_on, beginning, Happens, Moment, now, IsRun, steps_aside, Acting, Cases, by_event, cond_true, found_with, found_without, found_more, found_none, all, IsHeldThen, CameOf}
 use Rattle.std.proofs.Common.{◌≡◌, ℕ, ◌≤◌, ◌==◌, List, [], ◌∷◌, ◌++◌, length, Option, Some, None}
 
 -- a gift that is a block was held by its provider

@@ -1,5 +1,5 @@
 -- What stays of a job, and of its list of actions, when it makes one of them.
-use Rattle.second_half_laws.proofs.Words.{◌-◌, ◌⊎◌, refl, ap, sym, subst, ◌∙◌, inl, inr, arith, slice_get, cases_lt, each_get, Setup, Kind, PutJob, DropJob, Given, Job, advanced, advanced_with, Action, WriteBody, SyncGate, End, append_actions, store_actions, remove_actions, actions_by, actions_of, State, setup_in, subject_drawn, taken_out, next_action, first_above, drawn_later, split_get, actions_are, PutAt, put_next, next_stands, actions_by-advanced}
+use Rattle.second_half_laws.proofs.Words.{◌-◌, ◌⊎◌, refl, ap, sym, subst, ◌∙◌, inl, inr, arith, slice_get, cases_lt, each_get, Setup, Kind, PutJob, DropJob, Given, Job, advanced, advanced_with, Action, WriteBody, SyncGate, End, append_actions, store_actions, remove_actions, actions_by, actions_of, State, setup_in, subject_drawn, taken_out, next_action, first_above, drawn_later, split_get, actions_are, PutAt, put_next, next_stands}
 use Rattle.std.proofs.Common.{◌≡◌, ℕ, zero, suc, ◌+◌, ◌<◌, ◌≤◌, List, [], ◌∷◌, ◌++◌, length, Some}
 use Rattle.second_half_laws.proofs.Walk.{IsGift, IsSilent, Passed}
 use Rattle.second_half_laws.proofs.Places.{by_kind, tail_all}

@@ -1,5 +1,5 @@
 -- What stands before what in the list of actions of a job.
-use Rattle.second_half_laws.proofs.Words.{◌-◌, true, cond, refl, ap, sym, subst, ◌∙◌, inl, inr, arith, slice_get, flat_map, slice_get_within, Each, In, each_get, each_append, each_map, each_flat, each_flat_in, get_behind, upto, Setup, Kind, PutJob, GetJob, DropJob, AuditJob, RepairJob, UpgradeJob, Pinned, Job, profiled, pinned_stripes, put_stripes, Action, WriteBody, SyncBody, WriteGate, SyncGate, Store, Fetch, Ask, Work, Remove, End, append_actions, on_each_provider, on_each_stripe, store_actions, open_actions, read_actions, rewrite_actions, repair_actions, rounds_of, ask_actions, remove_actions, actions_by, actions_of, State, setup_in, next_action, is_idle_drop, HasMadeStore, cond_true, cond_false, split_get, get_left, actions_are, stores_count, PutAt, put_at, next_stands, HasMade}
+use Rattle.second_half_laws.proofs.Words.{◌-◌, true, cond, refl, subst, inl, inr, arith, slice_get, flat_map, slice_get_within, Each, In, each_get, each_append, each_map, each_flat, each_flat_in, get_behind, upto, Setup, Kind, PutJob, GetJob, DropJob, AuditJob, RepairJob, UpgradeJob, Pinned, Job, profiled, pinned_stripes, put_stripes, Action, WriteBody, SyncBody, WriteGate, SyncGate, Store, Fetch, Ask, Work, Remove, End, append_actions, on_each_provider, on_each_stripe, store_actions, open_actions, read_actions, rewrite_actions, repair_actions, rounds_of, ask_actions, remove_actions, actions_by, actions_of, State, setup_in, next_action, HasMadeStore, split_get, get_left, actions_are, stores_count, PutAt, put_at, next_stands, HasMade}
 use Rattle.std.proofs.Common.{◌≡◌, ℕ, ◌+◌, ◌<◌, ◌≤◌, Bool, false, List, [], ◌∷◌, ◌++◌, length, Some}
 use Rattle.second_half_laws.proofs.Lists.{only, Stands, stands_left, stands_right, stands_map, stands_flat, in_upto, upto_in, Behind, behind_none, behind_append, behind_flat, stands_before}
 

@@ -1,6 +1,6 @@
 -- What holds in a run that is calm by a mark: blocks that are stored are right, and a moment since which all
 -- damage is new stays one.
-use Rattle.second_half_laws.proofs.Words.{true, ◌⊎◌, refl, ap, sym, subst, ◌∙◌, inl, inr, arith, cases_Bool, In, symbols_in, columns, column_of_symbols, is_wrong_block, some-not-none, File, next_id, started_as, PutJob, RepairJob, Pinned, Fetched, Worked, Job, job_of, Action, Store, Remove, object_of, profiled, stripes_of, State, Doubt, Scrub, Scrubbing, IsStart, setup_in, object_in, file_object, pinned_object, worked_object, file_in, block_to_scrub, symbols_given, next_action, block_to_store, Moment, now, first_moments, is_replacement, is_replaced_since, IsRun, Mark, relies, begun_of, told_block, HasMadeStore, Block_is, Changes, some_told, audits, is_fair, store_place, found_none, setup_same, All, store_kinds, remove_kinds, IsBad, IsReplaced, RoseSince, IsEndOfPut, Never, PrecedesPuts, IsClear, IsMark}
+use Rattle.second_half_laws.proofs.Words.{true, ◌⊎◌, refl, ap, sym, ◌∙◌, inl, inr, arith, cases_Bool, In, symbols_in, columns, is_wrong_block, some-not-none, File, next_id, started_as, PutJob, RepairJob, Pinned, Fetched, Worked, Job, job_of, Action, Store, Remove, profiled, stripes_of, State, Doubt, Scrub, Scrubbing, IsStart, setup_in, object_in, file_object, pinned_object, worked_object, file_in, block_to_scrub, symbols_given, next_action, block_to_store, Moment, now, first_moments, is_replacement, is_replaced_since, IsRun, Mark, relies, begun_of, told_block, HasMadeStore, Block_is, Changes, some_told, audits, is_fair, store_place, found_none, setup_same, All, store_kinds, remove_kinds, IsBad, IsReplaced, RoseSince, IsEndOfPut, Never, PrecedesPuts, IsClear, IsMark}
 use Rattle.std.proofs.Common.{◌≡◌, ℕ, ◌≤◌, ◌<◌, false, List, ◌∷◌, length, Option, Some, None}
 use Rattle.machine_defs.proofs.Numbers as num
 use Rattle.run_laws.proofs.InEffect as eff

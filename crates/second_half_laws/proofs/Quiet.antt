@@ -1,5 +1,5 @@
 -- While no vault is open, or a disk call of its jobs failed, blocks change by replacements alone.
-use Rattle.second_half_laws.proofs.Words.{true, ◌⊎◌, refl, ap, sym, ◌∙◌, inl, inr, option_map, cases_Bool, eqb-true, false≢true, Held, Provider, Replaces, Event, Outcome, Replaced, NothingHeld, State, with_provider, Happens, is_replacement, told_block, cond_true, cond_false}
+use Rattle.second_half_laws.proofs.Words.{true, ◌⊎◌, refl, sym, ◌∙◌, inl, inr, option_map, cases_Bool, eqb-true, false≢true, Held, Provider, Replaces, Event, Outcome, Replaced, NothingHeld, State, with_provider, Happens, is_replacement, told_block}
 use Rattle.std.proofs.Common.{◌≡◌, ℕ, ◌==◌, false, List, Option, Some, None}
 use Rattle.machine_defs.proofs.Cases.{Cases, by_event}
 

@@ -1,5 +1,5 @@
 -- What gets and repairs read, in a calm run in which no audit missed damage.
-use Rattle.second_half_laws.proofs.Words.{true, ◌⊎◌, ◌&&◌, refl, ap, sym, subst, ◌∙◌, inl, inr, arith, IsTrue, IsSome, slice_get, option_map, cases_Bool, cases_lt, and_parts, eqb-true, false≢true, In, each_get, upto, some-not-none, Object, symbols_in, columns, is_wrong_block, GivesSymbols, block_at, count_of, count_of-within, Setup, next_id, started_as, Rose, last_count, Held, FetchGives, RepairJob, Pinned, Given, Fetched, Answered, Worked, Job, job_of, Action, WriteBody, SyncGate, Store, Work, Remove, actions_by, actions_of, Fetch, Ask, object_of, profiled, stripes_of, pinned_stripes, State, Scrubbing, IsStart, setup_in, object_in, object_among, pinned_object, worked_object, block_given, blocks_given, pinned_profile, next_action, block_to_store, Moment, now, first_moments, is_replaced_since, IsRun, Mark, relies, replaced_count, AllTell, cond_true, cond_false, same_value, number_of, Gave, Job_is, Block_is, Changes, told_block, HasMadeStore, some_told, audits, HasPin, IsFair, fair, is_fair, pinned_stands, Pins_is, pins_is, setup_stays, All, first_more, first_all, store_kinds, remove_kinds, none_lone, block_at-given, runs_shape, is_wrong_seen, IsHeldThen, IsBad, IsReplaced, RoseSince}
+use Rattle.second_half_laws.proofs.Words.{true, ◌⊎◌, ◌&&◌, refl, ap, sym, subst, ◌∙◌, inl, inr, arith, IsTrue, IsSome, slice_get, cases_Bool, cases_lt, and_parts, eqb-true, false≢true, In, each_get, upto, some-not-none, Object, symbols_in, columns, is_wrong_block, GivesSymbols, block_at, count_of, count_of-within, Setup, next_id, Rose, last_count, Held, FetchGives, RepairJob, Pinned, Given, Fetched, Answered, Worked, Job, job_of, Action, WriteBody, SyncGate, Store, Work, Remove, actions_of, Fetch, Ask, object_of, profiled, stripes_of, pinned_stripes, State, Scrubbing, IsStart, setup_in, object_among, pinned_object, worked_object, block_given, blocks_given, pinned_profile, next_action, block_to_store, Moment, now, first_moments, is_replaced_since, IsRun, Mark, relies, replaced_count, AllTell, number_of, Gave, Job_is, Block_is, Changes, told_block, HasMadeStore, some_told, audits, HasPin, IsFair, fair, is_fair, pinned_stands, Pins_is, pins_is, setup_stays, All, first_more, first_all, store_kinds, remove_kinds, none_lone, block_at-given, runs_shape, is_wrong_seen, IsHeldThen, IsBad, IsReplaced, RoseSince}
 use Rattle.std.proofs.Common.{◌≡◌, ℕ, suc, ◌+◌, ◌≤◌, ◌<◌, ◌==◌, false, List, [], ◌∷◌, length, Option, Some, None}
 use Rattle.machine_defs.proofs.Numbers as num
 use Rattle.run_laws.proofs.InEffect as eff
@@ -9,7 +9,7 @@ use Rattle.second_half_laws.proofs.Places.{by_kind}
 use Rattle.second_half_laws.proofs.Walk.{IsGift, Passed, Went, Walked}
 use Rattle.second_half_laws.proofs.Turns.{Turns}
 use Rattle.second_half_laws.proofs.Blocks.{since_more, since_now, sized_wrong}
-use Rattle.second_half_laws.proofs.MovePlaces.{works_within, next_repairs, same_actions}
+use Rattle.second_half_laws.proofs.MovePlaces.{works_within, same_actions}
 use Rattle.second_half_laws.proofs.EveryRun as ev
 use Rattle.second_half_laws.proofs.EveryRun.{Always, file_below}
 use Rattle.second_half_laws.proofs.Points as pt

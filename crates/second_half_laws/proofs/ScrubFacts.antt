@@ -1,7 +1,7 @@
 -- What holds of a scrub while it runs, where at most b providers were replaced since the mark at its begin:
 -- it reads new damage alone,
 -- opens each stripe to the file's own symbols, and stores the providers' own columns.
-use Rattle.second_half_laws.proofs.Words.{true, cond, ◌⊎◌, refl, ap, sym, subst, ◌∙◌, inl, inr, arith, IsSome, option_map, flat_map, false≢true, Each, In, each_append, each_map, each_flat, each_flat_in, some-not-none, IsShape, upto, Object, symbols_in, columns, column_of_symbols, is_wrong_block, GivesSymbols, Setup, setup_of, file_of, File, Held, FetchGives, Pinned, Given, Fetched, Worked, Action, Store, Fetch, Work, End, on_each_provider, on_each_stripe, open_actions, object_of, profiled, stripes_of, pinned_stripes, State, Scrub, Scrubbing, setup_in, object_in, pinned_object, file_in, pinned_file, blocks_given, symbols_given, scrub_actions, scrubbed_object, off_by, scrub_stores, opened_scrub, new_scrub, block_to_scrub, Moment, now, first_moments, is_replacement, Mark, replaced_count, AllTell, found_none, Block_is, Changes, some_told, in_effect_all, setup_same, All, first_more, first_all, valid_shape, shape_in, IsBad, IsReplaced, IsMark}
+use Rattle.second_half_laws.proofs.Words.{true, cond, ◌⊎◌, refl, ap, sym, subst, ◌∙◌, inl, inr, arith, IsSome, flat_map, false≢true, Each, In, each_append, each_map, each_flat, each_flat_in, some-not-none, IsShape, upto, Object, symbols_in, columns, is_wrong_block, GivesSymbols, Setup, setup_of, File, Held, FetchGives, Pinned, Given, Fetched, Worked, Action, Store, Fetch, Work, End, on_each_provider, on_each_stripe, open_actions, object_of, profiled, stripes_of, pinned_stripes, State, Scrub, Scrubbing, setup_in, pinned_object, file_in, pinned_file, blocks_given, symbols_given, scrub_actions, scrubbed_object, off_by, scrub_stores, opened_scrub, new_scrub, block_to_scrub, Moment, now, first_moments, is_replacement, Mark, replaced_count, AllTell, found_none, Block_is, Changes, some_told, in_effect_all, setup_same, All, first_more, first_all, valid_shape, shape_in, IsBad, IsReplaced, IsMark}
 use Rattle.std.proofs.Common.{◌≡◌, ℕ, ◌≤◌, ◌<◌, ◌==◌, Bool, false, List, [], ◌∷◌, length, Option, Some, None}
 use Rattle.machine_defs.proofs.Pins.{Stands}
 use Rattle.run_laws.proofs.InEffect as eff

@@ -1,5 +1,5 @@
 -- How a scrub comes to be what it is after an event.
-use Rattle.second_half_laws.proofs.Words.{found_none, ◌&&◌, true, ◌⊎◌, refl, ap, sym, subst, ◌∙◌, inl, inr, nat_lt, option_map, cases_Bool, and_from, eq-eqb, false≢true, some-not-none, GivesSymbols, Held, Provider, with_block, Stores, FetchGives, PutJob, Job, Fetched, job_of, Action, Store, Fetch, Work, End, Cause, Event, Begin, BeginAt, BeginScrub, BeginPack, Step, Outcome, Refused, Begun, More, Ended, Closed, State, Scrub, Pack, Alone, Scrubbing, Packing, setup_in, with_provider, blocks_given, told_block, cond_true, block_to_scrub, alone_refusal, scrubbed_object, opened_scrub, Scrubs, StepsScrub, Packs, StepsAlone, new_scrub, new_pack, BeginsAlone, Happens, IsLone, none_lone}
+use Rattle.second_half_laws.proofs.Words.{found_none, true, ◌⊎◌, refl, ap, sym, subst, ◌∙◌, inl, inr, nat_lt, option_map, cases_Bool, and_from, eq-eqb, false≢true, some-not-none, GivesSymbols, Held, Provider, with_block, Stores, FetchGives, PutJob, Job, Fetched, job_of, Action, Store, Fetch, Work, End, Cause, Event, Begin, BeginAt, BeginScrub, BeginPack, Step, Outcome, Refused, Begun, More, Ended, Closed, State, Scrub, Pack, Alone, Scrubbing, Packing, setup_in, with_provider, blocks_given, told_block, cond_true, block_to_scrub, alone_refusal, scrubbed_object, opened_scrub, Scrubs, StepsScrub, Packs, StepsAlone, new_scrub, new_pack, BeginsAlone, Happens, IsLone, none_lone}
 use Rattle.std.proofs.Common.{◌≡◌, ℕ, zero, suc, ◌==◌, Bool, false, List, [], ◌∷◌, Option, Some, None}
 use Rattle.std.specs.Prelude.{length}
 use Rattle.machine_defs.specs.Refusals as refusal

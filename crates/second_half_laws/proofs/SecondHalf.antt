@@ -1,5 +1,5 @@
 -- The second half of the main theorem.
-use Rattle.second_half_laws.proofs.Words.{true, ◌⊎◌, refl, ap, sym, subst, ◌∙◌, inl, inr, arith, IsTrue, cases_lt, In, some-not-none, upto, stripes, is_wrong_block, count_of, count_of-within, Setup, File, Rose, last_count, Kind, PutJob, GetJob, DropJob, AuditJob, RepairJob, UpgradeJob, Pinned, Job, job_of, Fetch, Work, Answer, Event, Begin, Step, Outcome, Refused, Ended, next_action, object_of, profiled, stripes_of, pinned_stripes, State, Scrub, Scrubbing, IsStart, setup_in, file_object, file_in, pinned_file, block_given, Moment, now, first_moments, is_replaced_since, came, IsRun, Mark, relies, replaced_count, since, IsCalm, MissesNone, NoneMissed, AreScrubsCalm, begun_of, CountRose, GivesOrRose, EndsWell, KeepsSecondHalf, SecondHalf, AllTell, SecondHalfHolds, number_of, found_none, changes, audits, setup_same, all, is_wrong_given, IsFewWrong, event_end, IsLone, HasMade, RoseSince, IsMark, AreMarks, IsLostByFaults, GivesOrIsLost, got_right}
+use Rattle.second_half_laws.proofs.Words.{true, ◌⊎◌, refl, ap, sym, subst, ◌∙◌, inl, inr, arith, IsTrue, cases_lt, In, some-not-none, upto, stripes, is_wrong_block, count_of, count_of-within, Setup, File, Rose, last_count, Kind, GetJob, Pinned, Job, job_of, Fetch, Work, Answer, Event, Begin, Step, Outcome, Refused, Ended, next_action, object_of, profiled, stripes_of, pinned_stripes, State, Scrub, Scrubbing, IsStart, setup_in, file_object, file_in, pinned_file, block_given, Moment, now, first_moments, is_replaced_since, came, IsRun, Mark, relies, replaced_count, since, IsCalm, MissesNone, NoneMissed, AreScrubsCalm, begun_of, CountRose, GivesOrRose, EndsWell, KeepsSecondHalf, SecondHalf, AllTell, SecondHalfHolds, number_of, found_none, changes, audits, setup_same, all, is_wrong_given, IsFewWrong, event_end, IsLone, HasMade, RoseSince, IsMark, AreMarks, IsLostByFaults, GivesOrIsLost, got_right}
 use Rattle.std.proofs.Common.{◌≡◌, ℕ, zero, suc, ◌≤◌, ◌<◌, List, [], ◌∷◌, length, Option, Some, None}
 use Rattle.machine_defs.specs.Answers as answer
 use Rattle.machine_defs.proofs.Numbers as num

@@ -1,6 +1,6 @@
 -- What a scrub has swept: of a stripe that it has opened and rewritten, each provider holds its own column, or
 -- was replaced since the scrub's begin.
-use Rattle.second_half_laws.proofs.Words.{true, cond, ◌⊎◌, refl, ap, sym, subst, ◌∙◌, inl, inr, arith, flat_map, cases_Bool, eqb-true, false≢true, Each, In, each_append, each_map, each_flat, in_left, in_right, in_flat, upto, profile_of, Object, GivesSymbols, columns, column_of_symbols, length-column_of_symbols, Setup, File, setup_of, file_of, Held, sized, FetchGives, Pinned, Fetched, Worked, Action, Store, Fetch, Work, End, on_each_provider, on_each_stripe, open_actions, object_of, profiled, pinned_stripes, State, Scrub, Scrubbing, setup_in, pinned_object, file_in, pinned_file, block_given, blocks_given, scrub_actions, scrubbed_object, differs, off_by, scrub_stores, opened_scrub, new_scrub, block_to_scrub, Moment, now, is_replaced_since, Mark, replaced_count, AllTell, told_block, cond_true, cond_false, found_none, Block_is, Changes, some_told, differs-none, setup_same, All, replaced_before, IsReplaced}
+use Rattle.second_half_laws.proofs.Words.{true, cond, ◌⊎◌, refl, ap, sym, subst, ◌∙◌, inl, inr, arith, flat_map, cases_Bool, eqb-true, false≢true, Each, In, each_append, each_map, each_flat, in_left, in_right, in_flat, upto, profile_of, Object, GivesSymbols, columns, column_of_symbols, length-column_of_symbols, Setup, File, setup_of, Held, sized, FetchGives, Pinned, Fetched, Worked, Action, Store, Fetch, Work, End, on_each_provider, on_each_stripe, open_actions, object_of, profiled, pinned_stripes, State, Scrub, Scrubbing, setup_in, pinned_object, file_in, pinned_file, block_given, blocks_given, scrub_actions, scrubbed_object, differs, off_by, scrub_stores, opened_scrub, new_scrub, block_to_scrub, Moment, now, is_replaced_since, Mark, replaced_count, AllTell, told_block, cond_false, found_none, Block_is, Changes, some_told, differs-none, setup_same, All, replaced_before, IsReplaced}
 use Rattle.std.proofs.Common.{◌≡◌, ℕ, zero, suc, ◌≤◌, ◌<◌, ◌==◌, Bool, false, List, [], ◌∷◌, ◌++◌, length, Option, Some, None}
 use Rattle.run_laws.proofs.InEffect as eff
 use Rattle.second_half_laws.proofs.Lists.{in_upto}

@@ -1,6 +1,6 @@
 -- What each event does to the record in doubt and its maker, to the begins of audit numbers, and which jobs
 -- run on.
-use Rattle.second_half_laws.proofs.Words.{true, cond, ◌⊎◌, refl, ap, sym, subst, ◌∙◌, inl, inr, ne_eqb, cases_eq, cases_Bool, eqb-true, false≢true, some-not-none, is_some-none, Setup, SetUp, setup_of, PutJob, Job, job_of, with_job, without_job, advanced, Action, WriteBody, SyncBody, WriteGate, SyncGate, Store, Fetch, Ask, Work, Remove, Event, Outcome, State, Append, Doubt, beginning, audits_drawn, next_action, LeavesDoubt, Happens, IsLast, Acting, Cases, by_event, cond_true, cond_false, same_value, found_itself, still_found, steps_aside}
+use Rattle.second_half_laws.proofs.Words.{true, ◌⊎◌, refl, ap, sym, subst, ◌∙◌, inl, inr, ne_eqb, cases_eq, cases_Bool, eqb-true, false≢true, some-not-none, is_some-none, Setup, SetUp, setup_of, Job, job_of, with_job, without_job, advanced, Action, WriteBody, SyncBody, WriteGate, SyncGate, Store, Fetch, Ask, Work, Event, Outcome, State, Append, Doubt, audits_drawn, next_action, LeavesDoubt, Happens, IsLast, Acting, Cases, by_event, cond_true, cond_false, found_itself, still_found, steps_aside}
 use Rattle.std.proofs.Common.{◌≡◌, ℕ, ◌==◌, false, List, [], ◌∷◌, Option, Some, None}
 use Rattle.run_laws.proofs.Direct.{was_moved, first_job}
 

@@ -1,5 +1,5 @@
 -- Puts, repairs and audits have done all by the time of their last record.
-use Rattle.second_half_laws.proofs.Words.{cond, refl, ap, sym, subst, ◌∙◌, arith, slice_get, eq-eqb, ne_eqb, slice_get_within, In, Setup, Record, SetUp, PutDone, AuditDone, RepairDone, PutDoneIn, Kind, PutJob, GetJob, DropJob, AuditJob, RepairJob, UpgradeJob, Given, Answered, Job, job_of, advanced, Action, Store, Ask, Work, End, append_actions, store_actions, repair_actions, rounds_of, ask_actions, actions_of, profiled, State, Append, Doubt, IsStart, setup_in, done_record, answer_given, HasSums, Moment, now, IsRun, newest, came, cond_true, cond_false, get_left, by_version, Records_is, changes, objects, Draws, contains_in, actions_are, all, run_back, actions_by-advanced, stands_on, stands_later, WasMade}
+use Rattle.second_half_laws.proofs.Words.{cond, refl, ap, sym, subst, ◌∙◌, arith, slice_get, eq-eqb, ne_eqb, slice_get_within, In, Setup, Record, SetUp, PutDone, AuditDone, RepairDone, PutDoneIn, Kind, PutJob, AuditJob, RepairJob, Given, Answered, Job, job_of, advanced, Action, Store, Ask, Work, End, append_actions, store_actions, repair_actions, ask_actions, actions_of, State, Append, Doubt, IsStart, setup_in, done_record, answer_given, HasSums, Moment, now, IsRun, newest, came, cond_true, cond_false, get_left, by_version, Records_is, changes, contains_in, actions_are, all, run_back, actions_by-advanced, stands_on, stands_later, WasMade}
 use Rattle.std.proofs.Common.{◌≡◌, ℕ, suc, ◌+◌, ◌<◌, ◌≤◌, ◌==◌, false, List, [], ◌∷◌, ◌++◌, length, Option, Some, None}
 use Rattle.run_laws.proofs.InEffect as eff
 use Rattle.run_laws.proofs.PutBytes.{Stands}
