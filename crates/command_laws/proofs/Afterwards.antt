@@ -1,10 +1,11 @@
 -- A store is known again after a command, and the next one finds it so.
 use Rattle.command_laws.proofs.Words.{◌≡◌, ℕ, ◌<◌, ◌≤◌, true, false, List, length, take, Option, None, Some, refl, ap, sym, subst, ◌∙◌, inl, inr, arith, is_some, IfSome, false≢true, IsShape, Cells, reads, firm, synced, Stopped, IsImage, EachImage, Record, Setup, largest_journal, Area, StandsActive, Kind, PutJob, GetJob, DropJob, AuditJob, RepairJob, UpgradeJob, Command, Numbers, RowOf, InitWith, PutUnder, PutAt, GetOf, DropOf, ListAll, AuditAll, RepairAll, UpgradeJournal, ScrubAll, PackJournal, WritesLine, TellsLine, IsResynced, IsRead, Seen, Ending, IsRefused, sinking, Unstarted, setup_in_effect, setup_with, AnswersInit, InitsDisk, AnswersJob, AnswersScrub, AnswersPack, AnswersPut, AnswersAlone, AnswersList, Answers, IsKnown, IsSure, Follows, is_refusal, reads-firm, image-firm, each_image-mono, IsImage-reads, is_some-at, resynced-equal}
 use Rattle.device_defs.specs.Told.{Goes}
-use Rattle.command_laws.proofs.Known.{EndStatus, status-ended}
-use Rattle.command_laws.proofs.JobEnds.{unstarted-refused, given-status}
+use Rattle.command_laws.proofs.Known.{EndStatus, status-ended, ended-so, written-so}
+use Rattle.command_laws.proofs.JobEnds.{given-status}
 use Rattle.command_laws.proofs.Images.{init-kept, refused-keeps}
 use Rattle.command_laws.proofs.Knowing.{known-good}
+use Rattle.command_laws.proofs.Early.{IsEarly, alone-cases, put-cases, list-cases, scrub-cases, pack-cases, init-cases}
 
 -- ---- refusals
 
@@ -66,36 +67,28 @@ sure-refused status at records old new end r S = record {
 
 -- ---- which statuses are of refusals
 
-as-told : (status at : ℕ) (old new : Seen) (end : Ending) → IsRefused status at old new end →
-    IsRefused end.status end.at old new end
-as-told status at old new end r =
-    record {
-      status_is = refl;
-      place = refl;
-      heard = r.heard;
-      disk = r.disk;
-      providers = r.providers;
-      sink = r.sink;
-      no_fault = λ e. r.no_fault (sym r.status_is ∙ e);
-    }
+early-told : {old new : Seen} {end : Ending} → IsEarly old new end → IsRefused end.status end.at old new end
+early-told E = record {
+  status_is = refl;
+  place = refl;
+  heard = E.refused.heard;
+  disk = E.refused.disk;
+  providers = E.refused.providers;
+  sink = E.refused.sink;
+}
 
 other-status : (status m : ℕ) → status ≡ m → is_refusal m ≡ false → is_refusal status ≡ true → ⊥
 other-status status m is none refuses =
     false≢true (let e : false ≡ true = sym none ∙ (ap is_refusal (sym is) ∙ refuses) in e)
 
 no-end : (status : ℕ) → EndStatus status → is_refusal status ≡ true → ⊥
-no-end status (EndStatus.by_done e) refuses = other-status status 0 e refl refuses
-no-end status (EndStatus.by_lost e) refuses = other-status status 4 e refl refuses
-no-end status (EndStatus.by_disk e) refuses = other-status status 12 e refl refuses
-no-end status (EndStatus.by_provider e) refuses = other-status status 13 e refl refuses
-no-end status (EndStatus.by_sink e) refuses = other-status status 15 e refl refuses
-no-end status (EndStatus.by_memory e) refuses = other-status status 70 e refl refuses
+no-end status e refuses =
+    false≢true (sym (ended-so is_refusal refl refl refl refl refl refl e) ∙ refuses)
 
 no-text : (line : List ℕ) (old new : Seen) (end : Ending) → WritesLine line end.status (sinking old new) →
     is_refusal end.status ≡ true → ⊥
-no-text line old new end (inl w) refuses = other-status end.status 0 w.0 refl refuses
-no-text line old new end (inr (inl w)) refuses = other-status end.status 15 w.1 refl refuses
-no-text line old new end (inr (inr w)) refuses = other-status end.status 70 w.0 refl refuses
+no-text line old new end w refuses =
+    false≢true (sym (written-so is_refusal line old new end refl refl refl w) ∙ refuses)
 
 no-tale : (line : List ℕ) (old new : Seen) (end : Ending) → TellsLine 4 line end.status (sinking old new) →
     is_refusal end.status ≡ true → ⊥
@@ -103,84 +96,44 @@ no-tale line old new end (inl w) refuses = other-status end.status 4 w.0 refl re
 no-tale line old new end (inr (inl w)) refuses = other-status end.status 4 w.0 refl refuses
 no-tale line old new end (inr (inr w)) refuses = other-status end.status 70 w.0 refl refuses
 
-unstarted-told : (old new : Seen) (end : Ending) → Unstarted old new end →
-    IsRefused end.status end.at old new end
-unstarted-told old new end u = (let r = unstarted-refused old new end u in as-told r.0 r.1 old new end r.3)
-
-job-told : {area : Area} (kind : Kind) (records : List Record) (old new : Seen) (end : Ending)
-    {own : Option ℕ} → AnswersJob kind own area records old new end → is_refusal end.status ≡ true →
-    IsRefused end.status end.at old new end
-job-told kind records old new end (AnswersJob.refused why is synced r) refuses = as-told _ 0 old new end r
-job-told kind records old new end (AnswersJob.no_memory synced r) refuses = as-told 70 0 old new end r
-job-told kind records old new end (AnswersJob.ended how none runs left by) refuses =
-    absurd (no-end end.status (status-ended _ how old new end by) refuses)
-
 put-told : (name : List ℕ) (old new : Seen) (end : Ending) {own : Option ℕ} →
     AnswersPut name own old new end → is_refusal end.status ≡ true → IsRefused end.status end.at old new end
-put-told name old new end (AnswersPut.unstarted u same) refuses = unstarted-told old new end u
-put-told name old new end (AnswersPut.source_fault records opened known rose synced taken r) refuses =
-    as-told 14 0 old new end r
-put-told name old new end (AnswersPut.given_up records bytes opened known none stops runs left) refuses =
-    absurd (elim (given-status _ bytes old new end stops) [
+put-told name old new end A refuses = put-cases early-told (λ records bytes opened known none stops left. absurd
+    (elim (given-status _ bytes old new end stops) [
       | inl e ↦ other-status end.status 14 e refl refuses
       | inr e ↦ other-status end.status 16 e refl refuses
-    ])
-put-told name old new end (AnswersPut.bad_profile records opened unknown synced same r) refuses =
-    as-told 20 0 old new end r
-put-told name old new end (AnswersPut.no_memory taken r) refuses = as-told 70 0 old new end r
-put-told name old new end (AnswersPut.begun records bytes opened known read few A whole) refuses =
-    job-told (PutJob name bytes) records old new end A refuses
+    ]))
+    (λ records bytes opened known read few how none left whole by. absurd
+    (no-end end.status (status-ended _ how old new end by) refuses)) A
 
 alone-told : (kind : Kind) (old new : Seen) (end : Ending) → AnswersAlone kind old new end →
     is_refusal end.status ≡ true → IsRefused end.status end.at old new end
-alone-told kind old new end (AnswersAlone.unstarted u) refuses = unstarted-told old new end u
-alone-told kind old new end (AnswersAlone.begun records opened A) refuses =
-    job-told kind records old new end A refuses
+alone-told kind old new end A refuses = alone-cases early-told (λ records opened how none left by. absurd
+    (no-end end.status (status-ended _ how old new end by) refuses)) A
 
 list-told : (old new : Seen) (end : Ending) → AnswersList old new end → is_refusal end.status ≡ true →
     IsRefused end.status end.at old new end
-list-told old new end (AnswersList.unstarted u) refuses = unstarted-told old new end u
-list-told old new end (AnswersList.no_memory r) refuses = as-told 70 0 old new end r
-list-told old new end (AnswersList.listed records opened L) refuses =
-    absurd (no-text _ old new end L.written refuses)
+list-told old new end A refuses =
+    list-cases early-told (λ records opened L. absurd (no-text _ old new end L.written refuses)) A
 
 scrub-told : (old new : Seen) (end : Ending) → AnswersScrub old new end → is_refusal end.status ≡ true →
     IsRefused end.status end.at old new end
-scrub-told old new end (AnswersScrub.unstarted u) refuses = unstarted-told old new end u
-scrub-told old new end (AnswersScrub.no_memory records opened synced r) refuses = as-told 70 0 old new end r
-scrub-told old new end (AnswersScrub.ended records how opened synced heard runs left by) refuses =
-    absurd (no-end end.status (status-ended _ how old new end by) refuses)
+scrub-told old new end A refuses = scrub-cases early-told (λ records how opened synced left by. absurd
+    (no-end end.status (status-ended _ how old new end by) refuses)) A
 
 pack-told : (old new : Seen) (end : Ending) → AnswersPack old new end → is_refusal end.status ≡ true →
     IsRefused end.status end.at old new end
-pack-told old new end (AnswersPack.unstarted u) refuses = unstarted-told old new end u
-pack-told old new end (AnswersPack.refused records why opened is synced r) refuses = as-told _ 0 old new end r
-pack-told old new end (AnswersPack.no_memory records opened synced r) refuses = as-told 70 0 old new end r
-pack-told old new end (AnswersPack.ended records how opened none heard runs left by) refuses =
-    absurd (no-end end.status (status-ended _ how old new end by) refuses)
-
-disk-told : (s : Setup) (old new : Seen) (end : Ending) → InitsDisk s old new end →
-    is_refusal end.status ≡ true → IsRefused end.status end.at old new end
-disk-told s old new end (InitsDisk.disk_fault rose F) refuses =
-    absurd (other-status end.status 12 F.status_is refl refuses)
-disk-told s old new end (InitsDisk.bad_journal at is r) refuses = as-told 8 at old new end r
-disk-told s old new end (InitsDisk.already is r) refuses = as-told 10 0 old new end r
-disk-told s old new end (InitsDisk.no_memory F) refuses =
-    absurd (other-status end.status 70 F.status_is refl refuses)
-disk-told s old new end (InitsDisk.ready R) refuses = absurd (no-text _ old new end R.written refuses)
+pack-told old new end A refuses = pack-cases early-told (λ records how opened none left by. absurd
+    (no-end end.status (status-ended _ how old new end by) refuses)) A
 
 init-told : (numbers : Numbers) (old new : Seen) (end : Ending) → AnswersInit numbers old new end →
     is_refusal end.status ≡ true → IsRefused end.status end.at old new end
-init-told numbers old new end (AnswersInit.bad_setup bad same r) refuses = as-told 20 0 old new end r
-init-told numbers old new end (AnswersInit.too_few_providers good few same r) refuses =
-    as-told 22 0 old new end r
-init-told numbers old new end (AnswersInit.source_fault good enough rose taken r) refuses =
-    as-told 14 0 old new end r
-init-told numbers old new end (AnswersInit.bad_key bytes good enough read bad r) refuses =
-    as-told 18 0 old new end r
-init-told numbers old new end (AnswersInit.no_memory taken r) refuses = as-told 70 0 old new end r
-init-told numbers old new end (AnswersInit.keyed bytes key good enough read form D) refuses =
-    disk-told (setup_with numbers key) old new end D refuses
+init-told numbers old new end A refuses = init-cases early-told
+    (λ key status two F. absurd (elim two [
+      | inl e ↦ other-status end.status 12 (F.status_is ∙ e) refl refuses
+      | inr e ↦ other-status end.status 70 (F.status_is ∙ e) refl refuses
+    ]))
+    (λ key R. absurd (no-text _ old new end R.written refuses)) A
 
 row-told : (n l b : ℕ) (seen : List (Option ℕ)) (old new : Seen) (end : Ending) →
     Answers (RowOf n l b seen) old new end → is_refusal end.status ≡ true →
@@ -268,21 +221,8 @@ sure-same records old new same providers S = record {
 
 init-providers : (numbers : Numbers) (old new : Seen) (end : Ending) → AnswersInit numbers old new end →
     new.providers ≡ old.providers
-init-providers numbers old new end (AnswersInit.bad_setup bad same r) = r.providers
-init-providers numbers old new end (AnswersInit.too_few_providers good few same r) = r.providers
-init-providers numbers old new end (AnswersInit.source_fault good enough rose taken r) = r.providers
-init-providers numbers old new end (AnswersInit.bad_key bytes good enough read bad r) = r.providers
-init-providers numbers old new end (AnswersInit.no_memory taken r) = r.providers
-init-providers numbers old new end (AnswersInit.keyed bytes key good enough read form (InitsDisk.disk_fault rose F)) =
-    F.providers
-init-providers numbers old new end (AnswersInit.keyed bytes key good enough read form (InitsDisk.no_memory F)) =
-    F.providers
-init-providers numbers old new end (AnswersInit.keyed bytes key good enough read form (InitsDisk.bad_journal at is r)) =
-    r.providers
-init-providers numbers old new end (AnswersInit.keyed bytes key good enough read form (InitsDisk.already is r)) =
-    r.providers
-init-providers numbers old new end (AnswersInit.keyed bytes key good enough read form (InitsDisk.ready R)) =
-    R.providers
+init-providers numbers old new end =
+    init-cases (λ E. E.refused.providers) (λ key status two F. F.providers) (λ key R. R.providers)
 
 -- an init leaves a store that is set up
 pub sure-init : (numbers : Numbers) (records : List Record) (old new : Seen) (end : Ending) →

@@ -5,6 +5,7 @@ use Rattle.command_laws.proofs.Known.{written-well}
 use Rattle.command_laws.proofs.GetEnds.{ran_left}
 use Rattle.command_laws.proofs.JobEnds.{calm-disk, in-order, zero-or-memory}
 use Rattle.command_laws.proofs.Failed.{get-loses, repair-loses}
+use Rattle.command_laws.proofs.Early.{alone-order}
 
 -- done, no memory, or a row lost
 abbrev Comes : Ending → Type 0
@@ -24,17 +25,12 @@ get-comes name records old new end how left L sink by = absurd L.gives
 pub get-order : (name : List ℕ) (old new : Seen) (end : Ending) → AnswersAlone (GetJob name) old new end →
     (Rose old.disk_faults new.disk_faults → ⊥) → (Rose old.sink_faults new.sink_faults → ⊥) →
     EndsInOrder (GetOf name) old new end ⊎ LosesFile name old new end
-get-order name old new end (AnswersAlone.unstarted u) disk sink = inl (EndsInOrder.unstarted u)
-get-order name old new end (AnswersAlone.begun records opened (AnswersJob.refused why is synced r)) disk sink =
-    inl (EndsInOrder.refused records (GetJob name) why opened refl is r)
-get-order name old new end (AnswersAlone.begun records opened (AnswersJob.no_memory synced r)) disk sink =
-    inl (EndsInOrder.no_memory r.status_is)
-get-order name old new end (AnswersAlone.begun records opened (AnswersJob.ended how none runs left by)) disk sink =
+get-order name old new end A disk sink = alone-order (GetOf name) refl refl (λ o. inl o)
+    (λ records opened how none left by.
     elim (get-comes name records old new end how left left.leaves.by_kind sink by) [
       | inl well ↦ inl (in-order (GetOf name) old new end well)
-      | inr four ↦ inr (get-loses name old new end
-          (AnswersAlone.begun records opened (AnswersJob.ended how none runs left by)) four)
-    ]
+      | inr four ↦ inr (get-loses name old new end A four)
+    ]) A
 
 -- a list with no fault of the sink ends in order
 pub list-order : (old new : Seen) (end : Ending) → AnswersList old new end →
@@ -68,14 +64,9 @@ pub repair-order : (old new : Seen) (end : Ending) → AnswersAlone RepairJob ol
     ((j : ℕ) → Rose (provider_at old.providers j).store_faults (provider_at new.providers j).store_faults →
     ⊥) → (Rose old.sink_faults new.sink_faults → ⊥) →
     EndsInOrder RepairAll old new end ⊎ LosesRepair old new end
-repair-order old new end (AnswersAlone.unstarted u) disk stores sink = inl (EndsInOrder.unstarted u)
-repair-order old new end (AnswersAlone.begun records opened (AnswersJob.refused why is synced r)) disk stores sink =
-    inl (EndsInOrder.refused records RepairJob why opened refl is r)
-repair-order old new end (AnswersAlone.begun records opened (AnswersJob.no_memory synced r)) disk stores sink =
-    inl (EndsInOrder.no_memory r.status_is)
-repair-order old new end (AnswersAlone.begun records opened (AnswersJob.ended how none runs left by)) disk stores sink =
+repair-order old new end A disk stores sink = alone-order RepairAll refl refl (λ o. inl o)
+    (λ records opened how none left by.
     elim (repair-comes records old new end disk stores sink how left left.leaves.by_kind.0.gives by) [
       | inl well ↦ inl (in-order RepairAll old new end well)
-      | inr four ↦ inr (repair-loses old new end
-          (AnswersAlone.begun records opened (AnswersJob.ended how none runs left by)) four)
-    ]
+      | inr four ↦ inr (repair-loses old new end A four)
+    ]) A

@@ -4,10 +4,10 @@ use Rattle.command_laws.proofs.Words.{◌≡◌, ℕ, ◌+◌, ◌<◌, ◌≤�
 use Rattle.machine_defs.specs.Answers as answer
 use Rattle.command_laws.proofs.Known.{known-both}
 use Rattle.command_laws.proofs.GetEnds.{ran_left}
-use Rattle.command_laws.proofs.JobEnds.{unstarted-refused}
 use Rattle.command_laws.proofs.Afterwards.{sure-refused}
 use Rattle.command_laws.proofs.DoneStores.{next-image}
 use Rattle.command_laws.proofs.PutInEffect.{tells-back}
+use Rattle.command_laws.proofs.Early.{unstarted-early, job-cases}
 
 -- what the newest record of a list counts, where it is an audit's end
 abbrev undecided_in : List Record → ℕ
@@ -143,14 +143,13 @@ module _ (records : List Record) (undecided : ℕ) (counts : List ℕ) (old new 
     by-answer h L = absurd L
 
   by-job : (area : Area) → AnswersJob AuditJob None area records old new end → Counted
-  by-job area (AnswersJob.refused why is synced r) = by-refused _ 0 r
-  by-job area (AnswersJob.no_memory synced r) = by-refused 70 0 r
-  by-job area (AnswersJob.ended how none runs left by) = by-answer area how left how left.leaves.by_kind.gives
+  by-job area = job-cases (λ E. by-refused E.status E.at E.refused)
+      (λ how none left by. by-answer area how left how left.leaves.by_kind.gives)
 
   -- the counts that the next command finds in effect are the verdicts on what the audit heard
   pub audit-in-effect : AnswersAlone AuditJob old new end → Counted
   audit-in-effect (AnswersAlone.unstarted u) =
-      (let r = unstarted-refused old new end u in by-refused r.0 r.1 r.3)
+      (let E = unstarted-early u in by-refused E.status E.at E.refused)
   audit-in-effect (AnswersAlone.begun rs opened A) =
       by-job S.known.opened.area (known-both old records rs S.known opened
       (λ a l. AnswersJob AuditJob None a l old new end) A)

@@ -42,13 +42,13 @@ written-cut text old new end w cut = ended-cut end.status (status-written text o
 list-cut : (old new : Seen) (end : Ending) → AnswersList old new end → IsCut end.status → ⊥
 list-cut old new end (AnswersList.unstarted u) cut = unstarted-cut old new end u cut
 list-cut old new end (AnswersList.no_memory r) cut =
-    cut-not end.status 70 r.status_is (λ e. omega (arith, e)) (λ e. omega (arith, e)) cut
+    cut-not 70 r.status_is refl cut
 list-cut old new end (AnswersList.listed records opened L) cut = written-cut _ old new end L.written cut
 
 scrub-cut : (old new : Seen) (end : Ending) → AnswersScrub old new end → IsCut end.status → ⊥
 scrub-cut old new end (AnswersScrub.unstarted u) cut = unstarted-cut old new end u cut
 scrub-cut old new end (AnswersScrub.no_memory records opened synced r) cut =
-    cut-not end.status 70 r.status_is (λ e. omega (arith, e)) (λ e. omega (arith, e)) cut
+    cut-not 70 r.status_is refl cut
 scrub-cut old new end (AnswersScrub.ended records how opened synced heard runs left by) cut =
     ended-cut end.status (status-ended _ how old new end by) cut
 
@@ -66,18 +66,16 @@ pack-cut old new end (AnswersPack.refused records why opened is synced r) (inr e
     (λ k. let f : 16 ≡ 70 = sym e ∙ (r.status_is ∙ k) in omega (arith, f)) r.status_is
     (λ k. omega (arith, k)) e)
 pack-cut old new end (AnswersPack.no_memory records opened synced r) cut =
-    cut-not end.status 70 r.status_is (λ e. omega (arith, e)) (λ e. omega (arith, e)) cut
+    cut-not 70 r.status_is refl cut
 pack-cut old new end (AnswersPack.ended records how opened none heard runs left by) cut =
     ended-cut end.status (status-ended _ how old new end by) cut
 
 row-cut : (n l b : ℕ) (seen : List (Option ℕ)) (old new : Seen) (end : Ending) →
     Answers (RowOf n l b seen) old new end → IsCut end.status → ⊥
 row-cut n l b seen old new end A (inl is) =
-    none-at n l b seen old new end A.0 14 is (λ e. omega (arith, e)) (λ e. omega (arith, e))
-    (λ e. omega (arith, e)) (λ e. omega (arith, e)) (λ e. omega (arith, e))
+    none-at n l b seen old new end A.0 14 is refl
 row-cut n l b seen old new end A (inr is) =
-    none-at n l b seen old new end A.0 16 is (λ e. omega (arith, e)) (λ e. omega (arith, e))
-    (λ e. omega (arith, e)) (λ e. omega (arith, e)) (λ e. omega (arith, e))
+    none-at n l b seen old new end A.0 16 is refl
 
 -- ---- an init and a put
 
@@ -96,11 +94,11 @@ put-cut : (name : List ℕ) (own : Option ℕ) (old new : Seen) (end : Ending) �
     IsCut end.status → ((end.status ≡ 14) × IsRefused 14 0 old new end) ⊎ GivesUpPut name own old new end
 put-cut name own old new end (AnswersPut.unstarted u same) cut = absurd (unstarted-cut old new end u cut)
 put-cut name own old new end (AnswersPut.bad_profile records opened unknown synced same r) cut =
-    absurd (cut-not end.status 20 r.status_is (λ e. omega (arith, e)) (λ e. omega (arith, e)) cut)
+    absurd (cut-not 20 r.status_is refl cut)
 put-cut name own old new end (AnswersPut.source_fault records opened known rose synced taken r) cut =
     inl (r.status_is, r)
 put-cut name own old new end (AnswersPut.no_memory taken r) cut =
-    absurd (cut-not end.status 70 r.status_is (λ e. omega (arith, e)) (λ e. omega (arith, e)) cut)
+    absurd (cut-not 70 r.status_is refl cut)
 put-cut name own old new end (AnswersPut.begun records bytes opened known read few A whole) cut =
     absurd (job-cut (PutJob name bytes) own records old new end
     (short-never opened.area records name bytes own few) A

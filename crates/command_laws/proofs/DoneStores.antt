@@ -7,7 +7,7 @@ use Rattle.record_defs.specs.Areas as areas
 use Rattle.record_codec.proofs.Takes.{IsBytes-all}
 use Rattle.machine_defs.specs.Answers as answer
 use Rattle.command_laws.proofs.Known.{known-once, known-both, alone-known, unstarted-known, refused-not}
-use Rattle.command_laws.proofs.JobEnds.{unstarted-refused, put-done, drop-done, audit-done, repair-done, upgrade-done, read-all, given-status, given-kind, images-have, cut-not, unstarted-cut, job-cut, short-never}
+use Rattle.command_laws.proofs.JobEnds.{put-done, drop-done, audit-done, repair-done, upgrade-done, read-all, given-status, given-kind, images-have, cut-not, unstarted-cut, job-cut, short-never}
 use Rattle.command_laws.proofs.GetEnds.{ran_left}
 use Rattle.command_laws.proofs.InitEnds.{form-all, init-done, list-done}
 use Rattle.command_laws.proofs.Images.{known-images}
@@ -17,6 +17,7 @@ use Rattle.command_laws.proofs.PackEnds.{pack-done, pack-alike}
 use Rattle.command_laws.proofs.PackStores.{pack-good}
 use Rattle.command_laws.proofs.Knowing.{IsGood, MayBeGood, sure-good, known-good, LeavesGood, HasBytes, ran-good, part-good, spelled-kind}
 use Rattle.command_laws.proofs.Afterwards.{sure-refused, sure-next}
+use Rattle.command_laws.proofs.Early.{pack-cases, IsEarly, early-at, early-why, early-done, early-not, unstarted-early, job-cases, list-cases}
 
 -- ---- statuses of a job that came to its end by itself
 
@@ -24,25 +25,10 @@ use Rattle.command_laws.proofs.Afterwards.{sure-refused, sure-next}
 abbrev pub IsOver : ℕ → Type 0
 IsOver status = ((status ≡ 0) ⊎ (status ≡ 15)) ⊎ ((status ≡ 4) ⊎ (status ≡ 13))
 
-over-not : (status m : ℕ) → status ≡ m → m ≢ 0 → m ≢ 15 → m ≢ 4 → m ≢ 13 → IsOver status → ⊥
-over-not status m is zero sink lost store (inl (inl e)) = zero (sym is ∙ e)
-over-not status m is zero sink lost store (inl (inr e)) = sink (sym is ∙ e)
-over-not status m is zero sink lost store (inr (inl e)) = lost (sym is ∙ e)
-over-not status m is zero sink lost store (inr (inr e)) = store (sym is ∙ e)
-
-over-twelve : (status : ℕ) → status ≡ 12 → IsOver status → ⊥
-over-twelve status is = over-not status 12 is (λ e. omega (arith, e)) (λ e. omega (arith, e))
-    (λ e. omega (arith, e)) (λ e. omega (arith, e))
-
-over-memory : (status : ℕ) → status ≡ 70 → IsOver status → ⊥
-over-memory status is = over-not status 70 is (λ e. omega (arith, e)) (λ e. omega (arith, e))
-    (λ e. omega (arith, e)) (λ e. omega (arith, e))
-
-over-refused : (why : Refusal) (status : ℕ) → status ≡ status_of why → IsOver status → ⊥
-over-refused why status is (inl (inl e)) = refused-not why 0 refl (λ k. omega (arith, k)) (sym is ∙ e)
-over-refused why status is (inl (inr e)) = refused-not why 15 refl (λ k. omega (arith, k)) (sym is ∙ e)
-over-refused why status is (inr (inl e)) = refused-not why 4 refl (λ k. omega (arith, k)) (sym is ∙ e)
-over-refused why status is (inr (inr e)) = refused-not why 13 refl (λ k. omega (arith, k)) (sym is ∙ e)
+over-early : {old new : Seen} {end : Ending} → IsEarly old new end → IsOver end.status → ⊥
+over-early E (inl done) = early-done E done
+over-early E (inr (inl lost)) = early-not E 4 refl lost
+over-early E (inr (inr store)) = early-not E 13 refl store
 
 -- ---- a disk that told tells on
 
@@ -64,52 +50,73 @@ tells-outside area kind own how before rs a b h =
 abbrev Left : List Record → Seen → Seen → Type 0
 Left records old new = LeavesGood records old new × (is_some new.disk ≡ is_some old.disk)
 
-left-over : (kind : Kind) (records : List Record) (old new : Seen) (end : Ending) →
+-- a command is refused, or leaves what is good
+abbrev Comes : List Record → Seen → Seen → Ending → Type 0
+Comes records old new end = IsEarly old new end ⊎ Left records old new
+
+job-comes : (kind : Kind) (records : List Record) (old new : Seen) (end : Ending) →
     (opened : IsOpened old records) → HasBytes kind → {own : Option ℕ} → MayName kind own →
-    AnswersJob kind own opened.area records old new end → IsOver end.status → Left records old new
-left-over kind records old new end R are named (AnswersJob.refused why is synced r) over =
-    absurd (over-refused why end.status r.status_is over)
-left-over kind records old new end R are named (AnswersJob.no_memory synced r) over =
-    absurd (over-memory end.status r.status_is over)
-left-over kind records old new end R are named (AnswersJob.ended how none runs left by) over = (
-  ran-good records kind how old new end.heard R (spelled-kind R.area records kind _ are none) named runs,
-  tells-outside R.area kind _ how records left.after old.disk new.disk left.outside_text,
+    AnswersJob kind own opened.area records old new end → Comes records old new end
+job-comes kind records old new end R are named (AnswersJob.refused why is synced r) = inl (early-why why r)
+job-comes kind records old new end R are named (AnswersJob.no_memory synced r) =
+    inl (early-at 70 0 refl refl r)
+job-comes kind records old new end R are named (AnswersJob.ended how none runs left by) =
+    inr (
+      ran-good records kind how old new end.heard R (spelled-kind R.area records kind _ are none) named runs,
+      tells-outside R.area kind _ how records left.after old.disk new.disk left.outside_text,
+    )
+
+alone-comes : (kind : Kind) (records : List Record) (old new : Seen) (end : Ending) → IsKnown old records →
+    HasBytes kind → AnswersAlone kind old new end → Comes records old new end
+alone-comes kind records old new end K are A = elim (alone-known kind old new end records K A) [
+  | inl (inl (rose, r)) ↦ inl (early-at 12 0 refl refl r)
+  | inl (inr r) ↦ inl (early-at 70 0 refl refl r)
+  | inr job ↦ job-comes kind records old new end K.opened are (MayName.none refl) job
+]
+
+-- a put that was given up leaves what is good
+given-left : (name bytes : List ℕ) (own : Option ℕ) (records : List Record) (old new : Seen) (end : Ending) →
+    (opened : IsOpened old records) → refusal_over opened.area records (PutJob name bytes) own ≡ None →
+    StopsReading (put_stripe records own) bytes old new end →
+    PartRuns opened.area records name bytes own old new →
+    PartLeft opened.area records name bytes own old new → Left records old new
+given-left name bytes own records old new end R none stops runs left = (
+  part-good records name bytes own old new R
+      (spelled-kind R.area records (PutJob name bytes) own
+      (given-kind R.area name bytes own records old new end none stops).0 none) (MayName.put name bytes refl)
+      runs,
+  sym (is_some-option_map (outside R.area (after_begin records name)) new.disk)
+      ∙ (ap is_some left.outside_text ∙ is_some-option_map (outside R.area (after_begin records name)) old.disk),
 )
+
+put-comes : (name : List ℕ) {own : Option ℕ} (records : List Record) (old new : Seen) (end : Ending) →
+    IsKnown old records → AnswersPut name own old new end → Comes records old new end
+put-comes name records old new end K (AnswersPut.unstarted u same) = inl (unstarted-early u)
+put-comes name records old new end K (AnswersPut.source_fault other opened known rose synced taken r) =
+    inl (early-at 14 0 refl refl r)
+put-comes name records old new end K (AnswersPut.bad_profile other opened unknown synced same r) =
+    inl (early-at 20 0 refl refl r)
+put-comes name records old new end K (AnswersPut.no_memory taken r) = inl (early-at 70 0 refl refl r)
+put-comes name records old new end K (AnswersPut.given_up other bytes opened known none stops runs left) =
+    inr (subst (λ rs. Left rs old new) (known-once old records other K opened.read)
+    (given-left name bytes _ other old new end opened none stops runs left))
+put-comes name records old new end K (AnswersPut.begun other bytes opened known read few A whole) =
+    subst (λ rs. Comes rs old new end) (known-once old records other K opened.read)
+    (job-comes (PutJob name bytes) other old new end opened read.are_bytes (MayName.put name bytes refl) A)
+
+-- a command that is over, and is not refused, leaves what is good
+comes-over : {old new : Seen} {end : Ending} {L : Type 0} → IsOver end.status → IsEarly old new end ⊎ L → L
+comes-over over (inl E) = absurd (over-early E over)
+comes-over over (inr L) = L
 
 alone-over : (kind : Kind) (records : List Record) (old new : Seen) (end : Ending) → IsKnown old records →
     HasBytes kind → AnswersAlone kind old new end → IsOver end.status → Left records old new
-alone-over kind records old new end K are A over = elim (alone-known kind old new end records K A) [
-  | inl (inl (rose, r)) ↦ absurd (over-twelve end.status r.status_is over)
-  | inl (inr r) ↦ absurd (over-memory end.status r.status_is over)
-  | inr job ↦ left-over kind records old new end K.opened are (MayName.none refl) job over
-]
+alone-over kind records old new end K are A over =
+    comes-over over (alone-comes kind records old new end K are A)
 
 put-over : (name : List ℕ) {own : Option ℕ} (records : List Record) (old new : Seen) (end : Ending) →
     IsKnown old records → AnswersPut name own old new end → IsOver end.status → Left records old new
-put-over name records old new end K (AnswersPut.unstarted u same) over =
-    elim (unstarted-known old new end records K u) [
-      | inl (rose, r) ↦ absurd (over-twelve end.status r.status_is over)
-      | inr r ↦ absurd (over-memory end.status r.status_is over)
-    ]
-put-over name records old new end K (AnswersPut.source_fault other opened known rose synced taken r) over =
-    absurd (over-not end.status 14 r.status_is (λ e. omega (arith, e)) (λ e. omega (arith, e))
-    (λ e. omega (arith, e)) (λ e. omega (arith, e)) over)
-put-over name records old new end K (AnswersPut.bad_profile other opened unknown synced same r) over =
-    absurd (over-not end.status 20 r.status_is (λ e. omega (arith, e)) (λ e. omega (arith, e))
-    (λ e. omega (arith, e)) (λ e. omega (arith, e)) over)
-put-over name records old new end K (AnswersPut.no_memory taken r) over =
-    absurd (over-memory end.status r.status_is over)
-put-over name records old new end K (AnswersPut.given_up other bytes opened known none stops runs left) over =
-    absurd (elim (given-status _ bytes old new end stops) [
-      | inl e ↦ over-not end.status 14 e (λ k. omega (arith, k)) (λ k. omega (arith, k))
-          (λ k. omega (arith, k)) (λ k. omega (arith, k)) over
-      | inr e ↦ over-not end.status 16 e (λ k. omega (arith, k)) (λ k. omega (arith, k))
-          (λ k. omega (arith, k)) (λ k. omega (arith, k)) over
-    ])
-put-over name records old new end K (AnswersPut.begun other bytes opened known read few A whole) over =
-    subst (λ rs. Left rs old new) (known-once old records other K opened.read)
-    (left-over (PutJob name bytes) other old new end opened read.are_bytes
-    (MayName.put name bytes refl) A over)
+put-over name records old new end K A over = comes-over over (put-comes name records old new end K A)
 
 sure-left : (records : List Record) (area : Area) (after : List Record) (old new : Seen) →
     IsKnown old records → Left records old new → DiskHas area after new → IsSure new after
@@ -198,23 +205,19 @@ upgrade-sure records old new end A done K =
 get-has : (name : List ℕ) (records : List Record) (old new : Seen) (end : Ending) →
     (opened : IsOpened old records) → AnswersJob (GetJob name) None opened.area records old new end →
     IsOver end.status → DiskHas opened.area records new
-get-has name records old new end R (AnswersJob.refused why is synced r) over =
-    absurd (over-refused why end.status r.status_is over)
-get-has name records old new end R (AnswersJob.no_memory synced r) over =
-    absurd (over-memory end.status r.status_is over)
-get-has name records old new end R (AnswersJob.ended how none runs left by) over =
-    (let L : GetLeaves (ran_left records (GetJob name) how old new end.heard left) name how =
-    left.leaves.by_kind in
-    images-have R.area new.disk left.after left.doubt records L.records L.sure left.images)
+get-has name records old new end R A over = job-cases (λ E. absurd (over-early E over))
+    (λ how none left by. let L : GetLeaves (ran_left records (GetJob name) how old new end.heard left) name how
+    = left.leaves.by_kind in
+    images-have R.area new.disk left.after left.doubt records L.records L.sure left.images) A
 
 -- after a get that is over the store is sure, with the same records
 pub get-sure : (name : List ℕ) (records : List Record) (old new : Seen) (end : Ending) →
     AnswersAlone (GetJob name) old new end → IsOver end.status → IsKnown old records → IsSure new records
 get-sure name records old new end A over K = elim (alone-known (GetJob name) old new end records K A) [
-  | inl (inl (rose, r)) ↦ absurd (over-twelve end.status r.status_is over)
-  | inl (inr r) ↦ absurd (over-memory end.status r.status_is over)
+  | inl (inl (rose, r)) ↦ absurd (over-early (early-at 12 0 refl refl r) over)
+  | inl (inr r) ↦ absurd (over-early (early-at 70 0 refl refl r) over)
   | inr job ↦ sure-left records K.opened.area records old new K
-      (left-over (GetJob name) records old new end K.opened tt (MayName.none refl) job over)
+      (comes-over over (job-comes (GetJob name) records old new end K.opened tt (MayName.none refl) job))
       (get-has name records old new end K.opened job over)
 ]
 
@@ -230,21 +233,6 @@ failed-put-sure name records old new end A failed K =
     (put-over name records old new end K A (inr (inr failed)))
     (known-both old records P.records K P.opened (λ a rs. DiskHas a (after_begin rs name) new) P.disk))
 
--- a put that was given up leaves what is good
-given-left : (name bytes : List ℕ) (own : Option ℕ) (records : List Record) (old new : Seen) (end : Ending) →
-    (opened : IsOpened old records) → refusal_over opened.area records (PutJob name bytes) own ≡ None →
-    StopsReading (put_stripe records own) bytes old new end →
-    PartRuns opened.area records name bytes own old new →
-    PartLeft opened.area records name bytes own old new → Left records old new
-given-left name bytes own records old new end R none stops runs left = (
-  part-good records name bytes own old new R
-      (spelled-kind R.area records (PutJob name bytes) own
-      (given-kind R.area name bytes own records old new end none stops).0 none) (MayName.put name bytes refl)
-      runs,
-  sym (is_some-option_map (outside R.area (after_begin records name)) new.disk)
-      ∙ (ap is_some left.outside_text ∙ is_some-option_map (outside R.area (after_begin records name)) old.disk),
-)
-
 -- after a put whose source failed, or was too long, the store is sure, with the put's first record alone;
 -- unless it failed before the begin
 pub cut-put-sure : (name : List ℕ) (own : Option ℕ) (records : List Record) (old new : Seen) (end : Ending) →
@@ -253,11 +241,11 @@ pub cut-put-sure : (name : List ℕ) (own : Option ℕ) (records : List Record) 
 cut-put-sure name own records old new end (AnswersPut.unstarted u same) cut K =
     absurd (unstarted-cut old new end u cut)
 cut-put-sure name own records old new end (AnswersPut.bad_profile other opened unknown synced same r) cut K =
-    absurd (cut-not end.status 20 r.status_is (λ e. omega (arith, e)) (λ e. omega (arith, e)) cut)
+    absurd (cut-not 20 r.status_is refl cut)
 cut-put-sure name own records old new end (AnswersPut.source_fault other opened known rose synced taken r) cut K =
     inl (r.status_is, r)
 cut-put-sure name own records old new end (AnswersPut.no_memory taken r) cut K =
-    absurd (cut-not end.status 70 r.status_is (λ e. omega (arith, e)) (λ e. omega (arith, e)) cut)
+    absurd (cut-not 70 r.status_is refl cut)
 cut-put-sure name own records old new end (AnswersPut.begun other bytes opened known read few A whole) cut K =
     absurd (job-cut (PutJob name bytes) own other old new end
     (short-never opened.area other name bytes own few) A cut)
@@ -337,13 +325,9 @@ ended-sure records other how old new K opened sync runs =
 -- so it is after one that is over
 pub scrub-sure : (records : List Record) (old new : Seen) (end : Ending) → AnswersScrub old new end →
     IsOver end.status → IsKnown old records → IsSure new records
-scrub-sure records old new end (AnswersScrub.unstarted u) over K =
-    elim (unstarted-known old new end records K u) [
-      | inl (rose, r) ↦ absurd (over-twelve end.status r.status_is over)
-      | inr r ↦ absurd (over-memory end.status r.status_is over)
-    ]
+scrub-sure records old new end (AnswersScrub.unstarted u) over K = absurd (over-early (unstarted-early u) over)
 scrub-sure records old new end (AnswersScrub.no_memory other opened sync r) over K =
-    absurd (over-memory end.status r.status_is over)
+    absurd (over-early (early-at 70 0 refl refl r) over)
 scrub-sure records old new end (AnswersScrub.ended other how opened sync heard runs left by) over K =
     ended-sure records other how old new K opened sync runs
 
@@ -411,61 +395,16 @@ init-sure numbers key old new end A done tells (bytes, source, form) =
 
 -- ---- whatever comes of a command
 
--- a command is refused, or leaves what is good
-abbrev Comes : List Record → Seen → Seen → Ending → Type 0
-Comes records old new end = ((status : ℕ) × (at : ℕ) × IsRefused status at old new end) ⊎ Left records old new
-
-job-comes : (kind : Kind) (records : List Record) (old new : Seen) (end : Ending) →
-    (opened : IsOpened old records) → HasBytes kind → {own : Option ℕ} → MayName kind own →
-    AnswersJob kind own opened.area records old new end → Comes records old new end
-job-comes kind records old new end R are named (AnswersJob.refused why is synced r) =
-    inl (status_of why, 0, r)
-job-comes kind records old new end R are named (AnswersJob.no_memory synced r) = inl (70, 0, r)
-job-comes kind records old new end R are named (AnswersJob.ended how none runs left by) =
-    inr (
-      ran-good records kind how old new end.heard R (spelled-kind R.area records kind _ are none) named runs,
-      tells-outside R.area kind _ how records left.after old.disk new.disk left.outside_text,
-    )
-
-unstarted-comes : (records : List Record) (old new : Seen) (end : Ending) → IsKnown old records →
-    Unstarted old new end → Comes records old new end
-unstarted-comes records old new end K u =
-    elim (unstarted-known old new end records K u) [ inl (rose, r) ↦ inl (12, 0, r) | inr r ↦ inl (70, 0, r) ]
-
-alone-comes : (kind : Kind) (records : List Record) (old new : Seen) (end : Ending) → IsKnown old records →
-    HasBytes kind → AnswersAlone kind old new end → Comes records old new end
-alone-comes kind records old new end K are A = elim (alone-known kind old new end records K A) [
-  | inl (inl (rose, r)) ↦ inl (12, 0, r)
-  | inl (inr r) ↦ inl (70, 0, r)
-  | inr job ↦ job-comes kind records old new end K.opened are (MayName.none refl) job
-]
-
-put-comes : (name : List ℕ) {own : Option ℕ} (records : List Record) (old new : Seen) (end : Ending) →
-    IsKnown old records → AnswersPut name own old new end → Comes records old new end
-put-comes name records old new end K (AnswersPut.unstarted u same) = unstarted-comes records old new end K u
-put-comes name records old new end K (AnswersPut.source_fault other opened known rose synced taken r) =
-    inl (14, 0, r)
-put-comes name records old new end K (AnswersPut.bad_profile other opened unknown synced same r) =
-    inl (20, 0, r)
-put-comes name records old new end K (AnswersPut.no_memory taken r) = inl (70, 0, r)
-put-comes name records old new end K (AnswersPut.given_up other bytes opened known none stops runs left) =
-    inr (subst (λ rs. Left rs old new) (known-once old records other K opened.read)
-    (given-left name bytes _ other old new end opened none stops runs left))
-put-comes name records old new end K (AnswersPut.begun other bytes opened known read few A whole) =
-    subst (λ rs. Comes rs old new end) (known-once old records other K opened.read)
-    (job-comes (PutJob name bytes) other old new end opened read.are_bytes (MayName.put name bytes refl) A)
-
 list-comes : (records : List Record) (old new : Seen) (end : Ending) → IsKnown old records →
     AnswersList old new end → IsSure new records ⊎ Comes records old new end
-list-comes records old new end K (AnswersList.unstarted u) = inr (unstarted-comes records old new end K u)
-list-comes records old new end K (AnswersList.no_memory r) = inr (inl (70, 0, r))
-list-comes records old new end K (AnswersList.listed other opened L) =
-    inl (synced-sure records old new K L.disk (ap (λ ps. length ps) L.providers))
+list-comes records old new end K = list-cases (λ E. inr (inl E))
+    (λ other opened L. inl (synced-sure records old new K L.disk (ap (λ ps. length ps) L.providers)))
 
 scrub-comes : (records : List Record) (old new : Seen) (end : Ending) → IsKnown old records →
     AnswersScrub old new end → IsSure new records ⊎ Comes records old new end
-scrub-comes records old new end K (AnswersScrub.unstarted u) = inr (unstarted-comes records old new end K u)
-scrub-comes records old new end K (AnswersScrub.no_memory other opened sync r) = inr (inl (70, 0, r))
+scrub-comes records old new end K (AnswersScrub.unstarted u) = inr (inl (unstarted-early u))
+scrub-comes records old new end K (AnswersScrub.no_memory other opened sync r) =
+    inr (inl (early-at 70 0 refl refl r))
 scrub-comes records old new end K (AnswersScrub.ended other how opened sync heard runs left by) =
     inl (ended-sure records other how old new K opened sync runs)
 
@@ -476,45 +415,26 @@ pack-left records how old new opened none left = (pack-good records old new open
 
 pack-comes : (records : List Record) (old new : Seen) (end : Ending) → IsKnown old records →
     AnswersPack old new end → Comes records old new end
-pack-comes records old new end K (AnswersPack.unstarted u) = unstarted-comes records old new end K u
-pack-comes records old new end K (AnswersPack.refused other why opened is synced r) =
-    inl (status_of why, 0, r)
-pack-comes records old new end K (AnswersPack.no_memory other opened synced r) = inl (70, 0, r)
-pack-comes records old new end K (AnswersPack.ended other how opened none heard runs left by) =
-    inr (subst (λ rs. Left rs old new) (known-once old records other K opened.read)
-    (pack-left other how old new opened none left))
+pack-comes records old new end K = pack-cases (λ E. inl E)
+    (λ other how opened none left by. inr (subst (λ rs. Left rs old new)
+    (known-once old records other K opened.read) (pack-left other how old new opened none left)))
 
 -- after a done pack the store is sure, with the packed records
 pub pack-sure : (records : List Record) (old new : Seen) (end : Ending) → AnswersPack old new end →
     IsDone end → IsKnown old records → IsSure new (packed records)
-pack-sure records old new end (AnswersPack.unstarted u) done K =
-    elim (unstarted-known old new end records K u) [
-      | inl (rose, r) ↦ absurd (over-twelve end.status r.status_is (inl done))
-      | inr r ↦ absurd (over-memory end.status r.status_is (inl done))
-    ]
-pack-sure records old new end (AnswersPack.refused other why opened is synced r) done K =
-    absurd (over-refused why end.status r.status_is (inl done))
-pack-sure records old new end (AnswersPack.no_memory other opened synced r) done K =
-    absurd (over-memory end.status r.status_is (inl done))
-pack-sure records old new end (AnswersPack.ended other how opened none heard runs left by) done K =
-    (let P = pack-done old new end (AnswersPack.ended other how opened none heard runs left by) done in
+pack-sure records old new end A done K =
+    (let P = pack-done old new end A done in
     sure-left records (other_area K.opened.area) (packed records) old new K
-    (subst (λ rs. Left rs old new) (known-once old records other K opened.read)
-    (pack-left other how old new opened none left))
+    (comes-over (inl done) (pack-comes records old new end K A))
     (known-both old records P.records K P.opened (λ a rs. DiskHas (other_area a) (packed rs) new) P.disk))
 
 -- a pack that went on to its end put records in the place of others whose table is alike
 pack-alike-of : (records : List Record) (old new : Seen) (end : Ending) → IsKnown old records →
     AnswersPack old new end →
-    ((status : ℕ) × (at : ℕ) × IsRefused status at old new end) ⊎ AreAlike (packed records) records
-pack-alike-of records old new end K (AnswersPack.unstarted u) =
-    (let r = unstarted-refused old new end u in inl (r.0, r.1, r.3))
-pack-alike-of records old new end K (AnswersPack.refused other why opened is synced r) =
-    inl (status_of why, 0, r)
-pack-alike-of records old new end K (AnswersPack.no_memory other opened synced r) = inl (70, 0, r)
-pack-alike-of records old new end K (AnswersPack.ended other how opened none heard runs left by) =
-    inr (subst (λ rs. AreAlike (packed rs) rs) (known-once old records other K opened.read)
-    (pack-alike opened.area other opened.read.accepted none).1)
+    IsEarly old new end ⊎ AreAlike (packed records) records
+pack-alike-of records old new end K = pack-cases (λ E. inl E)
+    (λ other how opened none left by. inr (subst (λ rs. AreAlike (packed rs) rs)
+    (known-once old records other K opened.read) (pack-alike opened.area other opened.read.accepted none).1))
 
 command-comes : (command : Command) (records : List Record) (old new : Seen) (end : Ending) →
     IsKnown old records → Answers command old new end → opens_store command ≡ true →
@@ -548,8 +468,7 @@ no-pack command other is = absurd (false≢true (sym other ∙ ap is_pack is))
 -- a command is refused, or where it is a pack the table of what it put in place is alike
 command-alike : (command : Command) (records : List Record) (old new : Seen) (end : Ending) →
     IsKnown old records → Answers command old new end →
-    ((status : ℕ) × (at : ℕ) × IsRefused status at old new end)
-    ⊎ (command ≡ PackJournal → AreAlike (packed records) records)
+    IsEarly old new end ⊎ (command ≡ PackJournal → AreAlike (packed records) records)
 command-alike PackJournal records old new end K A = elim (pack-alike-of records old new end K A.0) [
   | inl refused ↦ inl refused
   | inr alike ↦ inr (λ is. alike)
@@ -622,9 +541,9 @@ pub known-always : (command : Command) (records : List Record) (old new next : S
 known-always command records old new next end A opens S N =
     elim (command-comes command records old new end S.known A opens) [
       | inl sure ↦ (records, (sure-next records new next sure N).known, inl refl)
-      | inr (inl (status, at, r)) ↦ by-refused status at r
+      | inr (inl E) ↦ by-early E
       | inr (inr good) ↦ elim (command-alike command records old new end S.known A) [
-        | inl (status, at, r) ↦ by-refused status at r
+        | inl E ↦ by-early E
         | inr alike ↦ (let c = next-image new next (good.1 ∙ S.known.tells) N in
             let g = c.2 (MayBeGood (setup_in_effect records)) good.0.0 in
             let stands = c.2 _ (known-images command records old new end A opens S.known
@@ -638,10 +557,10 @@ known-always command records old new next end A opens S N =
       ]
     ]
   where
-    by-refused : (status at : ℕ) → IsRefused status at old new end →
+    by-early : IsEarly old new end →
         (after : List Record) × IsKnown next after × IsThen command records old new after
-    by-refused status at r = (
+    by-early E = (
       records,
-      (sure-next records new next (sure-refused status at records old new end r S) N).known,
+      (sure-next records new next (sure-refused E.status E.at records old new end E.refused S) N).known,
       inl refl,
     )

@@ -2,121 +2,65 @@
 use Rattle.command_laws.proofs.Words.{◌≡◌, ◌≢◌, ℕ, ◌+◌, ◌*◌, ◌⊎◌, true, false, List, Option, refl, ap, sym, ◌∙◌, inl, inr, arith, cases_Bool, cases_lt, false≢true, IsShape, upto, Record, Area, Kind, PutJob, GetJob, DropJob, AuditJob, RepairJob, UpgradeJob, Refusal, Command, Numbers, RowOf, InitWith, PutUnder, PutAt, GetOf, DropOf, ListAll, AuditAll, RepairAll, UpgradeJournal, ScrubAll, PackJournal, WritesLine, TellsLine, Seen, Ending, sinking, Unstarted, status_of, AnswersRow, AnswersInit, InitsDisk, AnswersJob, AnswersScrub, AnswersPack, AnswersPut, AnswersAlone, AnswersList, Answers, is_ending}
 use Rattle.code_defs.specs.DispersalCode.{AcceptsNone}
 use Rattle.machine_defs.specs.Refusals as refusal
-use Rattle.command_laws.proofs.Known.{EndStatus, status-ended}
-use Rattle.command_laws.proofs.RowCauses.{none-at}
+use Rattle.command_laws.proofs.Known.{EndStatus, status-ended, ended-so, written-so}
+use Rattle.command_laws.proofs.RowCauses.{row-so}
 use Rattle.command_laws.proofs.JobEnds.{given-status}
+use Rattle.command_laws.proofs.Early.{IsEarly, alone-cases, put-cases, list-cases, scrub-cases, pack-cases, init-cases}
+use Rattle.std.proofs.Common.{◌||◌, ◌==◌, Bool}
 
 -- ---- the statuses of commands
 
-unstarted-ending : (old new : Seen) (end : Ending) → Unstarted old new end → is_ending end.status ≡ true
-unstarted-ending old new end (Unstarted.disk_fault rose r) = ap is_ending r.status_is
-unstarted-ending old new end (Unstarted.not_set_up is sync r) = ap is_ending r.status_is
-unstarted-ending old new end (Unstarted.bad_journal at is r) = ap is_ending r.status_is
-unstarted-ending old new end (Unstarted.too_few_providers area records read few synced r) =
-    ap is_ending r.status_is
-unstarted-ending old new end (Unstarted.no_memory r) = ap is_ending r.status_is
-
-refused-ending : (why : Refusal) → is_ending (status_of why) ≡ true
-refused-ending refusal.NoSuchName = refl
-refused-ending why = refl
+early-ending : {old new : Seen} {end : Ending} → IsEarly old new end → is_ending end.status ≡ true
+early-ending E = ap is_ending E.refused.status_is ∙ E.ending
 
 ended-ending : (n : ℕ) → EndStatus n → is_ending n ≡ true
-ended-ending n (EndStatus.by_done e) = ap is_ending e
-ended-ending n (EndStatus.by_lost e) = ap is_ending e
-ended-ending n (EndStatus.by_disk e) = ap is_ending e
-ended-ending n (EndStatus.by_provider e) = ap is_ending e
-ended-ending n (EndStatus.by_sink e) = ap is_ending e
-ended-ending n (EndStatus.by_memory e) = ap is_ending e
-
-written-ending : (line : List ℕ) (old new : Seen) (end : Ending) →
-    WritesLine line end.status (sinking old new) → is_ending end.status ≡ true
-written-ending line old new end (inl w) = ap is_ending w.0
-written-ending line old new end (inr (inl w)) = ap is_ending w.1
-written-ending line old new end (inr (inr w)) = ap is_ending w.0
-
-job-ending : {area : Area} (kind : Kind) (records : List Record) (old new : Seen) (end : Ending)
-    {own : Option ℕ} → AnswersJob kind own area records old new end → is_ending end.status ≡ true
-job-ending kind records old new end (AnswersJob.refused why is synced r) =
-    ap is_ending r.status_is ∙ refused-ending why
-job-ending kind records old new end (AnswersJob.no_memory synced r) = ap is_ending r.status_is
-job-ending kind records old new end (AnswersJob.ended how none runs left by) =
-    ended-ending end.status (status-ended _ how old new end by)
+ended-ending n = ended-so is_ending refl refl refl refl refl refl
 
 put-ending : (name : List ℕ) (old new : Seen) (end : Ending) {own : Option ℕ} →
     AnswersPut name own old new end → is_ending end.status ≡ true
-put-ending name old new end (AnswersPut.unstarted u same) = unstarted-ending old new end u
-put-ending name old new end (AnswersPut.source_fault records opened known rose synced taken r) =
-    ap is_ending r.status_is
-put-ending name old new end (AnswersPut.bad_profile records opened unknown synced same r) =
-    ap is_ending r.status_is
-put-ending name old new end (AnswersPut.no_memory taken r) = ap is_ending r.status_is
-put-ending name old new end (AnswersPut.given_up records bytes opened known none stops runs left) =
-    elim (given-status _ bytes old new end stops) [ inl e ↦ ap is_ending e | inr e ↦ ap is_ending e ]
-put-ending name old new end (AnswersPut.begun records bytes opened known read few A whole) =
-    job-ending (PutJob name bytes) records old new end A
+put-ending name old new end = put-cases early-ending (λ records bytes opened known none stops left.
+    elim (given-status _ bytes old new end stops) [ inl e ↦ ap is_ending e | inr e ↦ ap is_ending e ])
+    (λ records bytes opened known read few how none left whole by.
+    ended-ending end.status (status-ended _ how old new end by))
 
 alone-ending : (kind : Kind) (old new : Seen) (end : Ending) → AnswersAlone kind old new end →
     is_ending end.status ≡ true
-alone-ending kind old new end (AnswersAlone.unstarted u) = unstarted-ending old new end u
-alone-ending kind old new end (AnswersAlone.begun records opened A) = job-ending kind records old new end A
+alone-ending kind old new end = alone-cases early-ending
+    (λ records opened how none left by. ended-ending end.status (status-ended _ how old new end by))
 
 list-ending : (old new : Seen) (end : Ending) → AnswersList old new end → is_ending end.status ≡ true
-list-ending old new end (AnswersList.unstarted u) = unstarted-ending old new end u
-list-ending old new end (AnswersList.no_memory r) = ap is_ending r.status_is
-list-ending old new end (AnswersList.listed records opened L) = written-ending _ old new end L.written
+list-ending old new end = list-cases early-ending
+    (λ records opened L. written-so is_ending _ old new end refl refl refl L.written)
 
 scrub-ending : (old new : Seen) (end : Ending) → AnswersScrub old new end → is_ending end.status ≡ true
-scrub-ending old new end (AnswersScrub.unstarted u) = unstarted-ending old new end u
-scrub-ending old new end (AnswersScrub.no_memory records opened synced r) = ap is_ending r.status_is
-scrub-ending old new end (AnswersScrub.ended records how opened synced heard runs left by) =
-    ended-ending end.status (status-ended _ how old new end by)
+scrub-ending old new end = scrub-cases early-ending
+    (λ records how opened synced left by. ended-ending end.status (status-ended _ how old new end by))
 
 pack-ending : (old new : Seen) (end : Ending) → AnswersPack old new end → is_ending end.status ≡ true
-pack-ending old new end (AnswersPack.unstarted u) = unstarted-ending old new end u
-pack-ending old new end (AnswersPack.refused records why opened is synced r) =
-    ap is_ending r.status_is ∙ refused-ending why
-pack-ending old new end (AnswersPack.no_memory records opened synced r) = ap is_ending r.status_is
-pack-ending old new end (AnswersPack.ended records how opened none heard runs left by) =
-    ended-ending end.status (status-ended _ how old new end by)
+pack-ending old new end = pack-cases early-ending
+    (λ records how opened none left by. ended-ending end.status (status-ended _ how old new end by))
 
 init-ending : (numbers : Numbers) (old new : Seen) (end : Ending) → AnswersInit numbers old new end →
     is_ending end.status ≡ true
-init-ending numbers old new end (AnswersInit.bad_setup bad same r) = ap is_ending r.status_is
-init-ending numbers old new end (AnswersInit.too_few_providers good few same r) = ap is_ending r.status_is
-init-ending numbers old new end (AnswersInit.source_fault good enough rose taken r) = ap is_ending r.status_is
-init-ending numbers old new end (AnswersInit.bad_key seen good enough read none r) = ap is_ending r.status_is
-init-ending numbers old new end (AnswersInit.no_memory taken r) = ap is_ending r.status_is
-init-ending numbers old new end (AnswersInit.keyed seen key good enough read form (InitsDisk.disk_fault rose F)) =
-    ap is_ending F.status_is
-init-ending numbers old new end (AnswersInit.keyed seen key good enough read form (InitsDisk.bad_journal at cause r)) =
-    ap is_ending r.status_is
-init-ending numbers old new end (AnswersInit.keyed seen key good enough read form (InitsDisk.already cause r)) =
-    ap is_ending r.status_is
-init-ending numbers old new end (AnswersInit.keyed seen key good enough read form (InitsDisk.no_memory F)) =
-    ap is_ending F.status_is
-init-ending numbers old new end (AnswersInit.keyed seen key good enough read form (InitsDisk.ready R)) =
-    written-ending _ old new end R.written
+init-ending numbers old new end = init-cases early-ending
+    (λ key status two F. ap is_ending F.status_is ∙ elim two [ inl e ↦ ap is_ending e | inr e ↦ ap is_ending e ])
+    (λ key R. written-so is_ending _ old new end refl refl refl R.written)
 
 -- ---- the statuses of a row
 
 module _ (n l b : ℕ) (seen : List (Option ℕ)) (old new : Seen) (end : Ending)
     (A : AnswersRow n l b seen end.status (sinking old new)) where
   row-ending : is_ending end.status ≡ true
-  row-ending = elim (cases_Bool (is_ending end.status)) [
-    | inl t ↦ t
-    | inr f ↦ absurd (none-at n l b seen old new end A end.status refl (other 0 f refl) (other 4 f refl)
-        (other 20 f refl) (other 70 f refl) (other 15 f refl))
-  ]
-    where
-      other : (m : ℕ) → is_ending end.status ≡ false → is_ending m ≡ true → end.status ≢ m
-      other m f told e = false≢true (sym f ∙ (ap is_ending e ∙ told))
+  row-ending = row-so n l b seen old new end A is_ending refl refl refl refl refl
 
   -- a line that was written tells of no row lost, nor of numbers that are no shape
   written-not : (line : List ℕ) (m : ℕ) → WritesLine line end.status (sinking old new) → end.status ≡ m →
-      m ≢ 0 → m ≢ 15 → m ≢ 70 → ⊥
-  written-not line m (inl w) is zero sink memory = zero (sym is ∙ w.0)
-  written-not line m (inr (inl w)) is zero sink memory = sink (sym is ∙ w.1)
-  written-not line m (inr (inr w)) is zero sink memory = memory (sym is ∙ w.0)
+      ((m == 0) || (m == 15) || (m == 70)) ≡ false → ⊥
+  written-not line m w is off = false≢true (sym off ∙ (ap told (sym is)
+      ∙ written-so told line old new end refl refl refl w))
+    where
+      told : ℕ → Bool
+      told k = (k == 0) || (k == 15) || (k == 70)
 
   told-twice : (line : List ℕ) → TellsLine 4 line end.status (sinking old new) →
       (end.status ≡ 4) ⊎ (end.status ≡ 70)
@@ -126,15 +70,13 @@ module _ (n l b : ℕ) (seen : List (Option ℕ)) (old new : Seen) (end : Ending
 
   -- a row that is told to be lost has no accepted polynomial
   pub row-none : IsShape n l b → end.status ≡ 4 → AcceptsNone (upto n) seen l b
-  row-none shape is p accepted = written-not _ 4 (A.held shape p accepted) is (λ e. omega (arith, e))
-      (λ e. omega (arith, e)) (λ e. omega (arith, e))
+  row-none shape is p accepted = written-not _ 4 (A.held shape p accepted) is refl
 
   -- numbers that are told to be no shape are none
   pub row-shapeless : end.status ≡ 20 → IsShape n l b → ⊥
   row-shapeless is shape =
       elim (told-twice _ (A.lost shape
-      (λ p accepted. written-not _ 20 (A.held shape p accepted) is (λ e. omega (arith, e))
-      (λ e. omega (arith, e)) (λ e. omega (arith, e))))) [
+      (λ p accepted. written-not _ 20 (A.held shape p accepted) is refl))) [
         | inl four ↦ (let e : 20 ≡ 4 = sym is ∙ four in omega (arith, e))
         | inr memory ↦ (let e : 20 ≡ 70 = sym is ∙ memory in omega (arith, e))
       ]

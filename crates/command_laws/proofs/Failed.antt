@@ -1,10 +1,13 @@
 -- What a store that failed and a lost row leave, and that nothing is fetched by the other commands.
 use Rattle.command_laws.proofs.Words.{◌≡◌, ℕ, ◌<◌, ◌≤◌, ◌⊎◌, true, List, length, Option, None, Some, refl, ap, sym, subst, ◌∙◌, inl, inr, arith, cases_lt, not_two, is_flagged, Rose, Provider, Record, largest_file, Area, Due, due_of, Kind, PutJob, GetJob, DropJob, AuditJob, RepairJob, UpgradeJob, Answer, Refusal, Command, Numbers, RowOf, InitWith, PutUnder, PutAt, GetOf, DropOf, ListAll, AuditAll, RepairAll, UpgradeJournal, ScrubAll, PackJournal, WritesLine, Seen, Ending, ReadsFront, provider_at, sinking, IsOpened, Unstarted, setup_in_effect, status_of, Ran, text_of, pack_text, PutLeaves, GetLeaves, LosesStripe, flags, RepairGives, LosesAtPlace, AnswersJob, EndsByAnswer, LeavesBy, LeftAlone, AnswersInit, InitsDisk, PackLeaves, AnswersPack, AnswersPut, AnswersAlone, AnswersList, Answers, ran_to, SameFetches, stores_blocks, opens_rows, FailsToPut, FailsToRepair, LosesFile, LosesRepair}
 use Rattle.machine_defs.specs.Answers as answer
-use Rattle.command_laws.proofs.Known.{refused-not}
+use Rattle.command_laws.proofs.Known.{written-so}
 use Rattle.command_laws.proofs.GetEnds.{ran_left}
 use Rattle.command_laws.proofs.RowCauses.{none-at}
-use Rattle.command_laws.proofs.JobEnds.{images-have, refused-same, unstarted-same, left-same, given-not}
+use Rattle.command_laws.proofs.JobEnds.{images-have, left-same, given-not, fits, ends-at}
+use Rattle.command_laws.proofs.Early.{early-not, early-same, alone-cases, put-cases, list-cases, pack-cases, init-cases, is_early}
+use Rattle.std.proofs.Common.{◌||◌, ◌==◌, false, Bool, not}
+use Rattle.std.proofs.lemmas.Bool.{false≢true}
 
 -- ---- nothing is fetched
 
@@ -15,128 +18,44 @@ fetches_of p = p.fetches
 -- a put fetches nothing
 pub put-fetches : (name : List ℕ) (old new : Seen) (end : Ending) {own : Option ℕ} →
     AnswersPut name own old new end → SameFetches old new
-put-fetches name old new end (AnswersPut.unstarted u same) = unstarted-same fetches_of old new end u
-put-fetches name old new end (AnswersPut.source_fault records opened known rose after taken r) =
-    refused-same fetches_of 14 0 old new end r
-put-fetches name old new end (AnswersPut.bad_profile records opened unknown after same r) =
-    refused-same fetches_of 20 0 old new end r
-put-fetches name old new end (AnswersPut.no_memory taken r) = refused-same fetches_of 70 0 old new end r
-put-fetches name old new end (AnswersPut.given_up records bytes opened known none stops runs left) =
-    λ j. elim (cases_lt j (setup_in_effect records).n) [
+put-fetches name old new end = put-cases (early-same fetches_of)
+    (λ records bytes opened known none stops left j. elim (cases_lt j (setup_in_effect records).n) [
       | inl l ↦ left.fetches j l
       | inr l ↦ ap fetches_of (left.others j l)
-    ]
-put-fetches name old new end (AnswersPut.begun records bytes opened known read few (AnswersJob.refused why is after r) whole) =
-    refused-same fetches_of _ 0 old new end r
-put-fetches name old new end (AnswersPut.begun records bytes opened known read few (AnswersJob.no_memory after r) whole) =
-    refused-same fetches_of 70 0 old new end r
-put-fetches name old new end (AnswersPut.begun records bytes opened known read few (AnswersJob.ended how none runs left by) whole) =
-    left-same fetches_of records (PutJob name bytes) how old new end.heard left left.leaves.by_kind.1
+    ])
+    (λ records bytes opened known read few how none left whole by.
+    left-same fetches_of records (PutJob name bytes) how old new end.heard left left.leaves.by_kind.1)
 
 -- a drop fetches nothing
 pub drop-fetches : (name : List ℕ) (old new : Seen) (end : Ending) → AnswersAlone (DropJob name) old new end →
     SameFetches old new
-drop-fetches name old new end (AnswersAlone.unstarted u) = unstarted-same fetches_of old new end u
-drop-fetches name old new end (AnswersAlone.begun records opened (AnswersJob.refused why is after r)) =
-    refused-same fetches_of _ 0 old new end r
-drop-fetches name old new end (AnswersAlone.begun records opened (AnswersJob.no_memory after r)) =
-    refused-same fetches_of 70 0 old new end r
-drop-fetches name old new end (AnswersAlone.begun records opened (AnswersJob.ended how none runs left by)) =
-    left-same fetches_of records (DropJob name) how old new end.heard left left.leaves.by_kind.1
+drop-fetches name old new end = alone-cases (early-same fetches_of) (λ records opened how none left by.
+    left-same fetches_of records (DropJob name) how old new end.heard left left.leaves.by_kind.1)
 
 -- an audit fetches nothing
 pub audit-fetches : (old new : Seen) (end : Ending) → AnswersAlone AuditJob old new end → SameFetches old new
-audit-fetches old new end (AnswersAlone.unstarted u) = unstarted-same fetches_of old new end u
-audit-fetches old new end (AnswersAlone.begun records opened (AnswersJob.refused why is after r)) =
-    refused-same fetches_of _ 0 old new end r
-audit-fetches old new end (AnswersAlone.begun records opened (AnswersJob.no_memory after r)) =
-    refused-same fetches_of 70 0 old new end r
-audit-fetches old new end (AnswersAlone.begun records opened (AnswersJob.ended how none runs left by)) =
-    left-same fetches_of records AuditJob how old new end.heard left left.leaves.by_kind.fetches
+audit-fetches old new end = alone-cases (early-same fetches_of) (λ records opened how none left by.
+    left-same fetches_of records AuditJob how old new end.heard left left.leaves.by_kind.fetches)
 
 -- an upgrade fetches nothing
 pub upgrade-fetches : (old new : Seen) (end : Ending) → AnswersAlone UpgradeJob old new end →
     SameFetches old new
-upgrade-fetches old new end (AnswersAlone.unstarted u) = unstarted-same fetches_of old new end u
-upgrade-fetches old new end (AnswersAlone.begun records opened (AnswersJob.refused why is after r)) =
-    refused-same fetches_of _ 0 old new end r
-upgrade-fetches old new end (AnswersAlone.begun records opened (AnswersJob.no_memory after r)) =
-    refused-same fetches_of 70 0 old new end r
-upgrade-fetches old new end (AnswersAlone.begun records opened (AnswersJob.ended how none runs left by)) =
-    left-same fetches_of records UpgradeJob how old new end.heard left left.leaves.by_kind.1
+upgrade-fetches old new end = alone-cases (early-same fetches_of) (λ records opened how none left by.
+    left-same fetches_of records UpgradeJob how old new end.heard left left.leaves.by_kind.1)
 
 -- a list fetches nothing
 pub list-fetches : (old new : Seen) (end : Ending) → AnswersList old new end → SameFetches old new
-list-fetches old new end (AnswersList.unstarted u) = unstarted-same fetches_of old new end u
-list-fetches old new end (AnswersList.no_memory r) = refused-same fetches_of 70 0 old new end r
-list-fetches old new end (AnswersList.listed records opened L) =
-    λ j. ap (λ ps. (provider_at ps j).fetches) L.providers
+list-fetches old new end = list-cases (early-same fetches_of)
+    (λ records opened L j. ap (λ ps. (provider_at ps j).fetches) L.providers)
 
 -- an init fetches nothing
 pub init-fetches : (numbers : Numbers) (old new : Seen) (end : Ending) → AnswersInit numbers old new end →
     SameFetches old new
-init-fetches numbers old new end (AnswersInit.bad_setup bad same r) =
-    refused-same fetches_of 20 0 old new end r
-init-fetches numbers old new end (AnswersInit.too_few_providers good few same r) =
-    refused-same fetches_of 22 0 old new end r
-init-fetches numbers old new end (AnswersInit.source_fault good enough rose taken r) =
-    refused-same fetches_of 14 0 old new end r
-init-fetches numbers old new end (AnswersInit.bad_key seen good enough read none r) =
-    refused-same fetches_of 18 0 old new end r
-init-fetches numbers old new end (AnswersInit.no_memory taken r) = refused-same fetches_of 70 0 old new end r
-init-fetches numbers old new end (AnswersInit.keyed seen key good enough read form (InitsDisk.disk_fault rose F)) =
-    λ j. ap (λ ps. (provider_at ps j).fetches) F.providers
-init-fetches numbers old new end (AnswersInit.keyed seen key good enough read form (InitsDisk.no_memory F)) =
-    λ j. ap (λ ps. (provider_at ps j).fetches) F.providers
-init-fetches numbers old new end (AnswersInit.keyed seen key good enough read form (InitsDisk.bad_journal at is r)) =
-    refused-same fetches_of 8 at old new end r
-init-fetches numbers old new end (AnswersInit.keyed seen key good enough read form (InitsDisk.already is r)) =
-    refused-same fetches_of 10 0 old new end r
-init-fetches numbers old new end (AnswersInit.keyed seen key good enough read form (InitsDisk.ready R)) =
-    λ j. ap (λ ps. (provider_at ps j).fetches) R.providers
+init-fetches numbers old new end = init-cases (early-same fetches_of)
+    (λ key status two F j. ap (λ ps. (provider_at ps j).fetches) F.providers)
+    (λ key R j. ap (λ ps. (provider_at ps j).fetches) R.providers)
 
 -- ---- which answers end a command so
-
--- 13 and 4 are statuses of a job's end alone
-abbrev pub IsOwn : ℕ → Type 0
-IsOwn m = (m ≡ 13) ⊎ (m ≡ 4)
-
--- no command ends so that did not start, found no memory or wrote its text
-pub unstarted-own : (m : ℕ) (old new : Seen) (end : Ending) → Unstarted old new end → end.status ≡ m →
-    IsOwn m → ⊥
-unstarted-own m old new end (Unstarted.disk_fault rose r) is own =
-    not_two end.status 12 m r.status_is is
-    (λ e. elim own [ inl k ↦ omega (arith, k, e) | inr k ↦ omega (arith, k, e) ])
-unstarted-own m old new end (Unstarted.not_set_up fresh sync r) is own =
-    not_two end.status 9 m r.status_is is
-    (λ e. elim own [ inl k ↦ omega (arith, k, e) | inr k ↦ omega (arith, k, e) ])
-unstarted-own m old new end (Unstarted.bad_journal at bad r) is own =
-    not_two end.status 8 m r.status_is is
-    (λ e. elim own [ inl k ↦ omega (arith, k, e) | inr k ↦ omega (arith, k, e) ])
-unstarted-own m old new end (Unstarted.too_few_providers area records read few after r) is own =
-    not_two end.status 22 m r.status_is is
-    (λ e. elim own [ inl k ↦ omega (arith, k, e) | inr k ↦ omega (arith, k, e) ])
-unstarted-own m old new end (Unstarted.no_memory r) is own =
-    not_two end.status 70 m r.status_is is
-    (λ e. elim own [ inl k ↦ omega (arith, k, e) | inr k ↦ omega (arith, k, e) ])
-
-refused-own : (m : ℕ) (why : Refusal) (status : ℕ) → status ≡ status_of why → status ≡ m → IsOwn m → ⊥
-refused-own m why status at is (inl k) = refused-not why 13 refl (λ e. omega (arith, e)) (sym at ∙ (is ∙ k))
-refused-own m why status at is (inr k) = refused-not why 4 refl (λ e. omega (arith, e)) (sym at ∙ (is ∙ k))
-
-pub memory-own : (m status : ℕ) → status ≡ 70 → status ≡ m → IsOwn m → ⊥
-memory-own m status at is (inl k) = not_two status 70 m at is (λ e. omega (arith, k, e))
-memory-own m status at is (inr k) = not_two status 70 m at is (λ e. omega (arith, k, e))
-
-pub written-own : (m : ℕ) (text : List ℕ) (old new : Seen) (end : Ending) →
-    WritesLine text end.status (sinking old new) → end.status ≡ m → IsOwn m → ⊥
-written-own m text old new end (inl w) is (inl k) = not_two end.status 0 m w.0 is (λ e. omega (arith, k, e))
-written-own m text old new end (inl w) is (inr k) = not_two end.status 0 m w.0 is (λ e. omega (arith, k, e))
-written-own m text old new end (inr (inl w)) is (inl k) =
-    not_two end.status 15 m w.1 is (λ e. omega (arith, k, e))
-written-own m text old new end (inr (inl w)) is (inr k) =
-    not_two end.status 15 m w.1 is (λ e. omega (arith, k, e))
-written-own m text old new end (inr (inr w)) is own = memory-own m end.status w.0 is own
 
 -- what a command ends with, by the answer of its job
 abbrev EndsWith : List Record → Kind → Answer → Seen → Seen → Ending → Type 0
@@ -149,8 +68,9 @@ put-by : (name bytes : List ℕ) (records : List Record) (old new : Seen) (end :
     (opened : IsOpened old records) → ReadsFront old.source new.source bytes → length bytes ≤ largest_file →
     (how : Answer) (left : LeftAlone opened.area records (PutJob name bytes) own how old new end.heard) →
     PutLeaves (ran_left records (PutJob name bytes) how old new end.heard left) own name bytes how →
-    EndsWith records (PutJob name bytes) how old new end → end.status ≡ 13 → FailsToPut name own old new end
-put-by name bytes records old new end opened read few (answer.ProviderFault j) left L by is = record {
+    EndsWith records (PutJob name bytes) how old new end → fits 13 how ≡ true →
+    FailsToPut name own old new end
+put-by name bytes records old new end opened read few (answer.ProviderFault j) left L by t = record {
   records = records;
   bytes = bytes;
   opened = opened;
@@ -164,33 +84,19 @@ put-by name bytes records old new end opened read few (answer.ProviderFault j) l
   disk = images-have opened.area new.disk left.after left.doubt _ L.2.after L.2.sure left.images;
   stored = L.3;
 }
-put-by name bytes records old new end opened read few answer.Put left L by is =
-    absurd (written-own 13 _ old new end by.written is (inl refl))
-put-by name bytes records old new end opened read few answer.DiskFault left L by is =
-    absurd (not_two end.status 12 13 by.status_is is (λ e. omega (arith, e)))
-put-by name bytes records old new end opened read few answer.Memory left L by is =
-    absurd (memory-own 13 end.status by.status_is is (inl refl))
-put-by name bytes records old new end opened read few how left L by is = absurd L
+put-by name bytes records old new end opened read few answer.Put left L by t = absurd (false≢true t)
+put-by name bytes records old new end opened read few answer.DiskFault left L by t = absurd (false≢true t)
+put-by name bytes records old new end opened read few answer.Memory left L by t = absurd (false≢true t)
+put-by name bytes records old new end opened read few how left L by t = absurd L
 
 -- a put of which a store failed used its number, and changed neither the files nor what is due
 pub put-fails : (name : List ℕ) (old new : Seen) (end : Ending) {own : Option ℕ} →
     AnswersPut name own old new end → end.status ≡ 13 → FailsToPut name own old new end
-put-fails name old new end (AnswersPut.unstarted u same) is =
-    absurd (unstarted-own 13 old new end u is (inl refl))
-put-fails name old new end (AnswersPut.source_fault records opened known rose after taken r) is =
-    absurd (not_two end.status 14 13 r.status_is is (λ e. omega (arith, e)))
-put-fails name old new end (AnswersPut.bad_profile records opened unknown after same r) is =
-    absurd (not_two end.status 20 13 r.status_is is (λ e. omega (arith, e)))
-put-fails name old new end (AnswersPut.no_memory taken r) is =
-    absurd (memory-own 13 end.status r.status_is is (inl refl))
-put-fails name old new end (AnswersPut.given_up records bytes opened known none stops runs left) is =
-    absurd (given-not _ bytes old new end 13 stops (λ e. omega (arith, e)) (λ e. omega (arith, e)) is)
-put-fails name old new end (AnswersPut.begun records bytes opened known read few (AnswersJob.refused why applies after r) whole) is =
-    absurd (refused-own 13 why end.status r.status_is is (inl refl))
-put-fails name old new end (AnswersPut.begun records bytes opened known read few (AnswersJob.no_memory after r) whole) is =
-    absurd (memory-own 13 end.status r.status_is is (inl refl))
-put-fails name old new end (AnswersPut.begun records bytes opened known read few (AnswersJob.ended how none runs left by) whole) is =
-    put-by name bytes records old new end opened read few how left left.leaves.by_kind.0 by is
+put-fails name old new end A is = put-cases (λ E. absurd (early-not E 13 refl is))
+    (λ records bytes opened known none stops left. absurd
+    (given-not _ bytes old new end 13 stops refl is))
+    (λ records bytes opened known read few how none left whole by. put-by name bytes records old new end opened
+    read few how left left.leaves.by_kind.0 by (ends-at _ old new end 13 how by is)) A
 
 -- ---- gets
 
@@ -198,8 +104,8 @@ get-by : (name : List ℕ) (records : List Record) (old new : Seen) (end : Endin
     (opened : IsOpened old records) →
     (how : Answer) (left : LeftAlone opened.area records (GetJob name) None how old new end.heard) →
     GetLeaves (ran_left records (GetJob name) how old new end.heard left) name how →
-    EndsWith records (GetJob name) how old new end → end.status ≡ 4 → LosesFile name old new end
-get-by name records old new end opened (answer.Lost stripe row) left L by is =
+    EndsWith records (GetJob name) how old new end → fits 4 how ≡ true → LosesFile name old new end
+get-by name records old new end opened (answer.Lost stripe row) left L by t =
     (let G = L.gives in
     let H = G.hears in record {
       records = records;
@@ -217,29 +123,23 @@ get-by name records old new end opened (answer.Lost stripe row) left L by is =
       sink = by.sink;
       disk = images-have opened.area new.disk left.after left.doubt records L.records L.sure left.images;
     })
-get-by name records old new end opened (answer.Got bytes) left L by is =
-    absurd (written-own 4 _ old new end by.written is (inr refl))
-get-by name records old new end opened how left L by is = absurd L.gives
+get-by name records old new end opened (answer.Got bytes) left L by t = absurd (false≢true t)
+get-by name records old new end opened how left L by t = absurd L.gives
 
 -- a get that ends at a lost row found the lowest of the first stripe that has one, and gave nothing
 pub get-loses : (name : List ℕ) (old new : Seen) (end : Ending) → AnswersAlone (GetJob name) old new end →
     end.status ≡ 4 → LosesFile name old new end
-get-loses name old new end (AnswersAlone.unstarted u) is =
-    absurd (unstarted-own 4 old new end u is (inr refl))
-get-loses name old new end (AnswersAlone.begun records opened (AnswersJob.refused why applies after r)) is =
-    absurd (refused-own 4 why end.status r.status_is is (inr refl))
-get-loses name old new end (AnswersAlone.begun records opened (AnswersJob.no_memory after r)) is =
-    absurd (memory-own 4 end.status r.status_is is (inr refl))
-get-loses name old new end (AnswersAlone.begun records opened (AnswersJob.ended how none runs left by)) is =
-    get-by name records old new end opened how left left.leaves.by_kind by is
+get-loses name old new end A is = alone-cases (λ E. absurd (early-not E 4 refl is))
+    (λ records opened how none left by. get-by name records old new end opened how left left.leaves.by_kind by
+    (ends-at _ old new end 4 how by is)) A
 
 -- ---- repairs
 
 repair-by : (records : List Record) (old new : Seen) (end : Ending) → (opened : IsOpened old records) →
     (how : Answer) (left : LeftAlone opened.area records RepairJob None how old new end.heard) (due : Due) →
     due_of records ≡ Some due → RepairGives (ran_left records RepairJob how old new end.heard left) due how →
-    EndsWith records RepairJob how old new end → end.status ≡ 13 → FailsToRepair old new end
-repair-by records old new end opened (answer.ProviderFault j) left due is_due L by is =
+    EndsWith records RepairJob how old new end → fits 13 how ≡ true → FailsToRepair old new end
+repair-by records old new end opened (answer.ProviderFault j) left due is_due L by t =
     (let S = L.4 in
     let P = S.part in record {
       records = records;
@@ -262,21 +162,17 @@ repair-by records old new end opened (answer.ProviderFault j) left due is_due L 
         part = record { parts = P.parts; truth = P.truth; gives = P.gives; held = P.held };
       };
     })
-repair-by records old new end opened (answer.Repaired number) left due is_due L by is =
-    absurd (written-own 13 _ old new end by.written is (inl refl))
-repair-by records old new end opened (answer.Lost stripe row) left due is_due L by is =
-    absurd (not_two end.status 4 13 by.status_is is (λ e. omega (arith, e)))
-repair-by records old new end opened answer.DiskFault left due is_due L by is =
-    absurd (not_two end.status 12 13 by.status_is is (λ e. omega (arith, e)))
-repair-by records old new end opened answer.Memory left due is_due L by is =
-    absurd (memory-own 13 end.status by.status_is is (inl refl))
-repair-by records old new end opened how left due is_due L by is = absurd L
+repair-by records old new end opened (answer.Repaired number) left due is_due L by t = absurd (false≢true t)
+repair-by records old new end opened (answer.Lost stripe row) left due is_due L by t = absurd (false≢true t)
+repair-by records old new end opened answer.DiskFault left due is_due L by t = absurd (false≢true t)
+repair-by records old new end opened answer.Memory left due is_due L by t = absurd (false≢true t)
+repair-by records old new end opened how left due is_due L by t = absurd L
 
 lost-by : (records : List Record) (old new : Seen) (end : Ending) → (opened : IsOpened old records) →
     (how : Answer) (left : LeftAlone opened.area records RepairJob None how old new end.heard) (due : Due) →
     due_of records ≡ Some due → RepairGives (ran_left records RepairJob how old new end.heard left) due how →
-    EndsWith records RepairJob how old new end → end.status ≡ 4 → LosesRepair old new end
-lost-by records old new end opened (answer.Lost stripe row) left due is_due L by is =
+    EndsWith records RepairJob how old new end → fits 4 how ≡ true → LosesRepair old new end
+lost-by records old new end opened (answer.Lost stripe row) left due is_due L by t =
     (let S = L.1 in
     let P = S.part in record {
       records = records;
@@ -301,57 +197,27 @@ lost-by records old new end opened (answer.Lost stripe row) left due is_due L by
       disk = images-have opened.area new.disk left.after left.doubt records L.0.after L.0.sure
           left.images;
     })
-lost-by records old new end opened (answer.Repaired number) left due is_due L by is =
-    absurd (written-own 4 _ old new end by.written is (inr refl))
-lost-by records old new end opened (answer.ProviderFault j) left due is_due L by is =
-    absurd (not_two end.status 13 4 by.status_is is (λ e. omega (arith, e)))
-lost-by records old new end opened answer.DiskFault left due is_due L by is =
-    absurd (not_two end.status 12 4 by.status_is is (λ e. omega (arith, e)))
-lost-by records old new end opened answer.Memory left due is_due L by is =
-    absurd (memory-own 4 end.status by.status_is is (inr refl))
-lost-by records old new end opened how left due is_due L by is = absurd L
+lost-by records old new end opened (answer.Repaired number) left due is_due L by t = absurd (false≢true t)
+lost-by records old new end opened (answer.ProviderFault j) left due is_due L by t = absurd (false≢true t)
+lost-by records old new end opened answer.DiskFault left due is_due L by t = absurd (false≢true t)
+lost-by records old new end opened answer.Memory left due is_due L by t = absurd (false≢true t)
+lost-by records old new end opened how left due is_due L by t = absurd L
 
 -- a repair of which a store failed stays due, and rewrote at most some of its blocks
 pub repair-fails : (old new : Seen) (end : Ending) → AnswersAlone RepairJob old new end → end.status ≡ 13 →
     FailsToRepair old new end
-repair-fails old new end (AnswersAlone.unstarted u) is = absurd (unstarted-own 13 old new end u is (inl refl))
-repair-fails old new end (AnswersAlone.begun records opened (AnswersJob.refused why applies after r)) is =
-    absurd (refused-own 13 why end.status r.status_is is (inl refl))
-repair-fails old new end (AnswersAlone.begun records opened (AnswersJob.no_memory after r)) is =
-    absurd (memory-own 13 end.status r.status_is is (inl refl))
-repair-fails old new end (AnswersAlone.begun records opened (AnswersJob.ended how none runs left by)) is =
-    (let L = left.leaves.by_kind.0 in
-    repair-by records old new end opened how left L.due L.is_due L.gives by is)
+repair-fails old new end A is = alone-cases (λ E. absurd (early-not E 13 refl is))
+    (λ records opened how none left by. let L = left.leaves.by_kind.0 in repair-by records old new end opened how
+    left L.due L.is_due L.gives by (ends-at _ old new end 13 how by is)) A
 
 -- a repair that ends at a lost row stays due, and rewrote at most some blocks before that place
 pub repair-loses : (old new : Seen) (end : Ending) → AnswersAlone RepairJob old new end → end.status ≡ 4 →
     LosesRepair old new end
-repair-loses old new end (AnswersAlone.unstarted u) is = absurd (unstarted-own 4 old new end u is (inr refl))
-repair-loses old new end (AnswersAlone.begun records opened (AnswersJob.refused why applies after r)) is =
-    absurd (refused-own 4 why end.status r.status_is is (inr refl))
-repair-loses old new end (AnswersAlone.begun records opened (AnswersJob.no_memory after r)) is =
-    absurd (memory-own 4 end.status r.status_is is (inr refl))
-repair-loses old new end (AnswersAlone.begun records opened (AnswersJob.ended how none runs left by)) is =
-    (let L = left.leaves.by_kind.0 in
-    lost-by records old new end opened how left L.due L.is_due L.gives by is)
+repair-loses old new end A is = alone-cases (λ E. absurd (early-not E 4 refl is))
+    (λ records opened how none left by. let L = left.leaves.by_kind.0 in lost-by records old new end opened how
+    left L.due L.is_due L.gives by (ends-at _ old new end 4 how by is)) A
 
 -- ---- no other command ends so
-
--- a job that ended so ended in a store that failed, or a lost row
-data OwnEnd (how : Answer) : Type 0 where
-  store : (j : ℕ) → how ≡ answer.ProviderFault j → OwnEnd how
-  lost : (stripe row : ℕ) → how ≡ answer.Lost stripe row → OwnEnd how
-
-own-end : (m : ℕ) (text : List ℕ) (how : Answer) (old new : Seen) (end : Ending) →
-    EndsByAnswer text how old new end → end.status ≡ m → IsOwn m → OwnEnd how
-own-end m text (answer.Lost stripe row) old new end by is own = OwnEnd.lost stripe row refl
-own-end m text (answer.ProviderFault j) old new end by is own = OwnEnd.store j refl
-own-end m text answer.DiskFault old new end by is (inl k) =
-    absurd (not_two end.status 12 m by.status_is is (λ e. omega (arith, k, e)))
-own-end m text answer.DiskFault old new end by is (inr k) =
-    absurd (not_two end.status 12 m by.status_is is (λ e. omega (arith, k, e)))
-own-end m text answer.Memory old new end by is own = absurd (memory-own m end.status by.status_is is own)
-own-end m text how old new end by is own = absurd (written-own m text old new end by.written is own)
 
 -- which kinds of job end so
 abbrev Ends13 : Kind → Type 0
@@ -364,171 +230,113 @@ Ends4 (GetJob name) = Unit {0}
 Ends4 RepairJob = Unit {0}
 Ends4 kind = ⊥
 
-store-kind : (x : Ran) (kind : Kind) (own : Option ℕ) (j : ℕ) →
-    LeavesBy x kind own (answer.ProviderFault j) → Ends13 kind
-store-kind x (PutJob name bytes) own j L = tt
-store-kind x (GetJob name) own j L = L.gives
-store-kind x (DropJob name) own j L = L.0
-store-kind x AuditJob own j L = L.gives
-store-kind x RepairJob own j L = tt
-store-kind x UpgradeJob own j L = L.0
+store-kind : (x : Ran) (kind : Kind) (own : Option ℕ) (how : Answer) → LeavesBy x kind own how →
+    fits 13 how ≡ true → Ends13 kind
+store-kind x (PutJob name bytes) own how L t = tt
+store-kind x RepairJob own how L t = tt
+store-kind x (GetJob name) own (answer.ProviderFault j) L t = L.gives
+store-kind x (DropJob name) own (answer.ProviderFault j) L t = L.0
+store-kind x AuditJob own (answer.ProviderFault j) L t = L.gives
+store-kind x UpgradeJob own (answer.ProviderFault j) L t = L.0
+store-kind x kind own how L t = absurd (false≢true t)
 
-lost-kind : (x : Ran) (kind : Kind) (own : Option ℕ) (stripe row : ℕ) →
-    LeavesBy x kind own (answer.Lost stripe row) → Ends4 kind
-lost-kind x (PutJob name bytes) own stripe row L = L.0
-lost-kind x (GetJob name) own stripe row L = tt
-lost-kind x (DropJob name) own stripe row L = L.0
-lost-kind x AuditJob own stripe row L = L.gives
-lost-kind x RepairJob own stripe row L = tt
-lost-kind x UpgradeJob own stripe row L = L.0
-
-ended-13 : (kind : Kind) (own : Option ℕ) (text : List ℕ) (how : Answer) (x : Ran) (old new : Seen)
-    (end : Ending) → LeavesBy x kind own how → EndsByAnswer text how old new end → end.status ≡ 13 →
-    Ends13 kind
-ended-13 kind own text how x old new end L by is = go (own-end 13 text how old new end by is (inl refl))
-  where
-    go : OwnEnd how → Ends13 kind
-    go (OwnEnd.store j same) = store-kind x kind own j (subst (LeavesBy x kind own) same L)
-    go (OwnEnd.lost stripe row same) =
-        absurd (let told = subst (λ h. EndsByAnswer text h old new end) same by in
-        not_two end.status 4 13 told.status_is is (λ e. omega (arith, e)))
-
-ended-4 : (kind : Kind) (own : Option ℕ) (text : List ℕ) (how : Answer) (x : Ran) (old new : Seen)
-    (end : Ending) → LeavesBy x kind own how → EndsByAnswer text how old new end → end.status ≡ 4 → Ends4 kind
-ended-4 kind own text how x old new end L by is = go (own-end 4 text how old new end by is (inr refl))
-  where
-    go : OwnEnd how → Ends4 kind
-    go (OwnEnd.lost stripe row same) = lost-kind x kind own stripe row (subst (LeavesBy x kind own) same L)
-    go (OwnEnd.store j same) =
-        absurd (let told = subst (λ h. EndsByAnswer text h old new end) same by in
-        not_two end.status 13 4 told.status_is is (λ e. omega (arith, e)))
+lost-kind : (x : Ran) (kind : Kind) (own : Option ℕ) (how : Answer) → LeavesBy x kind own how →
+    fits 4 how ≡ true → Ends4 kind
+lost-kind x (GetJob name) own how L t = tt
+lost-kind x RepairJob own how L t = tt
+lost-kind x (PutJob name bytes) own (answer.Lost stripe row) L t = L.0
+lost-kind x (DropJob name) own (answer.Lost stripe row) L t = L.0
+lost-kind x AuditJob own (answer.Lost stripe row) L t = L.gives
+lost-kind x UpgradeJob own (answer.Lost stripe row) L t = L.0
+lost-kind x kind own how L t = absurd (false≢true t)
 
 alone-13 : (kind : Kind) (old new : Seen) (end : Ending) → AnswersAlone kind old new end → end.status ≡ 13 →
     Ends13 kind
-alone-13 kind old new end (AnswersAlone.unstarted u) is =
-    absurd (unstarted-own 13 old new end u is (inl refl))
-alone-13 kind old new end (AnswersAlone.begun records opened (AnswersJob.refused why applies after r)) is =
-    absurd (refused-own 13 why end.status r.status_is is (inl refl))
-alone-13 kind old new end (AnswersAlone.begun records opened (AnswersJob.no_memory after r)) is =
-    absurd (memory-own 13 end.status r.status_is is (inl refl))
-alone-13 kind old new end (AnswersAlone.begun records opened (AnswersJob.ended how none runs left by)) is =
-    ended-13 kind _ _ how (ran_left records kind how old new end.heard left) old new end
-    left.leaves.by_kind by is
-
-job-4 : {area : Area} (kind : Kind) (records : List Record) (old new : Seen) (end : Ending) {own : Option ℕ} →
-    AnswersJob kind own area records old new end → end.status ≡ 4 → Ends4 kind
-job-4 kind records old new end (AnswersJob.refused why applies after r) is =
-    absurd (refused-own 4 why end.status r.status_is is (inr refl))
-job-4 kind records old new end (AnswersJob.no_memory after r) is =
-    absurd (memory-own 4 end.status r.status_is is (inr refl))
-job-4 kind records old new end (AnswersJob.ended how none runs left by) is =
-    ended-4 kind _ _ how (ran_left records kind how old new end.heard left) old new end left.leaves.by_kind by
-    is
+alone-13 kind old new end A is = alone-cases (λ E. absurd (early-not E 13 refl is))
+    (λ records opened how none left by. store-kind (ran_left records kind how old new end.heard left) kind None
+    how left.leaves.by_kind (ends-at _ old new end 13 how by is)) A
 
 alone-4 : (kind : Kind) (old new : Seen) (end : Ending) → AnswersAlone kind old new end → end.status ≡ 4 →
     Ends4 kind
-alone-4 kind old new end (AnswersAlone.unstarted u) is = absurd (unstarted-own 4 old new end u is (inr refl))
-alone-4 kind old new end (AnswersAlone.begun records opened A) is = job-4 kind records old new end A is
+alone-4 kind old new end A is = alone-cases (λ E. absurd (early-not E 4 refl is))
+    (λ records opened how none left by. lost-kind (ran_left records kind how old new end.heard left) kind None
+    how left.leaves.by_kind (ends-at _ old new end 4 how by is)) A
 
 put-4 : (name : List ℕ) (old new : Seen) (end : Ending) {own : Option ℕ} → AnswersPut name own old new end →
     end.status ≡ 4 → ⊥
-put-4 name old new end (AnswersPut.unstarted u same) is = unstarted-own 4 old new end u is (inr refl)
-put-4 name old new end (AnswersPut.source_fault records opened known rose after taken r) is =
-    not_two end.status 14 4 r.status_is is (λ e. omega (arith, e))
-put-4 name old new end (AnswersPut.bad_profile records opened unknown after same r) is =
-    not_two end.status 20 4 r.status_is is (λ e. omega (arith, e))
-put-4 name old new end (AnswersPut.no_memory taken r) is = memory-own 4 end.status r.status_is is (inr refl)
-put-4 name old new end (AnswersPut.given_up records bytes opened known none stops runs left) is =
-    given-not _ bytes old new end 4 stops (λ e. omega (arith, e)) (λ e. omega (arith, e)) is
-put-4 name old new end (AnswersPut.begun records bytes opened known read few A whole) is =
-    job-4 (PutJob name bytes) records old new end A is
+put-4 name old new end {own} A is = put-cases (λ E. early-not E 4 refl is)
+    (λ records bytes opened known none stops left.
+    given-not _ bytes old new end 4 stops refl is)
+    (λ records bytes opened known read few how none left whole by.
+    lost-kind (ran_left records (PutJob name bytes) how old new end.heard left) (PutJob name bytes) own how
+    left.leaves.by_kind (ends-at _ old new end 4 how by is)) A
 
-list-own : (m : ℕ) (old new : Seen) (end : Ending) → AnswersList old new end → end.status ≡ m → IsOwn m → ⊥
-list-own m old new end (AnswersList.unstarted u) is own = unstarted-own m old new end u is own
-list-own m old new end (AnswersList.no_memory r) is own = memory-own m end.status r.status_is is own
-list-own m old new end (AnswersList.listed records opened L) is own =
-    written-own m _ old new end L.written is own
+-- a status that is of no text, nor of a refusal
+abbrev is_own : ℕ → Bool
+is_own m = not ((m == 0) || (m == 12) || (m == 15) || (m == 70))
 
-init-own : (m : ℕ) (numbers : Numbers) (old new : Seen) (end : Ending) → AnswersInit numbers old new end →
-    end.status ≡ m → IsOwn m → ⊥
-init-own m numbers old new end (AnswersInit.no_memory taken r) is own =
-    memory-own m end.status r.status_is is own
-init-own m numbers old new end (AnswersInit.keyed seen key good enough read form (InitsDisk.no_memory F)) is own =
-    memory-own m end.status F.status_is is own
-init-own m numbers old new end (AnswersInit.keyed seen key good enough read form (InitsDisk.ready R)) is own =
-    written-own m _ old new end R.written is own
-init-own m numbers old new end (AnswersInit.bad_setup bad same r) is own =
-    not_two end.status 20 m r.status_is is
-    (λ e. elim own [ inl k ↦ omega (arith, k, e) | inr k ↦ omega (arith, k, e) ])
-init-own m numbers old new end (AnswersInit.too_few_providers good few same r) is own =
-    not_two end.status 22 m r.status_is is
-    (λ e. elim own [ inl k ↦ omega (arith, k, e) | inr k ↦ omega (arith, k, e) ])
-init-own m numbers old new end (AnswersInit.source_fault good enough rose taken r) is own =
-    not_two end.status 14 m r.status_is is
-    (λ e. elim own [ inl k ↦ omega (arith, k, e) | inr k ↦ omega (arith, k, e) ])
-init-own m numbers old new end (AnswersInit.bad_key seen good enough read none r) is own =
-    not_two end.status 18 m r.status_is is
-    (λ e. elim own [ inl k ↦ omega (arith, k, e) | inr k ↦ omega (arith, k, e) ])
-init-own m numbers old new end (AnswersInit.keyed seen key good enough read form (InitsDisk.disk_fault rose F)) is own =
-    not_two end.status 12 m F.status_is is
-    (λ e. elim own [ inl k ↦ omega (arith, k, e) | inr k ↦ omega (arith, k, e) ])
-init-own m numbers old new end (AnswersInit.keyed seen key good enough read form (InitsDisk.bad_journal at cause r)) is own =
-    not_two end.status 8 m r.status_is is
-    (λ e. elim own [ inl k ↦ omega (arith, k, e) | inr k ↦ omega (arith, k, e) ])
-init-own m numbers old new end (AnswersInit.keyed seen key good enough read form (InitsDisk.already cause r)) is own =
-    not_two end.status 10 m r.status_is is
-    (λ e. elim own [ inl k ↦ omega (arith, k, e) | inr k ↦ omega (arith, k, e) ])
+written-own : (text : List ℕ) (old new : Seen) (end : Ending) (m : ℕ) →
+    WritesLine text end.status (sinking old new) → end.status ≡ m → is_own m ≡ true → ⊥
+written-own text old new end m w is own = false≢true
+    (sym (written-so is_own text old new end refl refl refl w) ∙ (ap is_own is ∙ own))
 
-pack-by : (m : ℕ) (area : Area) (records : List Record) (how : Answer) (old new : Seen) (end : Ending) →
-    PackLeaves area records how old new → EndsByAnswer (pack_text how) how old new end → end.status ≡ m →
-    IsOwn m → ⊥
-pack-by m area records (answer.Packed before after) old new end L by is own =
-    written-own m _ old new end by.written is own
-pack-by m area records answer.DiskFault old new end L by is (inl k) =
-    not_two end.status 12 m by.status_is is (λ e. omega (arith, k, e))
-pack-by m area records answer.DiskFault old new end L by is (inr k) =
-    not_two end.status 12 m by.status_is is (λ e. omega (arith, k, e))
-pack-by m area records answer.Memory old new end L by is own = memory-own m end.status by.status_is is own
-pack-by m area records how old new end L by is own = absurd L
+list-own : (m : ℕ) (old new : Seen) (end : Ending) → is_early m ≡ false → is_own m ≡ true →
+    AnswersList old new end → end.status ≡ m → ⊥
+list-own m old new end off own A is = list-cases (λ E. early-not E m off is)
+    (λ records opened L. written-own _ old new end m L.written is own) A
+
+init-own : (m : ℕ) (numbers : Numbers) (old new : Seen) (end : Ending) → is_early m ≡ false →
+    is_own m ≡ true → AnswersInit numbers old new end → end.status ≡ m → ⊥
+init-own m numbers old new end off own A is = init-cases (λ E. early-not E m off is)
+    (λ key status two F. false≢true (sym (elim two [ inl e ↦ ap is_own e | inr e ↦ ap is_own e ])
+    ∙ (ap is_own (sym F.status_is ∙ is) ∙ own))) (λ key R. written-own _ old new end m R.written is own) A
 
 -- no pack ends in a failed store or at a lost row
-pub pack-own : (m : ℕ) (old new : Seen) (end : Ending) → AnswersPack old new end → end.status ≡ m →
-    IsOwn m → ⊥
-pack-own m old new end (AnswersPack.unstarted u) is own = unstarted-own m old new end u is own
-pack-own m old new end (AnswersPack.refused records why opened cause synced r) is own =
-    refused-own m why end.status r.status_is is own
-pack-own m old new end (AnswersPack.no_memory records opened synced r) is own =
-    memory-own m end.status r.status_is is own
-pack-own m old new end (AnswersPack.ended records how opened none heard runs left by) is own =
-    pack-by m opened.area records how old new end left.leaves by is own
+pack-own : (old new : Seen) (end : Ending) → AnswersPack old new end → (end.status ≡ 13) ⊎ (end.status ≡ 4) →
+    ⊥
+pack-own old new end A is = pack-cases {old = old} {new = new} {end = end}
+    (λ E. elim is [ inl e ↦ early-not E 13 refl e | inr e ↦ early-not E 4 refl e ])
+    (λ records how opened none left by. elim is [
+      | inl e ↦ fails opened.area records how left.leaves (ends-at _ old new end 13 how by e)
+      | inr e ↦ loses opened.area records how left.leaves (ends-at _ old new end 4 how by e)
+    ]) A
+  where
+    fails : (area : Area) (records : List Record) (how : Answer) → PackLeaves area records how old new →
+        fits 13 how ≡ true → ⊥
+    fails area records (answer.ProviderFault j) L t = L
+    fails area records how L t = false≢true t
+
+    loses : (area : Area) (records : List Record) (how : Answer) → PackLeaves area records how old new →
+        fits 4 how ≡ true → ⊥
+    loses area records (answer.Lost stripe row) L t = L
+    loses area records how L t = false≢true t
 
 -- only a put, a repair and a scrub end in a failed store
 pub stores-only : (command : Command) (old new : Seen) (end : Ending) → Answers command old new end →
     end.status ≡ 13 → stores_blocks command ≡ true
 stores-only (RowOf n l b seen) old new end A is =
-    absurd (none-at n l b seen old new end A.0 13 is (λ e. omega (arith, e)) (λ e. omega (arith, e))
-    (λ e. omega (arith, e)) (λ e. omega (arith, e)) (λ e. omega (arith, e)))
-stores-only (InitWith numbers) old new end A is = absurd (init-own 13 numbers old new end A is (inl refl))
+    absurd (none-at n l b seen old new end A.0 13 is refl)
+stores-only (InitWith numbers) old new end A is = absurd (init-own 13 numbers old new end refl refl A is)
 stores-only (GetOf name) old new end A is = absurd (alone-13 (GetJob name) old new end A.0 is)
 stores-only (DropOf name) old new end A is = absurd (alone-13 (DropJob name) old new end A.0 is)
-stores-only ListAll old new end A is = absurd (list-own 13 old new end A.0 is (inl refl))
+stores-only ListAll old new end A is = absurd (list-own 13 old new end refl refl A.0 is)
 stores-only AuditAll old new end A is = absurd (alone-13 AuditJob old new end A.0 is)
 stores-only UpgradeJournal old new end A is = absurd (alone-13 UpgradeJob old new end A.0 is)
-stores-only PackJournal old new end A is = absurd (pack-own 13 old new end A.0 is (inl refl))
+stores-only PackJournal old new end A is = absurd (pack-own old new end A.0 (inl is))
 stores-only command old new end A is = refl
 
 -- only a row, a get, a repair and a scrub end at a lost row
 pub rows-only : (command : Command) (old new : Seen) (end : Ending) → Answers command old new end →
     end.status ≡ 4 → opens_rows command ≡ true
 rows-only (RowOf n l b seen) old new end A is = refl
-rows-only (InitWith numbers) old new end A is = absurd (init-own 4 numbers old new end A is (inr refl))
+rows-only (InitWith numbers) old new end A is = absurd (init-own 4 numbers old new end refl refl A is)
 rows-only (PutUnder name) old new end A is = absurd (put-4 name old new end A is)
 rows-only (PutAt name profile) old new end A is = absurd (put-4 name old new end A is)
 rows-only (GetOf name) old new end A is = refl
 rows-only (DropOf name) old new end A is = absurd (alone-4 (DropJob name) old new end A.0 is)
-rows-only ListAll old new end A is = absurd (list-own 4 old new end A.0 is (inr refl))
+rows-only ListAll old new end A is = absurd (list-own 4 old new end refl refl A.0 is)
 rows-only AuditAll old new end A is = absurd (alone-4 AuditJob old new end A.0 is)
 rows-only RepairAll old new end A is = refl
 rows-only UpgradeJournal old new end A is = absurd (alone-4 UpgradeJob old new end A.0 is)
 rows-only ScrubAll old new end A is = refl
-rows-only PackJournal old new end A is = absurd (pack-own 4 old new end A.0 is (inr refl))
+rows-only PackJournal old new end A is = absurd (pack-own old new end A.0 (inr is))

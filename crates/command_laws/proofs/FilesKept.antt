@@ -6,11 +6,12 @@ use Rattle.machine_defs.specs.Answers as answer
 use Rattle.machine_defs.proofs.RecordFacts.{AreSound, other_name}
 use Rattle.command_laws.proofs.Known.{known-once, known-both}
 use Rattle.command_laws.proofs.GetEnds.{ran_left}
-use Rattle.command_laws.proofs.JobEnds.{unstarted-refused, get-holds, list-holds, audit-holds, repair-done, upgrade-holds, done-case}
+use Rattle.command_laws.proofs.JobEnds.{get-holds, list-holds, audit-holds, repair-done, upgrade-holds, done-case}
 use Rattle.command_laws.proofs.Anew.{repair-right}
 use Rattle.command_laws.proofs.PackEnds.{pack-holds}
 use Rattle.command_laws.proofs.FilesStay.{bad-few}
 use Rattle.command_laws.proofs.Images.{take-none}
+use Rattle.command_laws.proofs.Early.{unstarted-early, job-cases}
 
 -- ---- what is held of one object
 
@@ -302,25 +303,20 @@ module _ (name other : List ℕ) (records : List Record) (file : File) (sound : 
 
   put-job : {area : Area} (bytes : List ℕ) {own : Option ℕ} (old new : Seen) (end : Ending) →
       AnswersJob (PutJob other bytes) own area records old new end → KeepsObject records file.id old new
-  put-job bytes old new end (AnswersJob.refused why is synced r) =
-      refused-keeps _ 0 records file.id old new end r
-  put-job bytes old new end (AnswersJob.no_memory synced r) = refused-keeps 70 0 records file.id old new end r
-  put-job bytes old new end (AnswersJob.ended how none runs left by) =
-      put-keeps bytes _ how old new end left left.leaves.by_kind.0
+  put-job bytes old new end = job-cases (λ E. refused-keeps E.status E.at records file.id old new end E.refused)
+      (λ how none left by. put-keeps bytes _ how old new end left left.leaves.by_kind.0)
 
   drop-job : {area : Area} (old new : Seen) (end : Ending) →
       AnswersJob (DropJob other) None area records old new end → KeepsObject records file.id old new
-  drop-job old new end (AnswersJob.refused why is synced r) = refused-keeps _ 0 records file.id old new end r
-  drop-job old new end (AnswersJob.no_memory synced r) = refused-keeps 70 0 records file.id old new end r
-  drop-job old new end (AnswersJob.ended how none runs left by) =
-      drop-keeps how old new end left left.leaves.by_kind.0
+  drop-job old new end = job-cases (λ E. refused-keeps E.status E.at records file.id old new end E.refused)
+      (λ how none left by. drop-keeps how old new end left left.leaves.by_kind.0)
 
 put-command : (name other bytes : List ℕ) (own : Option ℕ) (records : List Record) (spoilt : ℕ → Bool)
     (old new : Seen)
     (end : Ending) → other ≢ name → IsKnown old records → (H : HasRightFile old records name bytes spoilt) →
     AnswersPut other own old new end → KeepsObject records H.file.id old new
 put-command name other bytes own records spoilt old new end differ K H (AnswersPut.unstarted u same) =
-    (let r = unstarted-refused old new end u in refused-keeps r.0 r.1 records H.file.id old new end r.3)
+    (let E = unstarted-early u in refused-keeps E.status E.at records H.file.id old new end E.refused)
 put-command name other bytes own records spoilt old new end differ K H (AnswersPut.source_fault rs opened known rose synced taken r) =
     refused-keeps 14 0 records H.file.id old new end r
 put-command name other bytes own records spoilt old new end differ K H (AnswersPut.bad_profile rs opened unknown synced same r) =
@@ -339,7 +335,7 @@ drop-command : (name other bytes : List ℕ) (records : List Record) (spoilt : �
     (end : Ending) → other ≢ name → IsKnown old records → (H : HasRightFile old records name bytes spoilt) →
     AnswersAlone (DropJob other) old new end → KeepsObject records H.file.id old new
 drop-command name other bytes records spoilt old new end differ K H (AnswersAlone.unstarted u) =
-    (let r = unstarted-refused old new end u in refused-keeps r.0 r.1 records H.file.id old new end r.3)
+    (let E = unstarted-early u in refused-keeps E.status E.at records H.file.id old new end E.refused)
 drop-command name other bytes records spoilt old new end differ K H (AnswersAlone.begun rs opened A) =
     drop-job name other records H.file (sound-accepted records K.opened.read.accepted) H.in_effect differ old
     new end (known-both old records rs K opened (λ a l. AnswersJob (DropJob other) None a l old new end) A)

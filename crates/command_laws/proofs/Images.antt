@@ -5,7 +5,8 @@ use Rattle.device_defs.specs.Told.{Goes}
 use Rattle.machine_defs.specs.Answers as answer
 use Rattle.command_laws.proofs.Known.{known-once}
 use Rattle.command_laws.proofs.GetEnds.{ran_left}
-use Rattle.command_laws.proofs.JobEnds.{unstarted-refused, named-by, put-kind, given-kind}
+use Rattle.command_laws.proofs.JobEnds.{named-by, put-kind, given-kind}
+use Rattle.command_laws.proofs.Early.{IsEarly, unstarted-early, list-cases, scrub-cases, pack-cases, init-cases}
 
 -- ---- images of a disk that was synced
 
@@ -38,9 +39,8 @@ pub refused-keeps : (status at : ℕ) (old new : Seen) (end : Ending) → IsRefu
     KeepsImages old new
 refused-keeps status at old new end r = keeps-resynced old.disk new.disk r.disk
 
-unstarted-keeps : (old new : Seen) (end : Ending) → Unstarted old new end → KeepsImages old new
-unstarted-keeps old new end u =
-    (let r = unstarted-refused old new end u in refused-keeps r.0 r.1 old new end r.3)
+early-keeps : {old new : Seen} {end : Ending} → IsEarly old new end → KeepsImages old new
+early-keeps {old} {new} {end} E = refused-keeps E.status E.at old new end E.refused
 
 -- ---- the records that a job wrote
 
@@ -312,7 +312,7 @@ alone-whole kind records old new end none A = tt
 put-images : (name : List ℕ) (own : Option ℕ) (old new : Seen) (end : Ending) →
     AnswersPut name own old new end → LeavesImages (put_of name own) old new
 put-images name own old new end (AnswersPut.unstarted u same) =
-    LeavesImages.kept (unstarted-keeps old new end u)
+    LeavesImages.kept (early-keeps (unstarted-early u))
 put-images name own old new end (AnswersPut.bad_profile records opened unknown synced same r) =
     LeavesImages.kept (refused-keeps 20 0 old new end r)
 put-images name own old new end (AnswersPut.source_fault records opened known rose after taken r) =
@@ -345,30 +345,24 @@ alone-images : (command : Command) (kind : Kind) (old new : Seen) (end : Ending)
     profile_named command ≡ None → RunsKind command old new kind → ReadsNone kind →
     AnswersAlone kind old new end → LeavesImages command old new
 alone-images command kind old new end named is none (AnswersAlone.unstarted u) =
-    LeavesImages.kept (unstarted-keeps old new end u)
+    LeavesImages.kept (early-keeps (unstarted-early u))
 alone-images command kind old new end named is none (AnswersAlone.begun records opened A) =
     of-job command kind None records old new named opened is
     (job-images kind None records old new end opened A (alone-whole kind records old new end none A))
 
 list-images : (old new : Seen) (end : Ending) → AnswersList old new end → KeepsImages old new
-list-images old new end (AnswersList.unstarted u) = unstarted-keeps old new end u
-list-images old new end (AnswersList.no_memory r) = refused-keeps 70 0 old new end r
-list-images old new end (AnswersList.listed records opened L) = keeps-synced old.disk new.disk L.disk
+list-images old new end =
+    list-cases early-keeps (λ records opened L. keeps-synced old.disk new.disk L.disk)
 
 -- a scrub at most syncs the disk
 pub scrub-disk : (old new : Seen) (end : Ending) → AnswersScrub old new end → KeepsDisk old new
-scrub-disk old new end (AnswersScrub.unstarted u) =
-    (let r = unstarted-refused old new end u in r.3.disk)
-scrub-disk old new end (AnswersScrub.no_memory records opened synced r) = r.disk
-scrub-disk old new end (AnswersScrub.ended records how opened synced heard runs left by) =
-    resynced old.disk new.disk synced
+scrub-disk old new end = scrub-cases (λ E. E.refused.disk)
+    (λ records how opened synced left by. resynced old.disk new.disk synced)
 
 -- a scrub leaves only images that the disk had before
 pub scrub-images : (old new : Seen) (end : Ending) → AnswersScrub old new end → KeepsImages old new
-scrub-images old new end (AnswersScrub.unstarted u) = unstarted-keeps old new end u
-scrub-images old new end (AnswersScrub.no_memory records opened synced r) = refused-keeps 70 0 old new end r
-scrub-images old new end (AnswersScrub.ended records how opened synced heard runs left by) =
-    keeps-synced old.disk new.disk synced
+scrub-images old new end = scrub-cases early-keeps
+    (λ records how opened synced left by. keeps-synced old.disk new.disk synced)
 
 -- an image after a pack stands for the records that were read, or for the packed ones
 abbrev StandsPacked : List Record → List ℕ → Type 0
@@ -385,13 +379,9 @@ pack-by area records answer.Memory old new L = each_image-mono new.disk _ _ (λ 
 pack-by area records how old new L = absurd L
 
 pack-images : (old new : Seen) (end : Ending) → AnswersPack old new end → LeavesImages PackJournal old new
-pack-images old new end (AnswersPack.unstarted u) = LeavesImages.kept (unstarted-keeps old new end u)
-pack-images old new end (AnswersPack.refused records why opened is synced r) =
-    LeavesImages.kept (refused-keeps _ 0 old new end r)
-pack-images old new end (AnswersPack.no_memory records opened synced r) =
-    LeavesImages.kept (refused-keeps 70 0 old new end r)
-pack-images old new end (AnswersPack.ended records how opened none heard runs left by) =
-    LeavesImages.was_packed records opened refl (pack-by opened.area records how old new left.leaves)
+pack-images old new end = pack-cases (λ E. LeavesImages.kept (early-keeps E))
+    (λ records how opened none left by. LeavesImages.was_packed records opened refl
+    (pack-by opened.area records how old new left.leaves))
 
 -- a command leaves images as before, or ones of the records read with some that its job wrote, or packed
 pub store-images : (command : Command) (old new : Seen) (end : Ending) → Answers command old new end →
@@ -477,32 +467,12 @@ kept-left : (numbers : Numbers) (key : List ℕ) (old new : Option Cells) →
 kept-left numbers key (Some cells) (Some now) h = λ image is. inl (h image is)
 kept-left numbers key old new h = tt
 
-refused-init : (numbers : Numbers) (status at : ℕ) (old new : Seen) (end : Ending) →
-    IsRefused status at old new end → InitImages numbers old new
-refused-init numbers status at old new end r =
-    ([], inr (kept-left numbers [] old.disk new.disk (refused-keeps status at old new end r)))
-
 -- an init sets the store up, or leaves images that a failed init may leave
 pub init-images : (numbers : Numbers) (old new : Seen) (end : Ending) → AnswersInit numbers old new end →
     InitImages numbers old new
-init-images numbers old new end (AnswersInit.bad_setup bad same r) = refused-init numbers 20 0 old new end r
-init-images numbers old new end (AnswersInit.too_few_providers good few same r) =
-    refused-init numbers 22 0 old new end r
-init-images numbers old new end (AnswersInit.source_fault good enough rose taken r) =
-    refused-init numbers 14 0 old new end r
-init-images numbers old new end (AnswersInit.bad_key bytes good enough read bad r) =
-    refused-init numbers 18 0 old new end r
-init-images numbers old new end (AnswersInit.no_memory taken r) = refused-init numbers 70 0 old new end r
-init-images numbers old new end (AnswersInit.keyed bytes key good enough read form (InitsDisk.disk_fault rose F)) =
-    (key, inr F.images)
-init-images numbers old new end (AnswersInit.keyed bytes key good enough read form (InitsDisk.no_memory F)) =
-    (key, inr F.images)
-init-images numbers old new end (AnswersInit.keyed bytes key good enough read form (InitsDisk.bad_journal at is r)) =
-    refused-init numbers 8 at old new end r
-init-images numbers old new end (AnswersInit.keyed bytes key good enough read form (InitsDisk.already is r)) =
-    refused-init numbers 10 0 old new end r
-init-images numbers old new end (AnswersInit.keyed bytes key good enough read form (InitsDisk.ready R)) =
-    (key, inl R.disk)
+init-images numbers old new end =
+    init-cases (λ E. ([], inr (kept-left numbers [] old.disk new.disk (early-keeps E))))
+    (λ key status two F. (key, inr F.images)) (λ key R. (key, inl R.disk))
 
 -- over a store that is set up an init leaves only images that the disk had before
 pub init-kept : (numbers : Numbers) (records : List Record) (old new : Seen) (end : Ending) →

@@ -3,7 +3,8 @@ use Rattle.command_laws.proofs.Words.{◌≡◌, ◌≢◌, ℕ, ◌==◌, Bool,
 use Rattle.std.specs.Prelude.{◌||◌}
 use Rattle.device_defs.specs.Told.{Goes}
 use Rattle.command_laws.proofs.Known.{none-written, written-well, known-once, unstarted-known}
-use Rattle.command_laws.proofs.JobEnds.{unstarted-done, not-done, memory-well}
+use Rattle.command_laws.proofs.JobEnds.{memory-well}
+use Rattle.command_laws.proofs.Early.{early-done, list-cases}
 
 -- ---- the key
 
@@ -376,16 +377,13 @@ init-well numbers key cells old new end A K tells free source disk sink =
 
 -- a done list gave the lines of the files in effect
 pub list-done : (old new : Seen) (end : Ending) → AnswersList old new end → IsDone end → IsListed old new end
-list-done old new end (AnswersList.unstarted u) done = absurd (unstarted-done old new end u done)
-list-done old new end (AnswersList.no_memory r) done =
-    absurd (not-done end.status 70 r.status_is (λ e. omega (arith, e)) (λ e. omega (arith, e)) done)
-list-done old new end (AnswersList.listed records opened L) done = record {
+list-done old new end A done = list-cases (λ E. absurd (early-done E done)) (λ records opened L. record {
   records = records;
   opened = opened;
   told = record { written = L.written; place = L.place };
   disk = L.disk;
   providers = L.providers;
-}
+}) A
 
 -- a list over known records with no fault gives the lines of the files, or finds no memory
 pub list-well : (records : List Record) (old new : Seen) (end : Ending) → AnswersList old new end →

@@ -1,39 +1,17 @@
 -- How puts, drops, audits and repairs end, and what they have done where they are done.
-use Rattle.command_laws.proofs.Words.{◌≡◌, ◌≢◌, ℕ, ◌+◌, ◌*◌, ◌<◌, ◌≤◌, ◌==◌, ◌⊎◌, Bool, true, false, cond, List, [], ◌∷◌, ◌++◌, length, drop, Option, None, Some, refl, ap, sym, subst, ◌∙◌, inl, inr, arith, length-append, IsSomeAnd, IfSome, nat_lt, cases_Bool, cases_lt, eq-eqb, false≢true, append-nil, take-append-drop, Cells, Rose, EachImage, then_told, Held, Provider, Setup, Record, PutStart, PutDone, PutDoneIn, is_byte, largest_file, Area, StandsActive, File, Due, version_of, next_id, next_audit, file_of, due_of, started_as, is_start_of, file_as, profile_in, setup_of, Kind, PutJob, GetJob, DropJob, AuditJob, RepairJob, UpgradeJob, ToPut, ToUpgrade, Answer, AreBytes, Entry, setup_or_none, chosen, Refusal, causes, Command, DropOf, AuditAll, UpgradeJournal, Seen, Ending, IsRefused, ReadsUpTo, ReadsFront, provider_at, IsOpened, Unstarted, setup_in_effect, sight_over, is_unknown, refusal_over, status_of, text_of, stored_line, dropped_line, audit_lines, repaired_line, upgraded_line, Ran, SameHeld, put_done, MayHaveEnd, PutLeaves, put_stripe, StopsReading, PartLeft, DropLeaves, AuditGives, HearsRounds, CountsHeard, RepairGives, AnswersJob, EndsByAnswer, LeftAlone, IsTold, MayBeWhole, AnswersPut, AnswersAlone, AnswersList, Answers, bad_seen, IsDone, IsKnown, GivesUnlessMemory, EndsInOrder, GivesUpPut, RunsKind, SameHolds, put_of, profile_named, put_refusal, after_put, IsWholePut, IsDropped, IsAudited, IsRepaired, IsUpgraded, rose-before, same-refl, cond_true, cond_false, same_value, version-either, put-end, drop-end, audit-end, upgrade-end, repair-end}
+use Rattle.command_laws.proofs.Words.{◌≡◌, ◌≢◌, ℕ, ◌+◌, ◌*◌, ◌<◌, ◌≤◌, ◌==◌, ◌⊎◌, Bool, true, false, cond, List, [], ◌∷◌, ◌++◌, length, drop, Option, None, Some, refl, ap, sym, subst, ◌∙◌, inl, inr, arith, length-append, IsSomeAnd, IfSome, nat_lt, cases_Bool, cases_lt, eq-eqb, false≢true, append-nil, take-append-drop, Cells, Rose, EachImage, then_told, Held, Provider, Setup, Record, PutStart, PutDone, PutDoneIn, is_byte, largest_file, Area, StandsActive, File, Due, version_of, next_id, next_audit, file_of, due_of, started_as, is_start_of, file_as, profile_in, setup_of, Kind, PutJob, GetJob, DropJob, AuditJob, RepairJob, UpgradeJob, ToPut, ToUpgrade, Answer, AreBytes, Entry, setup_or_none, chosen, Refusal, causes, Command, DropOf, AuditAll, UpgradeJournal, Seen, Ending, IsRefused, ReadsUpTo, ReadsFront, provider_at, IsOpened, Unstarted, setup_in_effect, sight_over, is_unknown, refusal_over, status_of, text_of, stored_line, dropped_line, audit_lines, repaired_line, upgraded_line, Ran, SameHeld, put_done, MayHaveEnd, PutLeaves, put_stripe, StopsReading, PartLeft, DropLeaves, AuditGives, HearsRounds, CountsHeard, RepairGives, AnswersJob, EndsByAnswer, LeftAlone, IsTold, MayBeWhole, AnswersPut, AnswersAlone, AnswersList, Answers, bad_seen, IsDone, IsKnown, GivesUnlessMemory, EndsInOrder, GivesUpPut, RunsKind, SameHolds, put_of, profile_named, put_refusal, after_put, IsWholePut, IsDropped, IsAudited, IsRepaired, IsUpgraded, rose-before, same-refl, cond_true, cond_false, same_value, version-either, put-end, drop-end, audit-end, upgrade-end, repair-end, sinking, WritesLine}
 use Rattle.std.specs.Prelude.{IsTrue}
 use Rattle.machine_defs.specs.Appends.{done_record}
 use Rattle.command_defs.specs.Upgrades.{UpgradeLeaves}
 use Rattle.machine_defs.specs.Answers as answer
 use Rattle.machine_defs.specs.Refusals as refusal
 use Rattle.state_laws.proofs.Begun.{none-applies}
-use Rattle.command_laws.proofs.Known.{EndStatus, status-ended, none-written, told-refusal, written-well, known-once, unstarted-known, alone-known, refused-not, refused-only, refused-always, own-status, known-both}
+use Rattle.command_laws.proofs.Known.{EndStatus, status-ended, none-written, told-refusal, written-well, known-once, unstarted-known, alone-known, refused-not, refused-only, refused-always, own-status, known-both, ended-so, written-so}
 use Rattle.command_laws.proofs.GetEnds.{shape-at, ran_left}
+use Rattle.command_laws.proofs.Early.{early-done, early-same, alone-cases, put-cases, list-cases, alone-order, alone-well}
+use Rattle.std.proofs.Common.{◌||◌}
 
 -- ---- what is common
-
--- a command that did not start was refused, with a status of its own
-pub unstarted-refused : (old new : Seen) (end : Ending) → Unstarted old new end →
-    (status : ℕ) × (at : ℕ) × ((status ≢ 0) × (status ≢ 15)) × IsRefused status at old new end
-unstarted-refused old new end (Unstarted.disk_fault rose r) =
-    (12, 0, ((λ e. omega (arith, e)), (λ e. omega (arith, e))), r)
-unstarted-refused old new end (Unstarted.not_set_up is sync r) =
-    (9, 0, ((λ e. omega (arith, e)), (λ e. omega (arith, e))), r)
-unstarted-refused old new end (Unstarted.bad_journal at is r) =
-    (8, at, ((λ e. omega (arith, e)), (λ e. omega (arith, e))), r)
-unstarted-refused old new end (Unstarted.too_few_providers area records read few synced r) =
-    (22, 0, ((λ e. omega (arith, e)), (λ e. omega (arith, e))), r)
-unstarted-refused old new end (Unstarted.no_memory r) =
-    (70, 0, ((λ e. omega (arith, e)), (λ e. omega (arith, e))), r)
-
--- a command that did not start is not done
-pub unstarted-done : (old new : Seen) (end : Ending) → Unstarted old new end → IsDone end → ⊥
-unstarted-done old new end u done =
-    (let r = unstarted-refused old new end u in
-    elim done [
-      | inl zero ↦ r.2.0 (sym r.3.status_is ∙ zero)
-      | inr sink ↦
-          r.2.1 (sym r.3.status_is ∙ sink)
-    ])
 
 -- images of a disk with nothing in doubt stand for the records
 pub image-has : (area : Area) (image : List ℕ) (after : List Record) (doubt : Option Record)
@@ -64,15 +42,56 @@ pub memory-well : (text : List ℕ) (old new : Seen) (end : Ending) → IsRefuse
     GivesUnlessMemory text old new end
 memory-well text old new end r = inr (r.status_is, none-written text old.sink new.sink r.sink)
 
--- a status other than 0 and 15 is not done
-pub not-done : (status n : ℕ) → status ≡ n → n ≢ 0 → n ≢ 15 → (status ≡ 0) ⊎ (status ≡ 15) → ⊥
-not-done status n is zero sink (inl done) = zero (sym is ∙ done)
-not-done status n is zero sink (inr done) = sink (sym is ∙ done)
+-- which answers of a job end a command at this status
+abbrev pub fits : ℕ → Answer → Bool
+fits n (answer.Lost stripe row) = n == 4
+fits n (answer.ProviderFault j) = n == 13
+fits n answer.DiskFault = n == 12
+fits n answer.Memory = n == 70
+fits n how = (n == 0) || (n == 15) || (n == 70)
 
--- no refusal ends a command so
-pub refused-done : (why : Refusal) (status : ℕ) → status ≡ status_of why → (status ≡ 0) ⊎ (status ≡ 15) → ⊥
-refused-done why status is (inl done) = refused-not why 0 refl (λ e. omega (arith, e)) (sym is ∙ done)
-refused-done why status is (inr done) = refused-not why 15 refl (λ e. omega (arith, e)) (sym is ∙ done)
+-- the answer of a command's job is one that ends a command so
+pub ends-at : (text : List ℕ) (old new : Seen) (end : Ending) (n : ℕ) (how : Answer) →
+    EndsByAnswer text how old new end → end.status ≡ n → fits n how ≡ true
+ends-at text old new end n (answer.Lost stripe row) by is = ap (λ k. k == 4) (sym is ∙ by.status_is)
+ends-at text old new end n (answer.ProviderFault j) by is = ap (λ k. k == 13) (sym is ∙ by.status_is)
+ends-at text old new end n answer.DiskFault by is = ap (λ k. k == 12) (sym is ∙ by.status_is)
+ends-at text old new end n answer.Memory by is = ap (λ k. k == 70) (sym is ∙ by.status_is)
+ends-at text old new end n how by is = ap (λ k. (k == 0) || (k == 15) || (k == 70)) (sym is)
+    ∙ written-so (λ k. (k == 0) || (k == 15) || (k == 70)) text old new end refl refl refl by.written
+
+-- which answers tell a text
+abbrev pub tells : Answer → Bool
+tells (answer.Lost stripe row) = false
+tells (answer.ProviderFault j) = false
+tells answer.DiskFault = false
+tells answer.Memory = false
+tells how = true
+
+-- so does the answer of a job that is done
+pub done-tells : (text : List ℕ) (old new : Seen) (end : Ending) (how : Answer) →
+    EndsByAnswer text how old new end → IsDone end → tells how ≡ true
+done-tells text old new end (answer.Lost stripe row) by done =
+    elim done [ inl e ↦ ap (λ k. k == 4) (sym e ∙ by.status_is) | inr e ↦ ap (λ k. k == 4) (sym e ∙ by.status_is) ]
+done-tells text old new end (answer.ProviderFault j) by done =
+    elim done [ inl e ↦ ap (λ k. k == 13) (sym e ∙ by.status_is) | inr e ↦ ap (λ k. k == 13) (sym e ∙ by.status_is) ]
+done-tells text old new end answer.DiskFault by done =
+    elim done [ inl e ↦ ap (λ k. k == 12) (sym e ∙ by.status_is) | inr e ↦ ap (λ k. k == 12) (sym e ∙ by.status_is) ]
+done-tells text old new end answer.Memory by done =
+    elim done [ inl e ↦ ap (λ k. k == 70) (sym e ∙ by.status_is) | inr e ↦ ap (λ k. k == 70) (sym e ∙ by.status_is) ]
+done-tells text old new end how by done = refl
+
+-- a job that is done, or found no memory, gives its text unless there was no memory
+well-ended : (text : Answer → List ℕ) (told how : Answer) (old new : Seen) (end : Ending) →
+    (EndsByAnswer (text told) told old new end → IsTold (text told) old new end) →
+    EndsByAnswer (text how) how old new end → (Rose old.sink_faults new.sink_faults → ⊥) →
+    (how ≡ told) ⊎ (how ≡ answer.Memory) → GivesUnlessMemory (text told) old new end
+well-ended text told how old new end is_told by sink (inl same) =
+    (let w = is_told (subst (λ h. EndsByAnswer (text h) h old new end) same by) in
+    written-well (text told) old new end w.written sink)
+well-ended text told how old new end is_told by sink (inr same) =
+    (let w = subst (λ h. EndsByAnswer (text h) h old new end) same by in
+    inr (w.status_is, none-written (text told) old.sink new.sink w.sink))
 
 -- a calm disk was calm once it was opened
 pub calm-disk : {area : Area} (records : List Record) (kind : Kind) {own : Option ℕ} (how : Answer)
@@ -183,33 +202,30 @@ reads-whole old new bytes R few whole = record {
   end = λ l. whole;
 }
 
-put-by : (name bytes : List ℕ) (own : Option ℕ) (records : List Record) (old new : Seen) (end : Ending) →
-    (opened : IsOpened old records) → ReadsFront old.source new.source bytes → length bytes ≤ largest_file →
-    refusal_over opened.area records (PutJob name bytes) own ≡ None →
-    (how : Answer) (left : LeftAlone opened.area records (PutJob name bytes) own how old new end.heard) →
-    (MayHaveEnd records left.after left.doubt name (length bytes) own →
-    IfSome new.source (λ rest. rest ≡ [])) →
-    PutLeaves (ran_left records (PutJob name bytes) how old new end.heard left) own name bytes how →
-    EndsWith records (PutJob name bytes) how old new end → IsDone end → IsWholePut name own old new end
-put-by name bytes own records old new end opened read few begins answer.Put left whole L by done = record {
-  records = records;
-  bytes = bytes;
-  opened = opened;
-  are_bytes = read.are_bytes;
-  read = reads-whole old.source new.source bytes read few (whole (inl L.0.after));
-  whole = whole (inl L.0.after);
-  told = by;
-  disk = images-have opened.area new.disk left.after left.doubt _ L.0.after L.0.sure left.images;
-  in_effect = put-in_effect opened.area records name bytes own begins;
-  stored = L.1;
-}
-put-by name bytes own records old new end opened read few begins (answer.ProviderFault j) left whole L by done =
-    absurd (not-done end.status 13 by.status_is (λ e. omega (arith, e)) (λ e. omega (arith, e)) done)
-put-by name bytes own records old new end opened read few begins answer.DiskFault left whole L by done =
-    absurd (not-done end.status 12 by.status_is (λ e. omega (arith, e)) (λ e. omega (arith, e)) done)
-put-by name bytes own records old new end opened read few begins answer.Memory left whole L by done =
-    absurd (not-done end.status 70 by.status_is (λ e. omega (arith, e)) (λ e. omega (arith, e)) done)
-put-by name bytes own records old new end opened read few begins how left whole L by done = absurd L
+module _ (name bytes : List ℕ) (own : Option ℕ) (records : List Record) {old new : Seen} {end : Ending}
+    (opened : IsOpened old records) (read : ReadsFront old.source new.source bytes)
+    (few : length bytes ≤ largest_file) (none : refusal_over opened.area records (PutJob name bytes) own ≡ None) where
+  put-by : (how : Answer) (left : LeftAlone opened.area records (PutJob name bytes) own how old new end.heard) →
+      (MayHaveEnd records left.after left.doubt name (length bytes) own →
+      IfSome new.source (λ rest. rest ≡ [])) →
+      PutLeaves (ran_left records (PutJob name bytes) how old new end.heard left) own name bytes how →
+      EndsWith records (PutJob name bytes) how old new end → tells how ≡ true → IsWholePut name own old new end
+  put-by answer.Put left whole L by t = record {
+    records = records;
+    bytes = bytes;
+    opened = opened;
+    are_bytes = read.are_bytes;
+    read = reads-whole old.source new.source bytes read few (whole (inl L.0.after));
+    whole = whole (inl L.0.after);
+    told = by;
+    disk = images-have opened.area new.disk left.after left.doubt _ L.0.after L.0.sure left.images;
+    in_effect = put-in_effect opened.area records name bytes own none;
+    stored = L.1;
+  }
+  put-by (answer.ProviderFault j) left whole L by t = absurd (false≢true t)
+  put-by answer.DiskFault left whole L by t = absurd (false≢true t)
+  put-by answer.Memory left whole L by t = absurd (false≢true t)
+  put-by how left whole L by t = absurd L
 
 -- ---- a put that is given up
 
@@ -218,13 +234,16 @@ pub given-status : (size : ℕ) (bytes : List ℕ) (old new : Seen) (end : Endin
     StopsReading size bytes old new end → (end.status ≡ 14) ⊎ (end.status ≡ 16)
 given-status size bytes old new end S = elim S.cause [ inl c ↦ inl c.0 | inr c ↦ inr c.0 ]
 
+-- a status that is neither is not of such a put
+pub cut-not : (n : ℕ) {status : ℕ} → status ≡ n → ((n == 14) || (n == 16)) ≡ false →
+    (status ≡ 14) ⊎ (status ≡ 16) → ⊥
+cut-not n is off (inl e) = false≢true (sym off ∙ ap (λ k. (k == 14) || (k == 16)) (sym is ∙ e))
+cut-not n is off (inr e) = false≢true (sym off ∙ ap (λ k. (k == 14) || (k == 16)) (sym is ∙ e))
+
 -- so with no other
 pub given-not : (size : ℕ) (bytes : List ℕ) (old new : Seen) (end : Ending) (n : ℕ) →
-    StopsReading size bytes old new end → n ≢ 14 → n ≢ 16 → end.status ≡ n → ⊥
-given-not size bytes old new end n S first second is = elim (given-status size bytes old new end S) [
-  | inl e ↦ first (sym is ∙ e)
-  | inr e ↦ second (sym is ∙ e)
-]
+    StopsReading size bytes old new end → ((n == 14) || (n == 16)) ≡ false → end.status ≡ n → ⊥
+given-not size bytes old new end n S off is = cut-not n is off (given-status size bytes old new end S)
 
 -- what was read of a source that tells is no more than it holds
 pub front-short : (old new : Option (List ℕ)) (bytes seen : List ℕ) → old ≡ Some bytes →
@@ -245,25 +264,13 @@ given-long size bytes old new end S source = elim S.cause [ inl c ↦ absurd (so
 -- a done put stored its whole source on every provider, and it is in effect
 pub put-done : (name : List ℕ) (own : Option ℕ) (old new : Seen) (end : Ending) →
     AnswersPut name own old new end → IsDone end → IsWholePut name own old new end
-put-done name own old new end (AnswersPut.unstarted u same) done = absurd (unstarted-done old new end u done)
-put-done name own old new end (AnswersPut.source_fault records opened known rose synced taken r) done =
-    absurd (not-done end.status 14 r.status_is (λ e. omega (arith, e)) (λ e. omega (arith, e)) done)
-put-done name own old new end (AnswersPut.bad_profile records opened unknown synced same r) done =
-    absurd (not-done end.status 20 r.status_is (λ e. omega (arith, e)) (λ e. omega (arith, e)) done)
-put-done name own old new end (AnswersPut.no_memory taken r) done =
-    absurd (not-done end.status 70 r.status_is (λ e. omega (arith, e)) (λ e. omega (arith, e)) done)
-put-done name own old new end (AnswersPut.given_up records bytes opened known none stops runs left) done =
-    absurd (elim done [
-      | inl zero ↦ given-not _ bytes old new end 0 stops (λ e. omega (arith, e)) (λ e. omega (arith, e)) zero
-      | inr sink ↦ given-not _ bytes old new end 15 stops (λ e. omega (arith, e)) (λ e. omega (arith, e)) sink
-    ])
-put-done name own old new end (AnswersPut.begun records bytes opened known read few (AnswersJob.refused why is synced r) whole) done =
-    absurd (refused-done why end.status r.status_is done)
-put-done name own old new end (AnswersPut.begun records bytes opened known read few (AnswersJob.no_memory synced r) whole) done =
-    absurd (not-done end.status 70 r.status_is (λ e. omega (arith, e)) (λ e. omega (arith, e)) done)
-put-done name own old new end (AnswersPut.begun records bytes opened known read few (AnswersJob.ended how none runs left by) whole) done =
-    put-by name bytes own records old new end opened read few none how left whole left.leaves.by_kind.0 by
-    done
+put-done name own old new end A done = put-cases (λ E. absurd (early-done E done)) {own = own}
+    (λ records bytes opened known none stops left. absurd (elim done [
+      | inl zero ↦ given-not _ bytes old new end 0 stops refl zero
+      | inr sink ↦ given-not _ bytes old new end 15 stops refl sink
+    ]))
+    (λ records bytes opened known read few how none left whole by. put-by name bytes own records opened read few
+    none how left whole left.leaves.by_kind.0 by (done-tells _ old new end how by done)) A
 
 -- what was read of a source that tells, and that is then at its end, is all that it held
 pub read-all : (old new : Option (List ℕ)) (bytes seen : List ℕ) → old ≡ Some bytes →
@@ -461,34 +468,20 @@ put-always name own records old new end why (AnswersPut.given_up other seen open
 
 -- ---- a source that failed, or that is too long
 
--- a status that is neither is not of such a put
-pub cut-not : (status n : ℕ) → status ≡ n → n ≢ 14 → n ≢ 16 → (status ≡ 14) ⊎ (status ≡ 16) → ⊥
-cut-not status n is first second (inl e) = first (sym is ∙ e)
-cut-not status n is first second (inr e) = second (sym is ∙ e)
-
 -- no command ends so that did not start
 pub unstarted-cut : (old new : Seen) (end : Ending) → Unstarted old new end →
     (end.status ≡ 14) ⊎ (end.status ≡ 16) → ⊥
-unstarted-cut old new end (Unstarted.disk_fault rose r) =
-    cut-not end.status 12 r.status_is (λ e. omega (arith, e)) (λ e. omega (arith, e))
-unstarted-cut old new end (Unstarted.not_set_up is sync r) =
-    cut-not end.status 9 r.status_is (λ e. omega (arith, e)) (λ e. omega (arith, e))
-unstarted-cut old new end (Unstarted.bad_journal at is r) =
-    cut-not end.status 8 r.status_is (λ e. omega (arith, e)) (λ e. omega (arith, e))
+unstarted-cut old new end (Unstarted.disk_fault rose r) = cut-not 12 r.status_is refl
+unstarted-cut old new end (Unstarted.not_set_up is sync r) = cut-not 9 r.status_is refl
+unstarted-cut old new end (Unstarted.bad_journal at is r) = cut-not 8 r.status_is refl
 unstarted-cut old new end (Unstarted.too_few_providers area records read few synced r) =
-    cut-not end.status 22 r.status_is (λ e. omega (arith, e)) (λ e. omega (arith, e))
-unstarted-cut old new end (Unstarted.no_memory r) =
-    cut-not end.status 70 r.status_is (λ e. omega (arith, e)) (λ e. omega (arith, e))
+    cut-not 22 r.status_is refl
+unstarted-cut old new end (Unstarted.no_memory r) = cut-not 70 r.status_is refl
 
 -- nor does a job that began
 pub ended-cut : (status : ℕ) → EndStatus status → (status ≡ 14) ⊎ (status ≡ 16) → ⊥
-ended-cut status (EndStatus.by_done e) = cut-not status 0 e (λ k. omega (arith, k)) (λ k. omega (arith, k))
-ended-cut status (EndStatus.by_lost e) = cut-not status 4 e (λ k. omega (arith, k)) (λ k. omega (arith, k))
-ended-cut status (EndStatus.by_disk e) = cut-not status 12 e (λ k. omega (arith, k)) (λ k. omega (arith, k))
-ended-cut status (EndStatus.by_provider e) =
-    cut-not status 13 e (λ k. omega (arith, k)) (λ k. omega (arith, k))
-ended-cut status (EndStatus.by_sink e) = cut-not status 15 e (λ k. omega (arith, k)) (λ k. omega (arith, k))
-ended-cut status (EndStatus.by_memory e) = cut-not status 70 e (λ k. omega (arith, k)) (λ k. omega (arith, k))
+ended-cut status e cut =
+    cut-not status refl (ended-so (λ k. (k == 14) || (k == 16)) refl refl refl refl refl refl e) cut
 
 -- nor one that is refused for no length
 pub job-cut : {area : Area} (kind : Kind) (own : Option ℕ) (records : List Record) (old new : Seen)
@@ -500,7 +493,7 @@ job-cut kind own records old new end short (AnswersJob.refused why is synced r) 
     short (refused-only kind own records old new end refusal.TooLong (AnswersJob.refused why is synced r)
     (λ k. omega (arith, k)) e)
 job-cut kind own records old new end short (AnswersJob.no_memory synced r) cut =
-    cut-not end.status 70 r.status_is (λ e. omega (arith, e)) (λ e. omega (arith, e)) cut
+    cut-not 70 r.status_is refl cut
 job-cut kind own records old new end short (AnswersJob.ended how none runs left by) cut =
     ended-cut end.status (status-ended _ how old new end by) cut
 
@@ -512,11 +505,11 @@ pub put-long : (name bytes : List ℕ) (own : Option ℕ) (records : List Record
 put-long name bytes own records old new end (AnswersPut.unstarted u same) K is e =
     absurd (unstarted-cut old new end u (inr e))
 put-long name bytes own records old new end (AnswersPut.bad_profile other opened unknown synced same r) K is e =
-    absurd (cut-not end.status 20 r.status_is (λ k. omega (arith, k)) (λ k. omega (arith, k)) (inr e))
+    absurd (cut-not 20 r.status_is refl (inr e))
 put-long name bytes own records old new end (AnswersPut.source_fault other opened known rose synced taken r) K is e =
     absurd (let f : 14 ≡ 16 = sym r.status_is ∙ e in omega (arith, f))
 put-long name bytes own records old new end (AnswersPut.no_memory taken r) K is e =
-    absurd (cut-not end.status 70 r.status_is (λ k. omega (arith, k)) (λ k. omega (arith, k)) (inr e))
+    absurd (cut-not 70 r.status_is refl (inr e))
 put-long name bytes own records old new end (AnswersPut.begun other seen opened known read few A whole) K is e =
     absurd (job-cut (PutJob name seen) own other old new end
     (short-never opened.area other name seen own few) A (inr e))
@@ -577,12 +570,11 @@ long-put name bytes own records old new end (AnswersPut.begun other seen opened 
 
 -- ---- drops
 
-drop-by : (name : List ℕ) (records : List Record) (old new : Seen) (end : Ending) →
-    (opened : IsOpened old records) →
+drop-by : (name : List ℕ) (records : List Record) {old new : Seen} {end : Ending} (opened : IsOpened old records)
     (how : Answer) (left : LeftAlone opened.area records (DropJob name) None how old new end.heard) →
     DropLeaves (ran_left records (DropJob name) how old new end.heard left) name how →
-    EndsWith records (DropJob name) how old new end → IsDone end → IsDropped name old new end
-drop-by name records old new end opened answer.Dropped left L by done = record {
+    EndsWith records (DropJob name) how old new end → tells how ≡ true → IsDropped name old new end
+drop-by name records {old} {new} opened answer.Dropped left L by t = record {
   records = records;
   file = L.1.file;
   opened = opened;
@@ -591,41 +583,25 @@ drop-by name records old new end opened answer.Dropped left L by done = record {
   disk = images-have opened.area new.disk left.after left.doubt _ L.0.after L.0.sure left.images;
   gone = L.1.held;
 }
-drop-by name records old new end opened answer.DiskFault left L by done =
-    absurd (not-done end.status 12 by.status_is (λ e. omega (arith, e)) (λ e. omega (arith, e)) done)
-drop-by name records old new end opened answer.Memory left L by done =
-    absurd (not-done end.status 70 by.status_is (λ e. omega (arith, e)) (λ e. omega (arith, e)) done)
-drop-by name records old new end opened how left L by done = absurd L
+drop-by name records opened answer.DiskFault left L by t = absurd (false≢true t)
+drop-by name records opened answer.Memory left L by t = absurd (false≢true t)
+drop-by name records opened how left L by t = absurd L
 
 -- a done drop took its file out of effect, and its blocks away but where a count rose
 pub drop-done : (name : List ℕ) (old new : Seen) (end : Ending) → AnswersAlone (DropJob name) old new end →
     IsDone end → IsDropped name old new end
-drop-done name old new end (AnswersAlone.unstarted u) done = absurd (unstarted-done old new end u done)
-drop-done name old new end (AnswersAlone.begun records opened (AnswersJob.refused why is synced r)) done =
-    absurd (refused-done why end.status r.status_is done)
-drop-done name old new end (AnswersAlone.begun records opened (AnswersJob.no_memory synced r)) done =
-    absurd (not-done end.status 70 r.status_is (λ e. omega (arith, e)) (λ e. omega (arith, e)) done)
-drop-done name old new end (AnswersAlone.begun records opened (AnswersJob.ended how none runs left by)) done =
-    drop-by name records old new end opened how left left.leaves.by_kind.0 by done
+drop-done name old new end A done = alone-cases (λ E. absurd (early-done E done))
+    (λ records opened how none left by. drop-by name records opened how left left.leaves.by_kind.0 by
+    (done-tells _ old new end how by done)) A
 
-drop-job-well : {area : Area} (name : List ℕ) (records : List Record) (old new : Seen) (end : Ending) →
-    refusal_over area records (DropJob name) None ≡ None → (Rose old.disk_faults new.disk_faults → ⊥) →
-    (Rose old.sink_faults new.sink_faults → ⊥) → AnswersJob (DropJob name) None area records old new end →
-    GivesUnlessMemory (dropped_line name) old new end
-drop-job-well name records old new end begins disk sink (AnswersJob.refused why is synced r) =
-    absurd (let e : None ≡ Some why = sym begins ∙ is in cc)
-drop-job-well name records old new end begins disk sink (AnswersJob.no_memory synced r) =
-    memory-well (dropped_line name) old new end r
-drop-job-well name records old new end begins disk sink (AnswersJob.ended how none runs left by) =
-    elim (drop-end (ran_left records (DropJob name) how old new end.heard left) name how left.leaves.by_kind.0
-    (calm-disk records (DropJob name) how old new end.heard left disk)) [
-      | inl same ↦ (let told : EndsWith records (DropJob name) answer.Dropped old new end =
-          subst (λ h. EndsWith records (DropJob name) h old new end) same by in
-          written-well (dropped_line name) old new end told.written sink)
-      | inr same ↦ (let told : EndsWith records (DropJob name) answer.Memory old new end =
-          subst (λ h. EndsWith records (DropJob name) h old new end) same by in
-          inr (told.status_is, none-written (dropped_line name) old.sink new.sink told.sink))
-    ]
+drop-ended-well : {area : Area} (name : List ℕ) (records : List Record) (old new : Seen) (end : Ending) →
+    (Rose old.disk_faults new.disk_faults → ⊥) → (Rose old.sink_faults new.sink_faults → ⊥) → (how : Answer)
+    (left : LeftAlone area records (DropJob name) None how old new end.heard) →
+    EndsWith records (DropJob name) how old new end → GivesUnlessMemory (dropped_line name) old new end
+drop-ended-well name records old new end disk sink how left by =
+    well-ended (text_of (setup_in_effect records).tolerance (DropJob name)) answer.Dropped how old new end
+    (λ w. w) by sink (drop-end (ran_left records (DropJob name) how old new end.heard left) name how
+    left.leaves.by_kind.0 (calm-disk records (DropJob name) how old new end.heard left disk))
 
 -- a drop that is not refused and meets no fault is done, or finds no memory
 pub drop-well : (name : List ℕ) (records : List Record) (old new : Seen) (end : Ending) →
@@ -633,20 +609,16 @@ pub drop-well : (name : List ℕ) (records : List Record) (old new : Seen) (end 
     refusal_over K.opened.area records (DropJob name) None ≡ None → (Rose old.disk_faults new.disk_faults →
     ⊥) →
     (Rose old.sink_faults new.sink_faults → ⊥) → GivesUnlessMemory (dropped_line name) old new end
-drop-well name records old new end A K begins disk sink =
-    elim (alone-known (DropJob name) old new end records K A) [
-      | inl (inl (rose, r)) ↦ absurd (disk rose)
-      | inl (inr r) ↦ memory-well (dropped_line name) old new end r
-      | inr job ↦ drop-job-well name records old new end begins disk sink job
-    ]
+drop-well name records old new end A K begins disk sink = alone-well records K begins disk
+    (memory-well (dropped_line name) old new end) (drop-ended-well name records old new end disk sink) A
 
 -- ---- audits
 
-audit-by : (records : List Record) (old new : Seen) (end : Ending) → (opened : IsOpened old records) →
-    (how : Answer) (left : LeftAlone opened.area records AuditJob None how old new end.heard) →
+audit-by : (records : List Record) {old new : Seen} {end : Ending} (opened : IsOpened old records) (how : Answer)
+    (left : LeftAlone opened.area records AuditJob None how old new end.heard) →
     AuditGives (ran_left records AuditJob how old new end.heard left) how →
-    EndsWith records AuditJob how old new end → IsDone end → IsAudited old new end
-audit-by records old new end opened (answer.Audited number undecided counts) left L by done =
+    EndsWith records AuditJob how old new end → tells how ≡ true → IsAudited old new end
+audit-by records {old} {new} {end} opened (answer.Audited number undecided counts) left L by t =
     (let heard = subst (λ n. HearsRounds
     (ran_left records AuditJob (answer.Audited number undecided counts) old new end.heard left) n) L.0
     L.2 in record {
@@ -662,22 +634,16 @@ audit-by records old new end opened (answer.Audited number undecided counts) lef
           (ran_left records AuditJob (answer.Audited number undecided counts) old new end.heard left) n
           undecided counts) L.0 L.3;
     })
-audit-by records old new end opened answer.DiskFault left L by done =
-    absurd (not-done end.status 12 by.status_is (λ e. omega (arith, e)) (λ e. omega (arith, e)) done)
-audit-by records old new end opened answer.Memory left L by done =
-    absurd (not-done end.status 70 by.status_is (λ e. omega (arith, e)) (λ e. omega (arith, e)) done)
-audit-by records old new end opened how left L by done = absurd L
+audit-by records opened answer.DiskFault left L by t = absurd (false≢true t)
+audit-by records opened answer.Memory left L by t = absurd (false≢true t)
+audit-by records opened how left L by t = absurd L
 
 -- a done audit told counts that are the verdicts on what it heard
 pub audit-done : (old new : Seen) (end : Ending) → AnswersAlone AuditJob old new end → IsDone end →
     IsAudited old new end
-audit-done old new end (AnswersAlone.unstarted u) done = absurd (unstarted-done old new end u done)
-audit-done old new end (AnswersAlone.begun records opened (AnswersJob.refused why is synced r)) done =
-    absurd (refused-done why end.status r.status_is done)
-audit-done old new end (AnswersAlone.begun records opened (AnswersJob.no_memory synced r)) done =
-    absurd (not-done end.status 70 r.status_is (λ e. omega (arith, e)) (λ e. omega (arith, e)) done)
-audit-done old new end (AnswersAlone.begun records opened (AnswersJob.ended how none runs left by)) done =
-    audit-by records old new end opened how left left.leaves.by_kind.gives by done
+audit-done old new end A done = alone-cases (λ E. absurd (early-done E done))
+    (λ records opened how none left by. audit-by records opened how left left.leaves.by_kind.gives by
+    (done-tells _ old new end how by done)) A
 
 -- a text that was written whole, or cut for want of memory
 pub zero-or-memory : (text : List ℕ) (old new : Seen) (end : Ending) → GivesUnlessMemory text old new end →
@@ -691,42 +657,37 @@ pub in-order : (command : Command) (old new : Seen) (end : Ending) → (end.stat
 in-order command old new end (inl is) = EndsInOrder.done is
 in-order command old new end (inr is) = EndsInOrder.no_memory is
 
-audit-job-well : {area : Area} (records : List Record) (old new : Seen) (end : Ending) →
-    refusal_over area records AuditJob None ≡ None → (Rose old.disk_faults new.disk_faults → ⊥) →
-    (Rose old.sink_faults new.sink_faults → ⊥) →
-    AnswersJob AuditJob None area records old new end → (end.status ≡ 0) ⊎ (end.status ≡ 70)
-audit-job-well records old new end begins disk sink (AnswersJob.refused why is synced r) =
-    absurd (let e : None ≡ Some why = sym begins ∙ is in cc)
-audit-job-well records old new end begins disk sink (AnswersJob.no_memory synced r) = inr r.status_is
-audit-job-well records old new end begins disk sink (AnswersJob.ended how none runs left by) =
+audit-ended-well : {area : Area} (records : List Record) (old new : Seen) (end : Ending) →
+    (Rose old.disk_faults new.disk_faults → ⊥) → (Rose old.sink_faults new.sink_faults → ⊥) → (how : Answer)
+    (left : LeftAlone area records AuditJob None how old new end.heard) →
+    EndsWith records AuditJob how old new end → (end.status ≡ 0) ⊎ (end.status ≡ 70)
+audit-ended-well records old new end disk sink how left by =
     elim (audit-end (ran_left records AuditJob how old new end.heard left) how left.leaves.by_kind.gives
     (calm-disk records AuditJob how old new end.heard left disk)) [
-      | inl (number, undecided, counts, same) ↦
-          (let told : EndsWith records AuditJob (answer.Audited number undecided counts) old new end =
-          subst (λ h. EndsWith records AuditJob h old new end) same by in
-          zero-or-memory _ old new end (written-well _ old new end told.written sink))
-      | inr same ↦ (let told : EndsWith records AuditJob answer.Memory old new end =
-          subst (λ h. EndsWith records AuditJob h old new end) same by in inr told.status_is)
+      | inl (number, undecided, counts, same) ↦ zero-or-memory _ old new end
+          (well-ended text (answer.Audited number undecided counts) how old new end (λ w. w) by sink (inl same))
+      | inr same ↦ zero-or-memory _ old new end
+          (well-ended text answer.Put how old new end (λ w. w) by sink (inr same))
     ]
+  where
+    text : Answer → List ℕ
+    text = text_of (setup_in_effect records).tolerance AuditJob
 
 -- an audit that is not refused and meets no fault is done, or finds no memory
 pub audit-well : (records : List Record) (old new : Seen) (end : Ending) → AnswersAlone AuditJob old new end →
     (K : IsKnown old records) →
     refusal_over K.opened.area records AuditJob None ≡ None → (Rose old.disk_faults new.disk_faults → ⊥) →
     (Rose old.sink_faults new.sink_faults → ⊥) → (end.status ≡ 0) ⊎ (end.status ≡ 70)
-audit-well records old new end A K begins disk sink = elim (alone-known AuditJob old new end records K A) [
-  | inl (inl (rose, r)) ↦ absurd (disk rose)
-  | inl (inr r) ↦ inr r.status_is
-  | inr job ↦ audit-job-well records old new end begins disk sink job
-]
+audit-well records old new end A K begins disk sink = alone-well records K begins disk (λ r. inr r.status_is)
+    (audit-ended-well records old new end disk sink) A
 
 -- ---- repairs
 
-repair-by : (records : List Record) (old new : Seen) (end : Ending) → (opened : IsOpened old records) →
-    (how : Answer) (left : LeftAlone opened.area records RepairJob None how old new end.heard) (due : Due) →
+repair-by : (records : List Record) {old new : Seen} {end : Ending} (opened : IsOpened old records) (how : Answer)
+    (left : LeftAlone opened.area records RepairJob None how old new end.heard) (due : Due) →
     due_of records ≡ Some due → RepairGives (ran_left records RepairJob how old new end.heard left) due how →
-    EndsWith records RepairJob how old new end → IsDone end → IsRepaired old new end
-repair-by records old new end opened (answer.Repaired number) left due is_due L by done = record {
+    EndsWith records RepairJob how old new end → tells how ≡ true → IsRepaired old new end
+repair-by records {old} {new} {end} opened (answer.Repaired number) left due is_due L by t = record {
   records = records;
   due = due;
   opened = opened;
@@ -741,53 +702,18 @@ repair-by records old new end opened (answer.Repaired number) left due is_due L 
     held = L.2.held;
   };
 }
-repair-by records old new end opened (answer.Lost stripe row) left due is_due L by done =
-    absurd (not-done end.status 4 by.status_is (λ e. omega (arith, e)) (λ e. omega (arith, e)) done)
-repair-by records old new end opened (answer.ProviderFault j) left due is_due L by done =
-    absurd (not-done end.status 13 by.status_is (λ e. omega (arith, e)) (λ e. omega (arith, e)) done)
-repair-by records old new end opened answer.DiskFault left due is_due L by done =
-    absurd (not-done end.status 12 by.status_is (λ e. omega (arith, e)) (λ e. omega (arith, e)) done)
-repair-by records old new end opened answer.Memory left due is_due L by done =
-    absurd (not-done end.status 70 by.status_is (λ e. omega (arith, e)) (λ e. omega (arith, e)) done)
-repair-by records old new end opened how left due is_due L by done = absurd L
+repair-by records opened (answer.Lost stripe row) left due is_due L by t = absurd (false≢true t)
+repair-by records opened (answer.ProviderFault j) left due is_due L by t = absurd (false≢true t)
+repair-by records opened answer.DiskFault left due is_due L by t = absurd (false≢true t)
+repair-by records opened answer.Memory left due is_due L by t = absurd (false≢true t)
+repair-by records opened how left due is_due L by t = absurd L
 
 -- after a done repair each flagged provider holds the columns of what was fetched, and none is due
 pub repair-done : (old new : Seen) (end : Ending) → AnswersAlone RepairJob old new end → IsDone end →
     IsRepaired old new end
-repair-done old new end (AnswersAlone.unstarted u) done = absurd (unstarted-done old new end u done)
-repair-done old new end (AnswersAlone.begun records opened (AnswersJob.refused why is synced r)) done =
-    absurd (refused-done why end.status r.status_is done)
-repair-done old new end (AnswersAlone.begun records opened (AnswersJob.no_memory synced r)) done =
-    absurd (not-done end.status 70 r.status_is (λ e. omega (arith, e)) (λ e. omega (arith, e)) done)
-repair-done old new end (AnswersAlone.begun records opened (AnswersJob.ended how none runs left by)) done =
-    (let L = left.leaves.by_kind.0 in
-    repair-by records old new end opened how left L.due L.is_due L.gives by done)
-
-repair-job-well : (records : List Record) (old new : Seen) (end : Ending) (bytes : ℕ → List ℕ) →
-    (opened : IsOpened old records) → refusal_over opened.area records RepairJob None ≡ None →
-    (Rose old.disk_faults new.disk_faults → ⊥) →
-    ((j : ℕ) → j < (setup_in_effect records).n →
-    Rose (provider_at old.providers j).store_faults (provider_at new.providers j).store_faults → ⊥) →
-    (Rose old.sink_faults new.sink_faults → ⊥) →
-    ((name : List ℕ) (file : File) → file_of records name ≡ Some file →
-    (length (bytes file.id) ≡ file.size) ×
-    (bad_seen records old new file (bytes file.id) ≤ (setup_in_effect records).b)) →
-    AnswersJob RepairJob None opened.area records old new end → (end.status ≡ 0) ⊎ (end.status ≡ 70)
-repair-job-well records old new end bytes opened begins disk stores sink safe (AnswersJob.refused why is synced r) =
-    absurd (let e : None ≡ Some why = sym begins ∙ is in cc)
-repair-job-well records old new end bytes opened begins disk stores sink safe (AnswersJob.no_memory synced r) =
-    inr r.status_is
-repair-job-well records old new end bytes opened begins disk stores sink safe (AnswersJob.ended how none runs left by) =
-    elim (repair-end (ran_left records RepairJob how old new end.heard left) opened.read.accepted
-    (shape-at old records opened) bytes how left.leaves.by_kind.0
-    (calm-disk records RepairJob how old new end.heard left disk) stores safe) [
-      | inl (number, same) ↦
-          (let told : EndsWith records RepairJob (answer.Repaired number) old new end =
-          subst (λ h. EndsWith records RepairJob h old new end) same by in
-          zero-or-memory _ old new end (written-well _ old new end told.written sink))
-      | inr same ↦ (let told : EndsWith records RepairJob answer.Memory old new end =
-          subst (λ h. EndsWith records RepairJob h old new end) same by in inr told.status_is)
-    ]
+repair-done old new end A done = alone-cases (λ E. absurd (early-done E done))
+    (λ records opened how none left by. let L = left.leaves.by_kind.0 in
+    repair-by records opened how left L.due L.is_due L.gives by (done-tells _ old new end how by done)) A
 
 -- a repair with no refusal, no fault and at most b bad providers a file is done, or finds no memory
 pub repair-well : (records : List Record) (old new : Seen) (end : Ending) (bytes : ℕ → List ℕ) →
@@ -801,20 +727,31 @@ pub repair-well : (records : List Record) (old new : Seen) (end : Ending) (bytes
     (bad_seen records old new file (bytes file.id) ≤ (setup_in_effect records).b)) →
     (end.status ≡ 0) ⊎ (end.status ≡ 70)
 repair-well records old new end bytes A K begins disk stores sink safe =
-    elim (alone-known RepairJob old new end records K A) [
-      | inl (inl (rose, r)) ↦ absurd (disk rose)
-      | inl (inr r) ↦ inr r.status_is
-      | inr job ↦ repair-job-well records old new end bytes K.opened begins disk stores sink safe job
-    ]
+    alone-well records K begins disk (λ r. inr r.status_is) ended A
+  where
+    text : Answer → List ℕ
+    text = text_of (setup_in_effect records).tolerance RepairJob
+
+    ended : (how : Answer) (left : LeftAlone K.opened.area records RepairJob None how old new end.heard) →
+        EndsWith records RepairJob how old new end → (end.status ≡ 0) ⊎ (end.status ≡ 70)
+    ended how left by =
+        elim (repair-end (ran_left records RepairJob how old new end.heard left) K.opened.read.accepted
+        (shape-at old records K.opened) bytes how left.leaves.by_kind.0
+        (calm-disk records RepairJob how old new end.heard left disk) stores safe) [
+          | inl (number, same) ↦ zero-or-memory _ old new end
+              (well-ended text (answer.Repaired number) how old new end (λ w. w) by sink (inl same))
+          | inr same ↦ zero-or-memory _ old new end
+              (well-ended text answer.Put how old new end (λ w. w) by sink (inr same))
+        ]
 
 -- ---- upgrades
 
-upgrade-by : (records : List Record) (old new : Seen) (end : Ending) → (opened : IsOpened old records) →
+upgrade-by : (records : List Record) {old new : Seen} {end : Ending} (opened : IsOpened old records) →
     refusal_over opened.area records UpgradeJob None ≡ None →
     (how : Answer) (left : LeftAlone opened.area records UpgradeJob None how old new end.heard) →
     UpgradeLeaves (ran_left records UpgradeJob how old new end.heard left) how →
-    EndsWith records UpgradeJob how old new end → SameHolds old new → IsDone end → IsUpgraded old new end
-upgrade-by records old new end opened begins answer.Upgraded left L by same done = record {
+    EndsWith records UpgradeJob how old new end → SameHolds old new → tells how ≡ true → IsUpgraded old new end
+upgrade-by records {old} {new} opened begins answer.Upgraded left L by same t = record {
   records = records;
   opened = opened;
   was_first = elim (version-either records) [
@@ -827,42 +764,26 @@ upgrade-by records old new end opened begins answer.Upgraded left L by same done
   disk = images-have opened.area new.disk left.after left.doubt _ L.0.after L.0.sure left.images;
   held = same;
 }
-upgrade-by records old new end opened begins answer.DiskFault left L by same done =
-    absurd (not-done end.status 12 by.status_is (λ e. omega (arith, e)) (λ e. omega (arith, e)) done)
-upgrade-by records old new end opened begins answer.Memory left L by same done =
-    absurd (not-done end.status 70 by.status_is (λ e. omega (arith, e)) (λ e. omega (arith, e)) done)
-upgrade-by records old new end opened begins how left L by same done = absurd L
+upgrade-by records opened begins answer.DiskFault left L by same t = absurd (false≢true t)
+upgrade-by records opened begins answer.Memory left L by same t = absurd (false≢true t)
+upgrade-by records opened begins how left L by same t = absurd L
 
-upgrade-job-well : {area : Area} (records : List Record) (old new : Seen) (end : Ending) →
-    refusal_over area records UpgradeJob None ≡ None → (Rose old.disk_faults new.disk_faults → ⊥) →
-    (Rose old.sink_faults new.sink_faults → ⊥) →
-    AnswersJob UpgradeJob None area records old new end → GivesUnlessMemory upgraded_line old new end
-upgrade-job-well records old new end begins disk sink (AnswersJob.refused why is synced r) =
-    absurd (let e : None ≡ Some why = sym begins ∙ is in cc)
-upgrade-job-well records old new end begins disk sink (AnswersJob.no_memory synced r) =
-    memory-well upgraded_line old new end r
-upgrade-job-well records old new end begins disk sink (AnswersJob.ended how none runs left by) =
-    elim (upgrade-end (ran_left records UpgradeJob how old new end.heard left) how
-    left.leaves.by_kind.0 (calm-disk records UpgradeJob how old new end.heard left disk)) [
-      | inl same ↦ (let told : EndsWith records UpgradeJob answer.Upgraded old new end =
-          subst (λ h. EndsWith records UpgradeJob h old new end) same by in
-          written-well upgraded_line old new end told.written sink)
-      | inr same ↦ (let told : EndsWith records UpgradeJob answer.Memory old new end =
-          subst (λ h. EndsWith records UpgradeJob h old new end) same by in
-          inr (told.status_is, none-written upgraded_line old.sink new.sink told.sink))
-    ]
+upgrade-ended-well : {area : Area} (records : List Record) (old new : Seen) (end : Ending) →
+    (Rose old.disk_faults new.disk_faults → ⊥) → (Rose old.sink_faults new.sink_faults → ⊥) → (how : Answer)
+    (left : LeftAlone area records UpgradeJob None how old new end.heard) →
+    EndsWith records UpgradeJob how old new end → GivesUnlessMemory upgraded_line old new end
+upgrade-ended-well records old new end disk sink how left by =
+    well-ended (text_of (setup_in_effect records).tolerance UpgradeJob) answer.Upgraded how old new end
+    (λ w. w) by sink (upgrade-end (ran_left records UpgradeJob how old new end.heard left) how
+    left.leaves.by_kind.0 (calm-disk records UpgradeJob how old new end.heard left disk))
 
 -- an upgrade that is not refused and meets no fault is done, or finds no memory
 pub upgrade-well : (records : List Record) (old new : Seen) (end : Ending) →
     AnswersAlone UpgradeJob old new end → (K : IsKnown old records) →
     refusal_over K.opened.area records UpgradeJob None ≡ None → (Rose old.disk_faults new.disk_faults → ⊥) →
     (Rose old.sink_faults new.sink_faults → ⊥) → GivesUnlessMemory upgraded_line old new end
-upgrade-well records old new end A K begins disk sink =
-    elim (alone-known UpgradeJob old new end records K A) [
-      | inl (inl (rose, r)) ↦ absurd (disk rose)
-      | inl (inr r) ↦ memory-well upgraded_line old new end r
-      | inr job ↦ upgrade-job-well records old new end begins disk sink job
-    ]
+upgrade-well records old new end A K begins disk sink = alone-well records K begins disk
+    (memory-well upgraded_line old new end) (upgrade-ended-well records old new end disk sink) A
 
 -- ---- puts, drops, audits and upgrades over any disk
 
@@ -981,56 +902,27 @@ put-order name own old new end (AnswersPut.begun records bytes opened known read
 pub drop-order : (name : List ℕ) (old new : Seen) (end : Ending) → AnswersAlone (DropJob name) old new end →
     (Rose old.disk_faults new.disk_faults → ⊥) → (Rose old.sink_faults new.sink_faults → ⊥) →
     EndsInOrder (DropOf name) old new end
-drop-order name old new end (AnswersAlone.unstarted u) disk sink = EndsInOrder.unstarted u
-drop-order name old new end (AnswersAlone.begun records opened (AnswersJob.refused why is synced r)) disk sink =
-    EndsInOrder.refused records (DropJob name) why opened refl is r
-drop-order name old new end (AnswersAlone.begun records opened (AnswersJob.no_memory synced r)) disk sink =
-    EndsInOrder.no_memory r.status_is
-drop-order name old new end (AnswersAlone.begun records opened (AnswersJob.ended how none runs left by)) disk sink =
-    in-order (DropOf name) old new end
-    (zero-or-memory _ old new end
-    (drop-job-well name records old new end none disk sink (AnswersJob.ended how none runs left by)))
+drop-order name old new end A disk sink = alone-order (DropOf name) refl refl (λ o. o)
+    (λ records opened how none left by. in-order (DropOf name) old new end
+    (zero-or-memory _ old new end (drop-ended-well name records old new end disk sink how left by))) A
 
 -- an audit with no fault ends in order, over any disk
 pub audit-order : (old new : Seen) (end : Ending) → AnswersAlone AuditJob old new end →
     (Rose old.disk_faults new.disk_faults → ⊥) → (Rose old.sink_faults new.sink_faults → ⊥) →
     EndsInOrder AuditAll old new end
-audit-order old new end (AnswersAlone.unstarted u) disk sink = EndsInOrder.unstarted u
-audit-order old new end (AnswersAlone.begun records opened (AnswersJob.refused why is synced r)) disk sink =
-    EndsInOrder.refused records AuditJob why opened refl is r
-audit-order old new end (AnswersAlone.begun records opened (AnswersJob.no_memory synced r)) disk sink =
-    EndsInOrder.no_memory r.status_is
-audit-order old new end (AnswersAlone.begun records opened (AnswersJob.ended how none runs left by)) disk sink =
-    in-order AuditAll old new end
-    (audit-job-well records old new end none disk sink (AnswersJob.ended how none runs left by))
+audit-order old new end A disk sink = alone-order AuditAll refl refl (λ o. o)
+    (λ records opened how none left by. in-order AuditAll old new end
+    (audit-ended-well records old new end disk sink how left by)) A
 
 -- an upgrade with no fault ends in order, over any disk
 pub upgrade-order : (old new : Seen) (end : Ending) → AnswersAlone UpgradeJob old new end →
     (Rose old.disk_faults new.disk_faults → ⊥) → (Rose old.sink_faults new.sink_faults → ⊥) →
     EndsInOrder UpgradeJournal old new end
-upgrade-order old new end (AnswersAlone.unstarted u) disk sink = EndsInOrder.unstarted u
-upgrade-order old new end (AnswersAlone.begun records opened (AnswersJob.refused why is synced r)) disk sink =
-    EndsInOrder.refused records UpgradeJob why opened refl is r
-upgrade-order old new end (AnswersAlone.begun records opened (AnswersJob.no_memory synced r)) disk sink =
-    EndsInOrder.no_memory r.status_is
-upgrade-order old new end (AnswersAlone.begun records opened (AnswersJob.ended how none runs left by)) disk sink =
-    in-order UpgradeJournal old new end
-    (zero-or-memory _ old new end
-    (upgrade-job-well records old new end none disk sink (AnswersJob.ended how none runs left by)))
+upgrade-order old new end A disk sink = alone-order UpgradeJournal refl refl (λ o. o)
+    (λ records opened how none left by. in-order UpgradeJournal old new end
+    (zero-or-memory _ old new end (upgrade-ended-well records old new end disk sink how left by))) A
 
 -- ---- what providers hold
-
--- ending refused leaves each provider as it was
-pub refused-same : {X : Type 0} (of : Provider → X) (status at : ℕ) (old new : Seen) (end : Ending) →
-    IsRefused status at old new end →
-    (j : ℕ) → of (provider_at new.providers j) ≡ of (provider_at old.providers j)
-refused-same of status at old new end r j = ap (λ ps. of (provider_at ps j)) r.providers
-
--- and so does ending before there is a job
-pub unstarted-same : {X : Type 0} (of : Provider → X) (old new : Seen) (end : Ending) →
-    Unstarted old new end → (j : ℕ) → of (provider_at new.providers j) ≡ of (provider_at old.providers j)
-unstarted-same of old new end u =
-    (let r = unstarted-refused old new end u in refused-same of r.0 r.1 old new end r.3)
 
 -- what a job leaves as it was at each provider of the setup is so at all
 pub left-same : {area : Area} {X : Type 0} (of : Provider → X) (records : List Record) (kind : Kind)
@@ -1052,30 +944,18 @@ held_by p = p.held
 -- a get leaves what providers hold
 pub get-holds : (name : List ℕ) (old new : Seen) (end : Ending) → AnswersAlone (GetJob name) old new end →
     SameHolds old new
-get-holds name old new end (AnswersAlone.unstarted u) = unstarted-same held_by old new end u
-get-holds name old new end (AnswersAlone.begun records opened (AnswersJob.refused why is synced r)) =
-    refused-same held_by _ 0 old new end r
-get-holds name old new end (AnswersAlone.begun records opened (AnswersJob.no_memory synced r)) =
-    refused-same held_by 70 0 old new end r
-get-holds name old new end (AnswersAlone.begun records opened (AnswersJob.ended how none runs left by)) =
-    left-same held_by records (GetJob name) how old new end.heard left left.leaves.by_kind.held
+get-holds name old new end = alone-cases (early-same held_by) (λ records opened how none left by.
+    left-same held_by records (GetJob name) how old new end.heard left left.leaves.by_kind.held)
 
 -- an audit leaves what providers hold
 pub audit-holds : (old new : Seen) (end : Ending) → AnswersAlone AuditJob old new end → SameHolds old new
-audit-holds old new end (AnswersAlone.unstarted u) = unstarted-same held_by old new end u
-audit-holds old new end (AnswersAlone.begun records opened (AnswersJob.refused why is synced r)) =
-    refused-same held_by _ 0 old new end r
-audit-holds old new end (AnswersAlone.begun records opened (AnswersJob.no_memory synced r)) =
-    refused-same held_by 70 0 old new end r
-audit-holds old new end (AnswersAlone.begun records opened (AnswersJob.ended how none runs left by)) =
-    left-same held_by records AuditJob how old new end.heard left left.leaves.by_kind.held
+audit-holds old new end = alone-cases (early-same held_by) (λ records opened how none left by.
+    left-same held_by records AuditJob how old new end.heard left left.leaves.by_kind.held)
 
 -- a list leaves what providers hold
 pub list-holds : (old new : Seen) (end : Ending) → AnswersList old new end → SameHolds old new
-list-holds old new end (AnswersList.unstarted u) = unstarted-same held_by old new end u
-list-holds old new end (AnswersList.no_memory r) = refused-same held_by 70 0 old new end r
-list-holds old new end (AnswersList.listed records opened L) =
-    λ j. ap (λ ps. (provider_at ps j).held) L.providers
+list-holds old new end =
+    list-cases (early-same held_by) (λ records opened L j. ap (λ ps. (provider_at ps j).held) L.providers)
 
 upgrade-same : (x : Ran) (how : Answer) → UpgradeLeaves x how → SameHeld x
 upgrade-same x answer.Upgraded L = L.1
@@ -1085,24 +965,13 @@ upgrade-same x how L = absurd L
 
 -- an upgrade leaves what providers hold
 pub upgrade-holds : (old new : Seen) (end : Ending) → AnswersAlone UpgradeJob old new end → SameHolds old new
-upgrade-holds old new end (AnswersAlone.unstarted u) = unstarted-same held_by old new end u
-upgrade-holds old new end (AnswersAlone.begun records opened (AnswersJob.refused why is synced r)) =
-    refused-same held_by _ 0 old new end r
-upgrade-holds old new end (AnswersAlone.begun records opened (AnswersJob.no_memory synced r)) =
-    refused-same held_by 70 0 old new end r
-upgrade-holds old new end (AnswersAlone.begun records opened (AnswersJob.ended how none runs left by)) =
+upgrade-holds old new end = alone-cases (early-same held_by) (λ records opened how none left by.
     left-same held_by records UpgradeJob how old new end.heard left
-    (upgrade-same (ran_left records UpgradeJob how old new end.heard left) how left.leaves.by_kind.0)
+    (upgrade-same (ran_left records UpgradeJob how old new end.heard left) how left.leaves.by_kind.0))
 
 -- a done upgrade gave the journal its second version, and left the files and what providers hold
 pub upgrade-done : (old new : Seen) (end : Ending) → AnswersAlone UpgradeJob old new end → IsDone end →
     IsUpgraded old new end
-upgrade-done old new end (AnswersAlone.unstarted u) done = absurd (unstarted-done old new end u done)
-upgrade-done old new end (AnswersAlone.begun records opened (AnswersJob.refused why is synced r)) done =
-    absurd (refused-done why end.status r.status_is done)
-upgrade-done old new end (AnswersAlone.begun records opened (AnswersJob.no_memory synced r)) done =
-    absurd (not-done end.status 70 r.status_is (λ e. omega (arith, e)) (λ e. omega (arith, e)) done)
-upgrade-done old new end (AnswersAlone.begun records opened (AnswersJob.ended how none runs left by)) done =
-    upgrade-by records old new end opened none how left left.leaves.by_kind.0 by
-    (upgrade-holds old new end (AnswersAlone.begun records opened (AnswersJob.ended how none runs left by)))
-    done
+upgrade-done old new end A done = alone-cases (λ E. absurd (early-done E done))
+    (λ records opened how none left by. upgrade-by records opened none how left left.leaves.by_kind.0 by
+    (upgrade-holds old new end A) (done-tells _ old new end how by done)) A

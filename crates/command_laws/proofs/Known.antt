@@ -100,7 +100,7 @@ alone-known kind old new end records K (AnswersAlone.begun other opened A) =
 -- ---- statuses of refusals
 
 -- which refusal a status tells of
-abbrev refusal_at : ℕ → Option Refusal
+abbrev pub refusal_at : ℕ → Option Refusal
 refusal_at n =
     if n == 3 then Some refusal.NoSuchName else if n == 6 then Some refusal.RepairDue
     else if n == 7 then Some refusal.NothingDue
@@ -171,13 +171,22 @@ status-ended text answer.DiskFault old new end e = EndStatus.by_disk e.status_is
 status-ended text answer.Memory old new end e = EndStatus.by_memory e.status_is
 status-ended text how old new end e = status-written text old new end e.written
 
-ended-none : (n : ℕ) → EndStatus n → refusal_at n ≡ None
-ended-none n (EndStatus.by_done e) = ap refusal_at e
-ended-none n (EndStatus.by_lost e) = ap refusal_at e
-ended-none n (EndStatus.by_disk e) = ap refusal_at e
-ended-none n (EndStatus.by_provider e) = ap refusal_at e
-ended-none n (EndStatus.by_sink e) = ap refusal_at e
-ended-none n (EndStatus.by_memory e) = ap refusal_at e
+-- what is so of each of these is so of the status of a job that ended
+pub ended-so : {A : Type 0} (f : ℕ → A) {v : A} {n : ℕ} → f 0 ≡ v → f 4 ≡ v → f 12 ≡ v → f 13 ≡ v → f 15 ≡ v →
+    f 70 ≡ v → EndStatus n → f n ≡ v
+ended-so f done lost disk provider sink memory (EndStatus.by_done e) = ap f e ∙ done
+ended-so f done lost disk provider sink memory (EndStatus.by_lost e) = ap f e ∙ lost
+ended-so f done lost disk provider sink memory (EndStatus.by_disk e) = ap f e ∙ disk
+ended-so f done lost disk provider sink memory (EndStatus.by_provider e) = ap f e ∙ provider
+ended-so f done lost disk provider sink memory (EndStatus.by_sink e) = ap f e ∙ sink
+ended-so f done lost disk provider sink memory (EndStatus.by_memory e) = ap f e ∙ memory
+
+-- so is it of one that told a text, of the statuses of a text
+pub written-so : {A : Type 0} (f : ℕ → A) {v : A} (text : List ℕ) (old new : Seen) (end : Ending) →
+    f 0 ≡ v → f 15 ≡ v → f 70 ≡ v → WritesLine text end.status (sinking old new) → f end.status ≡ v
+written-so f text old new end done sink memory (inl w) = ap f w.0 ∙ done
+written-so f text old new end done sink memory (inr (inl w)) = ap f w.1 ∙ sink
+written-so f text old new end done sink memory (inr (inr w)) = ap f w.0 ∙ memory
 
 -- ---- the refusals are exact
 
@@ -202,7 +211,7 @@ refused-only kind own records old new end why (AnswersJob.refused other is synce
 refused-only kind own records old new end why (AnswersJob.no_memory synced r) tells e =
     absurd (none-some end.status why (ap refusal_at r.status_is) (at-some why end tells e))
 refused-only kind own records old new end why (AnswersJob.ended how none runs left by) tells e =
-    absurd (none-some end.status why (ended-none end.status (status-ended _ how old new end by))
+    absurd (none-some end.status why (ended-so refusal_at refl refl refl refl refl refl (status-ended _ how old new end by))
     (at-some why end tells e))
 
 -- a job for which a refusal is the first that applies is refused so, or finds no memory
@@ -223,15 +232,6 @@ refused-always kind own records old new end why (AnswersJob.ended how none runs 
 abbrev pub is_unopened : ℕ → Bool
 is_unopened n = if n == 8 then true else if n == 9 then true else n == 22
 
--- none of the statuses of a job tells so
-pub ended-opened : (n : ℕ) → EndStatus n → is_unopened n ≡ false
-ended-opened n (EndStatus.by_done e) = ap is_unopened e
-ended-opened n (EndStatus.by_lost e) = ap is_unopened e
-ended-opened n (EndStatus.by_disk e) = ap is_unopened e
-ended-opened n (EndStatus.by_provider e) = ap is_unopened e
-ended-opened n (EndStatus.by_sink e) = ap is_unopened e
-ended-opened n (EndStatus.by_memory e) = ap is_unopened e
-
 pub refused-opened : (why : Refusal) → is_unopened (status_of why) ≡ false
 refused-opened refusal.NoSuchName = refl
 refused-opened why = refl
@@ -243,7 +243,7 @@ job-opened kind own records old new end (AnswersJob.refused why is synced r) =
     ap is_unopened r.status_is ∙ refused-opened why
 job-opened kind own records old new end (AnswersJob.no_memory synced r) = ap is_unopened r.status_is
 job-opened kind own records old new end (AnswersJob.ended how none runs left by) =
-    ended-opened end.status (status-ended _ how old new end by)
+    ended-so is_unopened refl refl refl refl refl refl (status-ended _ how old new end by)
 
 -- ---- and they are exact of a command over a disk that tells
 

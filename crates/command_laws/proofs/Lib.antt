@@ -1,5 +1,6 @@
 mod Words
 pub mod Known
+pub mod Early
 pub mod GetEnds
 pub mod JobEnds
 pub mod Begun

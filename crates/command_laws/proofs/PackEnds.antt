@@ -1,8 +1,9 @@
 -- How packs end, and what they have done where they are done.
 use Rattle.command_laws.proofs.Words.{◌≡◌, ◌≢◌, ℕ, ◌⊎◌, ◌==◌, Bool, true, false, cond, List, Option, None, Some, refl, ap, sym, subst, ◌∙◌, inl, inr, arith, false≢true, eq-eqb, Rose, Provider, Record, Area, other_area, text_length, version_of, setup_of, AreAccepted, AreAlike, packed, Answer, Refusal, PackJournal, Seen, Ending, IsRefused, provider_at, IsOpened, pack_refusal_over, status_of, packed_line, pack_text, EndsByAnswer, IsTold, PackLeaves, PackedAlone, AnswersPack, IsDone, IsKnown, GivesUnlessMemory, EndsInOrder, SameHolds, IsPacked, SameFetches, packed_are, same_value, is_some-at, version-either, second-set_up}
 use Rattle.machine_defs.specs.Answers as answer
-use Rattle.command_laws.proofs.Known.{EndStatus, status-ended, known-both, unstarted-known, none-written, written-well, own-status, told-refusal}
-use Rattle.command_laws.proofs.JobEnds.{unstarted-done, not-done, refused-done, memory-well, in-order, zero-or-memory, refused-same, unstarted-same}
+use Rattle.command_laws.proofs.Known.{EndStatus, status-ended, known-both, unstarted-known, none-written, written-well, own-status, told-refusal, ended-so, refusal_at}
+use Rattle.command_laws.proofs.JobEnds.{memory-well, in-order, zero-or-memory, tells, done-tells}
+use Rattle.command_laws.proofs.Early.{early-done, early-same, pack-cases}
 
 -- ---- the packed records
 
@@ -33,8 +34,8 @@ module _ (records : List Record) (old new : Seen) (end : Ending) (opened : IsOpe
     (none : pack_refusal_over opened.area records ≡ None) where
   packed-by : (how : Answer) → PackedAlone opened.area records how old new →
       PackLeaves opened.area records how old new →
-      EndsByAnswer (pack_text how) how old new end → IsDone end → IsPacked old new end
-  packed-by (answer.Packed before after) P L by done = record {
+      EndsByAnswer (pack_text how) how old new end → tells how ≡ true → IsPacked old new end
+  packed-by (answer.Packed before after) P L by t = record {
     records = records;
     opened = opened;
     told = subst (λ n. IsTold (packed_line n (text_length (other_area opened.area) (packed records))) old new
@@ -43,21 +44,15 @@ module _ (records : List Record) (old new : Seen) (end : Ending) (opened : IsOpe
     alike = (pack-alike opened.area records opened.read.accepted none).1;
     providers = P.providers;
   }
-  packed-by answer.DiskFault P L by done =
-      absurd (not-done end.status 12 by.status_is (λ e. omega (arith, e)) (λ e. omega (arith, e)) done)
-  packed-by answer.Memory P L by done =
-      absurd (not-done end.status 70 by.status_is (λ e. omega (arith, e)) (λ e. omega (arith, e)) done)
-  packed-by how P L by done = absurd L
+  packed-by answer.DiskFault P L by t = absurd (false≢true t)
+  packed-by answer.Memory P L by t = absurd (false≢true t)
+  packed-by how P L by t = absurd L
 
 -- a done pack put the packed records in the place of those before, in the other area
 pub pack-done : (old new : Seen) (end : Ending) → AnswersPack old new end → IsDone end → IsPacked old new end
-pack-done old new end (AnswersPack.unstarted u) done = absurd (unstarted-done old new end u done)
-pack-done old new end (AnswersPack.refused records why opened is synced r) done =
-    absurd (refused-done why end.status r.status_is done)
-pack-done old new end (AnswersPack.no_memory records opened synced r) done =
-    absurd (not-done end.status 70 r.status_is (λ e. omega (arith, e)) (λ e. omega (arith, e)) done)
-pack-done old new end (AnswersPack.ended records how opened none heard runs left by) done =
-    packed-by records old new end opened none how left left.leaves by done
+pack-done old new end A done = pack-cases (λ E. absurd (early-done E done))
+    (λ records how opened none left by. packed-by records old new end opened none how left left.leaves by
+    (done-tells _ old new end how by done)) A
 
 -- ---- a pack that meets no fault
 
@@ -117,12 +112,8 @@ pack-order old new end (AnswersPack.ended records how opened none heard runs lef
 -- no status of an end tells of a refusal
 ended-not : (end : Ending) (why : Refusal) → EndStatus end.status → status_of why ≢ 70 →
     end.status ≡ status_of why → ⊥
-ended-not end why (EndStatus.by_done e) own is = own-status end why 0 refl e own is
-ended-not end why (EndStatus.by_lost e) own is = own-status end why 4 refl e own is
-ended-not end why (EndStatus.by_disk e) own is = own-status end why 12 refl e own is
-ended-not end why (EndStatus.by_provider e) own is = own-status end why 13 refl e own is
-ended-not end why (EndStatus.by_sink e) own is = own-status end why 15 refl e own is
-ended-not end why (EndStatus.by_memory e) own is = own-status end why 70 refl e own is
+ended-not end why e own is =
+    own-status end why end.status (ended-so refusal_at refl refl refl refl refl refl e) refl own is
 
 -- a pack ends with the status of a refusal only where that one is the first that applies
 pub pack-only : (records : List Record) (old new : Seen) (end : Ending) (why : Refusal) →
@@ -164,21 +155,10 @@ pack-always records old new end why (AnswersPack.ended other how opened none hea
 
 -- a pack leaves what providers hold
 pub pack-holds : (old new : Seen) (end : Ending) → AnswersPack old new end → SameHolds old new
-pack-holds old new end (AnswersPack.unstarted u) = unstarted-same (λ (p : Provider). p.held) old new end u
-pack-holds old new end (AnswersPack.refused records why opened is synced r) =
-    refused-same (λ (p : Provider). p.held) _ 0 old new end r
-pack-holds old new end (AnswersPack.no_memory records opened synced r) =
-    refused-same (λ (p : Provider). p.held) 70 0 old new end r
-pack-holds old new end (AnswersPack.ended records how opened none heard runs left by) =
-    λ j. ap (λ ps. (provider_at ps j).held) left.providers
+pack-holds old new end = pack-cases (early-same (λ (p : Provider). p.held))
+    (λ records how opened none left by j. ap (λ ps. (provider_at ps j).held) left.providers)
 
 -- a pack fetches nothing
 pub pack-fetches : (old new : Seen) (end : Ending) → AnswersPack old new end → SameFetches old new
-pack-fetches old new end (AnswersPack.unstarted u) =
-    unstarted-same (λ (p : Provider). p.fetches) old new end u
-pack-fetches old new end (AnswersPack.refused records why opened is synced r) =
-    refused-same (λ (p : Provider). p.fetches) _ 0 old new end r
-pack-fetches old new end (AnswersPack.no_memory records opened synced r) =
-    refused-same (λ (p : Provider). p.fetches) 70 0 old new end r
-pack-fetches old new end (AnswersPack.ended records how opened none heard runs left by) =
-    λ j. ap (λ ps. (provider_at ps j).fetches) left.providers
+pack-fetches old new end = pack-cases (early-same (λ (p : Provider). p.fetches))
+    (λ records how opened none left by j. ap (λ ps. (provider_at ps j).fetches) left.providers)

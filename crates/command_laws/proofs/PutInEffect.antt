@@ -5,10 +5,11 @@ use Rattle.device_defs.specs.Told.{Goes}
 use Rattle.machine_defs.specs.Answers as answer
 use Rattle.command_laws.proofs.Known.{known-once}
 use Rattle.command_laws.proofs.GetEnds.{ran_left}
-use Rattle.command_laws.proofs.JobEnds.{unstarted-refused, put-in_effect, read-all}
+use Rattle.command_laws.proofs.JobEnds.{put-in_effect, read-all}
 use Rattle.command_laws.proofs.Afterwards.{sure-refused}
 use Rattle.command_laws.proofs.DoneStores.{next-image}
 use Rattle.command_laws.proofs.FilesStay.{stored-file}
+use Rattle.command_laws.proofs.Early.{unstarted-early}
 
 -- a disk that the next command finds told before
 pub tells-back : (new next : Seen) → Follows new next → is_some next.disk ≡ true → is_some new.disk ≡ true
@@ -158,8 +159,8 @@ pub put-in-effect : (name bytes : List ℕ) (own : Option ℕ) (records : List R
     is_some (provider_at old.providers j).held ≡ true) →
     HasRightFile new (after_put records name (length bytes) own) name bytes spoilt
 put-in-effect name bytes own records spoilt old new next end (AnswersPut.unstarted u same) S source N F tells =
-    absurd (let r = unstarted-refused old new end u in
-    refused-not name bytes own records spoilt old new next end S N F tells r.0 r.1 r.3)
+    absurd (let E = unstarted-early u in
+    refused-not name bytes own records spoilt old new next end S N F tells E.status E.at E.refused)
 put-in-effect name bytes own records spoilt old new next end (AnswersPut.source_fault rs opened known rose synced taken r) S source N F tells =
     absurd (refused-not name bytes own records spoilt old new next end S N F tells 14 0 r)
 put-in-effect name bytes own records spoilt old new next end (AnswersPut.bad_profile rs opened unknown synced same r) S source N F tells =

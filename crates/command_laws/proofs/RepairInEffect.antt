@@ -5,13 +5,14 @@ use Rattle.std.proofs.Common.{◌&&◌}
 use Rattle.machine_defs.specs.Answers as answer
 use Rattle.command_laws.proofs.Known.{known-both}
 use Rattle.command_laws.proofs.GetEnds.{shape-at, ran_left}
-use Rattle.command_laws.proofs.JobEnds.{unstarted-refused, images-have}
+use Rattle.command_laws.proofs.JobEnds.{images-have}
 use Rattle.command_laws.proofs.Anew.{holds-right}
 use Rattle.command_laws.proofs.Afterwards.{sure-refused}
 use Rattle.command_laws.proofs.DoneStores.{next-image}
 use Rattle.command_laws.proofs.FilesStay.{bad-few}
 use Rattle.command_laws.proofs.FilesKept.{wrong-same, flag-off, goes-tells, columns-right, and-off}
 use Rattle.command_laws.proofs.PutInEffect.{tells-back}
+use Rattle.command_laws.proofs.Early.{unstarted-early, job-cases}
 
 module _ (name bytes : List ℕ) (records : List Record) (due : Due) (spoilt : ℕ → Bool) (old new next : Seen)
     (end : Ending) (S : IsSure old records) (is_due : due_of records ≡ Some due) (N : Follows new next)
@@ -113,17 +114,15 @@ module _ (name bytes : List ℕ) (records : List Record) (due : Due) (spoilt : �
     by-answer h L = absurd L
 
   by-job : (area : Area) → AnswersJob RepairJob None area records old new end → Mended
-  by-job area (AnswersJob.refused why is synced r) = absurd (refused-not _ 0 r)
-  by-job area (AnswersJob.no_memory synced r) = absurd (refused-not 70 0 r)
-  by-job area (AnswersJob.ended how none runs left by) = (let L = left.leaves.by_kind.0 in
-      by-answer area how left how
+  by-job area = job-cases (λ E. absurd (refused-not E.status E.at E.refused)) (λ how none left by.
+      let L = left.leaves.by_kind.0 in by-answer area how left how
       (subst (λ (d : Due). RepairGives (ran_left records RepairJob how old new end.heard left) d how)
       (same_value (due_of records) L.due due L.is_due is_due) L.gives))
 
   -- a repair that the next command finds in effect left a right file right on flagged providers too
   pub repair-in-effect : AnswersAlone RepairJob old new end → Mended
   repair-in-effect (AnswersAlone.unstarted u) =
-      absurd (let r = unstarted-refused old new end u in refused-not r.0 r.1 r.3)
+      absurd (let E = unstarted-early u in refused-not E.status E.at E.refused)
   repair-in-effect (AnswersAlone.begun rs opened A) =
       by-job S.known.opened.area (known-both old records rs S.known opened
       (λ a l. AnswersJob RepairJob None a l old new end) A)

@@ -3,8 +3,10 @@ use Rattle.command_laws.proofs.Words.{◌≡◌, ℕ, ◌<◌, ◌⊎◌, List, 
 use Rattle.machine_defs.specs.Answers as answer
 use Rattle.command_laws.proofs.Known.{known-once, unstarted-known, written-well}
 use Rattle.command_laws.proofs.GetEnds.{shape-at}
-use Rattle.command_laws.proofs.JobEnds.{unstarted-done, not-done, in-order, zero-or-memory}
-use Rattle.command_laws.proofs.Failed.{unstarted-own, memory-own, written-own}
+use Rattle.command_laws.proofs.JobEnds.{in-order, zero-or-memory, fits, tells, ends-at, done-tells}
+use Rattle.command_laws.proofs.Early.{early-done, early-not, scrub-cases}
+use Rattle.std.proofs.lemmas.Bool.{false≢true}
+use Rattle.std.proofs.Common.{true}
 
 -- what a scrub left, as it is seen
 abbrev pub scrub_left : (records : List Record) (how : Answer) (old new : Seen) →
@@ -27,8 +29,8 @@ module _ (records : List Record) (old new : Seen) (end : Ending) (opened : IsOpe
 
   scrubbed-by : (how : Answer) (left : ScrubbedAlone records how old new) →
       ScrubGives (scrub_left records how old new left) how →
-      EndsByAnswer (scrub_text how) how old new end → IsDone end → IsScrubbed old new end
-  scrubbed-by (answer.Scrubbed stripes symbols blocks) left L by done = record {
+      EndsByAnswer (scrub_text how) how old new end → tells how ≡ true → IsScrubbed old new end
+  scrubbed-by (answer.Scrubbed stripes symbols blocks) left L by t = record {
     records = records;
     stripes = stripes;
     symbols = symbols;
@@ -48,20 +50,17 @@ module _ (records : List Record) (old new : Seen) (end : Ending) (opened : IsOpe
       held = L.held;
     };
   }
-  scrubbed-by (answer.Lost stripe row) left L by done =
-      absurd (not-done end.status 4 by.status_is (λ e. omega (arith, e)) (λ e. omega (arith, e)) done)
-  scrubbed-by (answer.ProviderFault j) left L by done =
-      absurd (not-done end.status 13 by.status_is (λ e. omega (arith, e)) (λ e. omega (arith, e)) done)
-  scrubbed-by answer.Memory left L by done =
-      absurd (not-done end.status 70 by.status_is (λ e. omega (arith, e)) (λ e. omega (arith, e)) done)
-  scrubbed-by how left L by done = absurd L
+  scrubbed-by (answer.Lost stripe row) left L by t = absurd (false≢true t)
+  scrubbed-by (answer.ProviderFault j) left L by t = absurd (false≢true t)
+  scrubbed-by answer.Memory left L by t = absurd (false≢true t)
+  scrubbed-by how left L by t = absurd L
 
   -- ---- a store that failed, and a lost row
 
   fails-by : (how : Answer) (left : ScrubbedAlone records how old new) →
       ScrubGives (scrub_left records how old new left) how →
-      EndsByAnswer (scrub_text how) how old new end → end.status ≡ 13 → FailsToScrub old new end
-  fails-by (answer.ProviderFault j) left L by is = (let S = L.2 in
+      EndsByAnswer (scrub_text how) how old new end → fits 13 how ≡ true → FailsToScrub old new end
+  fails-by (answer.ProviderFault j) left L by t = (let S = L.2 in
       let P = S.part in record {
         records = records;
         opened = opened;
@@ -78,17 +77,15 @@ module _ (records : List Record) (old new : Seen) (end : Ending) (opened : IsOpe
           part = record { parts = P.parts; truth = P.truth; gives = P.gives; held = P.held };
         };
       })
-  fails-by (answer.Scrubbed stripes symbols blocks) left L by is =
-      absurd (written-own 13 _ old new end by.written is (inl refl))
-  fails-by (answer.Lost stripe row) left L by is =
-      absurd (not_two end.status 4 13 by.status_is is (λ e. omega (arith, e)))
-  fails-by answer.Memory left L by is = absurd (memory-own 13 end.status by.status_is is (inl refl))
-  fails-by how left L by is = absurd L
+  fails-by (answer.Scrubbed stripes symbols blocks) left L by t = absurd (false≢true t)
+  fails-by (answer.Lost stripe row) left L by t = absurd (false≢true t)
+  fails-by answer.Memory left L by t = absurd (false≢true t)
+  fails-by how left L by t = absurd L
 
   loses-by : (how : Answer) (left : ScrubbedAlone records how old new) →
       ScrubGives (scrub_left records how old new left) how →
-      EndsByAnswer (scrub_text how) how old new end → end.status ≡ 4 → LosesScrub old new end
-  loses-by (answer.Lost stripe row) left L by is = (let P = L.part in record {
+      EndsByAnswer (scrub_text how) how old new end → fits 4 how ≡ true → LosesScrub old new end
+  loses-by (answer.Lost stripe row) left L by t = (let P = L.part in record {
     records = records;
     stripe = stripe;
     opened = opened;
@@ -107,12 +104,10 @@ module _ (records : List Record) (old new : Seen) (end : Ending) (opened : IsOpe
     sink = by.sink;
     disk = synced-has opened.area records old.disk new.disk sync opened.read;
   })
-  loses-by (answer.Scrubbed stripes symbols blocks) left L by is =
-      absurd (written-own 4 _ old new end by.written is (inr refl))
-  loses-by (answer.ProviderFault j) left L by is =
-      absurd (not_two end.status 13 4 by.status_is is (λ e. omega (arith, e)))
-  loses-by answer.Memory left L by is = absurd (memory-own 4 end.status by.status_is is (inr refl))
-  loses-by how left L by is = absurd L
+  loses-by (answer.Scrubbed stripes symbols blocks) left L by t = absurd (false≢true t)
+  loses-by (answer.ProviderFault j) left L by t = absurd (false≢true t)
+  loses-by answer.Memory left L by t = absurd (false≢true t)
+  loses-by how left L by t = absurd L
 
   -- ---- which end it comes to
 
@@ -150,29 +145,23 @@ module _ (records : List Record) (old new : Seen) (end : Ending) (opened : IsOpe
 -- after a done scrub each provider holds the columns of what was accepted, in every place
 pub scrub-done : (old new : Seen) (end : Ending) → AnswersScrub old new end → IsDone end →
     IsScrubbed old new end
-scrub-done old new end (AnswersScrub.unstarted u) done = absurd (unstarted-done old new end u done)
-scrub-done old new end (AnswersScrub.no_memory records opened sync r) done =
-    absurd (not-done end.status 70 r.status_is (λ e. omega (arith, e)) (λ e. omega (arith, e)) done)
-scrub-done old new end (AnswersScrub.ended records how opened sync heard runs left by) done =
-    scrubbed-by records old new end opened sync how left left.leaves.gives by done
+scrub-done old new end A done = scrub-cases (λ E. absurd (early-done E done))
+    (λ records how opened sync left by. scrubbed-by records old new end opened sync how left left.leaves.gives by
+    (done-tells _ old new end how by done)) A
 
 -- a scrub of which a store failed wrote at most some blocks anew
 pub scrub-fails : (old new : Seen) (end : Ending) → AnswersScrub old new end → end.status ≡ 13 →
     FailsToScrub old new end
-scrub-fails old new end (AnswersScrub.unstarted u) is = absurd (unstarted-own 13 old new end u is (inl refl))
-scrub-fails old new end (AnswersScrub.no_memory records opened sync r) is =
-    absurd (memory-own 13 end.status r.status_is is (inl refl))
-scrub-fails old new end (AnswersScrub.ended records how opened sync heard runs left by) is =
-    fails-by records old new end opened sync how left left.leaves.gives by is
+scrub-fails old new end A is = scrub-cases (λ E. absurd (early-not E 13 refl is))
+    (λ records how opened sync left by. fails-by records old new end opened sync how left left.leaves.gives by
+    (ends-at _ old new end 13 how by is)) A
 
 -- a scrub that ends at a lost row found the lowest of the first stripe that has one
 pub scrub-loses : (old new : Seen) (end : Ending) → AnswersScrub old new end → end.status ≡ 4 →
     LosesScrub old new end
-scrub-loses old new end (AnswersScrub.unstarted u) is = absurd (unstarted-own 4 old new end u is (inr refl))
-scrub-loses old new end (AnswersScrub.no_memory records opened sync r) is =
-    absurd (memory-own 4 end.status r.status_is is (inr refl))
-scrub-loses old new end (AnswersScrub.ended records how opened sync heard runs left by) is =
-    loses-by records old new end opened sync how left left.leaves.gives by is
+scrub-loses old new end A is = scrub-cases (λ E. absurd (early-not E 4 refl is))
+    (λ records how opened sync left by. loses-by records old new end opened sync how left left.leaves.gives by
+    (ends-at _ old new end 4 how by is)) A
 
 -- a scrub with no failed store or sink ends in order, or found a row lost, over any devices
 pub scrub-order : (old new : Seen) (end : Ending) → AnswersScrub old new end →
@@ -185,7 +174,8 @@ scrub-order old new end (AnswersScrub.no_memory records opened sync r) stores si
 scrub-order old new end (AnswersScrub.ended records how opened sync heard runs left by) stores sink =
     elim (comes-by records old new end opened sync how left left.leaves.gives by stores sink) [
       | inl well ↦ inl (in-order ScrubAll old new end well)
-      | inr four ↦ inr (loses-by records old new end opened sync how left left.leaves.gives by four)
+      | inr four ↦ inr (loses-by records old new end opened sync how left left.leaves.gives by
+          (ends-at _ old new end 4 how by four))
     ]
 
 -- a scrub over a known store with few bad providers of each file and no fault is done, or finds no memory

@@ -5,11 +5,11 @@ use Rattle.device_defs.specs.Told.{Goes}
 use Rattle.machine_defs.specs.Answers as answer
 use Rattle.command_laws.proofs.Known.{known-once}
 use Rattle.command_laws.proofs.GetEnds.{shape-at}
-use Rattle.command_laws.proofs.JobEnds.{unstarted-refused}
 use Rattle.command_laws.proofs.Anew.{all-in, listed-in, right-column, holds-right}
 use Rattle.command_laws.proofs.ScrubEnds.{scrub_left, scrub-done}
 use Rattle.command_laws.proofs.FilesStay.{bad-few}
 use Rattle.command_laws.proofs.FilesKept.{refused-has, goes-tells, columns-right}
+use Rattle.command_laws.proofs.Early.{scrub-cases}
 
 -- ---- a scrub that is done
 
@@ -180,11 +180,8 @@ module _ (name bytes : List ℕ) (records : List Record) (spoilt : ℕ → Bool)
 
   -- a right file stays so over a scrub, whatever comes of it, where few are spoilt
   pub scrub-keeps : AnswersScrub old new end → HasRightFile new records name bytes spoilt
-  scrub-keeps (AnswersScrub.unstarted u) = (let r = unstarted-refused old new end u in
-      refused-has r.0 r.1 name bytes records spoilt old new end r.3 H)
-  scrub-keeps (AnswersScrub.no_memory other opened sync r) =
-      refused-has 70 0 name bytes records spoilt old new end r H
-  scrub-keeps (AnswersScrub.ended other how opened sync heard runs left by) =
-      (let same = known-once old records other K opened.read in
+  scrub-keeps =
+      scrub-cases (λ E. refused-has E.status E.at name bytes records spoilt old new end E.refused H)
+      (λ other how opened sync left by. let same = known-once old records other K opened.read in
       let here : ScrubbedAlone records how old new = subst (λ rs. ScrubbedAlone rs how old new) same left in
       by-answer how here how here.leaves.gives)

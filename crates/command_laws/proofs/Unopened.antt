@@ -1,6 +1,6 @@
 -- The statuses that tell of a store that is not opened come exactly where their causes apply.
-use Rattle.command_laws.proofs.Words.{◌≡◌, ℕ, ◌<◌, ◌≤◌, ◌⊎◌, true, false, List, length, Option, Some, ap, sym, subst, ◌∙◌, inl, inr, arith, None, IfSome, false≢true, Cells, Rose, Record, Area, HasNoSetup, Kind, GetJob, DropJob, AuditJob, RepairJob, UpgradeJob, Command, RowOf, InitWith, PutUnder, PutAt, GetOf, DropOf, ListAll, AuditAll, RepairAll, UpgradeJournal, ScrubAll, PackJournal, WritesLine, Seen, Ending, sinking, journal_read, IsRead, IsBadStart, IsOpened, Unstarted, setup_in_effect, AnswersScrub, AnswersPack, AnswersPut, AnswersAlone, AnswersList, Answers, opens_store, read-once, read-set_up, read-good, fresh-good, bad-once}
-use Rattle.command_laws.proofs.Known.{is_unopened, refused-opened, ended-opened, status-ended, job-opened}
+use Rattle.command_laws.proofs.Words.{◌≡◌, ℕ, ◌<◌, ◌≤◌, ◌⊎◌, true, false, List, length, Option, Some, ap, sym, subst, ◌∙◌, inl, inr, arith, None, IfSome, false≢true, Cells, Rose, Record, Area, HasNoSetup, Kind, GetJob, DropJob, AuditJob, RepairJob, UpgradeJob, Command, RowOf, InitWith, PutUnder, PutAt, GetOf, DropOf, ListAll, AuditAll, RepairAll, UpgradeJournal, ScrubAll, PackJournal, WritesLine, Seen, Ending, sinking, journal_read, IsRead, IsBadStart, IsOpened, Unstarted, setup_in_effect, AnswersScrub, AnswersPack, AnswersPut, AnswersAlone, AnswersList, Answers, opens_store, read-once, read-set_up, read-good, fresh-good, bad-once, eq-eqb, ◌==◌, refl}
+use Rattle.command_laws.proofs.Known.{is_unopened, refused-opened, status-ended, job-opened, ended-so, written-so}
 use Rattle.command_laws.proofs.JobEnds.{given-status}
 
 -- how a command goes that looks at a store: it is not started, or it has a status of its own, over records
@@ -32,23 +32,17 @@ alone-opening kind old new end (AnswersAlone.unstarted u) = Opening.before u
 alone-opening kind old new end (AnswersAlone.begun records opened A) =
     Opening.over records opened (job-opened kind None records old new end A)
 
-written-opened : (text : List ℕ) (old new : Seen) (end : Ending) →
-    WritesLine text end.status (sinking old new) → is_unopened end.status ≡ false
-written-opened text old new end (inl w) = ap is_unopened w.0
-written-opened text old new end (inr (inl w)) = ap is_unopened w.1
-written-opened text old new end (inr (inr w)) = ap is_unopened w.0
-
 list-opening : (old new : Seen) (end : Ending) → AnswersList old new end → Opening old new end
 list-opening old new end (AnswersList.unstarted u) = Opening.before u
 list-opening old new end (AnswersList.no_memory r) = Opening.no_room r.status_is
 list-opening old new end (AnswersList.listed records opened L) =
-    Opening.over records opened (written-opened _ old new end L.written)
+    Opening.over records opened (written-so is_unopened _ old new end refl refl refl L.written)
 
 scrub-opening : (old new : Seen) (end : Ending) → AnswersScrub old new end → Opening old new end
 scrub-opening old new end (AnswersScrub.unstarted u) = Opening.before u
 scrub-opening old new end (AnswersScrub.no_memory records opened synced r) = Opening.no_room r.status_is
 scrub-opening old new end (AnswersScrub.ended records how opened synced heard runs left by) =
-    Opening.over records opened (ended-opened end.status (status-ended _ how old new end by))
+    Opening.over records opened (ended-so is_unopened {v = false} refl refl refl refl refl refl (status-ended _ how old new end by))
 
 pack-opening : (old new : Seen) (end : Ending) → AnswersPack old new end → Opening old new end
 pack-opening old new end (AnswersPack.unstarted u) = Opening.before u
@@ -56,7 +50,7 @@ pack-opening old new end (AnswersPack.refused records why opened is synced r) =
     Opening.over records opened (ap is_unopened r.status_is ∙ refused-opened why)
 pack-opening old new end (AnswersPack.no_memory records opened synced r) = Opening.no_room r.status_is
 pack-opening old new end (AnswersPack.ended records how opened none heard runs left by) =
-    Opening.over records opened (ended-opened end.status (status-ended _ how old new end by))
+    Opening.over records opened (ended-so is_unopened {v = false} refl refl refl refl refl refl (status-ended _ how old new end by))
 
 opening-of : (command : Command) (old new : Seen) (end : Ending) → Answers command old new end →
     opens_store command ≡ true → Opening old new end
@@ -72,63 +66,54 @@ opening-of ScrubAll old new end A opens = scrub-opening old new end A.0
 opening-of PackJournal old new end A opens = pack-opening old new end A.0
 opening-of command old new end A opens = absurd (false≢true opens)
 
-status-not : (status n m : ℕ) → status ≡ n → status ≡ m → (n ≡ m → ⊥) → ⊥
-status-not status n m is also differ = differ (sym is ∙ also)
+status-not : {status : ℕ} (n m : ℕ) → status ≡ n → status ≡ m → (n == m) ≡ false → ⊥
+status-not n m is also off = false≢true (sym off ∙ eq-eqb n m (sym is ∙ also))
 
 -- ---- only with the cause
 
-unset-only : (cells : Cells) (old new : Seen) (end : Ending) → old.disk ≡ Some cells → Opening old new end →
-    end.status ≡ 9 → HasNoSetup (journal_read cells)
-unset-only cells old new end tells (Opening.before (Unstarted.not_set_up is sync r)) nine =
-    subst (λ d. IfSome d (λ c. HasNoSetup (journal_read c))) tells is
-unset-only cells old new end tells (Opening.before (Unstarted.disk_fault rose r)) nine =
-    absurd (status-not end.status 12 9 r.status_is nine (λ e. omega (arith, e)))
-unset-only cells old new end tells (Opening.before (Unstarted.bad_journal at is r)) nine =
-    absurd (status-not end.status 8 9 r.status_is nine (λ e. omega (arith, e)))
-unset-only cells old new end tells (Opening.before (Unstarted.too_few_providers area records read few synced r)) nine =
-    absurd (status-not end.status 22 9 r.status_is nine (λ e. omega (arith, e)))
-unset-only cells old new end tells (Opening.before (Unstarted.no_memory r)) nine =
-    absurd (status-not end.status 70 9 r.status_is nine (λ e. omega (arith, e)))
-unset-only cells old new end tells (Opening.no_room is) nine =
-    absurd (status-not end.status 70 9 is nine (λ e. omega (arith, e)))
-unset-only cells old new end tells (Opening.over records opened other) nine =
-    absurd (false≢true (sym other ∙ ap is_unopened nine))
+module _ {old new : Seen} {end : Ending} where
+  unset-only : (cells : Cells) → old.disk ≡ Some cells → Opening old new end →
+      end.status ≡ 9 → HasNoSetup (journal_read cells)
+  unset-only cells tells (Opening.before (Unstarted.not_set_up is sync r)) nine =
+      subst (λ d. IfSome d (λ c. HasNoSetup (journal_read c))) tells is
+  unset-only cells tells (Opening.before (Unstarted.disk_fault rose r)) nine =
+      absurd (status-not 12 9 r.status_is nine refl)
+  unset-only cells tells (Opening.before (Unstarted.bad_journal at is r)) nine =
+      absurd (status-not 8 9 r.status_is nine refl)
+  unset-only cells tells (Opening.before (Unstarted.too_few_providers area records read few synced r)) nine =
+      absurd (status-not 22 9 r.status_is nine refl)
+  unset-only cells tells (Opening.before (Unstarted.no_memory r)) nine = absurd (status-not 70 9 r.status_is nine refl)
+  unset-only cells tells (Opening.no_room is) nine = absurd (status-not 70 9 is nine refl)
+  unset-only cells tells (Opening.over records opened other) nine =
+      absurd (false≢true (sym other ∙ ap is_unopened nine))
 
-bad-only : (cells : Cells) (old new : Seen) (end : Ending) → old.disk ≡ Some cells → Opening old new end →
-    end.status ≡ 8 → (9 < length (journal_read cells)) × IsBadStart (journal_read cells) end.at
-bad-only cells old new end tells (Opening.before (Unstarted.bad_journal at is r)) eight =
-    subst (λ k. (9 < length (journal_read cells)) × IsBadStart (journal_read cells) k) (sym r.place)
-    (subst (λ d. IfSome d (λ c. (9 < length (journal_read c)) × IsBadStart (journal_read c) at)) tells is)
-bad-only cells old new end tells (Opening.before (Unstarted.disk_fault rose r)) eight =
-    absurd (status-not end.status 12 8 r.status_is eight (λ e. omega (arith, e)))
-bad-only cells old new end tells (Opening.before (Unstarted.not_set_up is sync r)) eight =
-    absurd (status-not end.status 9 8 r.status_is eight (λ e. omega (arith, e)))
-bad-only cells old new end tells (Opening.before (Unstarted.too_few_providers area records read few synced r)) eight =
-    absurd (status-not end.status 22 8 r.status_is eight (λ e. omega (arith, e)))
-bad-only cells old new end tells (Opening.before (Unstarted.no_memory r)) eight =
-    absurd (status-not end.status 70 8 r.status_is eight (λ e. omega (arith, e)))
-bad-only cells old new end tells (Opening.no_room is) eight =
-    absurd (status-not end.status 70 8 is eight (λ e. omega (arith, e)))
-bad-only cells old new end tells (Opening.over records opened other) eight =
-    absurd (false≢true (sym other ∙ ap is_unopened eight))
+  bad-only : (cells : Cells) → old.disk ≡ Some cells → Opening old new end →
+      end.status ≡ 8 → (9 < length (journal_read cells)) × IsBadStart (journal_read cells) end.at
+  bad-only cells tells (Opening.before (Unstarted.bad_journal at is r)) eight =
+      subst (λ k. (9 < length (journal_read cells)) × IsBadStart (journal_read cells) k) (sym r.place)
+      (subst (λ d. IfSome d (λ c. (9 < length (journal_read c)) × IsBadStart (journal_read c) at)) tells is)
+  bad-only cells tells (Opening.before (Unstarted.disk_fault rose r)) eight =
+      absurd (status-not 12 8 r.status_is eight refl)
+  bad-only cells tells (Opening.before (Unstarted.not_set_up is sync r)) eight =
+      absurd (status-not 9 8 r.status_is eight refl)
+  bad-only cells tells (Opening.before (Unstarted.too_few_providers area records read few synced r)) eight =
+      absurd (status-not 22 8 r.status_is eight refl)
+  bad-only cells tells (Opening.before (Unstarted.no_memory r)) eight = absurd (status-not 70 8 r.status_is eight refl)
+  bad-only cells tells (Opening.no_room is) eight = absurd (status-not 70 8 is eight refl)
+  bad-only cells tells (Opening.over records opened other) eight =
+      absurd (false≢true (sym other ∙ ap is_unopened eight))
 
-few-only : (old new : Seen) (end : Ending) → Opening old new end → end.status ≡ 22 →
-    (area : Area) × (records : List Record) × IsRead old.disk area records
-    × (length old.providers < (setup_in_effect records).n)
-few-only old new end (Opening.before (Unstarted.too_few_providers area records read few synced r)) is =
-    (area, records, read, few)
-few-only old new end (Opening.before (Unstarted.disk_fault rose r)) is =
-    absurd (status-not end.status 12 22 r.status_is is (λ e. omega (arith, e)))
-few-only old new end (Opening.before (Unstarted.not_set_up fresh sync r)) is =
-    absurd (status-not end.status 9 22 r.status_is is (λ e. omega (arith, e)))
-few-only old new end (Opening.before (Unstarted.bad_journal at bad r)) is =
-    absurd (status-not end.status 8 22 r.status_is is (λ e. omega (arith, e)))
-few-only old new end (Opening.before (Unstarted.no_memory r)) is =
-    absurd (status-not end.status 70 22 r.status_is is (λ e. omega (arith, e)))
-few-only old new end (Opening.no_room m) is =
-    absurd (status-not end.status 70 22 m is (λ e. omega (arith, e)))
-few-only old new end (Opening.over records opened other) is =
-    absurd (false≢true (sym other ∙ ap is_unopened is))
+  few-only : Opening old new end → end.status ≡ 22 →
+      (area : Area) × (records : List Record) × IsRead old.disk area records
+      × (length old.providers < (setup_in_effect records).n)
+  few-only (Opening.before (Unstarted.too_few_providers area records read few synced r)) is =
+      (area, records, read, few)
+  few-only (Opening.before (Unstarted.disk_fault rose r)) is = absurd (status-not 12 22 r.status_is is refl)
+  few-only (Opening.before (Unstarted.not_set_up fresh sync r)) is = absurd (status-not 9 22 r.status_is is refl)
+  few-only (Opening.before (Unstarted.bad_journal at bad r)) is = absurd (status-not 8 22 r.status_is is refl)
+  few-only (Opening.before (Unstarted.no_memory r)) is = absurd (status-not 70 22 r.status_is is refl)
+  few-only (Opening.no_room m) is = absurd (status-not 70 22 m is refl)
+  few-only (Opening.over records opened other) is = absurd (false≢true (sym other ∙ ap is_unopened is))
 
 -- ---- and always with it
 
@@ -196,7 +181,7 @@ pub fresh-only : (command : Command) (cells : Cells) (old new : Seen) (end : End
     Answers command old new end → opens_store command ≡ true → old.disk ≡ Some cells → end.status ≡ 9 →
     HasNoSetup (journal_read cells)
 fresh-only command cells old new end A opens tells nine =
-    unset-only cells old new end tells (opening-of command old new end A opens) nine
+    unset-only cells tells (opening-of command old new end A opens) nine
 
 -- a command over a disk with no setup ends with 9, or finds no memory
 pub fresh-always : (command : Command) (cells : Cells) (old new : Seen) (end : Ending) →
@@ -211,7 +196,7 @@ pub broken-only : (command : Command) (cells : Cells) (old new : Seen) (end : En
     Answers command old new end → opens_store command ≡ true → old.disk ≡ Some cells → end.status ≡ 8 →
     (9 < length (journal_read cells)) × IsBadStart (journal_read cells) end.at
 broken-only command cells old new end A opens tells eight =
-    bad-only cells old new end tells (opening-of command old new end A opens) eight
+    bad-only cells tells (opening-of command old new end A opens) eight
 
 -- a command over a bad journal ends with 8 and the bad place, or finds no memory
 pub broken-always : (command : Command) (cells : Cells) (old new : Seen) (end : Ending) (at : ℕ) →
@@ -226,7 +211,7 @@ pub lacking-only : (command : Command) (old new : Seen) (end : Ending) → Answe
     opens_store command ≡ true → end.status ≡ 22 →
     (area : Area) × (records : List Record) × IsRead old.disk area records
     × (length old.providers < (setup_in_effect records).n)
-lacking-only command old new end A opens is = few-only old new end (opening-of command old new end A opens) is
+lacking-only command old new end A opens is = few-only (opening-of command old new end A opens) is
 
 -- a command with too few providers ends with 22, or finds no memory
 pub lacking-always : (command : Command) (cells : Cells) (old new : Seen) (end : Ending)
