@@ -1,5 +1,5 @@
 -- A store is known again after a command, and the next one finds it so.
-use Rattle.command_laws.proofs.Words.{◌≡◌, ℕ, ◌<◌, ◌≤◌, true, false, List, length, take, Option, None, Some, refl, ap, sym, subst, ◌∙◌, inl, inr, arith, is_some, IfSome, false≢true, IsShape, Cells, reads, firm, synced, Stopped, IsImage, EachImage, Record, Setup, largest_journal, Area, StandsActive, Kind, PutJob, GetJob, DropJob, AuditJob, RepairJob, UpgradeJob, Command, Numbers, RowOf, InitWith, PutUnder, PutAt, GetOf, DropOf, ListAll, AuditAll, RepairAll, UpgradeJournal, ScrubAll, PackJournal, WritesLine, TellsLine, IsResynced, IsRead, Seen, Ending, IsRefused, sinking, Unstarted, setup_in_effect, setup_with, AnswersInit, InitsDisk, AnswersJob, AnswersScrub, AnswersPack, AnswersPut, AnswersAlone, AnswersList, Answers, IsKnown, IsSure, Follows, is_refusal, reads-firm, image-firm, each_image-mono, IsImage-reads, is_some-at, resynced-equal}
+use Rattle.command_laws.proofs.Words.{◌≡◌, ℕ, ◌<◌, ◌≤◌, true, false, List, length, take, Option, None, Some, refl, ap, sym, subst, ◌∙◌, inl, inr, arith, is_some, IfSome, false≢true, IsShape, Cells, reads, firm, synced, Stopped, IsImage, EachImage, Record, largest_journal, Area, StandsActive, Kind, GetJob, DropJob, AuditJob, RepairJob, UpgradeJob, Command, Numbers, RowOf, InitWith, PutUnder, PutAt, GetOf, DropOf, ListAll, AuditAll, RepairAll, UpgradeJournal, ScrubAll, PackJournal, WritesLine, TellsLine, IsResynced, IsRead, Seen, Ending, IsRefused, sinking, setup_in_effect, AnswersInit, AnswersScrub, AnswersPack, AnswersPut, AnswersAlone, AnswersList, Answers, IsKnown, IsSure, Follows, is_refusal, reads-firm, image-firm, each_image-mono, IsImage-reads, is_some-at, resynced-equal}
 use Rattle.device_defs.specs.Told.{Goes}
 use Rattle.command_laws.proofs.Known.{EndStatus, status-ended, ended-so, written-so}
 use Rattle.command_laws.proofs.JobEnds.{given-status}

@@ -1,5 +1,5 @@
 -- How a get, a list and a repair end over any devices, also those that tell nothing.
-use Rattle.command_laws.proofs.Words.{◌≡◌, ℕ, ◌⊎◌, List, refl, inl, inr, None, Rose, Record, Area, GetJob, RepairJob, Answer, GetOf, ListAll, RepairAll, Seen, Ending, provider_at, setup_in_effect, text_of, GetLeaves, RepairGives, AnswersJob, LeftAlone, EndsByAnswer, AnswersAlone, AnswersList, EndsInOrder, LosesFile, LosesRepair}
+use Rattle.command_laws.proofs.Words.{◌≡◌, ℕ, ◌⊎◌, List, refl, inl, inr, None, Rose, Record, Area, GetJob, RepairJob, Answer, GetOf, ListAll, RepairAll, Seen, Ending, provider_at, setup_in_effect, text_of, GetLeaves, RepairGives, LeftAlone, EndsByAnswer, AnswersAlone, AnswersList, EndsInOrder, LosesFile, LosesRepair}
 use Rattle.machine_defs.specs.Answers as answer
 use Rattle.command_laws.proofs.Known.{written-well}
 use Rattle.command_laws.proofs.GetEnds.{ran_left}

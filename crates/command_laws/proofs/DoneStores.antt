@@ -1,13 +1,13 @@
 -- The records of a store after a command that is done, and after any command.
-use Rattle.command_laws.proofs.Words.{◌≡◌, ◌≢◌, ℕ, ◌+◌, ◌<◌, ◌≤◌, ◌⊎◌, Bool, true, false, List, [], ◌∷◌, length, Option, None, Some, refl, ap, sym, subst, ◌∙◌, inl, inr, arith, is_some, IfSome, option_map, and_from, false≢true, nat_tests, is_some-option_map, Cells, reads, firm, synced, Stopped, EachImage, Record, Setup, SetUp, is_master, is_setup, is_in_grammar, largest_file, largest_journal, Area, other_area, StandsActive, StandsFor, AreAlike, packed, Due, next_audit, due_of, Kind, PutJob, GetJob, DropJob, AuditJob, RepairJob, UpgradeJob, Answer, Refusal, Command, Numbers, RowOf, InitWith, PutUnder, PutAt, GetOf, DropOf, ListAll, AuditAll, RepairAll, UpgradeJournal, ScrubAll, PackJournal, IsKeyForm, Seen, Ending, IsRefused, IsSynced, ReadsUpTo, journal_read, IsSetUpOn, IsOpened, Unstarted, setup_in_effect, status_of, refusal_over, pack_refusal_over, audit_lines, setup_with, AnswersInit, GetLeaves, AnswersJob, SameOutside, outside, with_next, IsTold, put_stripe, after_begin, StopsReading, PartRuns, PartLeft, ScrubsAlone, AnswersScrub, PackedAlone, AnswersPack, AnswersPut, AnswersAlone, AnswersList, Answers, MayName, IsDone, IsKnown, profile_named, RunsKind, DiskHas, opens_store, after_put, after_drop, after_audit, after_repair, after_upgrade, IsAfter, IsSure, Follows, IsThen, reads-firm, image-firm, each_image-mono, IsImage-reads, active-front, one_list, same_value, is_some-at, IsKeyForm-once, set_up-firm, set_up-stands}
+use Rattle.command_laws.proofs.Words.{◌≡◌, ◌≢◌, ℕ, ◌+◌, ◌<◌, ◌≤◌, ◌⊎◌, Bool, true, false, List, [], ◌∷◌, length, Option, None, Some, refl, ap, sym, subst, ◌∙◌, inl, inr, arith, is_some, IfSome, option_map, and_from, false≢true, nat_tests, is_some-option_map, Cells, reads, firm, synced, Stopped, EachImage, Record, Setup, SetUp, is_master, is_setup, is_in_grammar, largest_file, largest_journal, Area, other_area, StandsActive, StandsFor, AreAlike, packed, Due, next_audit, due_of, Kind, PutJob, GetJob, DropJob, AuditJob, RepairJob, UpgradeJob, Answer, Command, Numbers, PutUnder, PutAt, GetOf, DropOf, ListAll, AuditAll, RepairAll, UpgradeJournal, ScrubAll, PackJournal, IsKeyForm, Seen, Ending, IsRefused, IsSynced, ReadsUpTo, journal_read, IsSetUpOn, IsOpened, setup_in_effect, refusal_over, pack_refusal_over, audit_lines, setup_with, AnswersInit, GetLeaves, AnswersJob, SameOutside, outside, with_next, IsTold, put_stripe, after_begin, StopsReading, PartRuns, PartLeft, ScrubsAlone, AnswersScrub, PackedAlone, AnswersPack, AnswersPut, AnswersAlone, AnswersList, Answers, MayName, IsDone, IsKnown, profile_named, RunsKind, DiskHas, opens_store, after_put, after_drop, after_audit, after_repair, after_upgrade, IsAfter, IsSure, Follows, IsThen, reads-firm, image-firm, each_image-mono, IsImage-reads, active-front, one_list, same_value, is_some-at, IsKeyForm-once, set_up-firm, set_up-stands}
 use Rattle.std.specs.Prelude.{IsTrue}
 use Rattle.hex.proofs.HexLemmas.{decode_of-ok}
 use Rattle.device_defs.specs.Told.{Goes}
 use Rattle.record_defs.specs.Areas as areas
 use Rattle.record_codec.proofs.Takes.{IsBytes-all}
 use Rattle.machine_defs.specs.Answers as answer
-use Rattle.command_laws.proofs.Known.{known-once, known-both, alone-known, unstarted-known, refused-not}
-use Rattle.command_laws.proofs.JobEnds.{put-done, drop-done, audit-done, repair-done, upgrade-done, read-all, given-status, given-kind, images-have, cut-not, unstarted-cut, job-cut, short-never}
+use Rattle.command_laws.proofs.Known.{known-once, known-both, alone-known}
+use Rattle.command_laws.proofs.JobEnds.{put-done, drop-done, audit-done, repair-done, upgrade-done, read-all, given-kind, images-have, cut-not, unstarted-cut, job-cut, short-never}
 use Rattle.command_laws.proofs.GetEnds.{ran_left}
 use Rattle.command_laws.proofs.InitEnds.{form-all, init-done, list-done}
 use Rattle.command_laws.proofs.Images.{known-images}

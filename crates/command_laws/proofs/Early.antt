@@ -1,5 +1,5 @@
 -- A command was refused and touched nothing, or came to an end of its own: each kind of answer in these cases.
-use Rattle.command_laws.proofs.Words.{◌≡◌, ℕ, ◌≤◌, ◌==◌, ◌⊎◌, Bool, true, false, List, [], length, Option, None, Some, refl, ap, sym, ◌∙◌, inl, inr, false≢true, IfSome, largest_file, Rose, provider_at, Provider, Record, Area, Setup, Numbers, PutJob, Kind, Answer, Refusal, Command, Seen, Ending, IsRefused, IsOpened, IsSynced, ReadsFront, Unstarted, setup_in_effect, refusal_over, pack_refusal_over, is_unknown, setup_with, status_of, text_of, scrub_text, pack_text, MayHaveEnd, put_stripe, StopsReading, PartLeft, EndsByAnswer, LeftAlone, ScrubbedAlone, PackedAlone, AnswersInit, InitsDisk, AnswersJob, AnswersPut, AnswersAlone, AnswersList, AnswersScrub, AnswersPack, ListsFiles, IsDone, IsKnown, EndsInOrder, RunsKind, profile_named, is_ending}
+use Rattle.command_laws.proofs.Words.{◌≡◌, ℕ, ◌≤◌, ◌==◌, ◌⊎◌, Bool, true, false, List, [], length, Option, None, Some, refl, ap, sym, ◌∙◌, inl, inr, false≢true, IfSome, largest_file, Rose, provider_at, Provider, Record, Area, Numbers, PutJob, Kind, Answer, Refusal, Command, Seen, Ending, IsRefused, IsOpened, IsSynced, ReadsFront, Unstarted, setup_in_effect, refusal_over, pack_refusal_over, is_unknown, setup_with, status_of, text_of, scrub_text, pack_text, MayHaveEnd, put_stripe, StopsReading, PartLeft, EndsByAnswer, LeftAlone, ScrubbedAlone, PackedAlone, AnswersInit, InitsDisk, AnswersJob, AnswersPut, AnswersAlone, AnswersList, AnswersScrub, AnswersPack, ListsFiles, IsDone, IsKnown, EndsInOrder, RunsKind, profile_named, is_ending}
 use Rattle.std.specs.Prelude.{if◌then◌else◌}
 use Rattle.command_defs.specs.Inits.{FailsToInit, IsInitDone}
 use Rattle.machine_defs.specs.Refusals as refusal

@@ -1,5 +1,5 @@
 -- The statuses with which commands end, and those of a row with their causes.
-use Rattle.command_laws.proofs.Words.{◌≡◌, ◌≢◌, ℕ, ◌+◌, ◌*◌, ◌⊎◌, true, false, List, Option, refl, ap, sym, ◌∙◌, inl, inr, arith, cases_Bool, cases_lt, false≢true, IsShape, upto, Record, Area, Kind, PutJob, GetJob, DropJob, AuditJob, RepairJob, UpgradeJob, Refusal, Command, Numbers, RowOf, InitWith, PutUnder, PutAt, GetOf, DropOf, ListAll, AuditAll, RepairAll, UpgradeJournal, ScrubAll, PackJournal, WritesLine, TellsLine, Seen, Ending, sinking, Unstarted, status_of, AnswersRow, AnswersInit, InitsDisk, AnswersJob, AnswersScrub, AnswersPack, AnswersPut, AnswersAlone, AnswersList, Answers, is_ending}
+use Rattle.command_laws.proofs.Words.{◌≡◌, ◌≢◌, ℕ, ◌+◌, ◌*◌, ◌⊎◌, true, false, List, Option, refl, ap, sym, ◌∙◌, inl, inr, arith, cases_lt, false≢true, IsShape, upto, Kind, GetJob, DropJob, AuditJob, RepairJob, UpgradeJob, Command, Numbers, RowOf, InitWith, PutUnder, PutAt, GetOf, DropOf, ListAll, AuditAll, RepairAll, UpgradeJournal, ScrubAll, PackJournal, WritesLine, TellsLine, Seen, Ending, sinking, AnswersRow, AnswersInit, AnswersScrub, AnswersPack, AnswersPut, AnswersAlone, AnswersList, Answers, is_ending}
 use Rattle.code_defs.specs.DispersalCode.{AcceptsNone}
 use Rattle.machine_defs.specs.Refusals as refusal
 use Rattle.command_laws.proofs.Known.{EndStatus, status-ended, ended-so, written-so}

@@ -1,5 +1,5 @@
 -- What a store that failed and a lost row leave, and that nothing is fetched by the other commands.
-use Rattle.command_laws.proofs.Words.{◌≡◌, ℕ, ◌<◌, ◌≤◌, ◌⊎◌, true, List, length, Option, None, Some, refl, ap, sym, subst, ◌∙◌, inl, inr, arith, cases_lt, not_two, is_flagged, Rose, Provider, Record, largest_file, Area, Due, due_of, Kind, PutJob, GetJob, DropJob, AuditJob, RepairJob, UpgradeJob, Answer, Refusal, Command, Numbers, RowOf, InitWith, PutUnder, PutAt, GetOf, DropOf, ListAll, AuditAll, RepairAll, UpgradeJournal, ScrubAll, PackJournal, WritesLine, Seen, Ending, ReadsFront, provider_at, sinking, IsOpened, Unstarted, setup_in_effect, status_of, Ran, text_of, pack_text, PutLeaves, GetLeaves, LosesStripe, flags, RepairGives, LosesAtPlace, AnswersJob, EndsByAnswer, LeavesBy, LeftAlone, AnswersInit, InitsDisk, PackLeaves, AnswersPack, AnswersPut, AnswersAlone, AnswersList, Answers, ran_to, SameFetches, stores_blocks, opens_rows, FailsToPut, FailsToRepair, LosesFile, LosesRepair}
+use Rattle.command_laws.proofs.Words.{◌≡◌, ℕ, ◌<◌, ◌≤◌, ◌⊎◌, true, List, length, Option, None, Some, refl, ap, sym, subst, ◌∙◌, inl, inr, cases_lt, is_flagged, Rose, Provider, Record, largest_file, Area, Due, due_of, Kind, PutJob, GetJob, DropJob, AuditJob, RepairJob, UpgradeJob, Answer, Command, Numbers, RowOf, InitWith, PutUnder, PutAt, GetOf, DropOf, ListAll, AuditAll, RepairAll, UpgradeJournal, ScrubAll, PackJournal, WritesLine, Seen, Ending, ReadsFront, provider_at, sinking, IsOpened, setup_in_effect, Ran, text_of, PutLeaves, GetLeaves, LosesStripe, flags, RepairGives, LosesAtPlace, EndsByAnswer, LeavesBy, LeftAlone, AnswersInit, PackLeaves, AnswersPack, AnswersPut, AnswersAlone, AnswersList, Answers, ran_to, SameFetches, stores_blocks, opens_rows, FailsToPut, FailsToRepair, LosesFile, LosesRepair}
 use Rattle.machine_defs.specs.Answers as answer
 use Rattle.command_laws.proofs.Known.{written-so}
 use Rattle.command_laws.proofs.GetEnds.{ran_left}

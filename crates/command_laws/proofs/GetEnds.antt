@@ -3,6 +3,7 @@ use Rattle.command_laws.proofs.Words.{◌≡◌, ℕ, ◌+◌, ◌≤◌, ◌⊎
 use Rattle.machine_defs.specs.Answers as answer
 use Rattle.machine_defs.specs.Refusals as refusal
 use Rattle.command_laws.proofs.Known.{none-written, written-well, written-zero, written-front, alone-known}
+use Rattle.command_laws.proofs.Early.{IsEarly, early-at, early-not, alone-well}
 
 -- the setup of records that are read is of a shape
 pub shape-at : (old : Seen) (records : List Record) → IsOpened old records →
@@ -37,18 +38,6 @@ module _ (name bytes : List ℕ) (records : List Record) (file : File) (old new 
   abbrev EndsWith : Answer → Type 0
   EndsWith how = EndsByAnswer (text_of (setup_in_effect records).tolerance (GetJob name) how) how old new end
 
-  job-complete : AnswersJob (GetJob name) None K.opened.area records old new end →
-      bad_seen records old new file bytes ≤ (setup_in_effect records).b →
-      WritesLine bytes end.status (sinking old new)
-  job-complete (AnswersJob.refused why is synced r) few = absurd (no-refusal why is)
-  job-complete (AnswersJob.no_memory synced r) few =
-      inr (inr (r.status_is, none-written bytes old.sink new.sink r.sink))
-  job-complete (AnswersJob.ended how none runs left by) few =
-      (let same : how ≡ answer.Got bytes = get-complete
-      (ran_left records (GetJob name) how old new end.heard left) name bytes file shape in_effect fits
-      size how left.leaves.by_kind few in
-      let told : EndsWith (answer.Got bytes) = subst (λ h. EndsWith h) same by in told.written)
-
   right-by : (x : Ran) (how : Answer) → ((got : List ℕ) → how ≡ answer.Got got → got ≡ bytes) →
       GetLeaves x name how → EndsWith how → TakesFront old.sink new.sink bytes ×
       (end.status ≡ 0 → new.sink ≡ told_then old.sink bytes)
@@ -62,16 +51,17 @@ module _ (name bytes : List ℕ) (records : List Record) (file : File) (old new 
   )
   right-by x how right L by = absurd L.gives
 
-  refused-right : (status at : ℕ) → IsRefused status at old new end → (status ≡ 0 → ⊥) →
-      TakesFront old.sink new.sink bytes × (end.status ≡ 0 → new.sink ≡ told_then old.sink bytes)
-  refused-right status at r other =
-      (none-written bytes old.sink new.sink r.sink, λ zero. absurd (other (sym r.status_is ∙ zero)))
+  early-right : IsEarly old new end → TakesFront old.sink new.sink bytes × (end.status ≡ 0 → new.sink ≡ told_then old.sink bytes)
+  early-right E = (
+    none-written bytes old.sink new.sink E.refused.sink,
+    λ zero. absurd (early-not E 0 refl zero),
+  )
 
   job-right : AnswersJob (GetJob name) None K.opened.area records old new end →
       bad_seen records old new file bytes ≤ (setup_in_effect records).b + 1 →
       TakesFront old.sink new.sink bytes × (end.status ≡ 0 → new.sink ≡ told_then old.sink bytes)
   job-right (AnswersJob.refused why is synced r) few = absurd (no-refusal why is)
-  job-right (AnswersJob.no_memory synced r) few = refused-right 70 0 r (λ e. omega (arith, e))
+  job-right (AnswersJob.no_memory synced r) few = early-right (early-at 70 0 refl refl r)
   job-right (AnswersJob.ended how none runs left by) few =
       right-by (ran_left records (GetJob name) how old new end.heard left) how
       (λ got is. get-right (ran_left records (GetJob name) how old new end.heard left) name bytes file shape
@@ -103,7 +93,7 @@ module _ (name bytes : List ℕ) (records : List Record) (file : File) (old new 
   job-forged : AnswersJob (GetJob name) None K.opened.area records old new end →
       (TakesFront old.sink new.sink bytes × (end.status ≡ 0 → new.sink ≡ told_then old.sink bytes)) ⊎ Forged
   job-forged (AnswersJob.refused why is synced r) = absurd (no-refusal why is)
-  job-forged (AnswersJob.no_memory synced r) = inl (refused-right 70 0 r (λ e. omega (arith, e)))
+  job-forged (AnswersJob.no_memory synced r) = inl (early-right (early-at 70 0 refl refl r))
   job-forged (AnswersJob.ended how none runs left by) =
       forged-by (ran_left records (GetJob name) how old new end.heard left) how
       (λ got is. get-forged (ran_left records (GetJob name) how old new end.heard left) name bytes file shape
@@ -117,19 +107,21 @@ module _ (name bytes : List ℕ) (records : List Record) (file : File) (old new 
       bad_seen records old new file bytes ≤ (setup_in_effect records).b →
       (Rose old.disk_faults new.disk_faults → ⊥) → (Rose old.sink_faults new.sink_faults → ⊥) →
       GivesUnlessMemory bytes old new end
-  seen-complete A few disk sink = elim (alone-known (GetJob name) old new end records K A) [
-    | inl (inl (rose, r)) ↦ absurd (disk rose)
-    | inl (inr r) ↦ inr (r.status_is, none-written bytes old.sink new.sink r.sink)
-    | inr job ↦ written-well bytes old new end (job-complete job few) sink
-  ]
+  seen-complete A few disk sink = alone-well records K begins disk
+      (λ r. inr (r.status_is, none-written bytes old.sink new.sink r.sink))
+      (λ how left by. let same : how ≡ answer.Got bytes = get-complete
+      (ran_left records (GetJob name) how old new end.heard left) name bytes file shape in_effect fits size
+      how left.leaves.by_kind few in
+      let told : EndsWith (answer.Got bytes) = subst (λ h. EndsWith h) same by in
+      written-well bytes old new end told.written sink) A
 
   -- a get gives at most a front of the file's bytes, and all at status 0, where at most b + 1 are bad
   pub seen-right : AnswersAlone (GetJob name) old new end →
       bad_seen records old new file bytes ≤ (setup_in_effect records).b + 1 →
       TakesFront old.sink new.sink bytes × (end.status ≡ 0 → new.sink ≡ told_then old.sink bytes)
   seen-right A few = elim (alone-known (GetJob name) old new end records K A) [
-    | inl (inl (rose, r)) ↦ refused-right 12 0 r (λ e. omega (arith, e))
-    | inl (inr r) ↦ refused-right 70 0 r (λ e. omega (arith, e))
+    | inl (inl (rose, r)) ↦ early-right (early-at 12 0 refl refl r)
+    | inl (inr r) ↦ early-right (early-at 70 0 refl refl r)
     | inr job ↦ job-right job few
   ]
 
@@ -137,7 +129,7 @@ module _ (name bytes : List ℕ) (records : List Record) (file : File) (old new 
   pub seen-forged : AnswersAlone (GetJob name) old new end →
       (TakesFront old.sink new.sink bytes × (end.status ≡ 0 → new.sink ≡ told_then old.sink bytes)) ⊎ Forged
   seen-forged A = elim (alone-known (GetJob name) old new end records K A) [
-    | inl (inl (rose, r)) ↦ inl (refused-right 12 0 r (λ e. omega (arith, e)))
-    | inl (inr r) ↦ inl (refused-right 70 0 r (λ e. omega (arith, e)))
+    | inl (inl (rose, r)) ↦ inl (early-right (early-at 12 0 refl refl r))
+    | inl (inr r) ↦ inl (early-right (early-at 70 0 refl refl r))
     | inr job ↦ job-forged job
   ]

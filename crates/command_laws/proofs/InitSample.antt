@@ -1,5 +1,5 @@
 -- An init of an empty disk with a key of zeros.
-use Rattle.command_laws.proofs.Words.{[], refl, ap, inl, arith, get_or-replicate, InitWith, IsKeyForm, longest_key, ReadsUpTo, AnswersInit, InitsDisk, Answers, written, IsBlankIn, A, text, spelling, IsKeyed, small_setup, small_numbers, key_text, key_devices, ready_store, ends}
+use Rattle.command_laws.proofs.Words.{refl, ap, inl, arith, get_or-replicate, InitWith, IsKeyForm, longest_key, ReadsUpTo, AnswersInit, InitsDisk, Answers, written, IsBlankIn, A, text, spelling, IsKeyed, small_setup, small_numbers, key_text, key_devices, ready_store, ends, []}
 use Rattle.hex.specs.Hex.{decode_pairs, is_hex_digit}
 
 -- a key of zeros is a key

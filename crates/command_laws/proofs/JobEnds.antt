@@ -1,12 +1,12 @@
 -- How puts, drops, audits and repairs end, and what they have done where they are done.
-use Rattle.command_laws.proofs.Words.{◌≡◌, ◌≢◌, ℕ, ◌+◌, ◌*◌, ◌<◌, ◌≤◌, ◌==◌, ◌⊎◌, Bool, true, false, cond, List, [], ◌∷◌, ◌++◌, length, drop, Option, None, Some, refl, ap, sym, subst, ◌∙◌, inl, inr, arith, length-append, IsSomeAnd, IfSome, nat_lt, cases_Bool, cases_lt, eq-eqb, false≢true, append-nil, take-append-drop, Cells, Rose, EachImage, then_told, Held, Provider, Setup, Record, PutStart, PutDone, PutDoneIn, is_byte, largest_file, Area, StandsActive, File, Due, version_of, next_id, next_audit, file_of, due_of, started_as, is_start_of, file_as, profile_in, setup_of, Kind, PutJob, GetJob, DropJob, AuditJob, RepairJob, UpgradeJob, ToPut, ToUpgrade, Answer, AreBytes, Entry, setup_or_none, chosen, Refusal, causes, Command, DropOf, AuditAll, UpgradeJournal, Seen, Ending, IsRefused, ReadsUpTo, ReadsFront, provider_at, IsOpened, Unstarted, setup_in_effect, sight_over, is_unknown, refusal_over, status_of, text_of, stored_line, dropped_line, audit_lines, repaired_line, upgraded_line, Ran, SameHeld, put_done, MayHaveEnd, PutLeaves, put_stripe, StopsReading, PartLeft, DropLeaves, AuditGives, HearsRounds, CountsHeard, RepairGives, AnswersJob, EndsByAnswer, LeftAlone, IsTold, MayBeWhole, AnswersPut, AnswersAlone, AnswersList, Answers, bad_seen, IsDone, IsKnown, GivesUnlessMemory, EndsInOrder, GivesUpPut, RunsKind, SameHolds, put_of, profile_named, put_refusal, after_put, IsWholePut, IsDropped, IsAudited, IsRepaired, IsUpgraded, rose-before, same-refl, cond_true, cond_false, same_value, version-either, put-end, drop-end, audit-end, upgrade-end, repair-end, sinking, WritesLine}
+use Rattle.command_laws.proofs.Words.{◌≡◌, ◌≢◌, ℕ, ◌+◌, ◌*◌, ◌<◌, ◌≤◌, ◌==◌, ◌⊎◌, Bool, true, false, cond, List, [], ◌∷◌, ◌++◌, length, drop, Option, None, Some, refl, ap, sym, subst, ◌∙◌, inl, inr, arith, length-append, IsSomeAnd, IfSome, nat_lt, cases_Bool, cases_lt, eq-eqb, false≢true, append-nil, take-append-drop, Cells, Rose, EachImage, then_told, Held, Provider, Setup, Record, PutStart, PutDone, PutDoneIn, is_byte, largest_file, Area, StandsActive, File, Due, version_of, next_id, next_audit, file_of, due_of, started_as, is_start_of, file_as, profile_in, setup_of, Kind, PutJob, GetJob, DropJob, AuditJob, RepairJob, UpgradeJob, ToPut, ToUpgrade, Answer, AreBytes, Entry, setup_or_none, chosen, Refusal, causes, Command, DropOf, AuditAll, UpgradeJournal, Seen, Ending, IsRefused, ReadsUpTo, ReadsFront, provider_at, IsOpened, Unstarted, setup_in_effect, sight_over, is_unknown, refusal_over, status_of, text_of, stored_line, dropped_line, audit_lines, repaired_line, upgraded_line, Ran, SameHeld, put_done, MayHaveEnd, PutLeaves, put_stripe, StopsReading, PartLeft, DropLeaves, AuditGives, HearsRounds, CountsHeard, RepairGives, AnswersJob, EndsByAnswer, LeftAlone, IsTold, MayBeWhole, AnswersPut, AnswersAlone, AnswersList, Answers, bad_seen, IsDone, IsKnown, GivesUnlessMemory, EndsInOrder, GivesUpPut, RunsKind, SameHolds, put_of, profile_named, put_refusal, after_put, IsWholePut, IsDropped, IsAudited, IsRepaired, IsUpgraded, rose-before, same-refl, cond_true, cond_false, same_value, version-either, put-end, drop-end, audit-end, upgrade-end, repair-end}
 use Rattle.std.specs.Prelude.{IsTrue}
 use Rattle.machine_defs.specs.Appends.{done_record}
 use Rattle.command_defs.specs.Upgrades.{UpgradeLeaves}
 use Rattle.machine_defs.specs.Answers as answer
 use Rattle.machine_defs.specs.Refusals as refusal
 use Rattle.state_laws.proofs.Begun.{none-applies}
-use Rattle.command_laws.proofs.Known.{EndStatus, status-ended, none-written, told-refusal, written-well, known-once, unstarted-known, alone-known, refused-not, refused-only, refused-always, own-status, known-both, ended-so, written-so}
+use Rattle.command_laws.proofs.Known.{EndStatus, status-ended, none-written, told-refusal, written-well, known-once, unstarted-known, refused-not, refused-only, refused-always, own-status, known-both, ended-so, written-so}
 use Rattle.command_laws.proofs.GetEnds.{shape-at, ran_left}
 use Rattle.command_laws.proofs.Early.{early-done, early-same, alone-cases, put-cases, list-cases, alone-order, alone-well}
 use Rattle.std.proofs.Common.{◌||◌}

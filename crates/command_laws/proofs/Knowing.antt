@@ -1,5 +1,5 @@
 -- Which records a disk reads, and its images stand for, after a job that ran over known records.
-use Rattle.command_laws.proofs.Words.{◌≡◌, ◌≢◌, ℕ, ◌<◌, ◌≤◌, ◌⊎◌, Bool, true, false, cond, not, List, [], ◌∷◌, length, Option, None, Some, refl, ap, sym, subst, ◌∙◌, inl, inr, arith, is_some, IfSome, list_all, false≢true, nat_tests, Cells, reads, EachImage, Record, Setup, is_byte, is_name_byte, is_name, largest_journal, Area, end_in, StandsActive, setup_of, AreAccepted, Kind, PutJob, GetJob, DropJob, AuditJob, RepairJob, UpgradeJob, Answer, AreBytes, IsSpelledKind, Entry, Refusal, setup_or_none, State, setup_in, StandsPlain, StandsWithDoubt, StandsSwitched, StandsForState, Seen, journal_read, IsRead, IsOpened, setup_in_effect, refusal_over, RunsAlone, PartRuns, MayName, IsKnown, DiskHas, IsSure, IsImage-reads, active-take, stands-long, one_meaning, setup-more, opened_state, state-over}
+use Rattle.command_laws.proofs.Words.{◌≡◌, ◌≢◌, ℕ, ◌<◌, ◌≤◌, ◌⊎◌, Bool, true, false, cond, not, List, [], ◌∷◌, length, Option, None, Some, refl, ap, sym, subst, ◌∙◌, inl, inr, arith, is_some, IfSome, list_all, false≢true, nat_tests, Cells, reads, EachImage, Record, Setup, is_byte, is_name_byte, is_name, largest_journal, Area, end_in, StandsActive, setup_of, AreAccepted, Kind, PutJob, GetJob, DropJob, Answer, AreBytes, IsSpelledKind, Entry, Refusal, setup_or_none, State, setup_in, StandsPlain, StandsWithDoubt, StandsSwitched, StandsForState, Seen, journal_read, IsRead, IsOpened, setup_in_effect, refusal_over, RunsAlone, PartRuns, MayName, IsKnown, DiskHas, IsSure, IsImage-reads, active-take, stands-long, one_meaning, setup-more, opened_state, state-over}
 use Rattle.command_laws.proofs.LastStates.{IsLast, last-state, part-state}
 
 -- ---- a text that fits is looked at

@@ -1,5 +1,5 @@
 -- How packs end, and what they have done where they are done.
-use Rattle.command_laws.proofs.Words.{◌≡◌, ◌≢◌, ℕ, ◌⊎◌, ◌==◌, Bool, true, false, cond, List, Option, None, Some, refl, ap, sym, subst, ◌∙◌, inl, inr, arith, false≢true, eq-eqb, Rose, Provider, Record, Area, other_area, text_length, version_of, setup_of, AreAccepted, AreAlike, packed, Answer, Refusal, PackJournal, Seen, Ending, IsRefused, provider_at, IsOpened, pack_refusal_over, status_of, packed_line, pack_text, EndsByAnswer, IsTold, PackLeaves, PackedAlone, AnswersPack, IsDone, IsKnown, GivesUnlessMemory, EndsInOrder, SameHolds, IsPacked, SameFetches, packed_are, same_value, is_some-at, version-either, second-set_up}
+use Rattle.command_laws.proofs.Words.{◌≡◌, ◌≢◌, ℕ, ◌⊎◌, ◌==◌, Bool, true, false, cond, List, Option, None, Some, refl, ap, sym, subst, ◌∙◌, inl, inr, false≢true, eq-eqb, Rose, Provider, Record, Area, other_area, text_length, version_of, setup_of, AreAccepted, AreAlike, packed, Answer, Refusal, PackJournal, Seen, Ending, IsRefused, provider_at, IsOpened, pack_refusal_over, status_of, packed_line, pack_text, EndsByAnswer, IsTold, PackLeaves, PackedAlone, AnswersPack, IsDone, IsKnown, GivesUnlessMemory, EndsInOrder, SameHolds, IsPacked, SameFetches, packed_are, same_value, is_some-at, version-either, second-set_up}
 use Rattle.machine_defs.specs.Answers as answer
 use Rattle.command_laws.proofs.Known.{EndStatus, status-ended, known-both, unstarted-known, none-written, written-well, own-status, told-refusal, ended-so, refusal_at}
 use Rattle.command_laws.proofs.JobEnds.{memory-well, in-order, zero-or-memory, tells, done-tells}

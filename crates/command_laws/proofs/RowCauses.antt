@@ -1,5 +1,5 @@
 -- A status of a fault comes of a row only where the sink's count rose.
-use Rattle.command_laws.proofs.Words.{◌≡◌, ℕ, List, Option, sym, ◌∙◌, inl, inr, arith, cases_lt, IsShape, Rose, WritesLine, TellsLine, Seen, Ending, sinking, AnswersRow, FaultsHaveCauses, Bool, true, false, not, ap, refl, cases_Bool, false≢true, ◌==◌}
+use Rattle.command_laws.proofs.Words.{◌≡◌, ℕ, List, Option, sym, ◌∙◌, inl, inr, arith, cases_lt, Rose, WritesLine, TellsLine, Seen, Ending, sinking, AnswersRow, FaultsHaveCauses, Bool, true, false, not, ap, refl, cases_Bool, false≢true, ◌==◌}
 use Rattle.std.proofs.Common.{◌||◌}
 
 module _ (n l b : ℕ) (seen : List (Option ℕ)) (old new : Seen) (end : Ending)

@@ -1,5 +1,5 @@
 -- How scrubs end, and what they have done where they are done.
-use Rattle.command_laws.proofs.Words.{◌≡◌, ℕ, ◌<◌, ◌⊎◌, List, [], Option, None, Some, refl, sym, subst, inl, inr, arith, option_map, not_two, Cells, reads, synced, Rose, EachImage, Record, largest_journal, Area, StandsActive, Answer, ScrubAll, Seen, Ending, IsSynced, provider_at, IsOpened, setup_in_effect, scrub_text, Ran, ran_alone, LosesAtPlace, EndsByAnswer, everyone, ScrubGives, ScrubbedAlone, AnswersScrub, IsRead, IsDone, IsKnown, EndsInOrder, AreSafe, IsScrubbed, ran_to, FailsToScrub, LosesScrub, image-firm, active-front, lost-none}
+use Rattle.command_laws.proofs.Words.{◌≡◌, ℕ, ◌<◌, ◌⊎◌, List, [], Option, None, Some, refl, sym, subst, inl, inr, option_map, Cells, reads, synced, Rose, EachImage, Record, largest_journal, Area, StandsActive, Answer, ScrubAll, Seen, Ending, IsSynced, provider_at, IsOpened, setup_in_effect, scrub_text, Ran, ran_alone, LosesAtPlace, EndsByAnswer, everyone, ScrubGives, ScrubbedAlone, AnswersScrub, IsRead, IsDone, IsKnown, EndsInOrder, AreSafe, IsScrubbed, ran_to, FailsToScrub, LosesScrub, image-firm, active-front, lost-none}
 use Rattle.machine_defs.specs.Answers as answer
 use Rattle.command_laws.proofs.Known.{known-once, unstarted-known, written-well}
 use Rattle.command_laws.proofs.GetEnds.{shape-at}

@@ -1,5 +1,5 @@
 -- A scrub of the store with one empty file, from every state that was just opened: its end alone.
-use Rattle.command_laws.proofs.Words.{[], refl, inl, A, unalone, Answer, Scrubbed, setup_in, Answers, ScrubAll, ScrubsAlone, AnswersScrub, store, held_records, no_counts, scrubbed_store, ends, scrubs-so}
+use Rattle.command_laws.proofs.Words.{refl, inl, A, unalone, Answer, Scrubbed, setup_in, Answers, ScrubAll, ScrubsAlone, AnswersScrub, store, held_records, no_counts, scrubbed_store, ends, scrubs-so, []}
 use Rattle.scrub_laws.proofs.Telling.{scrubbed-alone}
 use Rattle.command_laws.proofs.JobSamples.{no_bytes, no_bytes-is}
 use Rattle.command_laws.proofs.SureStores.{stands_for}

@@ -1,5 +1,5 @@
 -- The words of a command are text, so the name in them is of bytes.
-use Rattle.command_laws.proofs.Words.{◌≡◌, ℕ, ◌+◌, ◌<◌, ◌/◌, Bool, true, false, cond, List, [], ◌∷◌, ◌++◌, String, IsUtf8, refl, subst, arith, inl, inr, list_all, ltb-true, and_parts, and_from, nat_tests, is_byte, AreBytes, Command, RowOf, InitWith, PutUnder, PutAt, GetOf, DropOf, ListAll, AuditAll, RepairAll, UpgradeJournal, ScrubAll, PackJournal, IsNamedForm, IsForm, IsSpelledCommand}
+use Rattle.command_laws.proofs.Words.{◌≡◌, ℕ, ◌+◌, ◌<◌, ◌/◌, Bool, true, false, cond, List, [], ◌∷◌, ◌++◌, String, IsUtf8, refl, subst, arith, inl, inr, list_all, ltb-true, and_parts, and_from, nat_tests, is_byte, AreBytes, Command, PutUnder, PutAt, GetOf, DropOf, IsNamedForm, IsForm, IsSpelledCommand}
 use Rattle.std.specs.String.{string_bytes}
 use Rattle.std.specs.declared.alloc.Global.{Global}
 use Rattle.std.proofs.lemmas.Str.{IsUtf8-string_bytes}

@@ -1,5 +1,5 @@
 -- The statuses that tell of a store that is not opened come exactly where their causes apply.
-use Rattle.command_laws.proofs.Words.{◌≡◌, ℕ, ◌<◌, ◌≤◌, ◌⊎◌, true, false, List, length, Option, Some, ap, sym, subst, ◌∙◌, inl, inr, arith, None, IfSome, false≢true, Cells, Rose, Record, Area, HasNoSetup, Kind, GetJob, DropJob, AuditJob, RepairJob, UpgradeJob, Command, RowOf, InitWith, PutUnder, PutAt, GetOf, DropOf, ListAll, AuditAll, RepairAll, UpgradeJournal, ScrubAll, PackJournal, WritesLine, Seen, Ending, sinking, journal_read, IsRead, IsBadStart, IsOpened, Unstarted, setup_in_effect, AnswersScrub, AnswersPack, AnswersPut, AnswersAlone, AnswersList, Answers, opens_store, read-once, read-set_up, read-good, fresh-good, bad-once, eq-eqb, ◌==◌, refl}
+use Rattle.command_laws.proofs.Words.{◌≡◌, ℕ, ◌<◌, ◌≤◌, ◌⊎◌, true, false, List, length, Option, Some, ap, sym, subst, ◌∙◌, inl, inr, arith, None, IfSome, false≢true, Cells, Rose, Record, Area, HasNoSetup, Kind, GetJob, DropJob, AuditJob, RepairJob, UpgradeJob, Command, PutUnder, PutAt, GetOf, DropOf, ListAll, AuditAll, RepairAll, UpgradeJournal, ScrubAll, PackJournal, Seen, Ending, journal_read, IsRead, IsBadStart, IsOpened, Unstarted, setup_in_effect, AnswersScrub, AnswersPack, AnswersPut, AnswersAlone, AnswersList, Answers, opens_store, read-once, read-set_up, read-good, fresh-good, bad-once, eq-eqb, ◌==◌, refl}
 use Rattle.command_laws.proofs.Known.{is_unopened, refused-opened, status-ended, job-opened, ended-so, written-so}
 use Rattle.command_laws.proofs.JobEnds.{given-status}
 

@@ -1,5 +1,5 @@
 -- Disks that runs leave on which nothing is set up: one before its first use, and one of which an init failed.
-use Rattle.command_laws.proofs.Words.{◌≡◌, ℕ, zero, suc, ◌<◌, ◌≤◌, false, List, [], ◌∷◌, length, None, Some, refl, sym, subst, inl, inr, arith, false≢true, IsImage, SetUp, A, end_in, Init, Refused, DiskFault, IsRun, State, Doubt, IsSound, provider_at, small_setup, idle_providers, empty_devices, failed_devices, IsStore, moment, image-firm, journal-whole, rest-sound, opened_state, slice_get}
+use Rattle.command_laws.proofs.Words.{◌≡◌, ℕ, suc, ◌<◌, ◌≤◌, false, List, [], ◌∷◌, length, None, Some, refl, sym, subst, inl, inr, arith, false≢true, IsImage, SetUp, A, end_in, Init, Refused, DiskFault, IsRun, State, Doubt, IsSound, provider_at, small_setup, idle_providers, empty_devices, failed_devices, IsStore, moment, image-firm, journal-whole, rest-sound, opened_state, slice_get}
 use Rattle.command_laws.proofs.GoingOn.{run-sound}
 
 -- nothing is in effect, and no vault is open

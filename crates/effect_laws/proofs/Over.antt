@@ -141,12 +141,6 @@ module _ (Meant : Kind → Type 0) where
       (subst (NoneUnderWay Meant) (run-apart newer m steps older base)
       (closed base free cs older rs (job ∷ ran) (newer ++ m ∷ steps) more is_over
       (closes-job ran newer job m steps how C runs outcome)))
-  closed base free (RunJob job ∷ cs) ms (Listed files ∷ rs) ran newer (m, steps, older, is, runs, outcome, more)
-      is_over C =
-      subst (λ l. NoneUnderWay Meant (newer ++ (l ++ base))) (sym is)
-      (subst (NoneUnderWay Meant) (run-apart newer m steps older base)
-      (closed base free cs older rs ran (newer ++ m ∷ steps) more is_over
-      (closes-more ran newer (m ∷ steps) C (run-none job m steps runs))))
   closed base free (RunJob job ∷ cs) ms (r ∷ rs) ran newer (m, steps, older, is, runs, outcome, more) is_over C =
       subst (λ l. NoneUnderWay Meant (newer ++ (l ++ base))) (sym is)
       (subst (NoneUnderWay Meant) (run-apart newer m steps older base)

@@ -60,6 +60,22 @@ module _ (start : State) (O : IsOpenAtRest start 1) where
   abbrev off : List Given → ℕ → Place → ℕ
   off given j p = off_given (object_made x) given j p
 
+  -- each provider's store on this place is among these actions, or its block is not off
+  abbrev pub IsSettled : List Action → List Given → Place → Type 0
+  IsSettled acts given p = (j : ℕ) → j < s.n →
+      In (Store j p.object p.stripe) acts ⊎ (off_given (object_made x) given j p ≡ 0)
+
+  -- what is settled stays so with more actions and with what is given of another place
+  settled-on : (o t : ℕ) (acts more : List Action) (given next : List Given) →
+      ((j q r : ℕ) → In (Store j q r) acts → In (Store j q r) more) →
+      ((j : ℕ) (p : Place) → IsElsewhere o t p → off next j p ≡ off given j p) → (qs : List Place) →
+      Each (IsElsewhere o t) qs → Each (IsSettled acts given) qs → Each (IsSettled more next) qs
+  settled-on o t acts more given next has same [] n h = tt
+  settled-on o t acts more given next has same (p ∷ qs) n h = (
+    λ j l. elim (h.0 j l) [ inl i ↦ inl (has j p.object p.stripe i) | inr z ↦ inr (same j p n.0 ∙ z) ],
+    settled-on o t acts more given next has same qs n.1 h.1,
+  )
+
   -- the fetches and openings of places, and the end
   abbrev pub opens : List Place → List Action
   opens ps = flat_map (λ (p : Place). open_actions s p.object p.stripe) ps ++ End ∷ []
@@ -82,9 +98,7 @@ module _ (start : State) (O : IsOpenAtRest start 1) where
     pub repairing : Each IsRepairing acts
     pub below : Each (IsBelow s.n) (acts ++ scrub.todo)
     pub stored : Each (IsStoreOf job s.n sofar) acts
-    pub settled : Each (λ (p : Place). (j : ℕ) → j < s.n →
-        In (Store j p.object p.stripe) (acts ++ scrub.todo) ⊎ (off_given (object_made x) scrub.given j p ≡ 0))
-        sofar
+    pub settled : Each (IsSettled (acts ++ scrub.todo) scrub.given) sofar
     pub stripes : scrub.found.stripes ≡ length sofar
     pub symbols : (j : ℕ) → scrub.found.symbols j ≡ sum_by (off_given (object_made x) scrub.given j) sofar
     pub blocks : (j : ℕ) → scrub.found.blocks j ≡ sum_by (block_off (object_made x) scrub.given j) sofar
@@ -111,7 +125,9 @@ module _ (start : State) (O : IsOpenAtRest start 1) where
     repairing = each_append IsRepairing acts (Fetch k o t ∷ []) F.repairing (tt, tt);
     below = subst (Each (IsBelow s.n)) line F.below;
     stored = each_append (IsStoreOf job s.n sofar) acts (Fetch k o t ∷ []) F.stored (tt, tt);
-    settled = settle sofar apart F.settled;
+    settled = settled-on o t (acts ++ scrub.todo) ((acts ++ Fetch k o t ∷ []) ++ rest) scrub.given
+        (Fetched k o t block ∷ scrub.given) (λ j q r. subst (In (Store j q r)) line)
+        (λ j p n. off-fetched (object_made x) scrub.given j k o t block p n) sofar apart F.settled;
     stripes = F.stripes;
     symbols = λ j. F.symbols j
         ∙ sums-same (off scrub.given j) (off (Fetched k o t block ∷ scrub.given) j) sofar
@@ -128,21 +144,6 @@ module _ (start : State) (O : IsOpenAtRest start 1) where
     where
       line : acts ++ scrub.todo ≡ (acts ++ Fetch k o t ∷ []) ++ rest
       line = ap (λ l. acts ++ l) e ∙ sym (append_assoc acts (Fetch k o t ∷ []) rest)
-
-      settle : (qs : List Place) → Each (IsElsewhere o t) qs →
-          Each (λ (p : Place). (j : ℕ) → j < s.n →
-          In (Store j p.object p.stripe) (acts ++ scrub.todo) ⊎ (off scrub.given j p ≡ 0)) qs →
-          Each (λ (p : Place). (j : ℕ) → j < s.n →
-          In (Store j p.object p.stripe) ((acts ++ Fetch k o t ∷ []) ++ rest) ⊎
-          (off (Fetched k o t block ∷ scrub.given) j p ≡ 0)) qs
-      settle [] n h = tt
-      settle (p ∷ qs) n h = (
-        λ j l. elim (h.0 j l) [
-          | inl i ↦ inl (subst (In (Store j p.object p.stripe)) line i)
-          | inr z ↦ inr (off-fetched (object_made x) scrub.given j k o t block p n.0 ∙ z)
-        ],
-        settle qs n.1 h.1,
-      )
 
   -- a store was made
   pub facts-stored : (scrub : Scrub) (ps new : ℕ → Provider) (acts : List Action) (sofar : List Place)
@@ -163,8 +164,7 @@ module _ (start : State) (O : IsOpenAtRest start 1) where
     repairing = each_append IsRepairing acts (Store k o t ∷ []) F.repairing (tt, tt);
     below = subst (Each (IsBelow s.n)) line F.below;
     stored = each_append (IsStoreOf job s.n sofar) acts (Store k o t ∷ []) F.stored (mine, tt);
-    settled = subst (λ l. Each (λ (p : Place). (j : ℕ) → j < s.n →
-        In (Store j p.object p.stripe) l ⊎ (off scrub.given j p ≡ 0)) sofar) line F.settled;
+    settled = subst (λ l. Each (IsSettled l scrub.given) sofar) line F.settled;
     stripes = F.stripes;
     symbols = F.symbols;
     blocks = F.blocks;
@@ -219,32 +219,13 @@ module _ (start : State) (O : IsOpenAtRest start 1) where
     same-off j = each_mono (IsElsewhere o t) (λ p. off scrub.given j p ≡ off next.given j p) sofar
         (λ p n. sym (off-worked (object_made x) scrub.given j o t symbols p n)) apart
 
-    settled-now : Each (λ (p : Place). (j : ℕ) → j < s.n →
-        In (Store j p.object p.stripe) ((acts ++ Work o t ∷ []) ++ next.todo) ⊎
-        (off_given (object_made x) next.given j p ≡ 0)) (sofar ++ here ∷ [])
-    settled-now = each_append (λ (p : Place). (j : ℕ) → j < s.n →
-        In (Store j p.object p.stripe) ((acts ++ Work o t ∷ []) ++ next.todo) ⊎
-        (off_given (object_made x) next.given j p ≡ 0)) sofar (here ∷ []) (before sofar apart F.settled)
-        (mine, tt)
+    settled-now : Each (IsSettled ((acts ++ Work o t ∷ []) ++ next.todo) next.given) (sofar ++ here ∷ [])
+    settled-now = each_append (IsSettled ((acts ++ Work o t ∷ []) ++ next.todo) next.given) sofar (here ∷ [])
+        (settled-on o t (acts ++ scrub.todo) ((acts ++ Work o t ∷ []) ++ next.todo) scrub.given next.given
+        (λ j q r i. subst (In (Store j q r)) new-line (in-put (Store j q r) acts (Work o t)
+        (scrub_stores (at scrub ps) scrub o t symbols) rest (subst (In (Store j q r)) line i)))
+        (λ j p n. off-worked (object_made x) scrub.given j o t symbols p n) sofar apart F.settled) (mine, tt)
       where
-        before : (qs : List Place) → Each (IsElsewhere o t) qs →
-            Each (λ (p : Place). (j : ℕ) → j < s.n →
-            In (Store j p.object p.stripe) (acts ++ scrub.todo) ⊎ (off scrub.given j p ≡ 0)) qs →
-            Each (λ (p : Place). (j : ℕ) → j < s.n →
-            In (Store j p.object p.stripe) ((acts ++ Work o t ∷ []) ++ next.todo) ⊎
-            (off_given (object_made x) next.given j p ≡ 0)) qs
-        before [] n h = tt
-        before (p ∷ qs) n h = (
-          λ j l. elim (h.0 j l) [
-            | inl i ↦ inl (subst (In (Store j p.object p.stripe)) new-line
-                (in-put (Store j p.object p.stripe) acts (Work o t)
-                (scrub_stores (at scrub ps) scrub o t symbols) rest
-                (subst (In (Store j p.object p.stripe)) line i)))
-            | inr z ↦ inr (off-worked (object_made x) scrub.given j o t symbols p n.0 ∙ z)
-          ],
-          before qs n.1 h.1,
-        )
-
         mine : (j : ℕ) → j < s.n → In (Store j o t) ((acts ++ Work o t ∷ []) ++ next.todo) ⊎
             (off_given (object_made x) next.given j here ≡ 0)
         mine j l = elim (cases_Bool (off_now j == 0)) [
