@@ -1,13 +1,13 @@
 -- However an audit ended: where the next command finds its end in effect, its counts are the verdicts on what
 -- it heard.
-use Rattle.command_laws.proofs.Words.{◌≡◌, ℕ, ◌+◌, ◌<◌, ◌≤◌, ◌⊎◌, List, [], ◌∷◌, length, reverse, Option, None, Some, refl, ap, sym, subst, ◌∙◌, inl, inr, arith, length-append, IfSome, IsSomeAnd, length-reverse, Cells, reads, EachImage, Record, AuditDone, largest_journal, Area, StandsActive, StandsFor, next_audit, AuditJob, Answer, Seen, Ending, IsRefused, journal_read, Ran, HearsRounds, CountsHeard, AuditIsCut, AuditGives, AnswersJob, LeftAlone, AnswersAlone, IsKnown, after_audit, ran_to, IsSure, Follows, active-front, one_list, same_value}
+use Rattle.command_laws.proofs.Words.{◌≡◌, ℕ, ◌+◌, ◌<◌, ◌≤◌, ◌⊎◌, List, [], ◌∷◌, length, reverse, Option, None, Some, refl, ap, sym, subst, ◌∙◌, inl, inr, arith, length-append, IfSome, IsSomeAnd, length-reverse, Cells, reads, EachImage, Record, AuditDone, largest_journal, Area, StandsActive, StandsFor, next_audit, AuditJob, Answer, Seen, Ending, IsRefused, journal_read, Ran, HearsRounds, CountsHeard, AuditIsCut, AuditGives, AnswersJob, LeftAlone, AnswersAlone, IsKnown, after_audit, ran_to, IsSure, Follows, active-front, one_list, same_value, each_image-mono}
 use Rattle.machine_defs.specs.Answers as answer
 use Rattle.command_laws.proofs.Known.{known-both}
 use Rattle.command_laws.proofs.GetEnds.{ran_left}
 use Rattle.command_laws.proofs.Afterwards.{sure-refused}
 use Rattle.command_laws.proofs.DoneStores.{next-image}
 use Rattle.command_laws.proofs.PutInEffect.{tells-back}
-use Rattle.command_laws.proofs.Early.{unstarted-early, job-cases}
+use Rattle.command_laws.proofs.Early.{alone-cases}
 
 -- what the newest record of a list counts, where it is an audit's end
 abbrev undecided_in : List Record → ℕ
@@ -55,9 +55,8 @@ module _ (records : List Record) (undecided : ℕ) (counts : List ℕ) (old new 
 
   of-records : (area : Area) (told : Option Cells) →
       EachImage told (λ image. StandsActive image area records) → EachImage told Judged
-  of-records area None h = tt
-  of-records area (Some cells) h =
-      λ image is. (records, (area, h image is), λ same. absurd (too-few records (omega arith) same))
+  of-records area told = each_image-mono told _ _
+      (λ image stands. (records, (area, stands), λ same. absurd (too-few records (omega arith) same)))
 
   by-refused : (status at : ℕ) → IsRefused status at old new end → Counted
   by-refused status at r =
@@ -79,9 +78,8 @@ module _ (records : List Record) (undecided : ℕ) (counts : List ℕ) (old new 
       Counted) →
       EachImage told (λ image. StandsActive image area after ⊎
       IsSomeAnd doubt (λ entry. StandsActive image area (entry ∷ after))) → EachImage told Judged
-  images-judged area None after doubt one two h = tt
-  images-judged area (Some cells) after doubt one two h =
-      λ image is. image-judged area image after doubt one two (h image is)
+  images-judged area told after doubt one two =
+      each_image-mono told _ _ (λ image. image-judged area image after doubt one two)
 
   -- the same audit's end has the same counts
   same-counts : (u : ℕ) (c : List ℕ) → Heard u c →
@@ -142,14 +140,9 @@ module _ (records : List Record) (undecided : ℕ) (counts : List ℕ) (old new 
         (λ entry is same. sure-off entry C.sure is))
     by-answer h L = absurd L
 
-  by-job : (area : Area) → AnswersJob AuditJob None area records old new end → Counted
-  by-job area = job-cases (λ E. by-refused E.status E.at E.refused)
-      (λ how none left by. by-answer area how left how left.leaves.by_kind.gives)
-
   -- the counts that the next command finds in effect are the verdicts on what the audit heard
   pub audit-in-effect : AnswersAlone AuditJob old new end → Counted
-  audit-in-effect (AnswersAlone.unstarted u) =
-      (let E = unstarted-early u in by-refused E.status E.at E.refused)
-  audit-in-effect (AnswersAlone.begun rs opened A) =
-      by-job S.known.opened.area (known-both old records rs S.known opened
-      (λ a l. AnswersJob AuditJob None a l old new end) A)
+  audit-in-effect = alone-cases (λ E. by-refused E.status E.at E.refused) (λ rs opened how none left by.
+      let L = known-both old records rs S.known opened
+      (λ a l. LeftAlone a l AuditJob None how old new end.heard) left in
+      by-answer S.known.opened.area how L how L.leaves.by_kind.gives)

@@ -11,7 +11,7 @@ use Rattle.command_laws.proofs.Anew.{repair-right}
 use Rattle.command_laws.proofs.PackEnds.{pack-holds}
 use Rattle.command_laws.proofs.FilesStay.{bad-few}
 use Rattle.command_laws.proofs.Images.{take-none}
-use Rattle.command_laws.proofs.Early.{unstarted-early, job-cases}
+use Rattle.command_laws.proofs.Early.{IsEarly, put-cases, alone-cases}
 
 -- ---- what is held of one object
 
@@ -205,11 +205,15 @@ abbrev KeepsObject : List Record → ℕ → Seen → Seen → Type 0
 KeepsObject records id old new = (j : ℕ) → j < (setup_in_effect records).n →
     SameAt id (provider_at old.providers j).held (provider_at new.providers j).held
 
-refused-keeps : (status at : ℕ) (records : List Record) (id : ℕ) (old new : Seen) (end : Ending) →
-    IsRefused status at old new end → KeepsObject records id old new
-refused-keeps status at records id old new end r =
-    λ j below. same-told id (provider_at old.providers j).held (provider_at new.providers j).held
-    (ap (λ ps. (provider_at ps j).held) r.providers)
+told-keeps : (records : List Record) (id : ℕ) (old new : Seen) → ((j : ℕ) → j < (setup_in_effect records).n →
+    (provider_at new.providers j).held ≡ (provider_at old.providers j).held) → KeepsObject records id old new
+told-keeps records id old new same j below =
+    same-told id (provider_at old.providers j).held (provider_at new.providers j).held (same j below)
+
+early-keeps : (records : List Record) (id : ℕ) {old new : Seen} {end : Ending} → IsEarly old new end →
+    KeepsObject records id old new
+early-keeps records id {old} {new} E =
+    told-keeps records id old new (λ j below. ap (λ ps. (provider_at ps j).held) E.refused.providers)
 
 same-goes : (id : ℕ) (change : Held → Held → Type 0) → ((a b : Held) → change a b → SameOf id a b) →
     (a b : Option Held) → Goes change a b → SameAt id a b
@@ -234,6 +238,14 @@ module _ (name other : List ℕ) (records : List Record) (file : File) (sound : 
   its own = object_of (profiled (setup_in_effect records) (chosen (setup_in_effect records) own))
       (next_id records)
 
+  -- a change of each provider that leaves the file's blocks keeps them
+  goes-keeps : (change : ℕ → Held → Held → Type 0) (old new : Seen) →
+      ((j : ℕ) (a b : Held) → change j a b → SameOf file.id a b) → ((j : ℕ) → j < (setup_in_effect records).n →
+      Goes (change j) (provider_at old.providers j).held (provider_at new.providers j).held) →
+      KeepsObject records file.id old new
+  goes-keeps change old new keeps goes j below = same-goes file.id (change j) (keeps j)
+      (provider_at old.providers j).held (provider_at new.providers j).held (goes j below)
+
   -- what is stored under the next number, with nothing taken away, leaves the file
   all-keeps : (bytes : List ℕ) (own : Option ℕ) (j : ℕ) (a b : Held) →
       StoredOn (its own) bytes None ⊥ j a b → SameOf file.id a b
@@ -243,8 +255,7 @@ module _ (name other : List ℕ) (records : List Record) (file : File) (sound : 
   -- so does a put that was given up
   given-keeps : {area : Area} (bytes : List ℕ) (own : Option ℕ) (old new : Seen) →
       PartLeft area records other bytes own old new → KeepsObject records file.id old new
-  given-keeps bytes own old new left = λ j below. same-goes file.id _ (all-keeps bytes own j)
-      (provider_at old.providers j).held (provider_at new.providers j).held (left.stored j below)
+  given-keeps bytes own old new left = goes-keeps _ old new (all-keeps bytes own) left.stored
 
   put-keeps : {area : Area} (bytes : List ℕ) (own : Option ℕ) (how : Answer) (old new : Seen) (end : Ending)
       (left : LeftAlone area records (PutJob other bytes) own how old new end.heard) →
@@ -259,10 +270,8 @@ module _ (name other : List ℕ) (records : List Record) (file : File) (sound : 
 
       cut : PutIsCut (ran_left records (PutJob other bytes) how old new end.heard left) own other bytes →
           KeepsObject records file.id old new
-      cut (PutIsCut.at_start after doubt held) = λ j below. same-told file.id
-          (provider_at old.providers j).held (provider_at new.providers j).held (held j below)
-      cut (PutIsCut.at_done after doubt stored) = λ j below. same-goes file.id _ (all-keeps bytes own j)
-          (provider_at old.providers j).held (provider_at new.providers j).held (stored j below)
+      cut (PutIsCut.at_start after doubt held) = told-keeps records file.id old new held
+      cut (PutIsCut.at_done after doubt stored) = goes-keeps _ old new (all-keeps bytes own) stored
 
       partly : (j : ℕ) (a b : Held) → PartlyStored (its own) bytes j a b → SameOf file.id a b
       partly j a b S stripe = S.others file.id stripe (λ e. not-next e)
@@ -270,13 +279,10 @@ module _ (name other : List ℕ) (records : List Record) (file : File) (sound : 
       by_answer : (h : Answer) →
           PutLeaves (ran_left records (PutJob other bytes) how old new end.heard left) own other bytes h →
           KeepsObject records file.id old new
-      by_answer answer.Put L = λ j below. same-goes file.id _ (stored _ j) (provider_at old.providers j).held
-          (provider_at new.providers j).held (L.1 j below)
-      by_answer (answer.ProviderFault k) L = λ j below. same-goes file.id _ (partly j)
-          (provider_at old.providers j).held (provider_at new.providers j).held (L.3 j below)
+      by_answer answer.Put L = goes-keeps _ old new (λ j. stored _ j) L.1
+      by_answer (answer.ProviderFault k) L = goes-keeps _ old new partly L.3
       by_answer answer.DiskFault L = cut L.1
-      by_answer answer.Memory L = λ j below. same-goes file.id _ (partly j) (provider_at old.providers j).held
-          (provider_at new.providers j).held (L.1 j below)
+      by_answer answer.Memory L = goes-keeps _ old new partly L.1
       by_answer h L = absurd L
 
   drop-keeps : {area : Area} (how : Answer) (old new : Seen) (end : Ending)
@@ -293,52 +299,34 @@ module _ (name other : List ℕ) (records : List Record) (file : File) (sound : 
       by_answer : (h : Answer) →
           DropLeaves (ran_left records (DropJob other) how old new end.heard left) other h →
           KeepsObject records file.id old new
-      by_answer answer.Dropped L = λ j below. same-goes file.id _ (dropped L.1.file L.1.in_effect _)
-          (provider_at old.providers j).held (provider_at new.providers j).held (L.1.held j below)
-      by_answer answer.DiskFault L = λ j below. same-told file.id (provider_at old.providers j).held
-          (provider_at new.providers j).held (L.2 j below)
-      by_answer answer.Memory L = λ j below. same-told file.id (provider_at old.providers j).held
-          (provider_at new.providers j).held (L.1 j below)
+      by_answer answer.Dropped L = goes-keeps _ old new (λ j. dropped L.1.file L.1.in_effect _) L.1.held
+      by_answer answer.DiskFault L = told-keeps records file.id old new L.2
+      by_answer answer.Memory L = told-keeps records file.id old new L.1
       by_answer h L = absurd L
-
-  put-job : {area : Area} (bytes : List ℕ) {own : Option ℕ} (old new : Seen) (end : Ending) →
-      AnswersJob (PutJob other bytes) own area records old new end → KeepsObject records file.id old new
-  put-job bytes old new end = job-cases (λ E. refused-keeps E.status E.at records file.id old new end E.refused)
-      (λ how none left by. put-keeps bytes _ how old new end left left.leaves.by_kind.0)
-
-  drop-job : {area : Area} (old new : Seen) (end : Ending) →
-      AnswersJob (DropJob other) None area records old new end → KeepsObject records file.id old new
-  drop-job old new end = job-cases (λ E. refused-keeps E.status E.at records file.id old new end E.refused)
-      (λ how none left by. drop-keeps how old new end left left.leaves.by_kind.0)
 
 put-command : (name other bytes : List ℕ) (own : Option ℕ) (records : List Record) (spoilt : ℕ → Bool)
     (old new : Seen)
     (end : Ending) → other ≢ name → IsKnown old records → (H : HasRightFile old records name bytes spoilt) →
     AnswersPut other own old new end → KeepsObject records H.file.id old new
-put-command name other bytes own records spoilt old new end differ K H (AnswersPut.unstarted u same) =
-    (let E = unstarted-early u in refused-keeps E.status E.at records H.file.id old new end E.refused)
-put-command name other bytes own records spoilt old new end differ K H (AnswersPut.source_fault rs opened known rose synced taken r) =
-    refused-keeps 14 0 records H.file.id old new end r
-put-command name other bytes own records spoilt old new end differ K H (AnswersPut.bad_profile rs opened unknown synced same r) =
-    refused-keeps 20 0 records H.file.id old new end r
-put-command name other bytes own records spoilt old new end differ K H (AnswersPut.no_memory taken r) =
-    refused-keeps 70 0 records H.file.id old new end r
-put-command name other bytes own records spoilt old new end differ K H (AnswersPut.given_up rs seen opened known none stops runs left) =
-    given-keeps name other records H.file (sound-accepted records K.opened.read.accepted) H.in_effect differ
-    seen own old new (known-both old records rs K opened (λ a l. PartLeft a l other seen own old new) left)
-put-command name other bytes own records spoilt old new end differ K H (AnswersPut.begun rs seen opened known read few A whole) =
-    put-job name other records H.file (sound-accepted records K.opened.read.accepted) H.in_effect differ seen
-    old new end
-    (known-both old records rs K opened (λ a l. AnswersJob (PutJob other seen) own a l old new end) A)
+put-command name other bytes own records spoilt old new end differ K H =
+    put-cases (early-keeps records H.file.id) {own = own}
+    (λ rs seen opened known none stops left. given-keeps name other records H.file sound H.in_effect differ seen
+    own old new (known-both old records rs K opened (λ a l. PartLeft a l other seen own old new) left))
+    (λ rs seen opened known read few how none left whole by. let L = known-both old records rs K opened
+    (λ a l. LeftAlone a l (PutJob other seen) own how old new end.heard) left in
+    put-keeps name other records H.file sound H.in_effect differ seen own how old new end L L.leaves.by_kind.0)
+  where
+    sound : AreSound records
+    sound = sound-accepted records K.opened.read.accepted
 
 drop-command : (name other bytes : List ℕ) (records : List Record) (spoilt : ℕ → Bool) (old new : Seen)
     (end : Ending) → other ≢ name → IsKnown old records → (H : HasRightFile old records name bytes spoilt) →
     AnswersAlone (DropJob other) old new end → KeepsObject records H.file.id old new
-drop-command name other bytes records spoilt old new end differ K H (AnswersAlone.unstarted u) =
-    (let E = unstarted-early u in refused-keeps E.status E.at records H.file.id old new end E.refused)
-drop-command name other bytes records spoilt old new end differ K H (AnswersAlone.begun rs opened A) =
-    drop-job name other records H.file (sound-accepted records K.opened.read.accepted) H.in_effect differ old
-    new end (known-both old records rs K opened (λ a l. AnswersJob (DropJob other) None a l old new end) A)
+drop-command name other bytes records spoilt old new end differ K H = alone-cases (early-keeps records H.file.id)
+    (λ rs opened how none left by. let L = known-both old records rs K opened
+    (λ a l. LeftAlone a l (DropJob other) None how old new end.heard) left in
+    drop-keeps name other records H.file (sound-accepted records K.opened.read.accepted) H.in_effect differ how
+    old new end L L.leaves.by_kind.0)
 
 -- a file that is right stays so over a put or a drop of another name
 pub others-have : (command : Command) (name bytes : List ℕ) (records after : List Record) (spoilt : ℕ → Bool)

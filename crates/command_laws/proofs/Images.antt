@@ -1,12 +1,12 @@
 -- What the images of the disk stand for after a command.
-use Rattle.command_laws.proofs.Words.{◌≡◌, ◌≢◌, ℕ, zero, suc, ◌+◌, ◌<◌, ◌⊎◌, true, false, List, [], ◌∷◌, ◌++◌, length, take, reverse, Option, None, Some, refl, ap, sym, subst, ◌∙◌, inl, inr, arith, IfSome, IsSomeAnd, is_some, option_map, false≢true, reverse-append, Cells, reads, synced, IsImage, EachImage, Record, PutStart, AuditStart, AuditDone, largest_journal, Area, other_area, StandsActive, packed, StandsFor, next_id, next_audit, Kind, PutJob, GetJob, DropJob, AuditJob, RepairJob, UpgradeJob, Answer, Command, Numbers, PutUnder, PutAt, GetOf, DropOf, ListAll, AuditAll, RepairAll, UpgradeJournal, ScrubAll, PackJournal, IsResynced, IsFree, IsSetUpOn, MayBeLeft, Seen, Ending, IsRefused, KeepsDisk, ReadsFront, IsOpened, Ran, IsWhole, IsCut, IsCutInDoubt, put_done, put_records, MayHaveEnd, PutIsCut, after_begin, audit_records, AuditIsCut, AnswersJob, LeavesBy, setup_with, AnswersInit, AnswersScrub, PackLeaves, AnswersPack, MayBeWhole, AnswersPut, AnswersAlone, AnswersList, Answers, IsKnown, put_of, profile_named, RunsKind, ReadsWhole, opens_store, KeepsImages, AreAppended, IsAfter, LeavesImages, InitImages, image-firm, each_image-mono, IsImage-reads, stands-front, stands-long, one_list, image-resynced, resynced, set_up-free}
+use Rattle.command_laws.proofs.Words.{◌≡◌, ◌≢◌, ℕ, zero, suc, ◌+◌, ◌<◌, ◌⊎◌, true, false, List, [], ◌∷◌, ◌++◌, length, take, reverse, Option, None, Some, refl, ap, sym, subst, ◌∙◌, inl, inr, arith, IfSome, IsSomeAnd, is_some, option_map, false≢true, reverse-append, Cells, reads, synced, IsImage, EachImage, Record, PutStart, AuditStart, AuditDone, largest_journal, Area, other_area, StandsActive, packed, StandsFor, next_id, next_audit, Kind, PutJob, GetJob, DropJob, AuditJob, RepairJob, UpgradeJob, Answer, Command, Numbers, PutUnder, PutAt, GetOf, DropOf, ListAll, AuditAll, RepairAll, UpgradeJournal, ScrubAll, PackJournal, IsResynced, IsFree, IsSetUpOn, MayBeLeft, Seen, Ending, IsRefused, KeepsDisk, ReadsFront, IsOpened, Ran, IsWhole, IsCut, IsCutInDoubt, put_done, put_records, MayHaveEnd, PutIsCut, after_begin, audit_records, AuditIsCut, AnswersJob, LeavesBy, setup_with, AnswersInit, AnswersScrub, PackLeaves, AnswersPack, MayBeWhole, AnswersPut, AnswersAlone, AnswersList, Answers, IsKnown, put_of, profile_named, RunsKind, ReadsWhole, opens_store, KeepsImages, AreAppended, IsAfter, LeavesImages, InitImages, image-firm, each_image-mono, IsImage-reads, stands-front, stands-long, one_list, image-resynced, resynced, set_up-free, LeftAlone}
 use Rattle.std.proofs.Math.Seq.{take-append_seam, take-append-add, take-length}
 use Rattle.device_defs.specs.Told.{Goes}
 use Rattle.machine_defs.specs.Answers as answer
 use Rattle.command_laws.proofs.Known.{known-once}
 use Rattle.command_laws.proofs.GetEnds.{ran_left}
 use Rattle.command_laws.proofs.JobEnds.{named-by, put-kind, given-kind}
-use Rattle.command_laws.proofs.Early.{IsEarly, unstarted-early, list-cases, scrub-cases, pack-cases, init-cases}
+use Rattle.command_laws.proofs.Early.{IsEarly, list-cases, scrub-cases, pack-cases, init-cases, put-cases, alone-cases}
 
 -- ---- images of a disk that was synced
 
@@ -256,99 +256,54 @@ images-after : (x : Ran) (area : Area) (kind : Kind) (profile : Option ℕ) (old
     EachImage told (λ image. StandsActive image area x.after ⊎
     IsSomeAnd x.doubt (λ entry. StandsActive image area (entry ∷ x.after))) →
     EachImage told (IsAfter x.records kind profile old new)
-images-after x area kind profile old new all W None h = tt
-images-after x area kind profile old new all W (Some cells) h =
-    λ image is. image-after x area kind profile old new all W image (h image is)
+images-after x area kind profile old new all W told =
+    each_image-mono told _ _ (image-after x area kind profile old new all W)
 
 -- ---- commands that look at a store
 
--- the job of a put has read its whole source where its last record is in effect or in doubt
-abbrev WholeBy : {area : Area} (kind : Kind) (profile : Option ℕ) (records : List Record) (old new : Seen)
-    (end : Ending) → AnswersJob kind profile area records old new end → Type 0
-WholeBy kind profile records old new end (AnswersJob.ended how none runs left by) =
-    ReadsAll (ran_left records kind how old new end.heard left) kind profile old new
-WholeBy kind profile records old new end h = Unit {0}
-
-job-images : (kind : Kind) (profile : Option ℕ) (records : List Record) (old new : Seen) (end : Ending) →
-    (opened : IsOpened old records) → (A : AnswersJob kind profile opened.area records old new end) →
-    WholeBy kind profile records old new end A →
-    KeepsImages old new ⊎ EachImage new.disk (IsAfter records kind profile old new)
-job-images kind profile records old new end opened (AnswersJob.refused why is after r) all =
-    inl (refused-keeps _ 0 old new end r)
-job-images kind profile records old new end opened (AnswersJob.no_memory after r) all =
-    inl (refused-keeps 70 0 old new end r)
-job-images kind profile records old new end opened (AnswersJob.ended how none runs left by) all =
-    inr (images-after (ran_left records kind how old new end.heard left) opened.area kind profile old new all
-    (wrote-by (ran_left records kind how old new end.heard left) kind profile how left.leaves.by_kind)
-    new.disk left.images)
-
-of-job : (command : Command) (kind : Kind) (profile : Option ℕ) (records : List Record) (old new : Seen) →
-    profile_named command ≡ profile → IsOpened old records → RunsKind command old new kind →
-    KeepsImages old new ⊎ EachImage new.disk (IsAfter records kind profile old new) →
+-- a command whose job ran leaves images that stand for the records read with some that it wrote
+job-images : (command : Command) (kind : Kind) (profile : Option ℕ) (records : List Record) (old new : Seen)
+    (end : Ending) → profile_named command ≡ profile → RunsKind command old new kind →
+    (opened : IsOpened old records) (how : Answer)
+    (left : LeftAlone opened.area records kind profile how old new end.heard) →
+    ReadsAll (ran_left records kind how old new end.heard left) kind profile old new →
     LeavesImages command old new
-of-job command kind profile records old new named opened is (inl kept) = LeavesImages.kept kept
-of-job command kind profile records old new named opened is (inr images) =
+job-images command kind profile records old new end named is opened how left all =
     LeavesImages.ran records kind opened is
-    (subst (λ p. EachImage new.disk (IsAfter records kind p old new)) (sym named) images)
+    (subst (λ p. EachImage new.disk (IsAfter records kind p old new)) (sym named)
+    (images-after (ran_left records kind how old new end.heard left) opened.area kind profile old new all
+    (wrote-by (ran_left records kind how old new end.heard left) kind profile how left.leaves.by_kind)
+    new.disk left.images))
 
-put-whole : {area : Area} (name bytes : List ℕ) (own : Option ℕ) (records : List Record) (old new : Seen)
-    (end : Ending) → ReadsFront old.source new.source bytes →
-    (A : AnswersJob (PutJob name bytes) own area records old new end) →
-    (MayBeWhole name bytes own area records A → IfSome new.source (λ left. left ≡ [])) →
-    WholeBy (PutJob name bytes) own records old new end A
-put-whole name bytes own records old new end read (AnswersJob.ended how none runs left by) whole =
-    λ may. (read, whole may)
-put-whole name bytes own records old new end read A whole = tt
-
--- no other job reads a source
-alone-whole : {area : Area} (kind : Kind) (records : List Record) (old new : Seen) (end : Ending) →
-    ReadsNone kind →
-    (A : AnswersJob kind None area records old new end) → WholeBy kind None records old new end A
-alone-whole kind records old new end none (AnswersJob.refused why is after r) = tt
-alone-whole (PutJob name bytes) records old new end none (AnswersJob.ended how begins runs left by) =
-    absurd none
-alone-whole kind records old new end none A = tt
+-- a job that is no put has read no source
+reads-none : (x : Ran) (kind : Kind) (profile : Option ℕ) (old new : Seen) → ReadsNone kind →
+    ReadsAll x kind profile old new
+reads-none x (PutJob name bytes) profile old new none = absurd none
+reads-none x kind profile old new none = tt
 
 put-images : (name : List ℕ) (own : Option ℕ) (old new : Seen) (end : Ending) →
     AnswersPut name own old new end → LeavesImages (put_of name own) old new
-put-images name own old new end (AnswersPut.unstarted u same) =
-    LeavesImages.kept (early-keeps (unstarted-early u))
-put-images name own old new end (AnswersPut.bad_profile records opened unknown synced same r) =
-    LeavesImages.kept (refused-keeps 20 0 old new end r)
-put-images name own old new end (AnswersPut.source_fault records opened known rose after taken r) =
-    LeavesImages.kept (refused-keeps 14 0 old new end r)
-put-images name own old new end (AnswersPut.no_memory taken r) =
-    LeavesImages.kept (refused-keeps 70 0 old new end r)
-put-images name own old new end (AnswersPut.begun records bytes opened known read few A whole) =
-    of-job (put_of name own) (PutJob name bytes) own records old new (named-by name own) opened
-    (put-kind name bytes own old new read few)
-    (job-images (PutJob name bytes) own records old new end opened A
-    (put-whole name bytes own records old new end read A whole))
-put-images name own old new end (AnswersPut.given_up records bytes opened known none stops runs left) =
-    of-job (put_of name own) (PutJob name bytes) own records old new (named-by name own) opened
+put-images name own old new end A = put-cases (λ E. LeavesImages.kept (early-keeps E)) {own = own}
+    (λ records bytes opened known none stops left. LeavesImages.ran records (PutJob name bytes) opened
     (given-kind opened.area name bytes own records old new end none stops).1
-    (inr (images-begun opened.area new.disk left.images))
-  where
-    images-begun : (area : Area) (told : Option Cells) →
-        EachImage told (λ image. StandsActive image area (after_begin records name)) →
-        EachImage told (IsAfter records (PutJob name bytes) own old new)
-    images-begun area None h = tt
-    images-begun area (Some cells) h = λ image of. record {
+    (subst (λ p. EachImage new.disk (IsAfter records (PutJob name bytes) p old new)) (sym (named-by name own))
+    (each_image-mono new.disk _ _ (λ image stands. record {
       own = put_records records name (length bytes) own;
       are_own = refl;
       count = 1;
       whole = λ l. absurd (omega (arith, l));
-      stands = (area, h image of);
-    }
+      stands = (opened.area, stands);
+    }) left.images)))
+    (λ records bytes opened known read few how none left whole by. job-images (put_of name own)
+    (PutJob name bytes) own records old new end (named-by name own) (put-kind name bytes own old new read few)
+    opened how left (λ may. (read, whole may))) A
 
 alone-images : (command : Command) (kind : Kind) (old new : Seen) (end : Ending) →
     profile_named command ≡ None → RunsKind command old new kind → ReadsNone kind →
     AnswersAlone kind old new end → LeavesImages command old new
-alone-images command kind old new end named is none (AnswersAlone.unstarted u) =
-    LeavesImages.kept (early-keeps (unstarted-early u))
-alone-images command kind old new end named is none (AnswersAlone.begun records opened A) =
-    of-job command kind None records old new named opened is
-    (job-images kind None records old new end opened A (alone-whole kind records old new end none A))
+alone-images command kind old new end named is none = alone-cases (λ E. LeavesImages.kept (early-keeps E))
+    (λ records opened how begins left by. job-images command kind None records old new end named is opened how
+    left (reads-none (ran_left records kind how old new end.heard left) kind None old new none))
 
 list-images : (old new : Seen) (end : Ending) → AnswersList old new end → KeepsImages old new
 list-images old new end =
@@ -418,13 +373,6 @@ kept-stand command records old new (Some cells) None kept tells stand = tt
 kept-stand command records old new (Some cells) (Some now) kept tells stand =
     λ image is. inl (stand image (kept image is))
 
-ran-stand : (command : Command) (records : List Record) (kind : Kind) (old new : Seen) →
-    RunsKind command old new kind → (after : Option Cells) →
-    EachImage after (IsAfter records kind (profile_named command) old new) →
-    EachImage after (StandsAfter command records old new)
-ran-stand command records kind old new is None h = tt
-ran-stand command records kind old new is (Some cells) h = λ image of. inr (inl (kind, is, h image of))
-
 -- over known records each image stands for these after a command, or for these with some of its job's
 pub known-images : (command : Command) (records : List Record) (old new : Seen) (end : Ending) →
     Answers command old new end → opens_store command ≡ true → IsKnown old records →
@@ -438,7 +386,7 @@ known-images command records old new end A opens K stand = go (store-images comm
     go : LeavesImages command old new → EachImage new.disk (StandsAfter command records old new)
     go (LeavesImages.kept kept) = kept-stand command records old new old.disk new.disk kept tells stand
     go (LeavesImages.ran other kind opened is images) =
-        ran-stand command records kind old new is new.disk
+        each_image-mono new.disk _ _ (λ image after. inr (inl (kind, is, after)))
         (subst (λ rs. EachImage new.disk (IsAfter rs kind (profile_named command) old new))
         (known-once old records other K opened.read) images)
     go (LeavesImages.was_packed other opened is images) =

@@ -1,15 +1,15 @@
 -- However a put ended: where the next command finds its end in effect, its file is right on every provider
 -- that tells.
-use Rattle.command_laws.proofs.Words.{◌≡◌, ℕ, ◌+◌, ◌<◌, ◌≤◌, ◌⊎◌, Bool, true, false, List, [], ◌∷◌, ◌++◌, length, reverse, Option, None, Some, refl, ap, sym, subst, ◌∙◌, inl, inr, arith, length-append, is_some, IfSome, IsSomeAnd, false≢true, length-reverse, Cells, reads, Stopped, EachImage, Record, PutStart, largest_journal, Area, StandsActive, StandsFor, next_id, AreBytes, PutJob, Answer, Seen, Ending, IsRefused, provider_at, journal_read, setup_in_effect, refusal_over, Ran, put_records, MayHaveEnd, PutIsCut, PutLeaves, after_begin, AnswersJob, LeftAlone, MayBeWhole, AnswersPut, IsKnown, after_put, IsSure, Follows, HasRightFile, active-front, one_list}
+use Rattle.command_laws.proofs.Words.{◌≡◌, ℕ, ◌+◌, ◌<◌, ◌≤◌, ◌⊎◌, Bool, true, false, List, [], ◌∷◌, ◌++◌, length, reverse, Option, None, Some, refl, ap, sym, subst, ◌∙◌, inl, inr, arith, length-append, is_some, IfSome, IsSomeAnd, false≢true, length-reverse, Cells, reads, Stopped, EachImage, Record, PutStart, largest_journal, Area, StandsActive, StandsFor, next_id, AreBytes, PutJob, Answer, Seen, Ending, IsRefused, provider_at, journal_read, setup_in_effect, refusal_over, Ran, put_records, MayHaveEnd, PutIsCut, PutLeaves, after_begin, AnswersJob, LeftAlone, MayBeWhole, AnswersPut, IsKnown, after_put, IsSure, Follows, HasRightFile, active-front, one_list, each_image-mono, ReadsFront}
 use Rattle.device_defs.specs.Told.{Goes}
 use Rattle.machine_defs.specs.Answers as answer
-use Rattle.command_laws.proofs.Known.{known-once}
+use Rattle.command_laws.proofs.Known.{known-once, known-both}
 use Rattle.command_laws.proofs.GetEnds.{ran_left}
 use Rattle.command_laws.proofs.JobEnds.{put-in_effect, read-all}
 use Rattle.command_laws.proofs.Afterwards.{sure-refused}
 use Rattle.command_laws.proofs.DoneStores.{next-image}
 use Rattle.command_laws.proofs.FilesStay.{stored-file}
-use Rattle.command_laws.proofs.Early.{unstarted-early}
+use Rattle.command_laws.proofs.Early.{put-cases}
 
 -- a disk that the next command finds told before
 pub tells-back : (new next : Seen) → Follows new next → is_some next.disk ≡ true → is_some new.disk ≡ true
@@ -53,8 +53,7 @@ module _ (name bytes : List ℕ) (own : Option ℕ) (records : List Record) (spo
 
   has-fewer : (area : Area) (told : Option Cells) →
       EachImage told (λ image. StandsActive image area records) → EachImage told Fewer
-  has-fewer area None h = tt
-  has-fewer area (Some cells) h = λ image is. (records, (area, h image is), omega arith)
+  has-fewer area told = each_image-mono told _ _ (λ image stands. (records, (area, stands), omega arith))
 
   refused-not : (status at : ℕ) → IsRefused status at old new end → ⊥
   refused-not status at r =
@@ -76,19 +75,14 @@ module _ (name bytes : List ℕ) (own : Option ℕ) (records : List Record) (spo
       ((entry : Record) → doubt ≡ Some entry → length after ≤ length records) →
       EachImage told (λ image. StandsActive image area after ⊎
       IsSomeAnd doubt (λ entry. StandsActive image area (entry ∷ after))) → EachImage told Fewer
-  images-fewer area None after doubt few less h = tt
-  images-fewer area (Some cells) after doubt few less h =
-      λ image is. image-fewer area image after doubt few less (h image is)
+  images-fewer area told after doubt few less =
+      each_image-mono told _ _ (λ image. image-fewer area image after doubt few less)
 
   -- a put that was given up has one record in effect
   given-fewer : (area : Area) →
       EachImage new.disk (λ image. StandsActive image area (after_begin records name)) → ⊥
-  given-fewer area h = not-fewer (one-more new.disk h)
-    where
-      one-more : (told : Option Cells) →
-          EachImage told (λ image. StandsActive image area (after_begin records name)) → EachImage told Fewer
-      one-more None h = tt
-      one-more (Some cells) h = λ image is. (after_begin records name, (area, h image is), omega arith)
+  given-fewer area h = not-fewer
+      (each_image-mono new.disk _ _ (λ image stands. (after_begin records name, (area, stands), omega arith)) h)
 
   module _ (area : Area) (seen : List ℕ) (are : AreBytes seen)
       (begins : refusal_over area records (PutJob name seen) own ≡ None)
@@ -158,44 +152,26 @@ pub put-in-effect : (name bytes : List ℕ) (own : Option ℕ) (records : List R
     ((j : ℕ) → j < (setup_in_effect records).n → spoilt j ≡ false →
     is_some (provider_at old.providers j).held ≡ true) →
     HasRightFile new (after_put records name (length bytes) own) name bytes spoilt
-put-in-effect name bytes own records spoilt old new next end (AnswersPut.unstarted u same) S source N F tells =
-    absurd (let E = unstarted-early u in
-    refused-not name bytes own records spoilt old new next end S N F tells E.status E.at E.refused)
-put-in-effect name bytes own records spoilt old new next end (AnswersPut.source_fault rs opened known rose synced taken r) S source N F tells =
-    absurd (refused-not name bytes own records spoilt old new next end S N F tells 14 0 r)
-put-in-effect name bytes own records spoilt old new next end (AnswersPut.bad_profile rs opened unknown synced same r) S source N F tells =
-    absurd (refused-not name bytes own records spoilt old new next end S N F tells 20 0 r)
-put-in-effect name bytes own records spoilt old new next end (AnswersPut.no_memory taken r) S source N F tells =
-    absurd (refused-not name bytes own records spoilt old new next end S N F tells 70 0 r)
-put-in-effect name bytes own records spoilt old new next end (AnswersPut.given_up rs seen opened known none stops runs left) S source N F tells =
-    absurd (given-fewer name bytes own records spoilt old new next end S N F tells
-    opened.area (subst (λ l. EachImage new.disk (λ image. StandsActive image opened.area
-    (after_begin l name)))
-    (known-once old records rs S.known opened.read) left.images))
-put-in-effect name bytes own records spoilt old new next end (AnswersPut.begun rs seen opened known read few A whole) S source N F tells =
-    subst (λ l. HasRightFile new (after_put l name (length bytes) own) name bytes spoilt) once (job A whole)
+put-in-effect name bytes own records spoilt old new next end A S source N F tells =
+    put-cases (λ E. absurd
+    (refused-not name bytes own records spoilt old new next end S N F tells E.status E.at E.refused)) {own = own}
+    (λ rs seen opened known none stops left. absurd
+    (given-fewer name bytes own records spoilt old new next end S N F tells opened.area
+    (subst (λ l. EachImage new.disk (λ image. StandsActive image opened.area (after_begin l name)))
+    (known-once old records rs S.known opened.read) left.images)))
+    (λ rs seen opened known read few how none left whole by. ended seen read how
+    (known-both old records rs S.known opened (Ended seen how) (none, left, whole))) A
   where
-    once : rs ≡ records
-    once = known-once old records rs S.known opened.read
+    -- the job over these records ended so
+    Ended : List ℕ → Answer → Area → List Record → Type 0
+    Ended seen how area rs = (refusal_over area rs (PutJob name seen) own ≡ None)
+        × (left : LeftAlone area rs (PutJob name seen) own how old new end.heard)
+        × (MayHaveEnd rs left.after left.doubt name (length seen) own → IfSome new.source (λ rest. rest ≡ []))
 
-    sure : IsSure old rs
-    sure = subst (IsSure old) (sym once) S
-
-    found : IsKnown next (after_put rs name (length bytes) own)
-    found = subst (λ l. IsKnown next (after_put l name (length bytes) own)) (sym once) F
-
-    told : (j : ℕ) → j < (setup_in_effect rs).n → spoilt j ≡ false →
-        is_some (provider_at old.providers j).held ≡ true
-    told j l = tells j (subst (λ l. j < (setup_in_effect l).n) once l)
-
-    job : (A : AnswersJob (PutJob name seen) own opened.area rs old new end) →
-        (MayBeWhole name seen own opened.area rs A → IfSome new.source (λ rest. rest ≡ [])) →
-        HasRightFile new (after_put rs name (length bytes) own) name bytes spoilt
-    job (AnswersJob.refused why is synced r) all =
-        absurd (refused-not name bytes own rs spoilt old new next end sure N found told _ 0 r)
-    job (AnswersJob.no_memory synced r) all =
-        absurd (refused-not name bytes own rs spoilt old new next end sure N found told 70 0 r)
-    job (AnswersJob.ended how none runs left by) all =
-        by-answer name bytes own rs spoilt old new next end sure N found told opened.area seen read.are_bytes
-        none how left (λ may. read-all old.source new.source bytes seen source read (all may)) how
-        left.leaves.by_kind.0
+    ended : (seen : List ℕ) → ReadsFront old.source new.source seen → (how : Answer) →
+        Ended seen how S.known.opened.area records →
+        HasRightFile new (after_put records name (length bytes) own) name bytes spoilt
+    ended seen read how (none, left, all) =
+        by-answer name bytes own records spoilt old new next end S N F tells S.known.opened.area seen
+        read.are_bytes none how left
+        (λ may. read-all old.source new.source bytes seen source read (all may)) how left.leaves.by_kind.0

@@ -12,7 +12,7 @@ use Rattle.command_laws.proofs.DoneStores.{next-image}
 use Rattle.command_laws.proofs.FilesStay.{bad-few}
 use Rattle.command_laws.proofs.FilesKept.{wrong-same, flag-off, goes-tells, columns-right, and-off}
 use Rattle.command_laws.proofs.PutInEffect.{tells-back}
-use Rattle.command_laws.proofs.Early.{unstarted-early, job-cases}
+use Rattle.command_laws.proofs.Early.{alone-cases}
 
 module _ (name bytes : List ℕ) (records : List Record) (due : Due) (spoilt : ℕ → Bool) (old new next : Seen)
     (end : Ending) (S : IsSure old records) (is_due : due_of records ≡ Some due) (N : Follows new next)
@@ -113,16 +113,11 @@ module _ (name bytes : List ℕ) (records : List Record) (due : Due) (spoilt : �
         absurd (let C = L.0 in none-more (none-done C.done C.next C.rest C.parts C.after) C.sure)
     by-answer h L = absurd L
 
-  by-job : (area : Area) → AnswersJob RepairJob None area records old new end → Mended
-  by-job area = job-cases (λ E. absurd (refused-not E.status E.at E.refused)) (λ how none left by.
-      let L = left.leaves.by_kind.0 in by-answer area how left how
-      (subst (λ (d : Due). RepairGives (ran_left records RepairJob how old new end.heard left) d how)
-      (same_value (due_of records) L.due due L.is_due is_due) L.gives))
-
   -- a repair that the next command finds in effect left a right file right on flagged providers too
   pub repair-in-effect : AnswersAlone RepairJob old new end → Mended
-  repair-in-effect (AnswersAlone.unstarted u) =
-      absurd (let E = unstarted-early u in refused-not E.status E.at E.refused)
-  repair-in-effect (AnswersAlone.begun rs opened A) =
-      by-job S.known.opened.area (known-both old records rs S.known opened
-      (λ a l. AnswersJob RepairJob None a l old new end) A)
+  repair-in-effect = alone-cases (λ E. absurd (refused-not E.status E.at E.refused)) (λ rs opened how none left by.
+      let here = known-both old records rs S.known opened
+      (λ a l. LeftAlone a l RepairJob None how old new end.heard) left in
+      let L = here.leaves.by_kind.0 in by-answer S.known.opened.area how here how
+      (subst (λ (d : Due). RepairGives (ran_left records RepairJob how old new end.heard here) d how)
+      (same_value (due_of records) L.due due L.is_due is_due) L.gives))
