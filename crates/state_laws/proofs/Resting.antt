@@ -34,6 +34,30 @@ kept-brought w v r er ej ea es eb none still m K = record {
   doubt = λ d h. absurd (some-not-none v.doubt d h none);
 }
 
+-- what may follow a state may follow one of the same records, journal, area and bytes
+follows-in : (w u : State) (r : Record) → u.records ≡ w.records → u.journal ≡ w.journal →
+    u.area ≡ w.area → u.bytes ≡ w.bytes → MayFollowIn w r → MayFollowIn u r
+follows-in w u r er ej ea eb m =
+    subst (λ rs. MayFollow rs u.journal (end_in u.area u.journal) u.bytes r) (sym er)
+    (subst (λ js. MayFollow w.records js (end_in u.area js) u.bytes r) (sym ej)
+    (subst (λ area. MayFollow w.records w.journal (end_in area w.journal) u.bytes r) (sym ea)
+    (subst (λ b. MayFollow w.records w.journal (journal_end w) b r) (sym eb) m)))
+
+-- such a state is kept, with a switch and a doubt of its own
+kept-as : (w v : State) → v.records ≡ w.records → v.journal ≡ w.journal → v.area ≡ w.area →
+    v.bytes ≡ w.bytes → (v.is_switching ≡ true → IsSwitchable v) →
+    ((d : Doubt) → v.doubt ≡ Some d → MayFollowIn w d.entry) → IsKept w → IsKept v
+kept-as w v er ej ea eb switching doubt K = record {
+  accepted = subst AreAccepted (sym er) K.accepted;
+  spelled = subst AreInGrammar (sym er) K.spelled;
+  files = subst (λ b. AreHeld b v.records) (sym eb) (subst (AreHeld w.bytes) (sym er) K.files);
+  journal = journal-same w v er ej ea K.journal;
+  room = (let e = ap (λ area. end_in area v.journal) ea ∙ ap (end_in w.area) ej in let a = K.room in
+      omega (arith, a, e));
+  switching = switching;
+  doubt = λ d h. follows-in w v d.entry er ej ea eb (doubt d h);
+}
+
 -- a setup may follow where there is none
 setup-follows : (w : State) (s : Setup) → IsKept w → is_some (setup_of w.records) ≡ false →
     IsTrue (is_in_grammar (SetUp s)) → MayFollowIn w (SetUp s)
@@ -150,46 +174,21 @@ module _ (limit : ℕ) where
     kept-closed : (v : State) → v.records ≡ old.records → v.journal ≡ old.journal → v.area ≡ old.area →
         v.is_switching ≡ old.is_switching → v.bytes ≡ old.bytes → v.doubt ≡ old.doubt → v.jobs ≡ [] →
         v.is_open ≡ false → IsKept v
-    kept-closed v er ej ea es eb ed none closed = record {
-      accepted = subst AreAccepted (sym er) S.accepted;
-      spelled = subst AreInGrammar (sym er) S.spelled;
-      files = subst (λ b. AreHeld b v.records) (sym eb) (subst (AreHeld old.bytes) (sym er) S.files);
-      journal = journal-same old v er ej ea S.journal;
-      room = (let e = ap (λ area. end_in area v.journal) ea ∙ ap (end_in old.area) ej in let a = S.room in
-          omega (arith, a, e));
-      switching = λ e. (let s = S.switching (sym es ∙ e) in
-          record {
-            version = ap version_of er ∙ s.version;
-            undoubted = ed ∙ s.undoubted;
-            jobs = none;
-            packing = λ o. absurd (false≢true (sym closed ∙ o));
-          });
-      doubt = λ d h. follows-in old v d.entry er ej ea eb (S.doubt d (sym ed ∙ h));
-    }
-      where
-        follows-in : (w u : State) (r : Record) → u.records ≡ w.records → u.journal ≡ w.journal →
-            u.area ≡ w.area → u.bytes ≡ w.bytes → MayFollowIn w r → MayFollowIn u r
-        follows-in w u r er ej ea eb m =
-            subst (λ rs. MayFollow rs u.journal (end_in u.area u.journal) u.bytes r) (sym er)
-            (subst (λ js. MayFollow w.records js (end_in u.area js) u.bytes r) (sym ej)
-            (subst (λ area. MayFollow w.records w.journal (end_in area w.journal) u.bytes r) (sym ea)
-            (subst (λ b. MayFollow w.records w.journal (journal_end w) b r) (sym eb) m)))
+    kept-closed v er ej ea es eb ed none closed = kept-as old v er ej ea eb
+        (λ e. (let s = S.switching (sym es ∙ e) in
+        record {
+          version = ap version_of er ∙ s.version;
+          undoubted = ed ∙ s.undoubted;
+          jobs = none;
+          packing = λ o. absurd (false≢true (sym closed ∙ o));
+        }))
+        (λ d h. S.doubt d (sym ed ∙ h)) kept
 
     -- what a disk holds that is read again
     reread-kept : (journal : List Record) (area : Area) → MayHold old journal area →
         IsKept (reread old journal area)
-    reread-kept journal area (inl (ej, ea)) = record {
-      accepted = S.accepted;
-      spelled = S.spelled;
-      files = S.files;
-      journal = journal-same old (reread old journal area) refl ej ea S.journal;
-      room = (let e = ap (λ a. end_in a journal) ea ∙ ap (end_in old.area) ej in let a = S.room in
-          omega (arith, a, e));
-      switching = λ e. absurd (false≢true e);
-      doubt = λ d h. subst (λ js. MayFollow old.records js (end_in area js) old.bytes d.entry) (sym ej)
-          (subst (λ a. MayFollow old.records old.journal (end_in a old.journal) old.bytes d.entry) (sym ea)
-          (S.doubt d h));
-    }
+    reread-kept journal area (inl (ej, ea)) =
+        kept-as old (reread old journal area) refl ej ea refl (λ e. absurd (false≢true e)) S.doubt kept
     reread-kept journal area (inr (switching, ej, ea)) = (let W = S.switching switching in record {
       accepted = S.accepted;
       spelled = S.spelled;
@@ -220,16 +219,10 @@ module _ (limit : ℕ) where
       is_open = refl;
       alone = refl;
       doubt = refl;
-      kept = record {
-        accepted = K.accepted;
-        spelled = K.spelled;
-        files = K.files;
-        journal = journal-same left (record left { doubt = None }) refl refl refl K.journal;
-        room = K.room;
-        switching = λ e. (let s = K.switching e in
-            record { version = s.version; undoubted = refl; jobs = s.jobs; packing = s.packing });
-        doubt = λ d h. absurd (let e : None ≡ Some d = h in cc);
-      };
+      kept = kept-as left (record left { doubt = None }) refl refl refl refl
+          (λ e. (let s = K.switching e in
+          record { version = s.version; undoubted = refl; jobs = s.jobs; packing = s.packing }))
+          (λ d h. absurd (let e : None ≡ Some d = h in cc)) K;
     })
     settled left mid K (inr (d, in_doubt, is)) = subst (IsSettled left) (sym is) (record {
       jobs = refl;
@@ -245,16 +238,9 @@ module _ (limit : ℕ) where
 
     -- other devices
     kept-devices : (w : State) (faults : ℕ) → IsKept w → IsKept (record w { disk_faults = faults })
-    kept-devices w faults K = record {
-      accepted = K.accepted;
-      spelled = K.spelled;
-      files = K.files;
-      journal = journal-same w (record w { disk_faults = faults }) refl refl refl K.journal;
-      room = K.room;
-      switching = λ e. (let s = K.switching e in
-          record { version = s.version; undoubted = s.undoubted; jobs = s.jobs; packing = s.packing });
-      doubt = K.doubt;
-    }
+    kept-devices w faults K = kept-as w (record w { disk_faults = faults }) refl refl refl refl
+        (λ e. (let s = K.switching e in
+        record { version = s.version; undoubted = s.undoubted; jobs = s.jobs; packing = s.packing })) K.doubt K
 
     -- a state that is not open, in which nothing is under way
     shut : (w : State) → IsIdle w → IsKept w → w.is_open ≡ false → IsSound limit w
@@ -262,26 +248,15 @@ module _ (limit : ℕ) where
         (λ o. absurd (false≢true (sym closed ∙ o))) (λ o. absurd (false≢true (sym closed ∙ o)))
 
     -- the disk is read again
-    again : (mid : State) → Rereads old mid → (left : State) ×
-        (IsSettled left mid × (left.jobs ≡ []) × (left.append ≡ None) × (left.is_barred ≡ false) ×
-        (left.is_open ≡ false) × (left.alone ≡ None))
-    again mid (journal, area, holds, h) = (
-      reread old journal area,
-      (
-        settled (reread old journal area) mid (reread-kept journal area holds) h,
-        refl,
-        refl,
-        refl,
-        refl,
-        refl,
-      ),
-    )
+    again : (mid : State) → Rereads old mid →
+        IsKept mid × IsIdle mid × (mid.is_open ≡ false) × (mid.doubt ≡ None)
+    again mid (journal, area, holds, h) =
+        (let s = settled (reread old journal area) mid (reread-kept journal area holds) h in
+        (s.kept, (s.jobs, s.append, s.barred, s.alone), s.is_open, s.doubt))
 
     -- a stop leaves a sound state
     pub stops-sound : (r : Outcome) (new : State) → Stops old r new → IsSound limit new
-    stops-sound Stopped new h = (let g = again new h in let s = g.1.0 in
-        shut new (s.jobs ∙ g.1.1, s.append ∙ g.1.2, s.barred ∙ g.1.3, s.alone ∙ g.1.5) s.kept
-        (s.is_open ∙ g.1.4))
+    stops-sound Stopped new h = (let g = again new h in shut new g.1 g.0 g.2)
     stops-sound r new h = absurd h
 
     -- a later call of the program begins with a sound state
@@ -294,16 +269,9 @@ module _ (limit : ℕ) where
     -- the vault is open again
     opened : (mid : State) (faults : ℕ) → IsKept mid → mid.is_open ≡ false → mid.jobs ≡ [] →
         mid.is_switching ≡ false → IsKept (record mid { is_open = true; disk_faults = faults })
-    opened mid faults K closed none still = record {
-      accepted = K.accepted;
-      spelled = K.spelled;
-      files = K.files;
-      journal = journal-same mid (record mid { is_open = true; disk_faults = faults }) refl refl refl
-          K.journal;
-      room = K.room;
-      switching = λ e. absurd (false≢true (sym still ∙ e));
-      doubt = K.doubt;
-    }
+    opened mid faults K closed none still =
+        kept-as mid (record mid { is_open = true; disk_faults = faults }) refl refl refl refl
+        (λ e. absurd (false≢true (sym still ∙ e))) K.doubt K
 
     still-mid : (mid : State) → Rereads old mid → mid.is_switching ≡ false
     still-mid mid (journal, area, holds, inl is) = ap (λ (w : State). w.is_switching) is
@@ -312,13 +280,8 @@ module _ (limit : ℕ) where
     -- a vault that was not opened over what was read again
     read-closed : (mid new : State) (faults : ℕ) → Rereads old mid → new ≡ record mid { disk_faults = faults } →
         IsSound limit new
-    read-closed mid new faults h is =
-        (let g = again mid h in
-        let s = g.1.0 in
-        subst (IsSound limit) (sym is)
-        (shut (record mid { disk_faults = faults })
-        (s.jobs ∙ g.1.1, s.append ∙ g.1.2, s.barred ∙ g.1.3, s.alone ∙ g.1.5)
-        (kept-devices mid faults s.kept) (s.is_open ∙ g.1.4)))
+    read-closed mid new faults h is = (let g = again mid h in subst (IsSound limit) (sym is)
+        (shut (record mid { disk_faults = faults }) g.1 (kept-devices mid faults g.0) g.2))
 
     -- or over what was not read
     unread : (new : State) (faults : ℕ) → new ≡ record (given_up old) { disk_faults = faults } → IsSound limit new
@@ -332,13 +295,11 @@ module _ (limit : ℕ) where
     pub reopens-sound : (r : Outcome) (new : State) → Reopens old r new → IsSound limit new
     reopens-sound Opened new (mid, h, up, enough, (faults, low, is)) =
         (let g = again mid h in
-        let s = g.1.0 in
         let w : State = record mid { is_open = true; disk_faults = faults } in
         subst (IsSound limit) (sym is)
-        (idle-sound w (s.jobs ∙ g.1.1, s.append ∙ g.1.2, s.barred ∙ g.1.3, s.alone ∙ g.1.5)
-        (opened mid faults s.kept (s.is_open ∙ g.1.4) (s.jobs ∙ g.1.1) (still-mid mid h))
+        (idle-sound w g.1 (opened mid faults g.0 g.2 g.1.0 (still-mid mid h))
         (λ o. up) (λ o. subst (λ (t : Setup). t.n ≤ mid.handed) (sym (setup_same w mid refl)) enough)
-        (λ o. s.doubt)))
+        (λ o. g.3)))
     reopens-sound (Refused refusal.NotSetUp) new (mid, h, none, (faults, low, is)) =
         read-closed mid new faults h is
     reopens-sound (Refused refusal.TooFewProviders) new (mid, h, up, few, (faults, low, is)) =
@@ -350,17 +311,11 @@ module _ (limit : ℕ) where
     -- what is in doubt after an init that failed
     left-kept : (s : Setup) (doubt : Option Doubt) (faults : ℕ) → IsTrue (is_in_grammar (SetUp s)) →
         LeavesDoubt old s doubt → IsKept (record old { doubt = doubt; disk_faults = faults })
-    left-kept s doubt faults valid leaves = record {
-      accepted = S.accepted;
-      spelled = S.spelled;
-      files = S.files;
-      journal = journal-same old (record old { doubt = doubt; disk_faults = faults }) refl refl refl
-          S.journal;
-      room = kept.room;
-      switching = λ e. (let s = S.switching e in
-          record { version = s.version; undoubted = none e leaves; jobs = s.jobs; packing = s.packing });
-      doubt = follows leaves;
-    }
+    left-kept s doubt faults valid leaves =
+        kept-as old (record old { doubt = doubt; disk_faults = faults }) refl refl refl refl
+        (λ e. (let s = S.switching e in
+        record { version = s.version; undoubted = none e leaves; jobs = s.jobs; packing = s.packing }))
+        (follows leaves) kept
       where
         none : old.is_switching ≡ true → LeavesDoubt old s doubt → doubt ≡ None
         none e (inl is) = is ∙ (S.switching e).undoubted
