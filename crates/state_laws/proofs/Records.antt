@@ -52,18 +52,8 @@ version-before r rs h = h
 -- a version is the first or the second
 pub version-either : (rs : List Record) → (version_of rs ≡ 1) ⊎ (version_of rs ≡ 2)
 version-either [] = inl refl
-version-either (SetUp s ∷ rs) = version-either rs
-version-either (PutStart id name ∷ rs) = version-either rs
-version-either (PutDone id size ∷ rs) = version-either rs
-version-either (Drop name ∷ rs) = version-either rs
-version-either (AuditStart number ∷ rs) = version-either rs
-version-either (AuditDone number undecided counts ∷ rs) = version-either rs
-version-either (RepairDone number ∷ rs) = version-either rs
-version-either (PutDoneIn id size profile ∷ rs) = version-either rs
 version-either (Version ∷ rs) = inr refl
-version-either (Resume next audit ∷ rs) = version-either rs
-version-either (InEffect id size profile kept ∷ rs) = version-either rs
-version-either (RepairDue number counts ∷ rs) = version-either rs
+version-either (r ∷ rs) = version-either rs
 
 -- ---- numbers
 
@@ -173,27 +163,12 @@ pub setup-spelled : (rs : List Record) (s : Setup) → AreInGrammar rs → setup
 setup-spelled [] s g h = absurd (some-not-none _ s h refl)
 setup-spelled (SetUp t ∷ rs) s g h =
     (let e : t ≡ s = cc in subst (λ x. IsTrue (is_in_grammar (SetUp x))) e (grammar-first (SetUp t) rs g))
-setup-spelled (PutStart id name ∷ rs) s g h = setup-spelled rs s (grammar-rest (PutStart id name) rs g) h
-setup-spelled (PutDone id size ∷ rs) s g h = setup-spelled rs s (grammar-rest (PutDone id size) rs g) h
-setup-spelled (Drop name ∷ rs) s g h = setup-spelled rs s (grammar-rest (Drop name) rs g) h
-setup-spelled (AuditStart number ∷ rs) s g h = setup-spelled rs s (grammar-rest (AuditStart number) rs g) h
-setup-spelled (AuditDone number undecided counts ∷ rs) s g h =
-    setup-spelled rs s (grammar-rest (AuditDone number undecided counts) rs g) h
-setup-spelled (RepairDone number ∷ rs) s g h = setup-spelled rs s (grammar-rest (RepairDone number) rs g) h
-setup-spelled (PutDoneIn id size profile ∷ rs) s g h =
-    setup-spelled rs s (grammar-rest (PutDoneIn id size profile) rs g) h
-setup-spelled (Version ∷ rs) s g h = setup-spelled rs s (grammar-rest Version rs g) h
-setup-spelled (Resume next audit ∷ rs) s g h = setup-spelled rs s (grammar-rest (Resume next audit) rs g) h
-setup-spelled (InEffect id size profile kept ∷ rs) s g h =
-    setup-spelled rs s (grammar-rest (InEffect id size profile kept) rs g) h
-setup-spelled (RepairDue number counts ∷ rs) s g h =
-    setup-spelled rs s (grammar-rest (RepairDue number counts) rs g) h
+setup-spelled (r ∷ rs) s g h = setup-spelled rs s (grammar-rest r rs g) h
 
 -- a name that a put was started under is a name
 started-spelled : (rs : List Record) (id : ℕ) (name : List ℕ) → AreInGrammar rs → started_as rs id ≡ Some name →
     is_name name ≡ true
 started-spelled [] id name g h = absurd (some-not-none _ name h refl)
-started-spelled (SetUp s ∷ rs) id name g h = started-spelled rs id name (grammar-rest (SetUp s) rs g) h
 started-spelled (PutStart k n ∷ rs) id name g h = elim (cases_Bool (k == id)) [
   | inl t ↦ (let e : n ≡ name = same_value _ n name (cond_true (k == id) (Some n) (started_as rs id) t) h in
       subst (λ x. is_name x ≡ true) e (grind (arith, grammar-first (PutStart k n) rs g)))
@@ -205,25 +180,12 @@ started-spelled (PutDone k size ∷ rs) id name g h = elim (cases_Bool (k == id)
   | inr f ↦ started-spelled rs id name (grammar-rest (PutDone k size) rs g)
       (sym (cond_false (k == id) None (started_as rs id) f) ∙ h)
 ]
-started-spelled (Drop n ∷ rs) id name g h = started-spelled rs id name (grammar-rest (Drop n) rs g) h
-started-spelled (AuditStart number ∷ rs) id name g h =
-    started-spelled rs id name (grammar-rest (AuditStart number) rs g) h
-started-spelled (AuditDone number undecided counts ∷ rs) id name g h =
-    started-spelled rs id name (grammar-rest (AuditDone number undecided counts) rs g) h
-started-spelled (RepairDone number ∷ rs) id name g h =
-    started-spelled rs id name (grammar-rest (RepairDone number) rs g) h
 started-spelled (PutDoneIn k size profile ∷ rs) id name g h = elim (cases_Bool (k == id)) [
   | inl t ↦ absurd (some-not-none _ name h (cond_true (k == id) None (started_as rs id) t))
   | inr f ↦ started-spelled rs id name (grammar-rest (PutDoneIn k size profile) rs g)
       (sym (cond_false (k == id) None (started_as rs id) f) ∙ h)
 ]
-started-spelled (Version ∷ rs) id name g h = started-spelled rs id name (grammar-rest Version rs g) h
-started-spelled (Resume next audit ∷ rs) id name g h =
-    started-spelled rs id name (grammar-rest (Resume next audit) rs g) h
-started-spelled (InEffect k size profile kept ∷ rs) id name g h =
-    started-spelled rs id name (grammar-rest (InEffect k size profile kept) rs g) h
-started-spelled (RepairDue number counts ∷ rs) id name g h =
-    started-spelled rs id name (grammar-rest (RepairDue number counts) rs g) h
+started-spelled (r ∷ rs) id name g h = started-spelled rs id name (grammar-rest r rs g) h
 
 -- the start that a put's end is of
 start-named : (q : List ℕ) (o : Option (List ℕ)) → is_start_of q o ≡ true → o ≡ Some q
