@@ -56,11 +56,7 @@ once-with_puts : (names : List (List ℕ)) (aims : List Aim) → AreOnce names �
 once-with_puts names [] o = o
 once-with_puts names (ToPut name size ∷ aims) o =
     once-with_name (with_puts names aims) name (once-with_puts names aims o)
-once-with_puts names (ToGet name ∷ aims) o = once-with_puts names aims o
-once-with_puts names (ToDrop name ∷ aims) o = once-with_puts names aims o
-once-with_puts names (ToAudit ∷ aims) o = once-with_puts names aims o
-once-with_puts names (ToRepair ∷ aims) o = once-with_puts names aims o
-once-with_puts names (ToUpgrade ∷ aims) o = once-with_puts names aims o
+once-with_puts names (aim ∷ aims) o = once-with_puts names aims o
 
 -- a name is listed with those of puts exactly if a put has it or it was listed
 pub listed-with_puts : (names : List (List ℕ)) (aims : List Aim) (n : List ℕ)
@@ -73,11 +69,7 @@ listed-with_puts names (ToPut name size ∷ aims) n = listed-with_name (with_put
     join : (a b c : Bool) → (a || (b || c)) ≡ ((a || b) || c)
     join true b c = refl
     join false b c = refl
-listed-with_puts names (ToGet name ∷ aims) n = listed-with_puts names aims n
-listed-with_puts names (ToDrop name ∷ aims) n = listed-with_puts names aims n
-listed-with_puts names (ToAudit ∷ aims) n = listed-with_puts names aims n
-listed-with_puts names (ToRepair ∷ aims) n = listed-with_puts names aims n
-listed-with_puts names (ToUpgrade ∷ aims) n = listed-with_puts names aims n
+listed-with_puts names (aim ∷ aims) n = listed-with_puts names aims n
 
 -- a job of these puts under a name
 abbrev pub are_put : List ℕ → List Job → Bool

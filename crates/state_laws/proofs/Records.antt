@@ -312,11 +312,6 @@ file-plain (r ∷ rs) name file a v h = elim (file-came r rs name file h) [
 pub due-spelled : (rs : List Record) (due : Due) → AreInGrammar rs → due_of rs ≡ Some due →
     IsTrue (is_in_grammar (RepairDue due.number due.counts))
 due-spelled [] due g h = absurd (some-not-none _ due h refl)
-due-spelled (SetUp s ∷ rs) due g h = due-spelled rs due (grammar-rest (SetUp s) rs g) h
-due-spelled (PutStart id name ∷ rs) due g h = due-spelled rs due (grammar-rest (PutStart id name) rs g) h
-due-spelled (PutDone id size ∷ rs) due g h = due-spelled rs due (grammar-rest (PutDone id size) rs g) h
-due-spelled (Drop name ∷ rs) due g h = due-spelled rs due (grammar-rest (Drop name) rs g) h
-due-spelled (AuditStart number ∷ rs) due g h = due-spelled rs due (grammar-rest (AuditStart number) rs g) h
 due-spelled (AuditDone number undecided counts ∷ rs) due g h =
     elim (cases_Bool (exceeds (setup_of rs) counts)) [
       | inl t ↦ (let same : record { number = number; counts = counts } ≡ due =
@@ -334,18 +329,13 @@ due-spelled (AuditDone number undecided counts ∷ rs) due g h =
         IsTrue (is_in_grammar (RepairDue number counts))
     fits h = grind (arith, nat_tests, h)
 due-spelled (RepairDone number ∷ rs) due g h = absurd (some-not-none _ due h refl)
-due-spelled (PutDoneIn id size profile ∷ rs) due g h =
-    due-spelled rs due (grammar-rest (PutDoneIn id size profile) rs g) h
-due-spelled (Version ∷ rs) due g h = due-spelled rs due (grammar-rest Version rs g) h
-due-spelled (Resume next audit ∷ rs) due g h = due-spelled rs due (grammar-rest (Resume next audit) rs g) h
-due-spelled (InEffect id size profile kept ∷ rs) due g h =
-    due-spelled rs due (grammar-rest (InEffect id size profile kept) rs g) h
 due-spelled (RepairDue number counts ∷ rs) due g h =
     (let same : record { number = number; counts = counts } ≡ due =
     same_value (Some (record { number = number; counts = counts }))
     (record { number = number; counts = counts }) due refl h in
     subst (λ (d : Due). IsTrue (is_in_grammar (RepairDue d.number d.counts))) same
     (grammar-first (RepairDue number counts) rs g))
+due-spelled (r ∷ rs) due g h = due-spelled rs due (grammar-rest r rs g) h
 
 -- the number of a due audit fits 64 bits
 pub due-number : (due : Due) → IsTrue (is_in_grammar (RepairDue due.number due.counts)) → due.number < 2 ^ 64
