@@ -66,20 +66,7 @@ pub setup-spelled : (rs : List Record) (s : Setup) → AreSpelled rs → setup_o
 setup-spelled [] s g h = absurd (none-some s h)
 setup-spelled (SetUp t ∷ rs) s g h =
     (let e : t ≡ s = cc in subst (λ x. IsTrue (is_in_grammar (SetUp x))) e (first (SetUp t) rs g))
-setup-spelled (PutStart id name ∷ rs) s g h = setup-spelled rs s (rest (PutStart id name) rs g) h
-setup-spelled (PutDone id size ∷ rs) s g h = setup-spelled rs s (rest (PutDone id size) rs g) h
-setup-spelled (Drop name ∷ rs) s g h = setup-spelled rs s (rest (Drop name) rs g) h
-setup-spelled (AuditStart number ∷ rs) s g h = setup-spelled rs s (rest (AuditStart number) rs g) h
-setup-spelled (AuditDone number undecided counts ∷ rs) s g h =
-    setup-spelled rs s (rest (AuditDone number undecided counts) rs g) h
-setup-spelled (RepairDone number ∷ rs) s g h = setup-spelled rs s (rest (RepairDone number) rs g) h
-setup-spelled (PutDoneIn id size profile ∷ rs) s g h =
-    setup-spelled rs s (rest (PutDoneIn id size profile) rs g) h
-setup-spelled (Version ∷ rs) s g h = setup-spelled rs s (rest Version rs g) h
-setup-spelled (Resume next audit ∷ rs) s g h = setup-spelled rs s (rest (Resume next audit) rs g) h
-setup-spelled (InEffect id size profile kept ∷ rs) s g h =
-    setup-spelled rs s (rest (InEffect id size profile kept) rs g) h
-setup-spelled (RepairDue number counts ∷ rs) s g h = setup-spelled rs s (rest (RepairDue number counts) rs g) h
+setup-spelled (r ∷ rs) s g h = setup-spelled rs s (rest r rs g) h
 
 -- the profile of a setup that has a spelling
 profile-fits : (rs : List Record) → AreSpelled rs → nat_lt (profile_in (setup_of rs)) all_profiles ≡ true
@@ -118,29 +105,15 @@ pub started-spelled : (rs : List Record) (id : ℕ) (name : List ℕ) → AreSpe
     started_as rs id ≡ Some name →
     is_name name ≡ true
 started-spelled [] id name g h = absurd (none-some name h)
-started-spelled (SetUp s ∷ rs) id name g h = started-spelled rs id name (rest (SetUp s) rs g) h
 started-spelled (PutStart k n ∷ rs) id name g h = named-by k id n name (started_as rs id) h
     (start-named k n (first (PutStart k n) rs g))
     (started-spelled rs id name (rest (PutStart k n) rs g))
 started-spelled (PutDone k size ∷ rs) id name g h = started-spelled rs id name (rest (PutDone k size) rs g)
     (done-by k id name (started_as rs id) h)
-started-spelled (Drop n ∷ rs) id name g h = started-spelled rs id name (rest (Drop n) rs g) h
-started-spelled (AuditStart number ∷ rs) id name g h =
-    started-spelled rs id name (rest (AuditStart number) rs g) h
-started-spelled (AuditDone number undecided counts ∷ rs) id name g h =
-    started-spelled rs id name (rest (AuditDone number undecided counts) rs g) h
-started-spelled (RepairDone number ∷ rs) id name g h =
-    started-spelled rs id name (rest (RepairDone number) rs g) h
 started-spelled (PutDoneIn k size profile ∷ rs) id name g h =
     started-spelled rs id name (rest (PutDoneIn k size profile) rs g)
     (done-by k id name (started_as rs id) h)
-started-spelled (Version ∷ rs) id name g h = started-spelled rs id name (rest Version rs g) h
-started-spelled (Resume next audit ∷ rs) id name g h =
-    started-spelled rs id name (rest (Resume next audit) rs g) h
-started-spelled (InEffect k size profile kept ∷ rs) id name g h =
-    started-spelled rs id name (rest (InEffect k size profile kept) rs g) h
-started-spelled (RepairDue number counts ∷ rs) id name g h =
-    started-spelled rs id name (rest (RepairDue number counts) rs g) h
+started-spelled (r ∷ rs) id name g h = started-spelled rs id name (rest r rs g) h
 
 -- a file's record has a spelling
 abbrev fits : File → Bool
@@ -157,8 +130,6 @@ fit id size profile name i s p n =
 -- each file in effect has a record with a spelling
 files-fit : (rs : List Record) → AreSpelled rs → list_all fits (files_of rs) ≡ true
 files-fit [] g = refl
-files-fit (SetUp s ∷ rs) g = files-fit rs (rest (SetUp s) rs g)
-files-fit (PutStart id name ∷ rs) g = files-fit rs (rest (PutStart id name) rs g)
 files-fit (PutDone id size ∷ rs) g =
     let others = rest (PutDone id size) rs g in
     let parts = and_parts (nat_lt id (2 ^ 64)) (nat_le size largest_file) (first (PutDone id size) rs g) in
@@ -166,10 +137,6 @@ files-fit (PutDone id size ∷ rs) g =
     (λ name e. fit id size (profile_in (setup_of rs)) name parts.0 parts.1 (profile-fits rs others)
     (started-spelled rs id name others e))
 files-fit (Drop name ∷ rs) g = all-without fits (files_of rs) name (files-fit rs (rest (Drop name) rs g))
-files-fit (AuditStart number ∷ rs) g = files-fit rs (rest (AuditStart number) rs g)
-files-fit (AuditDone number undecided counts ∷ rs) g =
-    files-fit rs (rest (AuditDone number undecided counts) rs g)
-files-fit (RepairDone number ∷ rs) g = files-fit rs (rest (RepairDone number) rs g)
 files-fit (PutDoneIn id size profile ∷ rs) g =
     let others = rest (PutDoneIn id size profile) rs g in
     let outer = and_parts (nat_lt id (2 ^ 64) && nat_le size largest_file) (nat_lt profile all_profiles)
@@ -177,15 +144,13 @@ files-fit (PutDoneIn id size profile ∷ rs) g =
     let parts = and_parts (nat_lt id (2 ^ 64)) (nat_le size largest_file) outer.0 in
     all-put fits (files_of rs) (started_as rs id) id size profile (files-fit rs others)
     (λ name e. fit id size profile name parts.0 parts.1 outer.1 (started-spelled rs id name others e))
-files-fit (Version ∷ rs) g = files-fit rs (rest Version rs g)
-files-fit (Resume next audit ∷ rs) g = files-fit rs (rest (Resume next audit) rs g)
 files-fit (InEffect id size profile kept ∷ rs) g =
     all-put fits (files_of rs) (Some kept) id size profile
     (files-fit rs (rest (InEffect id size profile kept) rs g))
     (λ name e. (let same : kept ≡ name = cc in
     subst (λ x. is_in_grammar (InEffect id size profile x) ≡ true) same
     (first (InEffect id size profile kept) rs g)))
-files-fit (RepairDue number counts ∷ rs) g = files-fit rs (rest (RepairDue number counts) rs g)
+files-fit (r ∷ rs) g = files-fit rs (rest r rs g)
 
 -- ---- the due audit
 
@@ -205,25 +170,15 @@ due-by false new due o h g later = later h
 pub due-spelled : (rs : List Record) (due : Due) → AreSpelled rs → due_of rs ≡ Some due →
     IsTrue (is_in_grammar (RepairDue due.number due.counts))
 due-spelled [] due g h = absurd (none-some due h)
-due-spelled (SetUp s ∷ rs) due g h = due-spelled rs due (rest (SetUp s) rs g) h
-due-spelled (PutStart id name ∷ rs) due g h = due-spelled rs due (rest (PutStart id name) rs g) h
-due-spelled (PutDone id size ∷ rs) due g h = due-spelled rs due (rest (PutDone id size) rs g) h
-due-spelled (Drop name ∷ rs) due g h = due-spelled rs due (rest (Drop name) rs g) h
-due-spelled (AuditStart number ∷ rs) due g h = due-spelled rs due (rest (AuditStart number) rs g) h
 due-spelled (AuditDone number undecided counts ∷ rs) due g h =
     due-by (exceeds (setup_of rs) counts) (record { number = number; counts = counts }) due (due_of rs) h
     (due-fits number undecided counts (first (AuditDone number undecided counts) rs g))
     (due-spelled rs due (rest (AuditDone number undecided counts) rs g))
 due-spelled (RepairDone number ∷ rs) due g h = absurd (none-some due h)
-due-spelled (PutDoneIn id size profile ∷ rs) due g h =
-    due-spelled rs due (rest (PutDoneIn id size profile) rs g) h
-due-spelled (Version ∷ rs) due g h = due-spelled rs due (rest Version rs g) h
-due-spelled (Resume next audit ∷ rs) due g h = due-spelled rs due (rest (Resume next audit) rs g) h
-due-spelled (InEffect id size profile kept ∷ rs) due g h =
-    due-spelled rs due (rest (InEffect id size profile kept) rs g) h
 due-spelled (RepairDue number counts ∷ rs) due g h =
     due-by true (record { number = number; counts = counts }) due (due_of rs) h
     (first (RepairDue number counts) rs g) (due-spelled rs due (rest (RepairDue number counts) rs g))
+due-spelled (r ∷ rs) due g h = due-spelled rs due (rest r rs g) h
 
 -- ---- the packed journal
 
