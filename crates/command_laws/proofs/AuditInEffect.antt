@@ -1,6 +1,6 @@
 -- However an audit ended: where the next command finds its end in effect, its counts are the verdicts on what
 -- it heard.
-use Rattle.command_laws.proofs.Words.{◌≡◌, ℕ, ◌+◌, ◌<◌, ◌≤◌, ◌⊎◌, List, [], ◌∷◌, length, reverse, Option, None, Some, refl, ap, sym, subst, ◌∙◌, inl, inr, arith, length-append, IfSome, IsSomeAnd, length-reverse, Cells, reads, EachImage, Record, AuditDone, largest_journal, Area, StandsActive, StandsFor, next_audit, AuditJob, Answer, Seen, Ending, IsRefused, journal_read, Ran, HearsRounds, CountsHeard, AuditIsCut, AuditGives, AnswersJob, LeftAlone, AnswersAlone, IsKnown, after_audit, ran_to, IsSure, Follows, active-front, one_list, same_value, each_image-mono}
+use Rattle.command_laws.proofs.Words.{◌≡◌, ℕ, ◌+◌, ◌<◌, ◌≤◌, ◌⊎◌, List, [], ◌∷◌, length, reverse, Option, None, Some, refl, ap, sym, subst, ◌∙◌, inl, inr, arith, length-append, IfSome, IsSomeAnd, length-reverse, Cells, reads, EachImage, Record, AuditDone, largest_journal, Area, StandsActive, StandsFor, next_audit, AuditJob, Answer, Seen, Ending, IsRefused, journal_read, Ran, HearsRounds, CountsHeard, AuditIsCut, AuditGives, LeftAlone, AnswersAlone, IsKnown, after_audit, ran_to, IsSure, Follows, active-front, one_list, same_value, each_image-mono}
 use Rattle.machine_defs.specs.Answers as answer
 use Rattle.command_laws.proofs.Known.{known-both}
 use Rattle.command_laws.proofs.GetEnds.{ran_left}

@@ -93,6 +93,17 @@ both-between : (own more : List Moment) → AreBetween own → AreBetween more �
 both-between [] more a b = b
 both-between (m ∷ own) more (here, a) b = (here, both-between own more a b)
 
+-- one moment before them goes on with them
+goes-after : (start : State) (m : Moment) (ms : List Moment) (next : Seen) → AreBetween (m ∷ []) →
+    GoesBetween start (m ∷ ms) next → GoesBetween start ms next
+goes-after start m ms next between more =
+    (let same : more.0 ++ (m ∷ ms) ≡ (more.0 ++ m ∷ []) ++ ms = sym (append_assoc more.0 (m ∷ []) ms) in (
+      more.0 ++ m ∷ [],
+      both-between more.0 (m ∷ []) more.1 between,
+      subst (λ l. IsRun 8 start l) same more.2,
+      subst (λ l. IsStore (now start l) next) same more.3,
+    ))
+
 -- the store with other providers
 store-replaced : (w : State) (s next : Seen) (j : ℕ) (q : Provider) → IsStore w s →
     IsSound 8 (replaced_in w j q) → next.disk ≡ s.disk → next.disk_faults ≡ s.disk_faults →
@@ -139,13 +150,8 @@ replaced-on start (event ∷ events) ms s next R S disk faults (spelled, (mid, h
     let run : IsRun 8 start (m ∷ ms) = (spelled, G.happens (length ms), R) in
     let stood : IsStore v (with_providers s mid) = store-replaced w s (with_providers s mid) G.j G.q S
     (run-sound start (m ∷ []) ms S.sound run) refl refl G.handed in
-    let more = replaced-on start events (m ∷ ms) (with_providers s mid) next run stood disk faults rest in
-    let same : more.0 ++ (m ∷ ms) ≡ (more.0 ++ m ∷ []) ++ ms = sym (append_assoc more.0 (m ∷ []) ms) in (
-      more.0 ++ m ∷ [],
-      both-between more.0 (m ∷ []) more.1 G.between,
-      subst (λ l. IsRun 8 start l) same more.2,
-      subst (λ l. IsStore (now start l) next) same more.3,
-    ))
+    goes-after start m ms next G.between
+    (replaced-on start events (m ∷ ms) (with_providers s mid) next run stood disk faults rest))
 
 -- a run goes on through stops and replacements to what the next command finds
 pub later-on : (start : State) (ms : List Moment) (new next : Seen) → IsRun 8 start ms →
@@ -174,13 +180,8 @@ later-on start ms new next R S L = elim L.disk [
           faults_are = S.faults_are;
           handed = record { count = S.handed.count; each = S.handed.each };
         } in
-        let more = replaced-on start L.events (m ∷ ms) mid next run stood refl L.faults L.replaced in
-        let same : more.0 ++ (m ∷ ms) ≡ (more.0 ++ m ∷ []) ++ ms = sym (append_assoc more.0 (m ∷ []) ms) in (
-          more.0 ++ m ∷ [],
-          both-between more.0 (m ∷ []) more.1 (tt, tt),
-          subst (λ l. IsRun 8 start l) same more.2,
-          subst (λ l. IsStore (now start l) next) same more.3,
-        ))
+        goes-after start m ms next (tt, tt)
+        (replaced-on start L.events (m ∷ ms) mid next run stood refl L.faults L.replaced))
 
     stopped-by : (image : List ℕ) → next.disk ≡ Some (firm image) → MaySettle (now start ms) image →
         GoesBetween start ms next

@@ -1,5 +1,5 @@
 -- A file that is in effect stays right over the commands that do not touch it, and over a repair.
-use Rattle.command_laws.proofs.Words.{◌≡◌, ◌≢◌, ℕ, zero, suc, ◌<◌, ◌≤◌, ◌==◌, Bool, true, false, not, List, [], ◌∷◌, ◌++◌, length, reverse, take, Option, None, Some, refl, ap, sym, subst, ◌∙◌, inl, inr, arith, cond, is_some, IfSome, cases_Bool, false≢true, eq-eqb, Object, columns, is_wrong_block, is_flagged, Held, Record, Setup, PutStart, Drop, AuditStart, AuditDone, Version, Area, File, Due, next_id, next_audit, file_of, due_of, started_as, is_start_of, setup_or_none, profiled, object_of, stripes_of, PutJob, DropJob, RepairJob, Answer, Command, PutUnder, PutAt, GetOf, DropOf, ListAll, AuditAll, UpgradeJournal, PackJournal, chosen, Seen, Ending, IsRefused, provider_at, setup_in_effect, object_in_effect, StoredOn, PartlyStored, DroppedFrom, put_done, put_records, PutIsCut, PutLeaves, DropLeaves, IfFlagged, AnswersJob, LeftAlone, PartLeft, AnswersPut, AnswersAlone, Answers, IsDone, IsKnown, SameHolds, put_of, after_put, after_repair, IsRepaired, AreAppended, is_wrong_or_untold, HasRightFile, IsThen, HasGrown, IsSteady, spoilt_below, keeps_blocks, IsOfAnother, column-right, cond_true, cond_false, same_value, sound-accepted, file-alike, each-not-wrong, not-wrong-each}
+use Rattle.command_laws.proofs.Words.{◌≡◌, ◌≢◌, ℕ, zero, suc, ◌<◌, ◌≤◌, ◌==◌, Bool, true, false, not, List, [], ◌∷◌, ◌++◌, length, reverse, take, Option, None, Some, refl, ap, sym, subst, ◌∙◌, inl, inr, arith, cond, is_some, IfSome, cases_Bool, false≢true, eq-eqb, Object, columns, is_wrong_block, is_flagged, Held, Record, Setup, PutStart, Drop, AuditStart, AuditDone, Version, Area, File, Due, next_id, next_audit, file_of, due_of, started_as, is_start_of, setup_or_none, profiled, object_of, stripes_of, PutJob, DropJob, RepairJob, Answer, Command, PutUnder, PutAt, GetOf, DropOf, ListAll, AuditAll, UpgradeJournal, PackJournal, chosen, Seen, Ending, IsRefused, provider_at, setup_in_effect, object_in_effect, StoredOn, PartlyStored, DroppedFrom, put_done, put_records, PutIsCut, PutLeaves, DropLeaves, IfFlagged, LeftAlone, PartLeft, AnswersPut, AnswersAlone, Answers, IsDone, IsKnown, SameHolds, put_of, after_put, after_repair, IsRepaired, AreAppended, is_wrong_or_untold, HasRightFile, IsThen, HasGrown, IsSteady, spoilt_below, keeps_blocks, IsOfAnother, column-right, cond_true, cond_false, same_value, sound-accepted, file-alike, each-not-wrong, not-wrong-each}
 use Rattle.std.proofs.Common.{◌&&◌}
 use Rattle.device_defs.specs.Told.{Goes}
 use Rattle.machine_defs.specs.Answers as answer

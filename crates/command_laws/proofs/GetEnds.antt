@@ -1,9 +1,9 @@
 -- How a get ends over a disk that tells its records.
-use Rattle.command_laws.proofs.Words.{◌≡◌, ℕ, ◌+◌, ◌≤◌, ◌⊎◌, true, cond, not, List, [], length, None, Some, refl, sym, subst, ◌∙◌, inl, inr, arith, Option, is_some, IsShape, Rose, told_then, TakesFront, Record, is_name, Area, File, file_of, Kind, GetJob, Answer, AreBytes, Entry, HoldsForgery, Refusal, WritesLine, Seen, Ending, IsRefused, sinking, IsOpened, setup_in_effect, object_in_effect, refusal_over, Ran, ran_alone, job_number, text_of, GetLeaves, AnswersJob, EndsByAnswer, LeftAlone, AnswersAlone, bad_seen, IsKnown, GivesUnlessMemory, find-files_of, file-spelled, shape-of, get-complete, get-right, get-forged, opened_state, state-over}
+use Rattle.command_laws.proofs.Words.{◌≡◌, ℕ, ◌+◌, ◌≤◌, ◌⊎◌, true, cond, not, List, [], length, None, Some, refl, sym, subst, ◌∙◌, inl, inr, arith, Option, is_some, IsShape, Rose, told_then, TakesFront, Record, is_name, Area, File, file_of, Kind, GetJob, Answer, AreBytes, Entry, HoldsForgery, WritesLine, Seen, Ending, sinking, IsOpened, setup_in_effect, object_in_effect, refusal_over, Ran, ran_alone, job_number, text_of, GetLeaves, EndsByAnswer, LeftAlone, AnswersAlone, bad_seen, IsKnown, GivesUnlessMemory, find-files_of, file-spelled, shape-of, get-complete, get-right, get-forged, opened_state, state-over}
 use Rattle.machine_defs.specs.Answers as answer
 use Rattle.machine_defs.specs.Refusals as refusal
 use Rattle.command_laws.proofs.Known.{none-written, written-well, written-zero, written-front, alone-known}
-use Rattle.command_laws.proofs.Early.{IsEarly, early-at, early-not, alone-well}
+use Rattle.command_laws.proofs.Early.{IsEarly, early-at, early-not, alone-well, job-cases}
 
 -- the setup of records that are read is of a shape
 pub shape-at : (old : Seen) (records : List Record) → IsOpened old records →
@@ -31,76 +31,52 @@ module _ (name bytes : List ℕ) (records : List Record) (file : File) (old new 
       (λ i. cond (not (named i)) (Some refusal.BadName)
       (cond (not (is_some (found i))) (Some refusal.NoSuchName) None)))
 
-  no-refusal : (why : Refusal) → refusal_over K.opened.area records (GetJob name) None ≡ Some why → ⊥
-  no-refusal why is = (let e : None ≡ Some why = sym begins ∙ is in cc)
-
   -- what a get ends with, by its answer
   abbrev EndsWith : Answer → Type 0
   EndsWith how = EndsByAnswer (text_of (setup_in_effect records).tolerance (GetJob name) how) how old new end
 
-  right-by : (x : Ran) (how : Answer) → ((got : List ℕ) → how ≡ answer.Got got → got ≡ bytes) →
-      GetLeaves x name how → EndsWith how → TakesFront old.sink new.sink bytes ×
-      (end.status ≡ 0 → new.sink ≡ told_then old.sink bytes)
-  right-by x (answer.Got got) right L by =
-      (let same = right got refl in let told : WritesLine bytes end.status (sinking old new) =
-      subst (λ t. WritesLine t end.status (sinking old new)) same by.written in
-      (written-front bytes old new end told, written-zero bytes old new end told))
-  right-by x (answer.Lost stripe row) right L by = (
-    none-written bytes old.sink new.sink by.sink,
-    λ zero. absurd (let e : 4 ≡ 0 = sym by.status_is ∙ zero in omega (arith, e)),
-  )
-  right-by x how right L by = absurd L.gives
+  -- at most a front of the file's bytes was given, and all at status 0
+  abbrev Right : Type 0
+  Right = TakesFront old.sink new.sink bytes × (end.status ≡ 0 → new.sink ≡ told_then old.sink bytes)
 
-  early-right : IsEarly old new end → TakesFront old.sink new.sink bytes × (end.status ≡ 0 → new.sink ≡ told_then old.sink bytes)
+  early-right : IsEarly old new end → Right
   early-right E = (
     none-written bytes old.sink new.sink E.refused.sink,
     λ zero. absurd (early-not E 0 refl zero),
   )
 
-  job-right : AnswersJob (GetJob name) None K.opened.area records old new end →
-      bad_seen records old new file bytes ≤ (setup_in_effect records).b + 1 →
-      TakesFront old.sink new.sink bytes × (end.status ≡ 0 → new.sink ≡ told_then old.sink bytes)
-  job-right (AnswersJob.refused why is synced r) few = absurd (no-refusal why is)
-  job-right (AnswersJob.no_memory synced r) few = early-right (early-at 70 0 refl refl r)
-  job-right (AnswersJob.ended how none runs left by) few =
-      right-by (ran_left records (GetJob name) how old new end.heard left) how
-      (λ got is. get-right (ran_left records (GetJob name) how old new end.heard left) name bytes file shape
-      in_effect fits size got
-      (subst (λ h. GetLeaves (ran_left records (GetJob name) how old new end.heard left) name h) is
-      left.leaves.by_kind) few)
-      left.leaves.by_kind by
-
   -- what was heard holds a forgery
   abbrev Forged : Type 0
   Forged = HoldsForgery (object_in_effect records file) bytes job_number end.heard
 
-  forged-by : (x : Ran) (how : Answer) → ((got : List ℕ) → how ≡ answer.Got got → (got ≡ bytes) ⊎ Forged) →
-      GetLeaves x name how → EndsWith how →
-      (TakesFront old.sink new.sink bytes × (end.status ≡ 0 → new.sink ≡ told_then old.sink bytes)) ⊎ Forged
-  forged-by x (answer.Got got) right L by = elim (right got refl) [
+  right-by : (Else : Type 0) (x : Ran) (how : Answer) →
+      ((got : List ℕ) → how ≡ answer.Got got → (got ≡ bytes) ⊎ Else) → GetLeaves x name how → EndsWith how →
+      Right ⊎ Else
+  right-by Else x (answer.Got got) right L by = elim (right got refl) [
     | inl same ↦ (let told : WritesLine bytes end.status (sinking old new) =
         subst (λ t. WritesLine t end.status (sinking old new)) same by.written in
         inl (written-front bytes old new end told, written-zero bytes old new end told))
-    | inr forged ↦ inr forged
+    | inr other ↦ inr other
   ]
-  forged-by x (answer.Lost stripe row) right L by =
-      inl (
-        none-written bytes old.sink new.sink by.sink,
-        λ zero. absurd (let e : 4 ≡ 0 = sym by.status_is ∙ zero in omega (arith, e)),
-      )
-  forged-by x how right L by = absurd L.gives
+  right-by Else x (answer.Lost stripe row) right L by = inl (
+    none-written bytes old.sink new.sink by.sink,
+    λ zero. absurd (let e : 4 ≡ 0 = sym by.status_is ∙ zero in omega (arith, e)),
+  )
+  right-by Else x how right L by = absurd L.gives
 
-  job-forged : AnswersJob (GetJob name) None K.opened.area records old new end →
-      (TakesFront old.sink new.sink bytes × (end.status ≡ 0 → new.sink ≡ told_then old.sink bytes)) ⊎ Forged
-  job-forged (AnswersJob.refused why is synced r) = absurd (no-refusal why is)
-  job-forged (AnswersJob.no_memory synced r) = inl (early-right (early-at 70 0 refl refl r))
-  job-forged (AnswersJob.ended how none runs left by) =
-      forged-by (ran_left records (GetJob name) how old new end.heard left) how
-      (λ got is. get-forged (ran_left records (GetJob name) how old new end.heard left) name bytes file shape
-      in_effect fits size got
-      (subst (λ h. GetLeaves (ran_left records (GetJob name) how old new end.heard left) name h) is
-      left.leaves.by_kind))
-      left.leaves.by_kind by
+  -- so it is after a get, or else, where what it got is the file's bytes, or else
+  ended-right : (Else : Type 0) → ((how : Answer)
+      (left : LeftAlone K.opened.area records (GetJob name) None how old new end.heard) (got : List ℕ) →
+      GetLeaves (ran_left records (GetJob name) how old new end.heard left) name (answer.Got got) →
+      (got ≡ bytes) ⊎ Else) → AnswersAlone (GetJob name) old new end → Right ⊎ Else
+  ended-right Else right A = elim (alone-known (GetJob name) old new end records K A) [
+    | inl (inl (rose, r)) ↦ inl (early-right (early-at 12 0 refl refl r))
+    | inl (inr r) ↦ inl (early-right (early-at 70 0 refl refl r))
+    | inr job ↦ job-cases (λ E. inl (early-right E)) (λ how none left by. right-by Else
+        (ran_left records (GetJob name) how old new end.heard left) how (λ got is. right how left got
+        (subst (λ h. GetLeaves (ran_left records (GetJob name) how old new end.heard left) name h) is
+        left.leaves.by_kind)) left.leaves.by_kind by) job
+  ]
 
   -- a get with no fault gives the file's bytes where at most b providers are bad, or finds no memory
   pub seen-complete : AnswersAlone (GetJob name) old new end →
@@ -119,17 +95,13 @@ module _ (name bytes : List ℕ) (records : List Record) (file : File) (old new 
   pub seen-right : AnswersAlone (GetJob name) old new end →
       bad_seen records old new file bytes ≤ (setup_in_effect records).b + 1 →
       TakesFront old.sink new.sink bytes × (end.status ≡ 0 → new.sink ≡ told_then old.sink bytes)
-  seen-right A few = elim (alone-known (GetJob name) old new end records K A) [
-    | inl (inl (rose, r)) ↦ early-right (early-at 12 0 refl refl r)
-    | inl (inr r) ↦ early-right (early-at 70 0 refl refl r)
-    | inr job ↦ job-right job few
-  ]
+  seen-right A few = elim (ended-right ⊥ (λ how left got L. inl
+      (get-right (ran_left records (GetJob name) how old new end.heard left) name bytes file shape in_effect fits
+      size got L few)) A) [ inl right ↦ right | inr never ↦ absurd never ]
 
   -- a get gives at most a front of the file's bytes, and all at status 0, or it heard a forgery
   pub seen-forged : AnswersAlone (GetJob name) old new end →
       (TakesFront old.sink new.sink bytes × (end.status ≡ 0 → new.sink ≡ told_then old.sink bytes)) ⊎ Forged
-  seen-forged A = elim (alone-known (GetJob name) old new end records K A) [
-    | inl (inl (rose, r)) ↦ inl (early-right (early-at 12 0 refl refl r))
-    | inl (inr r) ↦ inl (early-right (early-at 70 0 refl refl r))
-    | inr job ↦ job-forged job
-  ]
+  seen-forged = ended-right Forged (λ how left got L.
+      get-forged (ran_left records (GetJob name) how old new end.heard left) name bytes file shape in_effect fits
+      size got L)

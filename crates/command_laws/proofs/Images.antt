@@ -1,5 +1,5 @@
 -- What the images of the disk stand for after a command.
-use Rattle.command_laws.proofs.Words.{◌≡◌, ◌≢◌, ℕ, zero, suc, ◌+◌, ◌<◌, ◌⊎◌, true, false, List, [], ◌∷◌, ◌++◌, length, take, reverse, Option, None, Some, refl, ap, sym, subst, ◌∙◌, inl, inr, arith, IfSome, IsSomeAnd, is_some, option_map, false≢true, reverse-append, Cells, reads, synced, IsImage, EachImage, Record, PutStart, AuditStart, AuditDone, largest_journal, Area, other_area, StandsActive, packed, StandsFor, next_id, next_audit, Kind, PutJob, GetJob, DropJob, AuditJob, RepairJob, UpgradeJob, Answer, Command, Numbers, PutUnder, PutAt, GetOf, DropOf, ListAll, AuditAll, RepairAll, UpgradeJournal, ScrubAll, PackJournal, IsResynced, IsFree, IsSetUpOn, MayBeLeft, Seen, Ending, IsRefused, KeepsDisk, ReadsFront, IsOpened, Ran, IsWhole, IsCut, IsCutInDoubt, put_done, put_records, MayHaveEnd, PutIsCut, after_begin, audit_records, AuditIsCut, AnswersJob, LeavesBy, setup_with, AnswersInit, AnswersScrub, PackLeaves, AnswersPack, MayBeWhole, AnswersPut, AnswersAlone, AnswersList, Answers, IsKnown, put_of, profile_named, RunsKind, ReadsWhole, opens_store, KeepsImages, AreAppended, IsAfter, LeavesImages, InitImages, image-firm, each_image-mono, IsImage-reads, stands-front, stands-long, one_list, image-resynced, resynced, set_up-free, LeftAlone}
+use Rattle.command_laws.proofs.Words.{◌≡◌, ◌≢◌, ℕ, zero, suc, ◌+◌, ◌<◌, ◌⊎◌, true, false, List, [], ◌∷◌, ◌++◌, length, take, reverse, Option, None, Some, refl, ap, sym, subst, ◌∙◌, inl, inr, arith, IfSome, IsSomeAnd, is_some, option_map, false≢true, reverse-append, Cells, reads, synced, IsImage, EachImage, Record, PutStart, AuditStart, AuditDone, largest_journal, Area, other_area, StandsActive, packed, StandsFor, next_id, next_audit, Kind, PutJob, GetJob, DropJob, AuditJob, RepairJob, UpgradeJob, Answer, Command, Numbers, PutUnder, PutAt, GetOf, DropOf, ListAll, AuditAll, RepairAll, UpgradeJournal, ScrubAll, PackJournal, IsResynced, IsFree, IsSetUpOn, MayBeLeft, Seen, Ending, IsRefused, KeepsDisk, IsOpened, Ran, IsWhole, IsCut, IsCutInDoubt, put_done, put_records, MayHaveEnd, PutIsCut, audit_records, AuditIsCut, LeavesBy, setup_with, AnswersInit, AnswersScrub, PackLeaves, AnswersPack, AnswersPut, AnswersAlone, AnswersList, Answers, IsKnown, put_of, profile_named, RunsKind, ReadsWhole, opens_store, KeepsImages, AreAppended, IsAfter, LeavesImages, InitImages, image-firm, each_image-mono, IsImage-reads, stands-front, stands-long, one_list, image-resynced, resynced, set_up-free, LeftAlone}
 use Rattle.std.proofs.Math.Seq.{take-append_seam, take-append-add, take-length}
 use Rattle.device_defs.specs.Told.{Goes}
 use Rattle.machine_defs.specs.Answers as answer

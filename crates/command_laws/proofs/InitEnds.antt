@@ -1,5 +1,5 @@
 -- How `init` and `list` end, and what they have done where they are done.
-use Rattle.command_laws.proofs.Words.{◌≡◌, ◌≢◌, ℕ, ◌==◌, Bool, refl, ◌+◌, ◌<◌, ◌≤◌, ◌⊎◌, true, false, List, [], ◌∷◌, ◌++◌, length, Option, None, Some, ap, sym, subst, ◌∙◌, inl, inr, arith, length-append, length-take, IfSome, false≢true, append-nil, Cells, reads, Rose, Record, Setup, SetUp, PutStart, PutDone, Drop, AuditStart, AuditDone, RepairDone, PutDoneIn, Version, Resume, InEffect, RepairDue, is_setup, largest_journal, base_of, files_of, Numbers, IsKeyForm, longest_key, WritesLine, Seen, Ending, IsRefused, ReadsUpTo, sinking, journal_read, BeginsWithSetup, BeginsOtherwise, IsBadInit, IsSetUpAlready, IsFree, IsSetUpOn, setup_with, AnswersInit, InitsDisk, ready_line, list_lines, AnswersList, IsDone, IsKnown, GivesUnlessMemory, IsKeyed, IsInit, IsListed, one_meaning, one_list, bad_is_none, one_place, IsKeyForm-once, set_up-free}
+use Rattle.command_laws.proofs.Words.{◌≡◌, ◌≢◌, ℕ, ◌==◌, Bool, refl, ◌+◌, ◌<◌, ◌≤◌, ◌⊎◌, true, false, List, [], ◌∷◌, ◌++◌, length, Option, None, Some, ap, sym, subst, ◌∙◌, inl, inr, arith, length-append, length-take, IfSome, false≢true, append-nil, Cells, reads, Rose, Record, Setup, SetUp, is_setup, largest_journal, base_of, files_of, Numbers, IsKeyForm, longest_key, WritesLine, Seen, Ending, IsRefused, ReadsUpTo, sinking, journal_read, BeginsWithSetup, BeginsOtherwise, IsBadInit, IsSetUpAlready, IsFree, IsSetUpOn, setup_with, AnswersInit, InitsDisk, ready_line, list_lines, AnswersList, IsDone, IsKnown, GivesUnlessMemory, IsKeyed, IsInit, IsListed, one_meaning, one_list, bad_is_none, one_place, IsKeyForm-once, set_up-free}
 use Rattle.std.specs.Prelude.{◌||◌}
 use Rattle.device_defs.specs.Told.{Goes}
 use Rattle.command_laws.proofs.Known.{none-written, written-well, known-once, unstarted-known}
@@ -52,18 +52,7 @@ form-all old new bytes seen key is R F =
 -- records begin with a setup or otherwise
 one-begin : (rs : List Record) → BeginsOtherwise rs → BeginsWithSetup rs → ⊥
 one-begin (SetUp s ∷ []) other first = other
-one-begin (SetUp s ∷ q ∷ rs) other first = one-begin (q ∷ rs) other first
-one-begin (PutStart id name ∷ q ∷ rs) other first = one-begin (q ∷ rs) other first
-one-begin (PutDone id size ∷ q ∷ rs) other first = one-begin (q ∷ rs) other first
-one-begin (Drop name ∷ q ∷ rs) other first = one-begin (q ∷ rs) other first
-one-begin (AuditStart number ∷ q ∷ rs) other first = one-begin (q ∷ rs) other first
-one-begin (AuditDone number undecided counts ∷ q ∷ rs) other first = one-begin (q ∷ rs) other first
-one-begin (RepairDone number ∷ q ∷ rs) other first = one-begin (q ∷ rs) other first
-one-begin (PutDoneIn id size profile ∷ q ∷ rs) other first = one-begin (q ∷ rs) other first
-one-begin (Version ∷ q ∷ rs) other first = one-begin (q ∷ rs) other first
-one-begin (Resume next audit ∷ q ∷ rs) other first = one-begin (q ∷ rs) other first
-one-begin (InEffect id size profile kept ∷ q ∷ rs) other first = one-begin (q ∷ rs) other first
-one-begin (RepairDue number counts ∷ q ∷ rs) other first = one-begin (q ∷ rs) other first
+one-begin (r ∷ q ∷ rs) other first = one-begin (q ∷ rs) other first
 one-begin rs other first = first
 
 bad-once : (bytes : List ℕ) (at other : ℕ) → IsBadInit bytes at → IsBadInit bytes other → at ≡ other

@@ -110,19 +110,6 @@ refusal_at n =
     else if n == 24 then Some refusal.NewVersion else if n == 21 then Some refusal.TooManyFiles
     else if n == 26 then Some refusal.PackTooLong else None
 
-status-back : (why : Refusal) → status_of why ≢ 70 → refusal_at (status_of why) ≡ Some why
-status-back refusal.MustReopen own = absurd (own refl)
-status-back refusal.Busy own = absurd (own refl)
-status-back refusal.Memory own = absurd (own refl)
-status-back refusal.BadSetup own = absurd (own refl)
-status-back refusal.DiskFault own = absurd (own refl)
-status-back (refusal.BadJournal at) own = absurd (own refl)
-status-back refusal.Already own = absurd (own refl)
-status-back refusal.NotSetUp own = absurd (own refl)
-status-back refusal.TooFewProviders own = absurd (own refl)
-status-back refusal.NoSuchJob own = absurd (own refl)
-status-back why own = refl
-
 -- any refusal but of those has the status of no memory, which is no refusal's
 refused-at : (why : Refusal) → (status_of why ≡ 70) ⊎ (refusal_at (status_of why) ≡ Some why)
 refused-at refusal.MustReopen = inl refl
@@ -136,6 +123,9 @@ refused-at refusal.NotSetUp = inl refl
 refused-at refusal.TooFewProviders = inl refl
 refused-at refusal.NoSuchJob = inl refl
 refused-at why = inr refl
+
+status-back : (why : Refusal) → status_of why ≢ 70 → refusal_at (status_of why) ≡ Some why
+status-back why own = elim (refused-at why) [ inl lost ↦ absurd (own lost) | inr is ↦ is ]
 
 -- no refusal ends a command at a status that tells of none
 pub refused-not : (why : Refusal) (n : ℕ) → refusal_at n ≡ None → n ≢ 70 → status_of why ≡ n → ⊥

@@ -1,6 +1,6 @@
 -- However a put ended: where the next command finds its end in effect, its file is right on every provider
 -- that tells.
-use Rattle.command_laws.proofs.Words.{◌≡◌, ℕ, ◌+◌, ◌<◌, ◌≤◌, ◌⊎◌, Bool, true, false, List, [], ◌∷◌, ◌++◌, length, reverse, Option, None, Some, refl, ap, sym, subst, ◌∙◌, inl, inr, arith, length-append, is_some, IfSome, IsSomeAnd, false≢true, length-reverse, Cells, reads, Stopped, EachImage, Record, PutStart, largest_journal, Area, StandsActive, StandsFor, next_id, AreBytes, PutJob, Answer, Seen, Ending, IsRefused, provider_at, journal_read, setup_in_effect, refusal_over, Ran, put_records, MayHaveEnd, PutIsCut, PutLeaves, after_begin, AnswersJob, LeftAlone, MayBeWhole, AnswersPut, IsKnown, after_put, IsSure, Follows, HasRightFile, active-front, one_list, each_image-mono, ReadsFront}
+use Rattle.command_laws.proofs.Words.{◌≡◌, ℕ, ◌+◌, ◌<◌, ◌≤◌, ◌⊎◌, Bool, true, false, List, [], ◌∷◌, ◌++◌, length, reverse, Option, None, Some, refl, ap, sym, subst, ◌∙◌, inl, inr, arith, length-append, is_some, IfSome, IsSomeAnd, false≢true, length-reverse, Cells, reads, Stopped, EachImage, Record, PutStart, largest_journal, Area, StandsActive, StandsFor, next_id, AreBytes, PutJob, Answer, Seen, Ending, IsRefused, provider_at, journal_read, setup_in_effect, refusal_over, Ran, put_records, MayHaveEnd, PutIsCut, PutLeaves, after_begin, LeftAlone, AnswersPut, IsKnown, after_put, IsSure, Follows, HasRightFile, active-front, one_list, each_image-mono, ReadsFront}
 use Rattle.device_defs.specs.Told.{Goes}
 use Rattle.machine_defs.specs.Answers as answer
 use Rattle.command_laws.proofs.Known.{known-once, known-both}

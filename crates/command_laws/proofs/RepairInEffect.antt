@@ -1,6 +1,6 @@
 -- However a repair ended: where the next command finds its end in effect, each flagged provider that tells is
 -- right for a file that stood.
-use Rattle.command_laws.proofs.Words.{◌≡◌, ℕ, ◌<◌, ◌≤◌, Bool, true, false, not, List, [], ◌∷◌, ◌++◌, length, reverse, None, Some, ap, subst, inl, inr, arith, length-append, is_some, IfSome, cases_Bool, is_flagged, reads, EachImage, Record, RepairDone, largest_journal, Area, StandsActive, StandsFor, Due, due_of, RepairJob, Answer, Seen, Ending, IsRefused, provider_at, journal_read, setup_in_effect, object_in_effect, Ran, flags, RewritesAll, RepairGives, AnswersJob, LeftAlone, AnswersAlone, bad_seen, IsKnown, after_repair, is_wrong_or_untold, IsSure, Follows, HasRightFile, IsSteady, spoilt_below, each_image-mono, active-front, one_list, same_value}
+use Rattle.command_laws.proofs.Words.{◌≡◌, ℕ, ◌<◌, ◌≤◌, Bool, true, false, not, List, [], ◌∷◌, ◌++◌, length, reverse, None, Some, ap, subst, inl, inr, arith, length-append, is_some, IfSome, cases_Bool, is_flagged, reads, EachImage, Record, RepairDone, largest_journal, Area, StandsActive, StandsFor, Due, due_of, RepairJob, Answer, Seen, Ending, IsRefused, provider_at, journal_read, setup_in_effect, object_in_effect, Ran, flags, RewritesAll, RepairGives, LeftAlone, AnswersAlone, bad_seen, IsKnown, after_repair, is_wrong_or_untold, IsSure, Follows, HasRightFile, IsSteady, spoilt_below, each_image-mono, active-front, one_list, same_value}
 use Rattle.std.proofs.Common.{◌&&◌}
 use Rattle.machine_defs.specs.Answers as answer
 use Rattle.command_laws.proofs.Known.{known-both}
