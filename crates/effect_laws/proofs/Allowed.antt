@@ -1,5 +1,5 @@
 -- Which begins of puts and drops are allowed.
-use Rattle.effect_laws.proofs.Words.{◌≡◌, ℕ, List, [], ◌∷◌, refl, ap, sym, subst, ◌∙◌, inl, inr, Kind, PutJob, GetJob, DropJob, AuditJob, RepairJob, UpgradeJob, Job, Event, Begin, BeginAt, Begun, Moment, IsBeginOf, IsPutBegin, Touches, IsBeginFor, NoneBeganOn, PutsUnder, Drops, NoPutBegan}
+use Rattle.effect_laws.proofs.Words.{◌≡◌, ℕ, List, [], ◌∷◌, refl, ap, sym, subst, ◌∙◌, inl, inr, Kind, PutJob, DropJob, Job, Event, Begin, BeginAt, Begun, Moment, IsBeginOf, IsPutBegin, Touches, IsBeginFor, NoneBeganOn, PutsUnder, Drops, NoPutBegan}
 use Rattle.effect_laws.proofs.Offers.{Allows, BeginsAllowed, AllAllowed}
 
 -- the begin of a put of bytes under a name is one

@@ -16,22 +16,41 @@ pub both_none : (Meant : Kind → Type 0) (xs ys : List Moment) → NoneBeganFor
 both_none Meant [] ys a b = b
 both_none Meant (x ∷ xs) ys a b = (a.0, both_none Meant xs ys a.1 b)
 
+-- what holds of no moment, and with each moment more that steps or that a good command brings, holds of them all
+module _ (Q : List Moment → Type 0) (Good : List Instruction → List Outcome → Type 0) (none : Q [])
+    (step : (job : ℕ) (m : Moment) (ms : List Moment) → m.event ≡ Step job → m.outcome ≡ More → Q ms → Q (m ∷ ms))
+    (once : (event : Event) (cs : List Instruction) (m : Moment) (r : Outcome) (rs : List Outcome) →
+    m.event ≡ event → IsRead m.outcome r → Good (Once event ∷ cs) (r ∷ rs) →
+    Good cs rs × ((ms : List Moment) → Q ms → Q (m ∷ ms)))
+    (run : (job : ℕ) (cs : List Instruction) (m : Moment) (r : Outcome) (rs : List Outcome) →
+    m.event ≡ Step job → IsRead m.outcome r → Good (RunJob job ∷ cs) (r ∷ rs) →
+    Good cs rs × ((ms : List Moment) → Q ms → Q (m ∷ ms))) where
+  steps_read : (job : ℕ) (steps older : List Moment) → GoOn job steps → Q older → Q (steps ++ older)
+  steps_read job [] older on q = q
+  steps_read job (m ∷ steps) older (event, outcome, on) q =
+      step job m (steps ++ older) event outcome (steps_read job steps older on q)
+
+  pub each_read : (cs : List Instruction) (ms : List Moment) (rs : List Outcome) → ReadsAs cs ms rs →
+      Good cs rs → Q ms
+  each_read [] ms [] is good = subst Q (sym is) none
+  each_read (Once event ∷ cs) ms (r ∷ rs) (m, older, is, here, outcome, more) good =
+      (let g = once event cs m r rs here outcome good in
+      subst Q (sym is) (g.1 older (each_read cs older rs more g.0)))
+  each_read (RunJob job ∷ cs) ms (r ∷ rs) (m, steps, older, is, runs, outcome, more) good =
+      (let g = run job cs m r rs runs.step outcome good in subst Q (sym is)
+      (g.1 (steps ++ older) (steps_read job steps older runs.before (each_read cs older rs more g.0))))
+  each_read cs ms rs E good = absurd E
+
 -- what commands end as, none of which asks for a job that is meant, begins none
 pub none_for : (Meant : Kind → Type 0) (cs : List Instruction) (ms : List Moment) (rs : List Outcome) →
     ReadsAs cs ms rs → NoneAsksFor Meant cs → NoneBeganFor Meant ms
-none_for Meant [] ms [] is none = subst (NoneBeganFor Meant) (sym is) tt
-none_for Meant (Once event ∷ cs) ms (r ∷ rs) (m, older, is, here, outcome, more) none =
-    subst (NoneBeganFor Meant) (sym is) (
-      (λ t n begun. none.0 (subst (IsBeginFor Meant) here t)),
-      none_for Meant cs older rs more none.1,
-    )
-none_for Meant (RunJob job ∷ cs) ms (r ∷ rs) (m, steps, older, is, runs, outcome, more) none =
-    subst (NoneBeganFor Meant) (sym is) (
-      (λ t n begun. subst (IsBeginFor Meant) runs.step t),
-      both_none Meant steps older (steps_none Meant job steps runs.before)
-          (none_for Meant cs older rs more none),
-    )
-none_for Meant cs ms rs E none = absurd E
+none_for Meant = each_read (NoneBeganFor Meant) (λ cs rs. NoneAsksFor Meant cs) tt
+    (λ job m ms event outcome q. ((λ t n is. subst (IsBeginFor Meant) event t), q))
+    (λ event cs m r rs here outcome none. (
+      none.1,
+      λ ms q. ((λ t n begun. none.0 (subst (IsBeginFor Meant) here t)), q),
+    ))
+    (λ job cs m r rs step outcome none. (none, λ ms q. ((λ t n begun. subst (IsBeginFor Meant) step t), q)))
 
 -- none asks on a name where none asks for a job that touches it
 asks_for : (name : List ℕ) (cs : List Instruction) → NoneAsksOn name cs → NoneAsksFor (Touches name) cs
@@ -53,39 +72,25 @@ step_puts job name bytes other event step (inl is) =
 step_puts job name bytes other event step (inr (profile, is)) =
     absurd (let e : Step job ≡ BeginAt profile name other = sym step ∙ is in cc)
 
-steps_put : (job : ℕ) (name bytes : List ℕ) (steps older : List Moment) → GoOn job steps →
-    PutsOnly name bytes older → PutsOnly name bytes (steps ++ older)
-steps_put job name bytes [] older on only = only
-steps_put job name bytes (m ∷ steps) older (event, outcome, on) only = (
-  (λ other n is begun. step_puts job name bytes other m.event event is),
-  steps_put job name bytes steps older on only,
-)
-
 -- commands whose puts of the name are of some bytes begin only such
 pub puts_only : (name bytes : List ℕ) (cs : List Instruction) (ms : List Moment) (rs : List Outcome) →
     ReadsAs cs ms rs → AsksPutsOnly name bytes cs → PutsOnly name bytes ms
-puts_only name bytes [] ms [] is only = subst (PutsOnly name bytes) (sym is) tt
-puts_only name bytes (Once event ∷ cs) ms (r ∷ rs) (m, older, is, here, outcome, more) only =
-    subst (PutsOnly name bytes) (sym is) (
-      (λ other n put begun. only.0 other (subst (λ (e : Event). IsPutBegin e name other) here put)),
-      puts_only name bytes cs older rs more only.1,
-    )
-puts_only name bytes (RunJob job ∷ cs) ms (r ∷ rs) (m, steps, older, is, runs, outcome, more) only =
-    subst (PutsOnly name bytes) (sym is) (
-      (λ other n put begun. step_puts job name bytes other m.event runs.step put),
-      steps_put job name bytes steps older runs.before (puts_only name bytes cs older rs more only),
-    )
-puts_only name bytes cs ms rs E only = absurd E
+puts_only name bytes = each_read (PutsOnly name bytes) (λ cs rs. AsksPutsOnly name bytes cs) tt
+    (λ job m ms event outcome q. ((λ other n is begun. step_puts job name bytes other m.event event is), q))
+    (λ event cs m r rs here outcome only. (
+      only.1,
+      λ ms q. (
+        (λ other n put begun.
+            only.0 other (subst (λ (e : Event). IsPutBegin e name other) here put)),
+        q,
+      ),
+    ))
+    (λ job cs m r rs step outcome only. (
+      only,
+      λ ms q. ((λ other n put begun. step_puts job name bytes other m.event step put), q),
+    ))
 
 -- ---- numbers
-
-steps_begin : (job number : ℕ) (steps older : List Moment) → GoOn job steps → NoneBegan number older →
-    NoneBegan number (steps ++ older)
-steps_begin job number [] older on none = none
-steps_begin job number (m ∷ steps) older (event, outcome, on) none = (
-  (λ is. (let e : More ≡ Begun number = sym outcome ∙ is in cc)),
-  steps_begin job number steps older on none,
-)
 
 -- an outcome that is a begin is read as it
 read_begun : (number : ℕ) (x r : Outcome) → IsRead x r → x ≡ Begun number → r ≡ Begun number
@@ -96,16 +101,16 @@ read_begun number x r is begun = sym is ∙ begun
 -- where no outcome is the begin of a number, none began it
 pub none_begun : (number : ℕ) (cs : List Instruction) (ms : List Moment) (rs : List Outcome) →
     ReadsAs cs ms rs → NoneIsBegun number rs → NoneBegan number ms
-none_begun number [] ms [] is none = subst (NoneBegan number) (sym is) tt
-none_begun number (Once event ∷ cs) ms (r ∷ rs) (m, older, is, here, outcome, more) none =
-    subst (NoneBegan number) (sym is)
-    ((λ begun. none.0 (read_begun number m.outcome r outcome begun)), none_begun number cs older rs more none.1)
-none_begun number (RunJob job ∷ cs) ms (r ∷ rs) (m, steps, older, is, runs, outcome, more) none =
-    subst (NoneBegan number) (sym is) (
-      (λ begun. none.0 (read_begun number m.outcome r outcome begun)),
-      steps_begin job number steps older runs.before (none_begun number cs older rs more none.1),
-    )
-none_begun number cs ms rs E none = absurd E
+none_begun number = each_read (NoneBegan number) (λ cs rs. NoneIsBegun number rs) tt
+    (λ job m ms event outcome q. ((λ is. (let e : More ≡ Begun number = sym outcome ∙ is in cc)), q))
+    (λ event cs m r rs here outcome none. (
+      none.1,
+      λ ms q. ((λ begun. none.0 (read_begun number m.outcome r outcome begun)), q),
+    ))
+    (λ job cs m r rs step outcome none. (
+      none.1,
+      λ ms q. ((λ begun. none.0 (read_begun number m.outcome r outcome begun)), q),
+    ))
 
 -- ---- names that are free
 
@@ -144,26 +149,16 @@ none_leaves name (RunJob job ∷ cs) none = none_leaves name cs none
 
 -- ---- calls of the program
 
-steps_on : (job : ℕ) (steps older : List Moment) → GoOn job steps → NoneContinues older →
-    NoneContinues (steps ++ older)
-steps_on job [] older on none = none
-steps_on job (m ∷ steps) older (event, outcome, on) none = (
-  (λ is. (let e : Step job ≡ Continue = sym event ∙ is in cc)),
-  steps_on job steps older on none,
-)
-
 -- commands of which none is a later call of the program are carried out in one
 pub one_call : (cs : List Instruction) (ms : List Moment) (rs : List Outcome) → ReadsAs cs ms rs →
     NoneCalls cs → NoneContinues ms
-one_call [] ms [] is none = subst NoneContinues (sym is) tt
-one_call (Once event ∷ cs) ms (r ∷ rs) (m, older, is, here, outcome, more) none =
-    subst NoneContinues (sym is) ((λ e. none.0 (sym here ∙ e)), one_call cs older rs more none.1)
-one_call (RunJob job ∷ cs) ms (r ∷ rs) (m, steps, older, is, runs, outcome, more) none =
-    subst NoneContinues (sym is) (
-      (λ e. (let f : Step job ≡ Continue = sym runs.step ∙ e in cc)),
-      steps_on job steps older runs.before (one_call cs older rs more none),
-    )
-one_call cs ms rs E none = absurd E
+one_call = each_read NoneContinues (λ cs rs. NoneCalls cs) tt
+    (λ job m ms event outcome q. ((λ is. (let e : Step job ≡ Continue = sym event ∙ is in cc)), q))
+    (λ event cs m r rs here outcome none. (none.1, λ ms q. ((λ e. none.0 (sym here ∙ e)), q)))
+    (λ job cs m r rs step outcome none. (
+      none,
+      λ ms q. ((λ e. (let f : Step job ≡ Continue = sym step ∙ e in cc)), q),
+    ))
 
 -- a test tells it of commands
 pub tested_calls : (cs : List Instruction) → calls_none cs ≡ true → NoneCalls cs

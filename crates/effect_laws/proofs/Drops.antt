@@ -1,5 +1,5 @@
 -- A drop that ended well takes its name out.
-use Rattle.effect_laws.proofs.Words.{◌≡◌, ℕ, zero, suc, ◌+◌, ◌<◌, ◌≤◌, ◌==◌, ◌⊎◌, Bool, true, false, List, [], ◌∷◌, ◌++◌, length, Some, None, refl, ap, sym, subst, ◌∙◌, inl, inr, arith, slice_get, is_some, cases_Bool, cases_lt, eqb-true, and_parts, some-not-none, is_some-none, Record, Drop, is_same_name, file_of, same-refl, Kind, PutJob, GetJob, DropJob, AuditJob, RepairJob, UpgradeJob, Job, job_of, Action, WriteBody, SyncBody, WriteGate, SyncGate, End, actions_by, append_actions, remove_actions, Dropped, Event, Begin, BeginAt, Step, Begun, Ended, State, Append, IsStart, setup_in, file_in, next_action, is_idle_drop, Moment, now, IsRun, IsBeginOf, NoneBegan, Touches, IsBeginFor, NoneBeganOn, NoneOn, cond_true, cond_false, same_value, IsPlain, Job_is, Doubt_is, Changes, event_end, changes, next_by, next_is_by, All, all, is_begun, ended_job, only_its, none_under_way, run_back, IsLimit, run-sound, PutsUnder, DroppedOut}
+use Rattle.effect_laws.proofs.Words.{◌≡◌, ℕ, zero, suc, ◌+◌, ◌<◌, ◌≤◌, ◌==◌, ◌⊎◌, Bool, true, false, List, [], ◌∷◌, ◌++◌, length, Some, None, refl, ap, sym, subst, ◌∙◌, inl, inr, arith, slice_get, is_some, cases_Bool, cases_lt, eqb-true, and_parts, some-not-none, is_some-none, Record, Drop, is_same_name, file_of, same-refl, Kind, PutJob, DropJob, Job, job_of, Action, WriteBody, SyncBody, WriteGate, SyncGate, End, actions_by, append_actions, remove_actions, Dropped, Event, Begin, BeginAt, Step, Begun, Ended, State, Append, IsStart, setup_in, file_in, next_action, is_idle_drop, Moment, now, IsRun, IsBeginOf, NoneBegan, Touches, IsBeginFor, NoneBeganOn, NoneOn, cond_true, cond_false, same_value, IsPlain, Job_is, Doubt_is, Changes, event_end, changes, next_by, next_is_by, All, all, is_begun, ended_job, only_its, none_under_way, run_back, IsLimit, run-sound, PutsUnder, DroppedOut}
 use Rattle.std.specs.Prelude.{not}
 use Rattle.machine_defs.proofs.ActionLists.{split_get}
 use Rattle.machine_defs.proofs.Pins.{Wrote}

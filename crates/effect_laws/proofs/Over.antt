@@ -1,20 +1,15 @@
 -- Whom commands damage, and that no job of theirs of some kinds is under way behind them.
-use Rattle.effect_laws.proofs.Words.{◌≡◌, ℕ, List, [], ◌∷◌, ◌++◌, refl, sym, ap, subst, ◌∙◌, inl, inr, append_assoc, In, Kind, Answer, GivesUp, Step, Outcome, Begun, Ended, Listed, Moment, Instruction, Once, RunJob, RunsToEnd, Touches, IsBeginFor, NoneBeganFor, NoneUnderWay, both_only, steps_damage_none, IsRead, ReadsAs, LeavesFree, AreOverFor}
+use Rattle.effect_laws.proofs.Words.{◌≡◌, ℕ, List, [], ◌∷◌, ◌++◌, refl, sym, ap, subst, ◌∙◌, inl, inr, append_assoc, In, Kind, Answer, GivesUp, Step, Outcome, Begun, Ended, Moment, Instruction, Once, RunJob, RunsToEnd, Touches, IsBeginFor, NoneBeganFor, NoneUnderWay, IsRead, ReadsAs, LeavesFree, AreOverFor}
 use Rattle.machine_defs.specs.Damaged.{IsAmong, DamagesOnly, AsksDamageOf}
-use Rattle.effect_laws.proofs.Asked.{steps_none, both_none}
+use Rattle.effect_laws.proofs.Asked.{steps_none, both_none, each_read}
 
 -- commands damage only those whom they name
 pub damages : (ps : List ℕ) (cs : List Instruction) (ms : List Moment) (rs : List Outcome) →
     ReadsAs cs ms rs → AsksDamageOf ps cs → DamagesOnly ps ms
-damages ps [] ms [] is asks = subst (DamagesOnly ps) (sym is) tt
-damages ps (Once event ∷ cs) ms (r ∷ rs) (m, older, is, here, outcome, more) asks =
-    subst (DamagesOnly ps) (sym is) (subst (IsAmong ps) (sym here) asks.0, damages ps cs older rs more asks.1)
-damages ps (RunJob job ∷ cs) ms (r ∷ rs) (m, steps, older, is, runs, outcome, more) asks =
-    subst (DamagesOnly ps) (sym is) (
-      subst (IsAmong ps) (sym runs.step) tt,
-      both_only ps steps older (steps_damage_none ps job steps runs.before) (damages ps cs older rs more asks),
-    )
-damages ps cs ms rs E asks = absurd E
+damages ps = each_read (DamagesOnly ps) (λ cs rs. AsksDamageOf ps cs) tt
+    (λ job m ms event outcome q. (subst (IsAmong ps) (sym event) tt, q))
+    (λ event cs m r rs here outcome asks. (asks.1, λ ms q. (subst (IsAmong ps) (sym here) asks.0, q)))
+    (λ job cs m r rs step outcome asks. (asks, λ ms q. (subst (IsAmong ps) (sym step) tt, q)))
 
 -- a job's last moment and its steps come apart from what is newer
 run-apart : (newer : List Moment) (m : Moment) (steps older base : List Moment) →

@@ -1,5 +1,5 @@
 -- What stands under a name since a put of it ended well.
-use Rattle.effect_laws.proofs.Words.{◌≡◌, ◌⊎◌, ℕ, List, [], ◌∷◌, ◌++◌, length, Option, Some, None, refl, sym, subst, inl, inr, File, file_of, Kind, PutJob, GetJob, DropJob, AuditJob, RepairJob, UpgradeJob, Job, job_of, Put, State, IsStart, file_in, with_doubt, Moment, now, IsRun, Touches, NoneOn, all, none_under_way, none_left, run_back, Stored, IsLimit, run-sound, WasPut, PutsOnly, NoDropBegan, MayStand, HasFile}
+use Rattle.effect_laws.proofs.Words.{◌≡◌, ◌⊎◌, ℕ, List, [], ◌∷◌, ◌++◌, length, Option, Some, None, refl, sym, subst, inl, inr, File, file_of, Kind, PutJob, DropJob, Job, job_of, Put, State, IsStart, file_in, with_doubt, Moment, now, IsRun, Touches, NoneOn, all, none_under_way, none_left, run_back, Stored, IsLimit, run-sound, WasPut, PutsOnly, NoDropBegan, MayStand, HasFile}
 use Rattle.run_laws.proofs.ByEvents.{stored_is_kept}
 use Rattle.effect_laws.proofs.Offers.{Fits, Allows, Offers, offers}
 use Rattle.effect_laws.proofs.Allowed.{none_touched}
