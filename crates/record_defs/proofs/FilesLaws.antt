@@ -59,8 +59,6 @@ find-put fs (Some name) id size profile m =
 -- the file in effect under a name is the one that the ordered list has
 pub find-files_of : (rs : List Record) (m : List ℕ) → find_file (files_of rs) m ≡ file_of rs m
 find-files_of [] m = refl
-find-files_of (SetUp s ∷ rs) m = find-files_of rs m
-find-files_of (PutStart id name ∷ rs) m = find-files_of rs m
 find-files_of (PutDone id size ∷ rs) m =
     grind (
       arith,
@@ -68,16 +66,11 @@ find-files_of (PutDone id size ∷ rs) m =
       find-files_of rs m,
     )
 find-files_of (Drop name ∷ rs) m = grind (arith, find-without (files_of rs) name m, find-files_of rs m)
-find-files_of (AuditStart number ∷ rs) m = find-files_of rs m
-find-files_of (AuditDone number undecided counts ∷ rs) m = find-files_of rs m
-find-files_of (RepairDone number ∷ rs) m = find-files_of rs m
 find-files_of (PutDoneIn id size profile ∷ rs) m =
     grind (arith, find-put (files_of rs) (started_as rs id) id size profile m, find-files_of rs m)
-find-files_of (Version ∷ rs) m = find-files_of rs m
-find-files_of (Resume id audit ∷ rs) m = find-files_of rs m
 find-files_of (InEffect id size profile name ∷ rs) m =
     grind (arith, find-put (files_of rs) (Some name) id size profile m, find-files_of rs m)
-find-files_of (RepairDue number counts ∷ rs) m = find-files_of rs m
+find-files_of (r ∷ rs) m = find-files_of rs m
 
 -- the test of names takes them in either order
 pub same-sym : (a b : List ℕ) → is_same_name a b ≡ is_same_name b a

@@ -76,21 +76,14 @@ ordered-put fs (Some name) id size profile p =
 -- the files in effect are in byte order of their names
 pub ordered-files_of : (rs : List Record) → are_ordered (files_of rs) ≡ true
 ordered-files_of [] = refl
-ordered-files_of (SetUp s ∷ rs) = ordered-files_of rs
-ordered-files_of (PutStart id name ∷ rs) = ordered-files_of rs
 ordered-files_of (PutDone id size ∷ rs) =
     ordered-put (files_of rs) (started_as rs id) id size (profile_in (setup_of rs)) (ordered-files_of rs)
 ordered-files_of (Drop name ∷ rs) = ordered-without (files_of rs) name (ordered-files_of rs)
-ordered-files_of (AuditStart number ∷ rs) = ordered-files_of rs
-ordered-files_of (AuditDone number undecided counts ∷ rs) = ordered-files_of rs
-ordered-files_of (RepairDone number ∷ rs) = ordered-files_of rs
 ordered-files_of (PutDoneIn id size profile ∷ rs) =
     ordered-put (files_of rs) (started_as rs id) id size profile (ordered-files_of rs)
-ordered-files_of (Version ∷ rs) = ordered-files_of rs
-ordered-files_of (Resume id audit ∷ rs) = ordered-files_of rs
 ordered-files_of (InEffect id size profile name ∷ rs) =
     ordered-put (files_of rs) (Some name) id size profile (ordered-files_of rs)
-ordered-files_of (RepairDue number counts ∷ rs) = ordered-files_of rs
+ordered-files_of (r ∷ rs) = ordered-files_of rs
 
 -- ---- how many files there are
 
@@ -145,24 +138,17 @@ room-in_effect rs id size profile name m p e =
 -- accepted records have at most as many files in effect as there may be
 pub few-files_of : (rs : List Record) → AreAccepted rs → length (files_of rs) ≤ most_files
 few-files_of [] a = omega arith
-few-files_of (SetUp s ∷ rs) a = few-files_of rs a.1
-few-files_of (PutStart id name ∷ rs) a = few-files_of rs a.1
 few-files_of (PutDone id size ∷ rs) a =
     few-put (files_of rs) (started_as rs id) id size (profile_in (setup_of rs)) most_files
     (λ name e. room-put rs id size name a.0 e) (few-files_of rs a.1)
 few-files_of (Drop name ∷ rs) a = omega (arith, length-without_le (files_of rs) name, few-files_of rs a.1)
-few-files_of (AuditStart number ∷ rs) a = few-files_of rs a.1
-few-files_of (AuditDone number undecided counts ∷ rs) a = few-files_of rs a.1
-few-files_of (RepairDone number ∷ rs) a = few-files_of rs a.1
 few-files_of (PutDoneIn id size profile ∷ rs) a =
     few-put (files_of rs) (started_as rs id) id size profile most_files
     (λ name e. room-put_in rs id size profile name a.0 e) (few-files_of rs a.1)
-few-files_of (Version ∷ rs) a = few-files_of rs a.1
-few-files_of (Resume id audit ∷ rs) a = few-files_of rs a.1
 few-files_of (InEffect id size profile name ∷ rs) a =
     few-put (files_of rs) (Some name) id size profile most_files
     (λ m e. room-in_effect rs id size profile name m a.0 e) (few-files_of rs a.1)
-few-files_of (RepairDue number counts ∷ rs) a = few-files_of rs a.1
+few-files_of (r ∷ rs) a = few-files_of rs a.1
 
 -- ---- the next numbers
 
@@ -186,32 +172,14 @@ resumed-audit rs id audit p = grind (arith, nat_tests, p)
 -- the next object number of accepted records fits 64 bits
 pub next_id-fits : (rs : List Record) → AreAccepted rs → next_id rs < 2 ^ 64
 next_id-fits [] a = omega arith
-next_id-fits (SetUp s ∷ rs) a = next_id-fits rs a.1
 next_id-fits (PutStart id name ∷ rs) a = omega (arith, started-id rs id name a.0, next_id-fits rs a.1)
-next_id-fits (PutDone id size ∷ rs) a = next_id-fits rs a.1
-next_id-fits (Drop name ∷ rs) a = next_id-fits rs a.1
-next_id-fits (AuditStart number ∷ rs) a = next_id-fits rs a.1
-next_id-fits (AuditDone number undecided counts ∷ rs) a = next_id-fits rs a.1
-next_id-fits (RepairDone number ∷ rs) a = next_id-fits rs a.1
-next_id-fits (PutDoneIn id size profile ∷ rs) a = next_id-fits rs a.1
-next_id-fits (Version ∷ rs) a = next_id-fits rs a.1
 next_id-fits (Resume id audit ∷ rs) a = resumed-id rs id audit a.0
-next_id-fits (InEffect id size profile name ∷ rs) a = next_id-fits rs a.1
-next_id-fits (RepairDue number counts ∷ rs) a = next_id-fits rs a.1
+next_id-fits (r ∷ rs) a = next_id-fits rs a.1
 
 -- the next audit number of accepted records fits 64 bits
 pub next_audit-fits : (rs : List Record) → AreAccepted rs → next_audit rs < 2 ^ 64
 next_audit-fits [] a = omega arith
-next_audit-fits (SetUp s ∷ rs) a = next_audit-fits rs a.1
-next_audit-fits (PutStart id name ∷ rs) a = next_audit-fits rs a.1
-next_audit-fits (PutDone id size ∷ rs) a = next_audit-fits rs a.1
-next_audit-fits (Drop name ∷ rs) a = next_audit-fits rs a.1
 next_audit-fits (AuditStart number ∷ rs) a =
     omega (arith, started-audit rs number a.0, next_audit-fits rs a.1)
-next_audit-fits (AuditDone number undecided counts ∷ rs) a = next_audit-fits rs a.1
-next_audit-fits (RepairDone number ∷ rs) a = next_audit-fits rs a.1
-next_audit-fits (PutDoneIn id size profile ∷ rs) a = next_audit-fits rs a.1
-next_audit-fits (Version ∷ rs) a = next_audit-fits rs a.1
 next_audit-fits (Resume id audit ∷ rs) a = resumed-audit rs id audit a.0
-next_audit-fits (InEffect id size profile name ∷ rs) a = next_audit-fits rs a.1
-next_audit-fits (RepairDue number counts ∷ rs) a = next_audit-fits rs a.1
+next_audit-fits (r ∷ rs) a = next_audit-fits rs a.1
