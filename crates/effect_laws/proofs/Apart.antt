@@ -1,5 +1,7 @@
 -- Commands behind others are carried out behind them.
-use Rattle.effect_laws.proofs.Words.{◌≡◌, ℕ, suc, List, [], ◌∷◌, ◌++◌, length, refl, ap, sym, ◌∙◌, append_assoc, append-nil, arith, File, Outcome, Listed, lines_of, Moment, Instruction, Once, RunJob, CarriesOut, lines_of_all, EndsAs, AreListed, IsRead, ReadsAs, CarriesApart, EndsApart}
+use Rattle.effect_laws.proofs.Words.{◌≡◌, ℕ, List, [], ◌∷◌, ◌++◌, length, refl, ap, sym, ◌∙◌, append_assoc, append-nil, arith, File, Outcome, Listed, lines_of, Moment, Instruction, Once, RunJob, CarriesOut, lines_of_all, EndsAs, AreListed, IsRead, ReadsAs, CarriesApart, EndsApart}
+use Rattle.std.proofs.lemmas.List.{length-take-le, take-append-drop}
+use Rattle.std.proofs.Common.{take, drop, subst, ◌≤◌}
 
 -- the moments and lines of commands behind others
 pub carried_apart : (own others : List Instruction) (ms : List Moment) (lines : List ℕ) →
@@ -102,45 +104,29 @@ ends_apart (RunJob job ∷ own) others ms (r ∷ rs) before (m, steps, older, is
     })
 ends_apart own others ms outcomes before E same = absurd (omega (arith, same))
 
+-- commands and others behind them come to at least as many outcomes as there are commands
+reads_long : (own others : List Instruction) (ms : List Moment) (outcomes : List Outcome) →
+    ReadsAs (own ++ others) ms outcomes → length own ≤ length outcomes
+reads_long [] others ms outcomes E = omega arith
+reads_long (Once event ∷ own) others ms (r ∷ rs) (m, older, is, here, outcome, E) =
+    (let l = reads_long own others older rs E in omega (arith, l))
+reads_long (RunJob job ∷ own) others ms (r ∷ rs) (m, steps, older, is, here, outcome, E) =
+    (let l = reads_long own others older rs E in omega (arith, l))
+reads_long (Once event ∷ own) others ms [] E = absurd E
+reads_long (RunJob job ∷ own) others ms [] E = absurd E
+
 -- the outcomes of commands behind others
 pub outcomes_apart : (own others : List Instruction) (ms : List Moment) (outcomes : List Outcome) →
     ReadsAs (own ++ others) ms outcomes → (rs : List Outcome) × (ss : List Outcome) × (outcomes ≡ rs ++ ss)
     × (length rs ≡ length own) × EndsApart own others ms rs ss
-outcomes_apart [] others ms outcomes E = (
-  [],
-  outcomes,
-  refl,
-  refl,
-  record { later = []; older = ms; moments = refl; owns = refl; rest = E },
-)
-outcomes_apart (Once event ∷ own) others ms (r ∷ rs) (m, older, is, here, outcome, E) =
-    (let P = outcomes_apart own others older rs E in let A = P.4 in (
-      r ∷ P.0,
-      P.1,
-      ap (λ l. r ∷ l) P.2,
-      ap suc P.3,
-      record {
-        later = m ∷ A.later;
-        older = A.older;
-        moments = is ∙ ap (λ l. m ∷ l) A.moments;
-        owns = (m, A.later, refl, here, outcome, A.owns);
-        rest = A.rest;
-      },
+outcomes_apart own others ms outcomes E =
+    (let whole = take-append-drop (length own) outcomes in
+    let size : length (take (length own) outcomes) ≡ length own =
+    length-take-le (length own) outcomes (reads_long own others ms outcomes E) in (
+      take (length own) outcomes,
+      drop (length own) outcomes,
+      sym whole,
+      size,
+      ends_apart own others ms (take (length own) outcomes) (drop (length own) outcomes)
+          (subst (ReadsAs (own ++ others) ms) (sym whole) E) size,
     ))
-outcomes_apart (RunJob job ∷ own) others ms (r ∷ rs) (m, steps, older, is, here, outcome, E) =
-    (let P = outcomes_apart own others older rs E in let A = P.4 in (
-      r ∷ P.0,
-      P.1,
-      ap (λ l. r ∷ l) P.2,
-      ap suc P.3,
-      record {
-        later = m ∷ (steps ++ A.later);
-        older = A.older;
-        moments = is ∙ ap (λ l. m ∷ (steps ++ l)) A.moments
-            ∙ ap (λ l. m ∷ l) (sym (append_assoc steps A.later A.older));
-        owns = (m, steps, A.later, refl, here, outcome, A.owns);
-        rest = A.rest;
-      },
-    ))
-outcomes_apart (Once event ∷ own) others ms [] E = absurd E
-outcomes_apart (RunJob job ∷ own) others ms [] E = absurd E
