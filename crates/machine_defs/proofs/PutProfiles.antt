@@ -14,18 +14,8 @@ use Rattle.machine_defs.proofs.Held.{all}
 -- a journal that has not its second version has the first
 first_version : (rs : List Record) → (version_of rs == 2) ≡ false → version_of rs ≡ 1
 first_version [] h = refl
-first_version (SetUp s ∷ rs) h = first_version rs h
-first_version (PutStart id name ∷ rs) h = first_version rs h
-first_version (PutDone id size ∷ rs) h = first_version rs h
-first_version (Drop name ∷ rs) h = first_version rs h
-first_version (AuditStart number ∷ rs) h = first_version rs h
-first_version (AuditDone number undecided counts ∷ rs) h = first_version rs h
-first_version (RepairDone number ∷ rs) h = first_version rs h
-first_version (PutDoneIn id size profile ∷ rs) h = first_version rs h
 first_version (Version ∷ rs) h = absurd (false≢true (sym h))
-first_version (Resume id audit ∷ rs) h = first_version rs h
-first_version (InEffect id size profile name ∷ rs) h = first_version rs h
-first_version (RepairDue number counts ∷ rs) h = first_version rs h
+first_version (r ∷ rs) h = first_version rs h
 
 -- a version that is not the second now was not so before
 version_less : (r : Record) (rs : List Record) → (version_of (r ∷ rs) == 2) ≡ false →

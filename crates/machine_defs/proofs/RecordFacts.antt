@@ -261,8 +261,6 @@ put-listed rs k size profile g (Some n) is i rest =
 -- each file of the list is in effect under its name
 pub listed_file : (rs : List Record) (g : File) → In g (files_of rs) → file_of rs g.name ≡ Some g
 listed_file [] g h = absurd h
-listed_file (SetUp s ∷ rs) g h = listed_file rs g h
-listed_file (PutStart k name ∷ rs) g h = listed_file rs g h
 listed_file (PutDone k size ∷ rs) g h =
     put-listed rs k size (profile_in (setup_of rs)) g (started_as rs k) refl h (listed_file rs g)
 listed_file (Drop n ∷ rs) g h =
@@ -270,13 +268,8 @@ listed_file (Drop n ∷ rs) g h =
     cond_false (is_same_name n g.name) None (file_of rs g.name)
     (other_name n g.name (λ e. false≢true (sym p.1 ∙ (ap (λ x. is_same_name g.name x) e ∙ same-refl g.name))))
     ∙ listed_file rs g p.0)
-listed_file (AuditStart number ∷ rs) g h = listed_file rs g h
-listed_file (AuditDone number undecided counts ∷ rs) g h = listed_file rs g h
-listed_file (RepairDone number ∷ rs) g h = listed_file rs g h
 listed_file (PutDoneIn k size profile ∷ rs) g h =
     put-listed rs k size profile g (started_as rs k) refl h (listed_file rs g)
-listed_file (Version ∷ rs) g h = listed_file rs g h
-listed_file (Resume next audit ∷ rs) g h = listed_file rs g h
 listed_file (InEffect k size profile n ∷ rs) g h = kept h (listed_file rs g)
   where
     kept : In g (with_put (files_of rs) (Some n) k size profile) →
@@ -297,4 +290,4 @@ listed_file (InEffect k size profile n ∷ rs) g h = kept h (listed_file rs g)
               ∙ (ap (λ x. is_same_name g.name x) e ∙ same-refl g.name))))
               ∙ rest p.0)
         ]
-listed_file (RepairDue number counts ∷ rs) g h = listed_file rs g h
+listed_file (r ∷ rs) g h = listed_file rs g h
