@@ -18,11 +18,13 @@ pub record IsEarly (old new : Seen) (end : Ending) : Type 0 where
   pub ending : is_ending status ≡ true
   pub refused : IsRefused status at old new end
 
+-- a refusal at such a status is one
 pub early-at : {old new : Seen} {end : Ending} (status at : ℕ) → is_early status ≡ true → is_ending status ≡ true →
     IsRefused status at old new end → IsEarly old new end
 early-at status at early ending r =
     record { status = status; at = at; early = early; ending = ending; refused = r }
 
+-- so is one for a cause
 pub early-why : {old new : Seen} {end : Ending} (why : Refusal) → IsRefused (status_of why) 0 old new end →
     IsEarly old new end
 early-why refusal.NoSuchName r = early-at _ 0 refl refl r

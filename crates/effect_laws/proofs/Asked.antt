@@ -30,6 +30,7 @@ module _ (Q : List Moment → Type 0) (Good : List Instruction → List Outcome 
   steps_read job (m ∷ steps) older (event, outcome, on) q =
       step job m (steps ++ older) event outcome (steps_read job steps older on q)
 
+  -- so it holds of all the moments that commands are read from
   pub each_read : (cs : List Instruction) (ms : List Moment) (rs : List Outcome) → ReadsAs cs ms rs →
       Good cs rs → Q ms
   each_read [] ms [] is good = subst Q (sym is) none
