@@ -75,6 +75,7 @@ early-told E = record {
   disk = E.refused.disk;
   providers = E.refused.providers;
   sink = E.refused.sink;
+  no_fault = λ e. E.refused.no_fault (sym E.refused.status_is ∙ e);
 }
 
 other-status : (status m : ℕ) → status ≡ m → is_refusal m ≡ false → is_refusal status ≡ true → ⊥
@@ -145,6 +146,7 @@ row-told n l b seen old new end (A, T) refuses = record {
   disk = resynced-equal old.disk new.disk T.disk;
   providers = T.providers;
   sink = (A.no_shape no-shape).1;
+  no_fault = λ e. T.disk_faults;
 }
   where
     no-shape : IsShape n l b → ⊥

@@ -1,5 +1,5 @@
 -- A status of a fault comes only where the count of that device rose.
-use Rattle.command_laws.proofs.Words.{◌≡◌, ℕ, ◌==◌, Bool, true, false, List, Option, refl, ap, sym, ◌∙◌, subst, inl, inr, arith, false≢true, Rose, Record, Area, Kind, PutJob, GetJob, DropJob, AuditJob, RepairJob, UpgradeJob, Answer, Refusal, Command, Numbers, PutUnder, PutAt, GetOf, DropOf, ListAll, AuditAll, RepairAll, UpgradeJournal, ScrubAll, PackJournal, WritesLine, Seen, Ending, provider_at, sinking, Unstarted, status_of, Ran, AnswersJob, EndsByAnswer, LeavesBy, LeftAlone, AnswersInit, InitsDisk, ScrubbedAlone, AnswersScrub, PackLeaves, AnswersPack, AnswersPut, AnswersAlone, AnswersList, Answers, FaultsHaveCauses, opens_store, rose-before}
+use Rattle.command_laws.proofs.Words.{◌≡◌, ℕ, ◌==◌, Bool, true, false, List, Option, refl, ap, sym, ◌∙◌, subst, inl, inr, arith, false≢true, not_two, Rose, Record, Area, Kind, PutJob, GetJob, DropJob, AuditJob, RepairJob, UpgradeJob, Answer, Refusal, Command, Numbers, PutUnder, PutAt, GetOf, DropOf, ListAll, AuditAll, RepairAll, UpgradeJournal, ScrubAll, PackJournal, WritesLine, Seen, Ending, provider_at, sinking, Unstarted, status_of, Ran, AnswersJob, EndsByAnswer, LeavesBy, LeftAlone, AnswersInit, InitsDisk, ScrubbedAlone, AnswersScrub, PackLeaves, AnswersPack, AnswersPut, AnswersAlone, AnswersList, Answers, FaultsHaveCauses, opens_store, rose-before}
 use Rattle.std.specs.Prelude.{if◌then◌else◌}
 use Rattle.machine_defs.specs.Answers as answer
 use Rattle.machine_defs.specs.Refusals as refusal
@@ -21,40 +21,37 @@ module _ (old new : Seen) (end : Ending) where
     sink = λ e. absurd (not-fault n 15 sound refl is e);
   }
 
-  differ : (n m : ℕ) → (n ≡ m → ⊥) → end.status ≡ n → end.status ≡ m → ⊥
-  differ n m other is also = other (sym is ∙ also)
-
   disk-rose : end.status ≡ 12 → Rose old.disk_faults new.disk_faults → FaultsHaveCauses old new end
   disk-rose is rose = record {
     disk = λ e. rose;
-    provider = λ e. absurd (differ 12 13 (λ k. omega (arith, k)) is e);
-    source = λ e. absurd (differ 12 14 (λ k. omega (arith, k)) is e);
-    sink = λ e. absurd (differ 12 15 (λ k. omega (arith, k)) is e);
+    provider = λ e. absurd (not_two end.status 12 13 is e (λ k. omega (arith, k)));
+    source = λ e. absurd (not_two end.status 12 14 is e (λ k. omega (arith, k)));
+    sink = λ e. absurd (not_two end.status 12 15 is e (λ k. omega (arith, k)));
   }
 
   provider-rose : end.status ≡ 13 →
       Rose (provider_at old.providers end.at).store_faults (provider_at new.providers end.at).store_faults →
       FaultsHaveCauses old new end
   provider-rose is rose = record {
-    disk = λ e. absurd (differ 13 12 (λ k. omega (arith, k)) is e);
+    disk = λ e. absurd (not_two end.status 13 12 is e (λ k. omega (arith, k)));
     provider = λ e. rose;
-    source = λ e. absurd (differ 13 14 (λ k. omega (arith, k)) is e);
-    sink = λ e. absurd (differ 13 15 (λ k. omega (arith, k)) is e);
+    source = λ e. absurd (not_two end.status 13 14 is e (λ k. omega (arith, k)));
+    sink = λ e. absurd (not_two end.status 13 15 is e (λ k. omega (arith, k)));
   }
 
   source-rose : end.status ≡ 14 → Rose old.source_faults new.source_faults → FaultsHaveCauses old new end
   source-rose is rose = record {
-    disk = λ e. absurd (differ 14 12 (λ k. omega (arith, k)) is e);
-    provider = λ e. absurd (differ 14 13 (λ k. omega (arith, k)) is e);
+    disk = λ e. absurd (not_two end.status 14 12 is e (λ k. omega (arith, k)));
+    provider = λ e. absurd (not_two end.status 14 13 is e (λ k. omega (arith, k)));
     source = λ e. rose;
-    sink = λ e. absurd (differ 14 15 (λ k. omega (arith, k)) is e);
+    sink = λ e. absurd (not_two end.status 14 15 is e (λ k. omega (arith, k)));
   }
 
   sink-rose : end.status ≡ 15 → Rose old.sink_faults new.sink_faults → FaultsHaveCauses old new end
   sink-rose is rose = record {
-    disk = λ e. absurd (differ 15 12 (λ k. omega (arith, k)) is e);
-    provider = λ e. absurd (differ 15 13 (λ k. omega (arith, k)) is e);
-    source = λ e. absurd (differ 15 14 (λ k. omega (arith, k)) is e);
+    disk = λ e. absurd (not_two end.status 15 12 is e (λ k. omega (arith, k)));
+    provider = λ e. absurd (not_two end.status 15 13 is e (λ k. omega (arith, k)));
+    source = λ e. absurd (not_two end.status 15 14 is e (λ k. omega (arith, k)));
     sink = λ e. rose;
   }
 

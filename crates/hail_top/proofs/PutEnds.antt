@@ -80,10 +80,11 @@ unbegun-put name own records old new d end why count left is_count is_left opene
           bytes = taken.bytes;
           front = taken.read.front;
           few = (let l = taken.limit in omega (arith, l));
-        }) (refused-told 14 0 old new end is kept same_providers silent)
+        }) (refused-told 14 0 old new end is kept same_providers silent (λ e. faults ∙ before.faults))
     by_cause unbegun.Memory is rose taken =
         no_memory (subst (λ (told : Option (List ℕ)). ReadsAtMost (largest_file + 1) old.source told) (sym taken)
-        (none-taken (largest_file + 1) old.source)) (refused-told 70 0 old new end is kept same_providers silent)
+        (none-taken (largest_file + 1) old.source))
+        (refused-told 70 0 old new end is kept same_providers silent (λ e. faults ∙ before.faults))
     by_cause (unbegun.Refused why) is rose r = by_refusal why is r
 
 -- how the job of a put ended, and what of its source was read

@@ -148,10 +148,6 @@ moves-made x old new given now (a, ga, da, (b, gb, db, (c, gc, dc, (d, gd, dd, l
 
 -- ---- the removals of a put or a drop
 
--- the object of the file that a name had at the begin
-nothing-pinned : (start : State) → start.jobs ≡ [] → (f : File) → removable start (Some f) ≡ f.id ∷ []
-nothing-pinned start none f = cc
-
 -- each provider's blocks of an older object are gone; without one nothing is
 abbrev pub OlderGoes : Option File → Provider → Provider → Type 0
 OlderGoes None p q = q.held ≡ p.held

@@ -82,9 +82,6 @@ count_some (x ∷ l) (suc q) (suc p) h k = count_some l q p h (omega (arith, k))
 abbrev left_of : Setup → Job → List Action
 left_of t j = drop j.place (actions_of t j)
 
-abbrev most_by : Setup → Kind → ℕ → ℕ → ℕ
-most_by t kind len count = len + cond (removes_older (aim_of kind) && nat_lt 0 count) t.n 0
-
 -- what is left before and after an action
 left_next : (t : Setup) (x j : Job) (action : Action) → slice_get (actions_of t x) x.place ≡ Some action →
     j.place ≡ x.place + 1 → shape (actions_of t j) ≡ shape (actions_of t x) →

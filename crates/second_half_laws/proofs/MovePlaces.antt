@@ -116,11 +116,6 @@ pub same_actions : (t : Setup) (x j : Job) → x.kind ≡ RepairJob → j.kind �
 same_actions t x j kx kj pinned flagged =
     cc (actions_are t j RepairJob kj, repair_list_is t j, actions_are t x RepairJob kx, repair_list_is t x)
 
--- the next action of a repair is the one at its place
-pub next_repairs : (w : State) (job : Job) → job.kind ≡ RepairJob →
-    next_action w job ≡ slice_get (actions_of (setup_in w) job) job.place
-next_repairs w job is = cc
-
 -- ---- a third move is followed by a fourth
 
 abbrev Followed : List Action → Type 0

@@ -101,12 +101,6 @@ eight_same ss ys zs p l = same_front append_actions (ss ++ (append_actions ++ ys
 
 -- ---- the list of a job that went on
 
--- what a job is given leaves its list of actions
-pub same_given : (s : Setup) (x : Job) (gift : Given) (kind : Kind) →
-    actions_by s (advanced_with x gift) kind ≡ actions_by s x kind
-same_given s x gift (PutJob name bytes) = refl
-same_given s x gift kind = refl
-
 -- a job with a number drawn
 abbrev with_subject : Job → ℕ → Job
 with_subject x n = record (advanced x) { subject = n }

@@ -1,6 +1,7 @@
 //! Bodies of vault_core's public functions, for its must-fail edits to spoil.
 ghost use Rattle.std.specs.Prelude.{◌≡◌, ◌<◌, ◌≤◌, ◌+◌, ◌-◌, ◌^◌, [], None, Some, true, is_some};
 ghost use Rattle.std.specs.Option.{option_map};
+ghost use Rattle.record_defs.specs.Records.{largest_journal};
 ghost use Rattle.record_codec.specs.Entries.{entry_of};
 ghost use Rattle.vault_table.specs.Values.{file_of_entry, forgotten};
 ghost use Rattle.vault_core.specs.Carried.{IsKindOf};
@@ -84,7 +85,7 @@ pub fn bar(core: &mut Core)
 pub fn moved(core: &mut Core, end: u64)
     requires idle { core.old.jobs ≡ [] }
     requires least { 9 ≤ end }
-    requires most { end ≤ 2 ^ 24 }
+    requires most { end ≤ largest_journal }
     ensures moved { core.new ≡ record core.old { table = forgotten core.old.table; end = end } }
 {
     core.moved(end);

@@ -1,8 +1,8 @@
 //! Bodies of journal_core's public functions, for its must-fail edits to spoil.
-ghost use Rattle.std.specs.Prelude.{◌≡◌, ◌+◌, ◌^◌, ◌<◌, ◌≤◌, List, [], length, IfOk, IfErr, IsErrOf};
+ghost use Rattle.std.specs.Prelude.{◌≡◌, ◌+◌, ◌<◌, ◌≤◌, List, [], length, IfOk, IfErr, IsErrOf};
 ghost use Rattle.stream_model.specs.declared.fault.WriteFault.TheVariants as write_fault;
 ghost use Rattle.device_defs.specs.Faults.{HasCause};
-ghost use Rattle.record_defs.specs.Records.{Record as Entry};
+ghost use Rattle.record_defs.specs.Records.{Record as Entry, largest_journal};
 ghost use Rattle.record_defs.specs.Areas.{Area, IsSwitched, HasNoFront};
 ghost use Rattle.journal_core.specs.Appends.{moves_of};
 ghost use Rattle.journal_core.specs.FourMoves.{moved_on, MayBeTorn};
@@ -41,8 +41,8 @@ pub fn make_move<D: Disk>(
     mark: u8,
 ) -> Result<bool, WriteFault>
     requires few { moves.old < 4 }
-    requires room { at + length bytes.now ≤ 2 ^ 24 }
-    requires mark_room { mark_at + 1 ≤ 2 ^ 24 }
+    requires room { at + length bytes.now ≤ largest_journal }
+    requires mark_room { mark_at + 1 ≤ largest_journal }
     ensures count { CountsMove moves.old result moves.new }
     ensures disk { LeavesDisk moves.old (moved_on moves.old at bytes.now mark_at mark)
         (MayBeTorn moves.old at (length bytes.now) mark_at) result (D.holds disk.old) (D.holds disk.new) }

@@ -1,7 +1,7 @@
 //! Bodies of hail_scrub's public functions, for its must-fail edits to spoil.
 ghost use Rattle.std.specs.Prelude.{◌≡◌, ◌<◌, ◌≤◌, Bool, IfOk, length, map};
 ghost use Rattle.machine_defs.specs.States.{State, Scrub as MachineScrub};
-ghost use Rattle.record_defs.specs.Records.{Setup};
+ghost use Rattle.record_defs.specs.Records.{Setup, most_files};
 ghost use Rattle.stripe_bench.specs.Calls.{sight};
 ghost use Rattle.hail_scrub.specs.Views.{scrub_left};
 ghost use Rattle.hail_scrub.specs.Begins.{HaveOneCount, AreApart, IsNewScrub};
@@ -16,7 +16,7 @@ use std::alloc::Global;
 
 /// `Scrub::new`.
 pub fn new(alloc: Global, master: &Master, files: Vec<FileShape>) -> Result<Scrub, Memory>
-    requires few { length files.items ≤ 1024 }
+    requires few { length files.items ≤ most_files }
     requires one_count { HaveOneCount files.items }
     requires apart { AreApart files.items }
     ensures begun { (s : Setup) (m : MachineScrub) → IsNewScrub s master.now.0 files.items m
