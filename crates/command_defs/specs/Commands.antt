@@ -4,6 +4,8 @@
 --   AnswersInit of Inits            == `init`
 --   MayBeWhole name bytes own area records answers
 --                                   == the job of a put has ended with its last record in effect, or in doubt
+--   IsUnbegun answers               == the job was refused, or found no memory to begin
+--   ReadsWithin size old new        == fewer bytes than so many were read of a source, no more than a file has
 --   AnswersPut name own old new end == `put`, with the profile that it names: it opens the store, and reads its
 --                                      source stripe by stripe, the first one before its job begins
 --   AnswersAlone kind old new end   == `get`, `drop`, `audit`, `repair`, `upgrade`: they open the store and
@@ -13,14 +15,15 @@
 --   AnswersPack of Packs            == `pack`
 --   Answers command old new end     == how a command ends, by its words
 --   IsUsage old new end             == words that are no form of a command: status 2, or that of no memory
-use Rattle.std.specs.Prelude.{◌≡◌, ℕ, ◌+◌, ◌≤◌, false, IsTrue, List, [], length, Option, None, Some, IfSome}
+use Rattle.std.specs.Prelude.{◌≡◌, ⊤, ℕ, ◌<◌, ◌≤◌, false, IsTrue, List, [], length, Option, None, Some, IfSome}
 use Rattle.device_defs.specs.Faults.{Rose}
+use Rattle.device_defs.specs.Told.{then_told}
 use Rattle.record_defs.specs.Records.{Record, largest_file}
 use Rattle.record_defs.specs.Areas.{Area}
 use Rattle.record_defs.specs.Table.{files_of}
 use Rattle.machine_defs.specs.Jobs.{Kind, PutJob, GetJob, DropJob, AuditJob, RepairJob, UpgradeJob}
 use Rattle.command_defs.specs.Forms.{Command, RowOf, InitWith, PutUnder, PutAt, GetOf, DropOf, ListAll, AuditAll, RepairAll, UpgradeJournal, ScrubAll, PackJournal}
-use Rattle.command_defs.specs.Seen.{Seen, Ending, IsSynced, SameSource, ReadsAtMost, ReadsFront, IsRefused, sinking}
+use Rattle.command_defs.specs.Seen.{Seen, Ending, IsSynced, SameSource, ReadsFront, IsRefused, sinking}
 use Rattle.command_defs.specs.Sinking.{Refuses, WritesLine}
 use Rattle.command_defs.specs.Opens.{IsOpened, Unstarted}
 use Rattle.code_defs.specs.Profiles.{is_unknown}
@@ -51,24 +54,40 @@ MayBeWhole name bytes own area records (AnswersJob.no_memory synced refused) = �
 MayBeWhole name bytes own area records (AnswersJob.ended answer unrefused runs left ends) =
     MayHaveEnd records left.after left.doubt name (length bytes) own
 
--- A `put`, with the profile that it names; where there is none of its number, the source is not read. The job
--- is one of a file of the bytes that were read: the whole source, where its last record is in effect or in
--- doubt, and else a first part of it.
+-- the job was refused, or found no memory to begin
+abbrev pub IsUnbegun : {kind : Kind} {own : Option ℕ} {area : Area} {records : List Record} {old new : Seen}
+    {end : Ending} → AnswersJob kind own area records old new end → Type 0
+IsUnbegun (AnswersJob.refused why is synced refused) = ⊤
+IsUnbegun (AnswersJob.no_memory synced refused) = ⊤
+IsUnbegun (AnswersJob.ended answer unrefused runs left ends) = ⊥
+
+-- fewer bytes than so many were read of a source, and no more than a file may have
+pub record ReadsWithin (size : ℕ) (old new : Option (List ℕ)) : Type 0 where
+  pub bytes : List ℕ
+  pub front : old ≡ then_told bytes new
+  pub short : length bytes < size
+  pub few : length bytes ≤ largest_file
+
+-- A `put`, with the profile that it names; where there is none of its number, or no memory for a stripe, the
+-- source is not read. The job is one of a file of the bytes that were read: the whole source, where its last
+-- record is in effect or in doubt; no more than its first stripe, where the job did not begin; and else a first
+-- part of it. A source that fails before the job begins fails within its first stripe.
 pub data AnswersPut (name : List ℕ) (own : Option ℕ) (old new : Seen) (end : Ending) : Type 0 where
   unstarted : Unstarted old new end → SameSource old new → AnswersPut name own old new end
   bad_profile : (records : List Record) → IsOpened old records → IsTrue (is_unknown own)
       → IsSynced old new → SameSource old new → IsRefused 20 0 old new end → AnswersPut name own old new end
   source_fault : (records : List Record) → IsOpened old records → is_unknown own ≡ false
       → Rose old.source_faults new.source_faults → IsSynced old new →
-      ReadsAtMost (largest_file + 1) old.source new.source → IsRefused 14 0 old new end
+      ReadsWithin (put_stripe records own) old.source new.source → IsRefused 14 0 old new end
       → AnswersPut name own old new end
-  no_memory : ReadsAtMost (largest_file + 1) old.source new.source → IsRefused 70 0 old new end
+  no_memory : new.source ≡ old.source → IsRefused 70 0 old new end
       → AnswersPut name own old new end
   begun : (records : List Record) (bytes : List ℕ) → (opened : IsOpened old records)
       → is_unknown own ≡ false
       → ReadsFront old.source new.source bytes → length bytes ≤ largest_file →
       (answers : AnswersJob (PutJob name bytes) own opened.area records old new end)
       → (MayBeWhole name bytes own opened.area records answers → IfSome new.source (λ left. left ≡ []))
+      → (IsUnbegun answers → length bytes ≤ put_stripe records own)
       → AnswersPut name own old new end
   given_up : (records : List Record) (bytes : List ℕ) → (opened : IsOpened old records)
       → is_unknown own ≡ false → refusal_over opened.area records (PutJob name bytes) own ≡ None →

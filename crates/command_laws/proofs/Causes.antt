@@ -124,7 +124,7 @@ module _ (old new : Seen) (end : Ending) where
   put-causes name (AnswersPut.bad_profile records opened unknown synced same r) =
       none-rose 20 refl r.status_is
   put-causes name (AnswersPut.no_memory taken r) = none-rose 70 refl r.status_is
-  put-causes name (AnswersPut.begun records bytes opened known read few A whole) = job-causes _ records A
+  put-causes name (AnswersPut.begun records bytes opened known read few A whole one) = job-causes _ records A
   put-causes name (AnswersPut.given_up records bytes opened known none stops runs left) = elim stops.cause [
     | inl c ↦ source-rose c.0 c.2
     | inr c ↦ none-rose 16 refl c.0

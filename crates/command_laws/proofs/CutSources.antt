@@ -99,7 +99,7 @@ put-cut name own old new end (AnswersPut.source_fault records opened known rose 
     inl (r.status_is, r)
 put-cut name own old new end (AnswersPut.no_memory taken r) cut =
     absurd (cut-not 70 r.status_is refl cut)
-put-cut name own old new end (AnswersPut.begun records bytes opened known read few A whole) cut =
+put-cut name own old new end (AnswersPut.begun records bytes opened known read few A whole one) cut =
     absurd (job-cut (PutJob name bytes) own records old new end
     (short-never opened.area records name bytes own few) A
     cut)

@@ -100,7 +100,7 @@ put-comes name records old new end K (AnswersPut.no_memory taken r) = inl (early
 put-comes name records old new end K (AnswersPut.given_up other bytes opened known none stops runs left) =
     inr (subst (λ rs. Left rs old new) (known-once old records other K opened.read)
     (given-left name bytes _ other old new end opened none stops runs left))
-put-comes name records old new end K (AnswersPut.begun other bytes opened known read few A whole) =
+put-comes name records old new end K (AnswersPut.begun other bytes opened known read few A whole one) =
     subst (λ rs. Comes rs old new end) (known-once old records other K opened.read)
     (job-comes (PutJob name bytes) other old new end opened read.are_bytes (MayName.put name bytes refl) A)
 
@@ -246,7 +246,7 @@ cut-put-sure name own records old new end (AnswersPut.source_fault other opened 
     inl (r.status_is, r)
 cut-put-sure name own records old new end (AnswersPut.no_memory taken r) cut K =
     absurd (cut-not 70 r.status_is refl cut)
-cut-put-sure name own records old new end (AnswersPut.begun other bytes opened known read few A whole) cut K =
+cut-put-sure name own records old new end (AnswersPut.begun other bytes opened known read few A whole one) cut K =
     absurd (job-cut (PutJob name bytes) own other old new end
     (short-never opened.area other name bytes own few) A cut)
 cut-put-sure name own records old new end (AnswersPut.given_up other bytes opened known none stops runs left) cut K =

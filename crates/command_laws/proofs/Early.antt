@@ -99,11 +99,11 @@ module _ {old new : Seen} {end : Ending} {P : Type 0} (early : IsEarly old new e
   put-cases given late (AnswersPut.no_memory taken r) = early (early-at 70 0 refl refl r)
   put-cases given late (AnswersPut.given_up records bytes opened known none stops runs left) =
       given records bytes opened known none stops left
-  put-cases given late (AnswersPut.begun records bytes opened known read few (AnswersJob.refused why is synced r) whole) =
+  put-cases given late (AnswersPut.begun records bytes opened known read few (AnswersJob.refused why is synced r) whole one) =
       early (early-why why r)
-  put-cases given late (AnswersPut.begun records bytes opened known read few (AnswersJob.no_memory synced r) whole) =
+  put-cases given late (AnswersPut.begun records bytes opened known read few (AnswersJob.no_memory synced r) whole one) =
       early (early-at 70 0 refl refl r)
-  put-cases given late (AnswersPut.begun records bytes opened known read few (AnswersJob.ended how none runs left by) whole) =
+  put-cases given late (AnswersPut.begun records bytes opened known read few (AnswersJob.ended how none runs left by) whole one) =
       late records bytes opened known read few how none left whole by
 
   -- a list was refused, or written

@@ -478,7 +478,7 @@ module _ (start : State) (ms : List Moment) (R : IsRun 8 start ms) (old : Seen)
       unset-put name (AnswersPut.source_fault other O known rose sync taken r) =
           absurd (none-read other O.read)
       unset-put name (AnswersPut.no_memory taken r) = memory-on 0 r
-      unset-put name (AnswersPut.begun other bytes O known read few A whole) = absurd (none-read other O.read)
+      unset-put name (AnswersPut.begun other bytes O known read few A whole one) = absurd (none-read other O.read)
       unset-put name (AnswersPut.given_up other bytes O known begins stops runs left) =
           absurd (none-read other O.read)
 
@@ -922,7 +922,7 @@ module _ (start : State) (ms : List Moment) (R : IsRun 8 start ms) (old : Seen)
       put-on name own is named spelled byte (AnswersPut.source_fault other O known rose sync taken r) =
           opened-on (enough-of other O) 14 0 (inl r.status_is) sync r
       put-on name own is named spelled byte (AnswersPut.no_memory taken r) = memory-on 0 r
-      put-on name own is named spelled byte (AnswersPut.begun other bytes O known read few A whole) =
+      put-on name own is named spelled byte (AnswersPut.begun other bytes O known read few A whole one) =
           (let B = both other O (λ a l. (A : AnswersJob (PutJob name bytes) own a l old new end)
           × PutsWhole (PutJob name bytes) own a l old new end A)
           (A, puts-whole name bytes own O.area other old new end read A whole) in

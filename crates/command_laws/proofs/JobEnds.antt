@@ -387,7 +387,7 @@ put-well name bytes own records old new end (AnswersPut.bad_profile other opened
     absurd (false≢true (sym (put-begins K.opened.area records name bytes own begins).0 ∙ unknown))
 put-well name bytes own records old new end (AnswersPut.no_memory taken r) K is begins disk stores source sink =
     memory-well (stored_line name (length bytes)) old new end r
-put-well name bytes own records old new end (AnswersPut.begun other seen opened known read few A whole) K is begins disk stores source sink =
+put-well name bytes own records old new end (AnswersPut.begun other seen opened known read few A whole one) K is begins disk stores source sink =
     (let same = known-once old records other K opened.read in
     put-job-well name seen (length bytes) own other old new end
     (same-refusal opened.area other name seen bytes own few
@@ -427,7 +427,7 @@ put-only name own records old new end why (AnswersPut.source_fault other opened 
     absurd (own-status end why 14 refl r.status_is tells e)
 put-only name own records old new end why (AnswersPut.no_memory taken r) K tells short e =
     absurd (own-status end why 70 refl r.status_is tells e)
-put-only name own records old new end why (AnswersPut.begun other seen opened known read few A whole) K tells short e =
+put-only name own records old new end why (AnswersPut.begun other seen opened known read few A whole one) K tells short e =
     known-refusal K.opened.area records name seen own known few
     ∙ refused-only (PutJob name seen) own records old new end why
     (known-both old records other K opened (λ a rs. AnswersJob (PutJob name seen) own a rs old new end) A)
@@ -456,7 +456,7 @@ put-always name own records old new end why (AnswersPut.bad_profile other opened
 put-always name own records old new end why (AnswersPut.source_fault other opened known rose synced taken r) K disk source applies =
     absurd (source rose)
 put-always name own records old new end why (AnswersPut.no_memory taken r) K disk source applies = inr r
-put-always name own records old new end why (AnswersPut.begun other seen opened known read few A whole) K disk source applies =
+put-always name own records old new end why (AnswersPut.begun other seen opened known read few A whole one) K disk source applies =
     refused-always (PutJob name seen) own records old new end why
     (known-both old records other K opened (λ a rs. AnswersJob (PutJob name seen) own a rs old new end) A)
     (sym (known-refusal K.opened.area records name seen own known few) ∙ applies)
@@ -509,7 +509,7 @@ put-long name bytes own records old new end (AnswersPut.source_fault other opene
     absurd (let f : 14 ≡ 16 = sym r.status_is ∙ e in omega (arith, f))
 put-long name bytes own records old new end (AnswersPut.no_memory taken r) K is e =
     absurd (cut-not 70 r.status_is refl (inr e))
-put-long name bytes own records old new end (AnswersPut.begun other seen opened known read few A whole) K is e =
+put-long name bytes own records old new end (AnswersPut.begun other seen opened known read few A whole one) K is e =
     absurd (job-cut (PutJob name seen) own other old new end
     (short-never opened.area other name seen own few) A (inr e))
 put-long name bytes own records old new end (AnswersPut.given_up other seen opened known none stops runs left) K is e = (
@@ -545,13 +545,13 @@ long-put name bytes own records old new end (AnswersPut.no_memory read r) K is l
     inr r.status_is
 long-put name bytes own records old new end (AnswersPut.given_up other seen opened known none stops runs left) K is long taken disk stores source =
     inl (given-long _ seen old new end stops source).0
-long-put name bytes own records old new end (AnswersPut.begun other seen opened known read few (AnswersJob.refused why cause synced r) whole) K is long taken disk stores source =
+long-put name bytes own records old new end (AnswersPut.begun other seen opened known read few (AnswersJob.refused why cause synced r) whole one) K is long taken disk stores source =
     absurd (let e : None ≡ Some why = sym taken ∙ known-both old records other K opened
     (λ a rs. put_refusal a rs name own ≡ Some why)
     (known-refusal opened.area other name seen own known few ∙ cause) in cc)
-long-put name bytes own records old new end (AnswersPut.begun other seen opened known read few (AnswersJob.no_memory synced r) whole) K is long taken disk stores source =
+long-put name bytes own records old new end (AnswersPut.begun other seen opened known read few (AnswersJob.no_memory synced r) whole one) K is long taken disk stores source =
     inr r.status_is
-long-put name bytes own records old new end (AnswersPut.begun other seen opened known read few (AnswersJob.ended how none runs left by) whole) K is long taken disk stores source =
+long-put name bytes own records old new end (AnswersPut.begun other seen opened known read few (AnswersJob.ended how none runs left by) whole one) K is long taken disk stores source =
     elim (put-end (ran_left other (PutJob name seen) how old new end.heard left) own name seen how
     left.leaves.by_kind.0 (calm-disk other (PutJob name seen) how old new end.heard left disk)
     (λ j l. stores j
@@ -886,12 +886,12 @@ put-order name own old new end (AnswersPut.no_memory taken r) disk stores source
 put-order name own old new end (AnswersPut.given_up records bytes opened known none stops runs left) disk stores source sink =
     EndsInOrder.too_long name own refl (given-long _ bytes old new end stops source).0
     (given-gives name bytes own records old new end opened known none stops left)
-put-order name own old new end (AnswersPut.begun records bytes opened known read few (AnswersJob.refused why is synced r) whole) disk stores source sink =
+put-order name own old new end (AnswersPut.begun records bytes opened known read few (AnswersJob.refused why is synced r) whole one) disk stores source sink =
     EndsInOrder.refused records (PutJob name bytes) why opened (put-kind name bytes own old new read few)
     (ap (refusal_over opened.area records (PutJob name bytes)) (named-by name own) ∙ is) r
-put-order name own old new end (AnswersPut.begun records bytes opened known read few (AnswersJob.no_memory synced r) whole) disk stores source sink =
+put-order name own old new end (AnswersPut.begun records bytes opened known read few (AnswersJob.no_memory synced r) whole one) disk stores source sink =
     EndsInOrder.no_memory r.status_is
-put-order name own old new end (AnswersPut.begun records bytes opened known read few (AnswersJob.ended how none runs left by) whole) disk stores source sink =
+put-order name own old new end (AnswersPut.begun records bytes opened known read few (AnswersJob.ended how none runs left by) whole one) disk stores source sink =
     in-order (put_of name own) old new end
     (zero-or-memory _ old new end
     (put-job-well name bytes (length bytes) own records old new end none disk (λ j l. stores j) sink

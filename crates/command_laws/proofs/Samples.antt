@@ -161,7 +161,7 @@ pub old-refused : Answers (PutAt held_name 1) (store set_up_records) (store set_
 old-refused = AnswersPut.begun set_up_records [] set_up-sure.known.opened refl
     (record { are_bytes = refl; front = refl }) (omega arith)
     (AnswersJob.refused refusal.OldVersion refl (same-disk set_up_records) (quiet refl refl refl (λ e. refl)))
-    (λ may. refl)
+    (λ may. refl) (λ b. omega arith)
 
 -- and so is one with a profile that there is none of
 pub unknown-refused : Answers (PutAt held_name 5) (store set_up_records) (store set_up_records) (ends 20)

@@ -23,7 +23,7 @@ put-opening name old new end (AnswersPut.given_up records bytes opened known non
       | inl e ↦ ap is_unopened e
       | inr e ↦ ap is_unopened e
     ])
-put-opening name old new end (AnswersPut.begun records bytes opened known read few A whole) =
+put-opening name old new end (AnswersPut.begun records bytes opened known read few A whole one) =
     Opening.over records opened (job-opened _ _ records old new end A)
 
 alone-opening : (kind : Kind) (old new : Seen) (end : Ending) → AnswersAlone kind old new end →

@@ -25,6 +25,7 @@ pub put-refused : (name : List ℕ) (own : Option ℕ) (why : Refusal) → is_un
 put-refused name own why known is = AnswersPut.begun four_records byte put-old.known.opened known
     (record { are_bytes = refl; front = refl }) (omega arith)
     (AnswersJob.refused why is (same-disk four_records) (quiet refl refl refl (λ e. refl))) (λ m. absurd m)
+    (λ b. omega arith)
 
 -- a list ends with 15 where the sink fails
 pub sink-fault : Answers ListAll byte_kept (record byte_kept { sink_faults = 1 }) (ends 15)

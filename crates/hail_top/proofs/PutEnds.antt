@@ -1,7 +1,6 @@
 -- How a put ends whose vault was opened.
-use Rattle.hail_top.proofs.Words.{◌≡◌, ℕ, ◌+◌, true, false, List, [], length, refl, ap, sym, ◌∙◌, subst, inl, inr, arith, IfSome, option_map, synced, Rose, Record, Area, Answer, Entry, PutJob, Seen, Ending, KeepsDisk, IsSynced, sinking, setup_in_effect, IsOpened, ran_alone, is_unknown, status_of, RunsAlone, LeftAlone, AnswersPut, begun, bad_profile, given_up, BeginFault, refusal_of, Devices, Ended, machine_answer, Unbegun, IsSeenBefore, IsRefusedOver, ending_with, unbegun_ending, TellsPut, TellsStreamed, PutsOver, ReadsAtMost, none-taken, resynced}
+use Rattle.hail_top.proofs.Words.{◌≡◌, ℕ, ◌+◌, true, false, List, [], length, refl, ap, sym, ◌∙◌, subst, inl, inr, arith, IfSome, option_map, synced, Rose, Record, Area, Answer, Entry, PutJob, Seen, Ending, KeepsDisk, IsSynced, sinking, setup_in_effect, IsOpened, ran_alone, is_unknown, status_of, RunsAlone, LeftAlone, AnswersPut, begun, bad_profile, given_up, BeginFault, refusal_of, Devices, Ended, machine_answer, Unbegun, IsSeenBefore, IsRefusedOver, ending_with, unbegun_ending, TellsPut, TellsStreamed, PutsOver, resynced}
 use Rattle.std.proofs.Common.{Option}
-use Rattle.record_defs.specs.Records.{largest_file}
 use Rattle.command_defs.specs.Puts.{MayHaveEnd}
 use Rattle.command_defs.specs.Jobs as jobs
 use Rattle.command_defs.specs.GivenUp.{put_stripe, StopsFor, StopsReading}
@@ -64,11 +63,11 @@ unbegun-put name own records old new d end why count left is_count is_left opene
         on (inl memory) = begun records r.bytes opened known r.reads r.few
             (jobs.no_memory synced_here (refused-told 70 0 old new end
             (is ∙ ap (λ (w : BeginFault). ending_with (status_of (refusal_of w)) 0) memory) kept
-            same_providers silent (λ e. faults ∙ before.faults))) (λ m. absurd m)
+            same_providers silent (λ e. faults ∙ before.faults))) (λ m. absurd m) (λ b. r.one)
         on (inr some) = begun records r.bytes opened known r.reads r.few
             (jobs.refused (refusal_of why) some synced_here
             (refused-told (status_of (refusal_of why)) 0 old new end is kept same_providers silent (λ e. faults ∙ before.faults)))
-            (λ m. absurd m)
+            (λ m. absurd m) (λ b. r.one)
 
     by_cause : (why : Unbegun) → end ≡ unbegun_ending why →
         (why ≡ unbegun.SourceFault → Rose count new.source_faults) →
@@ -79,12 +78,11 @@ unbegun-put name own records old new d end why count left is_count is_left opene
         (record {
           bytes = taken.bytes;
           front = taken.read.front;
+          short = taken.short;
           few = (let l = taken.limit in omega (arith, l));
         }) (refused-told 14 0 old new end is kept same_providers silent (λ e. faults ∙ before.faults))
     by_cause unbegun.Memory is rose taken =
-        no_memory (subst (λ (told : Option (List ℕ)). ReadsAtMost (largest_file + 1) old.source told) (sym taken)
-        (none-taken (largest_file + 1) old.source))
-        (refused-told 70 0 old new end is kept same_providers silent (λ e. faults ∙ before.faults))
+        no_memory taken (refused-told 70 0 old new end is kept same_providers silent (λ e. faults ∙ before.faults))
     by_cause (unbegun.Refused why) is rose r = by_refusal why is r
 
 -- how the job of a put ended, and what of its source was read
@@ -106,7 +104,7 @@ ended-put name own records old new end ended read opened known P T = record {
       (answer-ends (ran_alone records old new end.heard here.left.faults here.left.after here.left.doubt)
       T.subject (setup_in_effect records).tolerance (machine_answer ended.answer) (PutJob name P.bytes) own
       old new end here.left.leaves.by_kind (T.name_is, T.length_is ∙ sym P.read_is) T.told))
-      here.whole;
+      here.whole (λ b. absurd b);
   counts = P.over.counts;
 }
   where

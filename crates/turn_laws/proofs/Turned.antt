@@ -212,10 +212,11 @@ module _ {rs : List Record} {name bytes : List ℕ} {own : Option ℕ} {answer :
       (record { status = status; at = 0; heard = [] }) →
       RunsAlone opened.area rs (PutJob name bytes) own answer old new [] →
       PutRun opened.area rs name bytes own answer old new status
+  unfolding job-ends
   put-ends opened puts ends alone = record {
     alone = alone;
     answers = AnswersPut.begun rs bytes opened puts.4 (record { are_bytes = puts.3.1; front = puts.6 })
-        puts.8 (job-ends opened puts.5 puts.3 may puts.2 alone ends) (λ m. puts.7);
+        puts.8 (job-ends opened puts.5 puts.3 may puts.2 alone ends) (λ m. puts.7) (λ b. absurd b);
   }
 
   -- one that ends by a turn
