@@ -1,5 +1,5 @@
 -- How a put ends whose vault was opened.
-use Rattle.hail_top.proofs.Words.{◌≡◌, ℕ, ◌+◌, true, false, List, [], length, refl, ap, sym, ◌∙◌, subst, inl, inr, arith, IfSome, option_map, synced, Rose, Record, Area, Answer, Entry, PutJob, Seen, Ending, KeepsDisk, IsSynced, sinking, setup_in_effect, IsOpened, ran_alone, is_unknown, status_of, RunsAlone, LeftAlone, AnswersPut, begun, bad_profile, given_up, BeginFault, refusal_of, Devices, Ended, machine_answer, Unbegun, IsSeenBefore, IsRefusedOver, ending_with, unbegun_ending, TellsPut, TellsStreamed, PutsOver, resynced}
+use Rattle.hail_top.proofs.Words.{◌≡◌, ℕ, true, false, List, [], length, refl, ap, sym, ◌∙◌, subst, inl, inr, arith, IfSome, option_map, synced, Rose, Record, Area, Answer, Entry, PutJob, Seen, Ending, KeepsDisk, IsSynced, sinking, setup_in_effect, IsOpened, ran_alone, is_unknown, status_of, RunsAlone, LeftAlone, AnswersPut, begun, bad_profile, given_up, BeginFault, refusal_of, Devices, Ended, machine_answer, Unbegun, IsSeenBefore, IsRefusedOver, ending_with, unbegun_ending, TellsPut, TellsStreamed, PutsOver, resynced}
 use Rattle.std.proofs.Common.{Option}
 use Rattle.command_defs.specs.Puts.{MayHaveEnd}
 use Rattle.command_defs.specs.Jobs as jobs
