@@ -1,9 +1,10 @@
 -- Commands that end before a job of theirs begins: refused, or by a fault, or for want of memory.
-use Rattle.command_runs.proofs.Words.{◌≡◌, ◌<◌, ℕ, false, List, [], ◌∷◌, length, Option, Some, None, refl, ap, sym, ◌∙◌, inl, inr, arith, length-append, replicate, same-disk, quiet, upto, values_at, Accepts, AcceptsNone, firm, text, HasNoFront, spelling, PutJob, Refusal, byte, journal_read, ListAll, IsKeyForm, Seen, Ending, SameSource, Unstarted, is_unknown, refusal_over, status_of, AnswersJob, AnswersPut, AnswersList, TouchesSink, Answers, with_sink, ends, four_records, byte_records, to_put, put_unmade, byte_kept}
+use Rattle.command_runs.proofs.Words.{◌≡◌, ◌<◌, ◌≤◌, ℕ, false, List, [], ◌∷◌, length, Option, Some, None, refl, ap, sym, ◌∙◌, inl, inr, arith, length-append, replicate, same-disk, quiet, upto, values_at, Accepts, AcceptsNone, firm, text, HasNoFront, spelling, PutJob, Refusal, byte, journal_read, ListAll, IsKeyForm, Seen, Ending, SameSource, Unstarted, is_unknown, refusal_over, status_of, AnswersJob, AnswersPut, AnswersList, TouchesSink, Answers, with_sink, ends, four_records, byte_records, to_put, put_unmade, byte_kept}
 use Rattle.std.specs.Fmt.{digits}
 use Rattle.hail_field.specs.Nim.{nim_mul, nim_add, product}
 use Rattle.algebra_laws.specs.Poly.{value as value_over, agree as agree_over, is_seen as is_seen_over}
 use Rattle.code_defs.specs.Polynomials.{agree}
+use Rattle.command_defs.specs.GivenUp.{put_stripe}
 use Rattle.code_defs.proofs.Points.{Apart-range}
 use Rattle.code_defs.proofs.Values.{value-constant}
 use Rattle.column_laws.proofs.UniqueLaws.{often_same, values_same}
@@ -18,14 +19,14 @@ pub unlisted : {old new : Seen} {end : Ending} → Unstarted old new end → Sam
     AnswersList old new end × SameSource old new
 unlisted unstarted same = (AnswersList.unstarted unstarted, same)
 
--- the begin of a put was refused
+-- the begin of a put was refused, which had read a byte, no more than a stripe
 pub put-refused : (name : List ℕ) (own : Option ℕ) (why : Refusal) → is_unknown own ≡ false →
-    refusal_over A four_records (PutJob name byte) own ≡ Some why →
+    length byte ≤ put_stripe four_records own → refusal_over A four_records (PutJob name byte) own ≡ Some why →
     AnswersPut name own to_put put_unmade (ends (status_of why))
-put-refused name own why known is = AnswersPut.begun four_records byte put-old.known.opened known
+put-refused name own why known one is = AnswersPut.begun four_records byte put-old.known.opened known
     (record { are_bytes = refl; front = refl }) (omega arith)
     (AnswersJob.refused why is (same-disk four_records) (quiet refl refl refl (λ e. refl))) (λ m. absurd m)
-    (λ b. omega arith)
+    (λ b. one)
 
 -- a list ends with 15 where the sink fails
 pub sink-fault : Answers ListAll byte_kept (record byte_kept { sink_faults = 1 }) (ends 15)

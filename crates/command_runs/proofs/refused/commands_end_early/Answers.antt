@@ -19,10 +19,10 @@ returns c = record {
       (same-disk byte_records) (quiet refl refl refl (λ e. refl))) (refl, refl);
   repair_due = refused refusal.RepairDue due-sure.known.opened refl (same-disk byte_audited_records);
   nothing_due = refused refusal.NothingDue stored-sure.known.opened refl (same-disk byte_records);
-  bad_name = put-refused _ _ refusal.BadName refl refl;
+  bad_name = put-refused _ _ refusal.BadName refl (omega arith) refl;
   bad_profile = AnswersPut.bad_profile four_records put-old.known.opened refl (same-disk four_records)
       (refl, refl) (quiet refl refl refl (λ e. refl));
-  old_version = put-refused _ _ refusal.OldVersion refl refl;
+  old_version = put-refused _ _ refusal.OldVersion refl (omega arith) refl;
   new_version = refused refusal.NewVersion upgraded_kept-sure.known.opened refl
       (same-disk byte_upgraded_records);
   gone = refused refusal.NoSuchName
