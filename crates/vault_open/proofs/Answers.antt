@@ -1,5 +1,5 @@
 -- What holds of an answer by its cause.
-use Rattle.vault_open.proofs.Words.{◌≡◌, ℕ, List, sym, subst, ◌∙◌, IfErr, IsErrAnd, WriteFault, InitFault, init_answer, IsTextFault}
+use Rattle.vault_open.proofs.Words.{◌≡◌, ℕ, List, Option, None, Some, sym, subst, ◌∙◌, IfErr, IfSome, IsErrAnd, Cells, Setup, WriteFault, InitFault, init_answer, journal_read, IsInitFault, IsNoWrite, IsTextFault}
 use Rattle.std.proofs.Common.{Ok, Err}
 use Rattle.std.specs.Prelude.{Result}
 use Rattle.stream_model.specs.declared.fault.WriteFault.TheVariants as write_fault
@@ -25,3 +25,15 @@ disk-unjudged write_fault.Memory is = absurd (let e : init_fault.Memory ≡ init
 -- a fault that lies in a disk's text is no bad setup
 pub text-unjudged : (bytes : List ℕ) (why : InitFault) → IsTextFault bytes why → why ≡ init_fault.BadSetup → ⊥
 text-unjudged bytes why fault is = subst (IsTextFault bytes) is fault
+
+-- nor in the bytes of a disk
+pub disk-told : (s : Setup) (told : Option Cells) (f : WriteFault) →
+    IfSome told (λ cells. IsInitFault (journal_read cells) s (init_answer f))
+disk-told s None f = tt
+disk-told s (Some cells) write_fault.Failed = tt
+disk-told s (Some cells) write_fault.Memory = tt
+
+-- and behind it something may be written
+pub disk-writes : (f : WriteFault) → IsNoWrite (init_answer f) → ⊥
+disk-writes write_fault.Failed none = none
+disk-writes write_fault.Memory none = none

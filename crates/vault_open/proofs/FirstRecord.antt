@@ -1,5 +1,5 @@
 -- The setup as the first record of a disk.
-use Rattle.vault_open.proofs.Words.{◌≡◌, inl, inr, ℕ, Bool, WriteFault, MayStandWith, ◌+◌, ◌<◌, ◌≤◌, ◌^◌, List, [], ◌∷◌, ◌++◌, length, take, drop, Option, Some, None, refl, sym, ap, ◌∙◌, subst, arith, length-append, length-take, IfSome, IsTrue, OnOk, IfErr, option_map, take-take, take-append-le, drop_at, Cells, reads, firm, written, synced, Goes, reads-firm, Setup, Record, SetUp, PutStart, PutDone, Drop, AuditStart, AuditDone, RepairDone, is_in_grammar, PutDoneIn, Version, Resume, Area, A, B, base_of, IsSwitched, StandsActive, active-long, entry_of, StopsIn, StandsFirm, IsAfterMovesIn, read-firm, IfSome-same, IsSetUpOn, reads-within, InitFault, IsBlank, IsReadied, with_first_record, first_answer, IsFirstFault, IsFirstAnswer, IsTextFault}
+use Rattle.vault_open.proofs.Words.{◌≡◌, inl, inr, ℕ, Bool, WriteFault, MayStandWith, ◌+◌, ◌<◌, ◌≤◌, ◌^◌, List, [], ◌∷◌, ◌++◌, length, take, drop, Option, Some, None, refl, sym, ap, ◌∙◌, subst, arith, length-append, length-take, IfSome, IsTrue, OnOk, IfErr, option_map, take-take, take-append-le, drop_at, Cells, reads, firm, written, synced, Goes, reads-firm, Setup, Record, SetUp, is_in_grammar, Area, A, B, base_of, IsSwitched, StandsActive, active-long, entry_of, StopsIn, StandsFirm, IsAfterMovesIn, read-firm, IfSome-same, IsSetUpOn, reads-within, InitFault, IsBlank, IsReadied, with_first_record, first_answer, IsFirstFault, IsFirstAnswer, IsTextFault}
 use Rattle.std.specs.Prelude.{Result, Ok, Err}
 use Rattle.record_defs.specs.Spellings.{spelling}
 use Rattle.record_codec.specs.declared.records.Record.{Record as RecordValue}

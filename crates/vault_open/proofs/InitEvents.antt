@@ -1,10 +1,11 @@
 -- An init as an event of the machine.
-use Rattle.vault_open.proofs.Words.{◌≡◌, inl, inr, ℕ, ◌<◌, ◌≤◌, Bool, true, false, List, [], ◌∷◌, length, Option, Some, None, refl, sym, ap, ◌∙◌, subst, arith, length-take, IfSome, IsTrue, is_some, IsErrAnd, option_map, false≢true, cases_lt, WriteFault, Cells, reads, synced, IsImage, EachImage, Goes, each_image-mono, Setup, Record, SetUp, PutStart, PutDone, Drop, AuditStart, AuditDone, RepairDone, PutDoneIn, Version, Resume, InEffect, RepairDue, is_setup, is_appended, largest_journal, Area, other_area, StandsActive, packed, setup_of, NoSetup, AreAccepted, active-front, active-take, State, Doubt, brought, StandsForState, LeavesDoubt, Inits, InitsBy, InitsClosed, StandsFirm, MayStandWith, one_meaning, bad_is_none, IsSoundJournal, IsSound, second-set_up, journal-brought, InitFault, Devices, devices, AreDevices, journal_read, IsFree, IsBlankIn, BeginsWithSetup, BeginsOtherwise, IsBadInit, blank-free, IsInitFault, IsNoWrite, MayInit, MakesInit, init_answer, IsBlank, IsReadied, IsHalfReady}
+use Rattle.vault_open.proofs.Words.{◌≡◌, inl, inr, ℕ, ◌<◌, ◌≤◌, Bool, true, false, List, [], ◌∷◌, length, Option, Some, None, refl, sym, ap, ◌∙◌, subst, arith, length-take, IfSome, IsTrue, is_some, IsErrAnd, option_map, false≢true, WriteFault, Cells, reads, synced, IsImage, EachImage, Goes, each_image-mono, Setup, Record, SetUp, PutStart, PutDone, Drop, AuditStart, AuditDone, RepairDone, PutDoneIn, Version, Resume, InEffect, RepairDue, is_setup, is_appended, largest_journal, Area, other_area, StandsActive, packed, setup_of, NoSetup, AreAccepted, active-front, active-take, State, Doubt, brought, StandsForState, LeavesDoubt, Inits, InitsBy, InitsClosed, StandsFirm, MayStandWith, one_meaning, bad_is_none, IsSoundJournal, IsSound, second-set_up, journal-brought, InitFault, Devices, devices, AreDevices, journal_read, IsFree, IsBlankIn, BeginsWithSetup, BeginsOtherwise, IsBadInit, blank-free, IsInitFault, IsNoWrite, MayInit, MakesInit, init_answer, IsBlank, IsReadied, IsHalfReady}
 use Rattle.std.proofs.Common.{Result, Ok, Err}
+use Rattle.std.specs.Prelude.{IsErrOf}
 use Rattle.std.specs.List.{list_all}
 use Rattle.std.proofs.lemmas.Option.{none-some}
 use Rattle.stream_model.specs.declared.fault.WriteFault.TheVariants as write_fault
-use Rattle.device_defs.specs.Faults.{Rose, HasCause, last_count}
+use Rattle.device_defs.specs.Faults.{Rose}
 use Rattle.device_defs.specs.Providers.{Provider}
 use Rattle.device_defs.proofs.PickLaws.{IsImage-reads}
 use Rattle.machine_defs.specs.Events as events
@@ -12,6 +13,7 @@ use Rattle.machine_defs.specs.Events.{Outcome, Init}
 use Rattle.machine_defs.specs.Refusals as refusal
 use Rattle.machine_defs.specs.Machine.{Happens}
 use Rattle.vault_open.specs.declared.fault.InitFault.TheVariants as init_fault
+use Rattle.vault_open.specs.Disks.{CallsDisk}
 use Rattle.vault_open.proofs.Images.{Shows, MayRead, packed-some, more-some, shown-read, shown-short, shown-long, read-accepted, read-fits, doubt-shown, firm-shown, bytes-shown, shown-again}
 
 -- ---- what bytes stand for
@@ -85,20 +87,14 @@ others-refused (RepairDue number counts ∷ q ∷ rs) a h = others-refused (q �
 
 -- ---- counts of faults
 
--- a fault whose cause rose later has a cause that rose since any time before
-pub cause-after : (a b c : ℕ) (F G : Type 0) → a ≤ b → HasCause b c F → (G → F) → HasCause a c G
-cause-after a b c F G le cause step =
-    let never = cause.never_falls in
-    record {
-      never_falls = omega (arith, le, never);
-      rose = λ g few. (rose-by (cause.rose (step g)) few);
-    }
-  where
-    rose-by : Rose b c → a < last_count → a < c
-    rose-by rose few = elim (cases_lt b last_count) [
-      | inl less ↦ (let up = rose less in omega (arith, le, up))
-      | inr more ↦ (let never = cause.never_falls in omega (arith, le, few, more, never))
-    ]
+-- a call behind one that was no fault
+pub called-after : {a b c : Option Cells} {f g h : ℕ} {F G : Type 0} → CallsDisk a b f g F → (F → ⊥) →
+    CallsDisk b c g h G → CallsDisk a c f h G
+called-after first none second = record {
+  tells = second.tells ∙ first.tells;
+  no_fault = λ sure. second.no_fault sure ∙ first.no_fault none;
+  cause = rw (first.no_fault none) at second.cause;
+}
 
 module _ (s : Setup) (w : State) (moment : ℕ) (providers : List Provider) where
   -- ---- states
@@ -383,21 +379,21 @@ module _ (s : Setup) (w : State) (moment : ℕ) (providers : List Provider) wher
       AreDevices (devices old f0 providers) w → is_setup s ≡ true
       → IfSome old (λ cells. IsInitFault (journal_read cells) s why) →
       (IsNoWrite why → new ≡ option_map synced old) → IfSome old (λ cells. IsHalfReady cells new)
-      → HasCause f0 f1 (why ≡ init_fault.DiskFault) → ((why ≡ init_fault.DiskFault → ⊥) → f1 ≡ f0) →
+      → CallsDisk old new f0 f1 (IsErrOf {T = ℕ} (Err why) init_fault.DiskFault) →
       MakesInit w moment s (Err why) (devices new f1 providers)
-  prepared-event None new f0 f1 why may are valid fault looked half cause stays = absurd (untold None refl may)
-  prepared-event (Some old) new f0 f1 init_fault.BadSetup may are valid fault looked half cause stays =
+  prepared-event None new f0 f1 why may are valid fault looked half calls = absurd (untold None refl may)
+  prepared-event (Some old) new f0 f1 init_fault.BadSetup may are valid fault looked half calls =
       absurd (false≢true (sym fault ∙ valid))
-  prepared-event (Some old) new f0 f1 init_fault.DiskFault may are valid fault looked half cause stays =
-      half-failed s w moment providers old f0 may are valid new f1 cause.never_falls half (cause.rose refl)
-  prepared-event (Some old) new f0 f1 init_fault.Memory may are valid fault looked half cause stays =
-      half-wanting s w moment providers old f0 may are valid new f1 cause.never_falls half (stays (λ e. cc))
-  prepared-event (Some old) new f0 f1 init_fault.Already may are valid fault looked half cause stays =
+  prepared-event (Some old) new f0 f1 init_fault.DiskFault may are valid fault looked half calls =
+      half-failed s w moment providers old f0 may are valid new f1 calls.cause.never_falls half (calls.cause.rose refl)
+  prepared-event (Some old) new f0 f1 init_fault.Memory may are valid fault looked half calls =
+      half-wanting s w moment providers old f0 may are valid new f1 calls.cause.never_falls half (calls.no_fault (λ e. cc))
+  prepared-event (Some old) new f0 f1 init_fault.Already may are valid fault looked half calls =
       subst (λ (o : Option Cells). MakesInit w moment s (Err init_fault.Already) (devices o f1 providers))
       (sym (looked tt))
-      (already-by s w moment providers old f0 may are valid f1 cause.never_falls fault.1.1.0 fault.1.0
+      (already-by s w moment providers old f0 may are valid f1 calls.cause.never_falls fault.1.1.0 fault.1.0
       fault.1.1.1 fault.1.2 (may-read w providers old f0 may are fault.1.1.0 fault.1.0 fault.1.1.1))
-  prepared-event (Some old) new f0 f1 (init_fault.BadJournal at) may are valid fault looked half cause stays =
+  prepared-event (Some old) new f0 f1 (init_fault.BadJournal at) may are valid fault looked half calls =
       absurd (no-bad w providers old f0 may are at fault.0 fault.1)
 
   module _ (area : Area) where
@@ -405,16 +401,16 @@ module _ (s : Setup) (w : State) (moment : ℕ) (providers : List Provider) wher
     pub append-event : (old mid new : Option Cells) (f0 f1 : ℕ) (fault : WriteFault) → MayInit w old →
         AreDevices (devices old f0 providers) w → is_setup s ≡ true
         → Goes (IsReadied area) old mid → MayStandWith area [] (SetUp s) new →
-        HasCause f0 f1 (fault ≡ write_fault.Failed) → ((fault ≡ write_fault.Failed → ⊥) → f1 ≡ f0) →
+        CallsDisk old new f0 f1 (IsErrOf {T = Unit {0}} (Err fault) write_fault.Failed) →
         MakesInit w moment s (Err (init_answer fault)) (devices new f1 providers)
-    append-event None mid new f0 f1 fault may are valid goes left cause stays = absurd (untold None refl may)
-    append-event (Some old) None new f0 f1 fault may are valid goes left cause stays = absurd goes
-    append-event (Some old) (Some mid) new f0 f1 write_fault.Failed may are valid goes left cause stays =
-        append-failed s w moment providers old f0 may are valid new f1 cause.never_falls area mid goes left
-        (cause.rose refl)
-    append-event (Some old) (Some mid) new f0 f1 write_fault.Memory may are valid goes left cause stays =
-        append-wanting s w moment providers old f0 may are valid new f1 cause.never_falls area mid goes left
-        (stays (λ e. cc))
+    append-event None mid new f0 f1 fault may are valid goes left calls = absurd (untold None refl may)
+    append-event (Some old) None new f0 f1 fault may are valid goes left calls = absurd goes
+    append-event (Some old) (Some mid) new f0 f1 write_fault.Failed may are valid goes left calls =
+        append-failed s w moment providers old f0 may are valid new f1 calls.cause.never_falls area mid goes left
+        (calls.cause.rose refl)
+    append-event (Some old) (Some mid) new f0 f1 write_fault.Memory may are valid goes left calls =
+        append-wanting s w moment providers old f0 may are valid new f1 calls.cause.never_falls area mid goes left
+        (calls.no_fault (λ e. cc))
 
     -- an init that is done is an event of the machine
     pub ready-event : (old mid new : Option Cells) (f0 f1 : ℕ) → MayInit w old →

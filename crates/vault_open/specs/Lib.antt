@@ -5,3 +5,4 @@ pub mod Folding
 pub mod Preparing
 pub mod Inits
 pub mod Stores
+pub mod Disks

@@ -3,7 +3,6 @@ ghost use Rattle.std.specs.Option.{option_map};
 ghost use Rattle.stream_model.specs.declared.fault.WriteFault.TheVariants as write_fault;
 ghost use Rattle.device_defs.specs.Cells.{reads};
 ghost use Rattle.device_defs.specs.Disks.{synced};
-ghost use Rattle.device_defs.specs.Faults.{HasCause};
 ghost use Rattle.device_defs.specs.Images.{EachImage};
 ghost use Rattle.device_defs.specs.Told.{Goes};
 ghost use Rattle.record_defs.specs.Records.{Record as Entry, Setup as SetupData, SetUp, is_setup, is_master};
@@ -13,6 +12,7 @@ ghost use Rattle.journal_core.specs.Texts.{StandsFirm, MayStandWith};
 ghost use Rattle.vault_open.specs.declared.fault.InitFault.TheVariants as init_fault;
 ghost use Rattle.opening_defs.specs.Journals.{journal_read};
 ghost use Rattle.vault_open.specs.Causes.{IsInitFault, IsNoWrite};
+ghost use Rattle.vault_open.specs.Disks.{CallsDisk};
 ghost use Rattle.vault_open.specs.Preparing.{IsBlank, emptied, IsReadied, IsHalfReady, with_first_record, first_answer, IsFirstAnswer, IsTextFault};
 
 use crate::fault::InitFault;
@@ -32,9 +32,8 @@ fn make_empty<D: Disk>(disk: &mut D) -> Result<(), WriteFault>
     ensures ok { OnOk result (D.holds disk.new ≡ option_map emptied (D.holds disk.old)) }
     ensures left { OnErr result (IfSome (D.holds disk.old) (λ cells. length (reads cells) ≤ 9) → EachImage
         (D.holds disk.new) (λ image. length image ≤ 9)) }
-    ensures tells { is_some (D.holds disk.new) ≡ is_some (D.holds disk.old) }
-    ensures no_fault { (IsErrOf result write_fault.Failed → ⊥) → D.faults disk.new ≡ D.faults disk.old }
-    ensures cause { HasCause (D.faults disk.old) (D.faults disk.new) (IsErrOf result write_fault.Failed) }
+    ensures called { CallsDisk (D.holds disk.old) (D.holds disk.new) (D.faults disk.old) (D.faults disk.new)
+        (IsErrOf result write_fault.Failed) }
 {
     disk.write_at(0, &NO_RECORD)?;
     disk.sync()?;
@@ -93,9 +92,8 @@ pub(crate) fn prepare<D: Disk>(alloc: Global, disk: &mut D) -> Result<u64, InitF
     ensures looked { IfErr result (λ why. IsNoWrite why → D.holds disk.new ≡ option_map synced
         (D.holds disk.old)) }
     ensures left { OnErr result (IfSome (D.holds disk.old) (λ cells. IsHalfReady cells (D.holds disk.new))) }
-    ensures tells { is_some (D.holds disk.new) ≡ is_some (D.holds disk.old) }
-    ensures no_fault { (IsErrOf result init_fault.DiskFault → ⊥) → D.faults disk.new ≡ D.faults disk.old }
-    ensures cause { HasCause (D.faults disk.old) (D.faults disk.new) (IsErrOf result init_fault.DiskFault) }
+    ensures called { CallsDisk (D.holds disk.old) (D.holds disk.new) (D.faults disk.old) (D.faults disk.new)
+        (IsErrOf result init_fault.DiskFault) }
 {
     let base = match read_disk(alloc, disk)? {
         None => {
@@ -144,9 +142,8 @@ pub(crate) fn append_setup<D: Disk>(
     ensures left { (area : Area) → base ≡ base_of area → IfSome (D.holds disk.old) (IsBlank area)
         → OnErr result (MayStandWith area [] (SetUp (with_master setup.now master.now.0))
         (D.holds disk.new)) }
-    ensures tells { is_some (D.holds disk.new) ≡ is_some (D.holds disk.old) }
-    ensures no_fault { (IsErrOf result write_fault.Failed → ⊥) → D.faults disk.new ≡ D.faults disk.old }
-    ensures cause { HasCause (D.faults disk.old) (D.faults disk.new) (IsErrOf result write_fault.Failed) }
+    ensures called { CallsDisk (D.holds disk.old) (D.holds disk.new) (D.faults disk.old) (D.faults disk.new)
+        (IsErrOf result write_fault.Failed) }
 {
     let mut append = Append::new(base, &setup_record(master.0, setup));
     append.turn(disk)?;

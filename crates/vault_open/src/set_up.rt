@@ -1,15 +1,10 @@
-ghost use Rattle.std.specs.Prelude.{◌≡◌, ◌↔◌, ℕ, false, List, IfSome, IfErr, OnOk, OnErr, IsErrOf, is_some};
-ghost use Rattle.device_defs.specs.Faults.{HasCause};
-ghost use Rattle.device_defs.specs.Images.{EachImage};
-ghost use Rattle.device_defs.specs.Told.{Goes};
+ghost use Rattle.std.specs.Prelude.{◌≡◌, ℕ, List, IsErrOf};
 ghost use Rattle.device_defs.specs.Providers.{Provider};
-ghost use Rattle.record_defs.specs.Records.{is_setup};
 ghost use Rattle.record_codec.specs.Entries.{with_master};
 ghost use Rattle.machine_defs.specs.States.{State};
 ghost use Rattle.vault_open.specs.declared.fault.InitFault.TheVariants as init_fault;
 ghost use Rattle.vault_open.specs.Devices.{devices, AreDevices};
-ghost use Rattle.opening_defs.specs.Journals.{journal_read, IsResynced, MayBeLeft, IsSetUpOn};
-ghost use Rattle.vault_open.specs.Causes.{IsInitFault, IsNoWrite};
+ghost use Rattle.vault_open.specs.Disks.{CallsDisk, SetsUp};
 ghost use Rattle.vault_open.specs.Inits.{MakesInit, MayInit};
 
 use crate::fault::InitFault;
@@ -28,20 +23,11 @@ pub fn init<D: Disk>(
     master: &Master,
     setup: &Setup,
 ) -> Result<(), InitFault>
-    ensures ok { OnOk result (Goes (IsSetUpOn (with_master setup.now master.now.0)) (D.holds disk.old)
-        (D.holds disk.new)) }
-    ensures bad_setup { IsErrOf result init_fault.BadSetup
-        ↔ (is_setup (with_master setup.now master.now.0) ≡ false) }
     ensures unlooked { IsErrOf result init_fault.BadSetup → disk.new ≡ disk.old }
-    ensures refused { IfErr result (λ why. IfSome (D.holds disk.old)
-        (λ cells. IsInitFault (journal_read cells) (with_master setup.now master.now.0) why)) }
-    ensures looked { IfErr result (λ why. IsNoWrite why → Goes IsResynced (D.holds disk.old)
-        (D.holds disk.new)) }
-    ensures left { OnErr result (IfSome (D.holds disk.old)
-        (λ cells. EachImage (D.holds disk.new) (MayBeLeft (with_master setup.now master.now.0) cells))) }
-    ensures tells { is_some (D.holds disk.new) ≡ is_some (D.holds disk.old) }
-    ensures no_fault { (IsErrOf result init_fault.DiskFault → ⊥) → D.faults disk.new ≡ D.faults disk.old }
-    ensures cause { HasCause (D.faults disk.old) (D.faults disk.new) (IsErrOf result init_fault.DiskFault) }
+    ensures set_up { SetsUp (with_master setup.now master.now.0) (D.holds disk.old) (D.holds disk.new)
+        result }
+    ensures called { CallsDisk (D.holds disk.old) (D.holds disk.new) (D.faults disk.old) (D.faults disk.new)
+        (IsErrOf result init_fault.DiskFault) }
     ensures machine { (w : State) (providers : List Provider) (moment : ℕ) → MayInit w (D.holds disk.old)
         → AreDevices (devices (D.holds disk.old) (D.faults disk.old) providers) w
         → MakesInit w moment (with_master setup.now master.now.0) result

@@ -1,13 +1,8 @@
-ghost use Rattle.std.specs.Prelude.{◌≡◌, List, IfSome, IfOk, IfErr, OnOk, IsErrOf, is_some};
-ghost use Rattle.std.specs.Option.{option_map};
-ghost use Rattle.device_defs.specs.Disks.{synced};
-ghost use Rattle.device_defs.specs.Faults.{HasCause};
-ghost use Rattle.device_defs.specs.Told.{Goes};
+ghost use Rattle.std.specs.Prelude.{List, IfOk};
 ghost use Rattle.record_defs.specs.Records.{Record};
 ghost use Rattle.record_defs.specs.Areas.{Area};
-ghost use Rattle.opening_defs.specs.Journals.{journal_read, IsRead, IsResynced};
-ghost use Rattle.vault_open.specs.declared.fault.StartFault.TheVariants as start_fault;
-ghost use Rattle.vault_open.specs.Causes.{IsStartFault, LiesInJournal};
+ghost use Rattle.opening_defs.specs.Journals.{IsRead};
+ghost use Rattle.vault_open.specs.Disks.{StartsOver};
 ghost use Rattle.vault_open.specs.Stores.{IsStoreOf};
 
 use crate::fault::StartFault;
@@ -37,16 +32,8 @@ pub struct Store {
 pub fn read_store<D: Disk>(alloc: Global, disk: &mut D) -> Result<Store, StartFault>
     ensures read { IfOk result (λ store. (area : Area) × (rs : List Record)
         × IsRead (D.holds disk.old) area rs × IsStoreOf store area rs (D.holds disk.new)) }
-    ensures refused { IfErr result
-        (λ why. IfSome (D.holds disk.old) (λ cells. IsStartFault (journal_read cells) why)) }
-    ensures synced { OnOk result (D.holds disk.new ≡ option_map synced (D.holds disk.old)) }
-    ensures resynced { IfErr result
-        (λ why. LiesInJournal why → D.holds disk.new ≡ option_map synced (D.holds disk.old)) }
-    ensures disk { Goes IsResynced (D.holds disk.old) (D.holds disk.new) }
-    ensures tells { is_some (D.holds disk.new) ≡ is_some (D.holds disk.old) }
-    ensures no_fault { (IsErrOf result start_fault.DiskFault → ⊥) → D.faults disk.new ≡ D.faults disk.old }
-    ensures cause { HasCause (D.faults disk.old) (D.faults disk.new)
-        (IsErrOf result start_fault.DiskFault) }
+    ensures start { StartsOver (D.holds disk.old) (D.holds disk.new) (D.faults disk.old) (D.faults disk.new)
+        result }
 {
     let Some(bytes) = read_disk(alloc, disk)? else {
         return Err(StartFault::NotSetUp);

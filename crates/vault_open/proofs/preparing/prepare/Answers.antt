@@ -9,7 +9,7 @@ returns-in_err-make_empty-in-None-clause-left g c =
     on_err c.from_residual-in_err-make_empty-in-None.result _
     (half-empty (g.D.Disk.holds c.args.disk.now) (g.D.Disk.holds c.read_disk.new.disk)
     (g.D.Disk.holds c.make_empty.new.disk)
-    c.in_ok-read_disk.ensures.synced (rw c.in-None.is at c.in_ok-read_disk.ensures.empty)
+    (c.in_ok-read_disk.ensures.disk.synced refl) (rw c.in-None.is at c.in_ok-read_disk.ensures.empty)
     c.in_err-make_empty-in-None.ensures.left)
 
 pub returns-in_err-base-in-Some-clause-refused : goal.returns-in_err-base-in-Some-clause-refused
@@ -29,7 +29,7 @@ returns-in_ok-make_empty-in-None-clause-ok g c = (
   refl,
   readied-empty (g.D.Disk.holds c.args.disk.now) (g.D.Disk.holds c.read_disk.new.disk)
       (g.D.Disk.holds c.make_empty.new.disk)
-      c.in_ok-read_disk.ensures.synced c.in_ok-make_empty-in-None.ensures.ok
+      (c.in_ok-read_disk.ensures.disk.synced refl) c.in_ok-make_empty-in-None.ensures.ok
       (rw c.in-None.is at c.in_ok-read_disk.ensures.empty),
 )
 
@@ -42,20 +42,20 @@ returns-in_ok-base-in-Some-clause-ok g c =
       none.0,
       none.1,
       readied-read told (g.D.Disk.holds c.read_disk.new.disk) c.deref.result.now none.0
-          c.in_ok-read_disk.ensures.synced looked_at none.2,
+          (c.in_ok-read_disk.ensures.disk.synced refl) looked_at none.2,
     )
 
 pub returns-in_err-read_disk-clause-left : goal.returns-in_err-read_disk-clause-left
 returns-in_err-read_disk-clause-left g c =
     on_err c.from_residual.result _
     (half-resynced (g.D.Disk.holds c.args.disk.now)
-    (g.D.Disk.holds c.read_disk.new.disk) c.read_disk.ensures.disk)
+    (g.D.Disk.holds c.read_disk.new.disk) c.read_disk.ensures.disk.resynced)
 
 pub returns-in_err-base-in-Some-clause-left : goal.returns-in_err-base-in-Some-clause-left
 returns-in_err-base-in-Some-clause-left g c =
     on_err c.from_residual-in_err-base-in-Some.result _
     (half-resynced (g.D.Disk.holds c.args.disk.now)
-    (g.D.Disk.holds c.read_disk.new.disk) c.read_disk.ensures.disk)
+    (g.D.Disk.holds c.read_disk.new.disk) c.read_disk.ensures.disk.resynced)
 
 pub returns-in_err-read_disk-clause-unjudged : goal.returns-in_err-read_disk-clause-unjudged
 returns-in_err-read_disk-clause-unjudged g c =
