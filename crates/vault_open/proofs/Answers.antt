@@ -1,9 +1,22 @@
 -- What holds of an answer by its cause.
-use Rattle.vault_open.proofs.Words.{◌≡◌, ℕ, List, Option, None, Some, sym, subst, ◌∙◌, IfErr, IfSome, IsErrAnd, Cells, Setup, WriteFault, InitFault, init_answer, journal_read, IsInitFault, IsNoWrite, IsTextFault}
+use Rattle.vault_open.proofs.Words.{◌≡◌, ℕ, List, Option, None, Some, sym, ap, subst, ◌∙◌, IfErr, IfSome, IsErrAnd, Cells, Setup, WriteFault, InitFault, init_answer, journal_read, IsInitFault, IsNoWrite, IsTextFault}
 use Rattle.std.proofs.Common.{Ok, Err}
 use Rattle.std.specs.Prelude.{Result}
 use Rattle.stream_model.specs.declared.fault.WriteFault.TheVariants as write_fault
 use Rattle.vault_open.specs.declared.fault.InitFault.TheVariants as init_fault
+
+-- an answer that is an error with a given cause is this error
+pub err-is : {T E : Type 0} (r : Result T E) (x : E) → IsErrAnd r (λ e. e ≡ x) → r ≡ Err x
+err-is (Ok t) x is = absurd is
+err-is (Err e) x is = ap (λ y. Err y) is
+
+-- two errors that are one have one cause
+pub err-same : {T E : Type 0} (x y : E) → ◌≡◌ {A = Result T E} (Err x) (Err y) → x ≡ y
+err-same x y is = cc
+
+-- a value is no error
+pub ok-no-err : {T E : Type 0} (t : T) (x : E) → ◌≡◌ {A = Result T E} (Ok t) (Err x) → ⊥
+ok-no-err t x is = cc
 
 -- what follows from the error of an answer is a statement about that error
 pub err-from : {T E : Type 0} (r : Result T E) (P Q : E → Type 0) → ((e : E) → P e → Q e) → IsErrAnd r P →

@@ -1,6 +1,6 @@
 -- An init as an event of the machine.
-use Rattle.vault_open.proofs.Words.{◌≡◌, inl, inr, ℕ, ◌<◌, ◌≤◌, Bool, true, false, List, [], ◌∷◌, length, Option, Some, None, refl, sym, ap, ◌∙◌, subst, arith, length-take, IfSome, IsTrue, is_some, IsErrAnd, option_map, false≢true, WriteFault, Cells, reads, synced, IsImage, EachImage, Goes, each_image-mono, Setup, Record, SetUp, PutStart, PutDone, Drop, AuditStart, AuditDone, RepairDone, PutDoneIn, Version, Resume, InEffect, RepairDue, is_setup, is_appended, largest_journal, Area, other_area, StandsActive, packed, setup_of, NoSetup, AreAccepted, active-front, active-take, State, Doubt, brought, StandsForState, LeavesDoubt, Inits, InitsBy, InitsClosed, StandsFirm, MayStandWith, one_meaning, bad_is_none, IsSoundJournal, IsSound, second-set_up, journal-brought, InitFault, Devices, devices, AreDevices, journal_read, IsFree, IsBlankIn, BeginsWithSetup, BeginsOtherwise, IsBadInit, blank-free, IsInitFault, IsNoWrite, MayInit, MakesInit, init_answer, IsBlank, IsReadied, IsHalfReady}
-use Rattle.std.proofs.Common.{Result, Ok, Err}
+use Rattle.vault_open.proofs.Words.{◌≡◌, inl, inr, ℕ, ◌<◌, ◌≤◌, Bool, true, false, List, [], ◌∷◌, length, Option, Some, None, refl, sym, ap, ◌∙◌, subst, arith, length-take, IfSome, IsTrue, is_some, option_map, false≢true, WriteFault, Cells, reads, synced, IsImage, EachImage, Goes, each_image-mono, Setup, Record, SetUp, PutStart, PutDone, Drop, AuditStart, AuditDone, RepairDone, PutDoneIn, Version, Resume, InEffect, RepairDue, is_setup, is_appended, largest_journal, Area, other_area, StandsActive, packed, setup_of, NoSetup, AreAccepted, active-front, active-take, State, Doubt, brought, StandsForState, LeavesDoubt, Inits, InitsBy, InitsClosed, StandsFirm, MayStandWith, one_meaning, bad_is_none, IsSoundJournal, IsSound, second-set_up, journal-brought, InitFault, Devices, devices, AreDevices, journal_read, IsFree, IsBlankIn, BeginsWithSetup, BeginsOtherwise, IsBadInit, blank-free, IsInitFault, IsNoWrite, MayInit, MakesInit, init_answer, IsBlank, IsReadied, IsHalfReady}
+use Rattle.std.proofs.Common.{Ok, Err}
 use Rattle.std.specs.Prelude.{IsErrOf}
 use Rattle.std.specs.List.{list_all}
 use Rattle.std.proofs.lemmas.Option.{none-some}
@@ -17,19 +17,6 @@ use Rattle.vault_open.specs.Disks.{CallsDisk}
 use Rattle.vault_open.proofs.Images.{Shows, MayRead, packed-some, more-some, shown-read, shown-short, shown-long, read-accepted, read-fits, doubt-shown, firm-shown, bytes-shown, shown-again}
 
 -- ---- what bytes stand for
-
--- an answer that is an error with a given cause is this error
-pub err-is : {T E : Type 0} (r : Result T E) (x : E) → IsErrAnd r (λ e. e ≡ x) → r ≡ Err x
-err-is (Ok t) x is = absurd is
-err-is (Err e) x is = ap (λ y. Err y) is
-
--- two errors that are one have one cause
-pub err-same : {T E : Type 0} (x y : E) → ◌≡◌ {A = Result T E} (Err x) (Err y) → x ≡ y
-err-same x y is = cc
-
--- a value is no error
-pub ok-no-err : {T E : Type 0} (t : T) (x : E) → ◌≡◌ {A = Result T E} (Ok t) (Err x) → ⊥
-ok-no-err t x is = cc
 
 begins-up : (rs : List Record) → BeginsWithSetup rs → is_some (setup_of rs) ≡ true
 begins-up [] h = absurd h

@@ -1,9 +1,12 @@
 -- A store as a start reads it, and why none was read.
 use Rattle.vault_open.proofs.Words.{◌≡◌, ◌≢◌, inl, inr, ℕ, ◌<◌, ◌≤◌, ◌&&◌, List, [], length, Option, Some, None, refl, sym, ap, ◌∙◌, subst, arith, length-take, IfSome, IsTrue, option_map, Cells, reads, synced, Record, Setup, is_setup, is_master, largest_journal, StandsFor, Area, StandsActive, setup_of, active-front, with_master, StandsFirm, read-firm, none-set_up, setup-spelled, Kept, StartFault, journal_read, IsRead, IsStartFault, IsFolded, IsFoldFault}
+use Rattle.std.proofs.Common.{Ok, Err}
 use Rattle.algebra_laws.proofs.Options.{some-not-none}
 use Rattle.vault_open.specs.declared.fault.StartFault.TheVariants as start_fault
 use Rattle.vault_open.specs.declared.store.Store.{Store}
+use Rattle.vault_open.specs.Disks.{ReadsDisk, StartsOver}
 use Rattle.vault_open.specs.Stores.{IsStoreOf}
+use Rattle.vault_open.proofs.Answers.{err-same, ok-no-err}
 
 -- these bytes were looked at, of a disk that tells what it holds
 abbrev pub IsLookedAt : Option Cells → List ℕ → Type 0
@@ -98,4 +101,40 @@ module _ (bytes : List ℕ) (area : Area) (rs : List Record) (t : Kept) (base en
     base = base_is ∙ is.base_is;
     end = end_is ∙ is.end_is;
     stands = firm told now same looked;
+  }
+
+-- ---- answers of a start
+
+-- a disk was read as well where less is said to be read, and as much to be a fault
+pub reads-as : {old new : Option Cells} {before now : ℕ} {R S F G : Type 0} → (S → R) → (F → G) → (G → F) →
+    ReadsDisk old new before now R F → ReadsDisk old new before now S G
+reads-as read there here disk = record {
+  resynced = disk.resynced;
+  synced = λ s. disk.synced (read s);
+  called = record {
+    tells = disk.called.tells;
+    no_fault = λ none. disk.called.no_fault (λ f. none (there f));
+    cause = record {
+      never_falls = disk.called.cause.never_falls;
+      rose = λ g. disk.called.cause.rose (here g);
+    };
+  };
+}
+
+module _ {T U : Type 0} {old new : Option Cells} {before now : ℕ} where
+  -- a start that goes well may give any value
+  pub ok-starts : {x : T} {y : U} → StartsOver old new before now (Ok x) →
+      StartsOver old new before now (Ok y)
+  ok-starts start = record {
+    refused = tt;
+    disk = reads-as (λ j. j) (λ e. absurd (ok-no-err _ _ e)) (λ e. absurd (ok-no-err _ _ e)) start.disk;
+  }
+
+  -- one that fails does so whatever it would give
+  pub err-starts : {why : StartFault} → StartsOver {T = T} old new before now (Err why) →
+      StartsOver {T = U} old new before now (Err why)
+  err-starts start = record {
+    refused = start.refused;
+    disk = reads-as (λ j. j) (λ e. ap (λ (f : StartFault). Err f) (err-same _ _ e))
+        (λ e. ap (λ (f : StartFault). Err f) (err-same _ _ e)) start.disk;
   }

@@ -2,10 +2,10 @@ use Rattle.vault_open.proofs.Words.{◌≡◌, true, refl, sym, ◌∙◌, ap, a
 use Rattle.std.proofs.Common.{Result, Ok, Err}
 use Rattle.vault_open.specs.declared.fault.InitFault.TheVariants as init_fault
 use Rattle.opening_defs.proofs.Resyncs.{resynced-same, resynced}
-use Rattle.vault_open.proofs.Answers.{unjudged, disk-unjudged, disk-told, disk-writes}
+use Rattle.vault_open.proofs.Answers.{err-is, err-same, ok-no-err, unjudged, disk-unjudged, disk-told, disk-writes}
 use Rattle.vault_open.proofs.FirstRecord.{base-low, set-up-on}
 use Rattle.vault_open.proofs.Prepared.{half-resynced, half-left, append-left}
-use Rattle.vault_open.proofs.InitEvents.{bad-refused, bad-setup, prepared-event, append-event, ready-event, err-is, err-same, ok-no-err, called-after, readied-blank}
+use Rattle.vault_open.proofs.InitEvents.{bad-refused, bad-setup, prepared-event, append-event, ready-event, called-after, readied-blank}
 use Rattle.vault_open.proofs.set_up.init.Goals as goal
 
 pub returns-then-not-check-clause-set_up : goal.returns-then-not-check-clause-set_up
