@@ -63,7 +63,7 @@ pub use Rattle.vault_core.specs.Carried.{CoreIs, refusal_of}
 pub use Rattle.vault_core.specs.Coming.{Acts, called_provider, calls_disk, IsNoJob}
 pub use Rattle.vault_core.specs.declared.wish.BeginFault.{BeginFault}
 pub use Rattle.vault_open.proofs.Images.{bytes-shown, MayRead, more-some, packed-some, read-accepted, read-fits, shown-again, shown-long, shown-read, shown-short, Shows}
-pub use Rattle.vault_open.proofs.InitEvents.{err-is, err-same}
+pub use Rattle.vault_open.proofs.Answers.{err-is, err-same}
 pub use Rattle.vault_open.specs.Causes.{IsStartFault, LiesInJournal}
 pub use Rattle.vault_open.specs.Devices.{AreDevices, Devices, devices}
 pub use Rattle.vault_open.specs.declared.fault.StartFault.{StartFault}

@@ -59,7 +59,7 @@ pub use Rattle.vault.specs.declared.packing.PackAnswer.{PackAnswer}
 pub use Rattle.vault.specs.declared.turn.Ended.{Ended}
 pub use Rattle.vault_core.specs.Carried.{refusal_of}
 pub use Rattle.vault_core.specs.declared.wish.BeginFault.{BeginFault}
-pub use Rattle.vault_open.proofs.InitEvents.{err-same}
+pub use Rattle.vault_open.proofs.Answers.{err-same}
 pub use Rattle.vault_open.specs.Devices.{AreDevices, Devices}
 pub use Rattle.vault_open.specs.declared.fault.InitFault.{InitFault}
 pub use Rattle.hail_top.specs.Answered.{AnswersWords}

@@ -111,7 +111,7 @@ pub use Rattle.vault_core.specs.declared.pinned.Pinned.{Pinned as PinnedFile, Pi
 pub use Rattle.vault_core.specs.declared.reply.Reply.{Reply}
 pub use Rattle.vault_core.specs.declared.wish.BeginFault.{BeginFault}
 pub use Rattle.vault_open.proofs.Images.{all-shown, doubt-shown, firm-shown, shown-again, switched-shown}
-pub use Rattle.vault_open.proofs.InitEvents.{err-is}
+pub use Rattle.vault_open.proofs.Answers.{err-is}
 pub use Rattle.vault_open.specs.Devices.{AreDevices, Devices, devices}
 pub use Rattle.vault_table.specs.Values.{file_of_entry, IsFoldOf, Kept}
 pub use Rattle.vault.specs.Asking.{ask_put, Asked, CanAsk, challenge_put, HasHeard, HasJudged, IsAuditing, IsAuditNumber, IsQuestion, last_answers, MayAsk, MayPut, MayTell, pin_among, pin_at, pin_in, pin_of_job, profile_or, sums_on, TakesAsk, TellsAsk, vault_object}

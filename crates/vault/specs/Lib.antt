@@ -18,6 +18,7 @@ pub mod Stands
 pub mod Movers
 pub mod Calls
 pub mod Fresh
+pub mod Started
 pub mod Benches
 pub mod Ending
 pub mod Files
