@@ -1,16 +1,16 @@
 -- Clients over a disk of no known state: a run begins at each reopening.
-use Rattle.hail_client.proofs.Words.{◌≡◌, ℕ, ◌<◌, ◌≤◌, false, List, [], Option, Some, None, Result, Err, refl, ap, sym, subst, inl, arith, IsSome, IfSome, IsTrue, IsErrAnd, is_some, list_all, false≢true, is_some-none, Cells, Rose, EachImage, Provider, Goes, Record, is_in_grammar, largest_journal, AreAccepted, Area, A, end_in, Outcome, Reopen, State, setup_in, IsSetUp, Rereads, Reopens, StandsForState, IsSound, IsAtRest, journal-whole, rest-sound, StartFault, Vault, IsJustOpened, devices, IsRead, IsResynced, MayBeLeft, provider_count, Stands, IsStreamless, Client, ReopenFault, client_next_job, with_vault, without_vault, start_refusal, reopen_outcome, UnlessBadJournal, provider_or_empty, StandsClosed, StandsBy, IsMadeAnew, IsStanding, OpensOver, err-is}
-use Rattle.std.proofs.Common.{true, length}
-use Rattle.record_defs.specs.Records.{Setup}
+use Rattle.hail_client.proofs.Words.{◌≡◌, ℕ, ◌<◌, ◌≤◌, false, List, [], Option, Some, None, Result, Err, refl, ap, sym, subst, inl, arith, IsSome, IsTrue, IsErrAnd, is_some, list_all, false≢true, is_some-none, Cells, Provider, Goes, Record, is_in_grammar, largest_journal, AreAccepted, Area, A, end_in, Outcome, Reopen, State, setup_in, IsSetUp, Rereads, Reopens, StandsForState, IsSound, IsAtRest, journal-whole, rest-sound, StartFault, Vault, IsJustOpened, devices, IsResynced, provider_count, Stands, IsStreamless, Client, ReopenFault, client_next_job, with_vault, without_vault, start_refusal, reopen_outcome, UnlessBadJournal, provider_or_empty, StandsClosed, StandsBy, IsMadeAnew, IsStanding, OpensOver, err-is}
+use Rattle.std.proofs.Common.{true, length, Ok}
 use Rattle.machine_defs.specs.Events as events
 use Rattle.machine_defs.specs.Refusals as refusal
 use Rattle.vault_open.specs.declared.fault.StartFault.TheVariants as start_fault
+use Rattle.vault_open.specs.Disks.{StartsOver}
+use Rattle.vault.specs.Started.{IsStarted}
 use Rattle.hail_client.specs.declared.fault.ReopenFault.TheVariants as reopen_fault
 use Rattle.hail_client.proofs.Held.{zeros, zeros-held}
 use Rattle.hail_client.proofs.Fresh.{each-at}
 use Rattle.hail_client.proofs.Reopened.{stands-opened, count-is, up, opened}
 use Rattle.hail_client.proofs.Settled.{same-left}
-use Rattle.hail_client.proofs.Reopening.{WasOpened}
 
 -- by whether a disk tells
 pub by-told : {A X : Type 0} (told : Option A) → (IsSome told → X) → (is_some told ≡ false → X) → X
@@ -120,52 +120,50 @@ module _ (moment next f g : ℕ) (ps : List Provider) (old new : Option Cells) (
     };
   }
 
-  fault-anew : (why : StartFault) → (why ≡ start_fault.DiskFault → Rose f g) →
-      ((why ≡ start_fault.DiskFault → ⊥) → g ≡ f) →
+  fault-anew : {T : Type 0} (why : StartFault) → StartsOver {T = T} old new f g (Err why) →
       UnlessBadJournal (Err (reopen_fault.NotOpened why))
       (AnewBy (events.Refused (start_refusal why)) (without_vault next))
-  fault-anew start_fault.DiskFault rose stays =
-      closed-anew A [] none-rests refusal.DiskFault (g, never, rose refl, refl)
-  fault-anew start_fault.Memory rose stays = closed-anew A [] none-rests refusal.Memory
-      (ap (λ n. closed-over A [] next n ps) (stays (λ e. cc)))
-  fault-anew start_fault.NotSetUp rose stays = closed-anew A [] none-rests refusal.NotSetUp
+  fault-anew start_fault.DiskFault start =
+      closed-anew A [] none-rests refusal.DiskFault (g, never, start.disk.called.cause.rose refl, refl)
+  fault-anew start_fault.Memory start = closed-anew A [] none-rests refusal.Memory
+      (ap (λ n. closed-over A [] next n ps) (start.disk.called.no_fault (λ e. cc)))
+  fault-anew start_fault.NotSetUp start = closed-anew A [] none-rests refusal.NotSetUp
       (closed-over A [] next f ps, same-rereads-over A [] next f ps, refl, (g, never, refl))
-  fault-anew (start_fault.BadJournal at) rose stays = tt
+  fault-anew (start_fault.BadJournal at) start = tt
 
 -- records were read
-module _ (told : Option Cells) (area : Area) (rs : List Record) (is_read : IsRead told area rs) (v : Vault)
-    (holds : Option Cells) (g next : ℕ)
-    (stands : (u : State) (qs : List Provider) → IsJustOpened u area rs next g qs →
-    Stands v (devices holds g qs) u) where
-  rest : (n h : ℕ) (qs : List Provider) → IsAtRest (closed-over area rs n h qs)
-  rest = rests-over area rs (λ none. absurd (is_read.some none)) is_read.accepted is_read.in_grammar is_read.room
+module _ {v : Vault} {told holds : Option Cells} {g next : ℕ} (s : IsStarted v told holds g next) where
+  rest : (n h : ℕ) (qs : List Provider) → IsAtRest (closed-over s.area s.records n h qs)
+  rest = rests-over s.area s.records (λ none. absurd (s.is_read.some none)) s.is_read.accepted
+      s.is_read.in_grammar s.is_read.room
 
   module _ (f : ℕ) (ps : List Provider) where
     abbrev start : State
-    start = closed-over area rs next f ps
+    start = closed-over s.area s.records next f ps
 
     sound : IsSound 8 start
     sound = rest-sound 8 start (rest next f ps)
 
     is-up : IsSetUp start
-    is-up = up start rs rs area sound (same-left start) is_read.some
+    is-up = up start s.records s.records s.area sound (same-left start) s.is_read.some
 
     -- the vault that was opened has as many providers as the setup that it read
     pub uses-as : provider_count v ≡ (setup_in start).n
-    uses-as = count-is start rs rs area sound (same-left start) is_read.some v holds g next refl stands
+    uses-as = count-is start s.records s.records s.area sound (same-left start) s.is_read.some v holds g next
+        refl s.stands
 
     -- with enough providers, the vault that was opened stands for an open state over them
-    pub stands-open : provider_count v ≤ length ps →
-        Stands v (devices holds g ps) (opened start rs rs area (provider_or_empty ps) (length ps) g)
+    pub stands-open : provider_count v ≤ length ps → Stands v (devices holds g ps)
+        (opened start s.records s.records s.area (provider_or_empty ps) (length ps) g)
     stands-open enough =
-        stands-opened start rs rs area sound (same-left start) is_read.some v holds g next refl stands
-        (provider_or_empty ps) ps
-        (record { count = refl; each = each-at ps })
+        stands-opened start s.records s.records s.area sound (same-left start) s.is_read.some v holds g next
+        refl s.stands (provider_or_empty ps) ps (record { count = refl; each = each-at ps })
         (let e = uses-as in omega (arith, enough, e))
 
     -- there is a state that was just opened over them
     pub just-opened : provider_count v ≤ length ps →
-        IsJustOpened (record (closed-over area rs next g ps) { is_open = true }) area rs next g ps
+        IsJustOpened (record (closed-over s.area s.records next g ps) { is_open = true }) s.area s.records
+        next g ps
     unfolding setup_in
     just-opened enough = record {
       at_rest = record {
@@ -203,26 +201,27 @@ module _ (told : Option Cells) (area : Area) (rs : List Record) (is_read : IsRea
           IsMadeAnew moment next Reopen (events.Refused refusal.TooFewProviders) (without_vault next)
           (devices old f ps) (devices holds g ps)
       few-anew few =
-          closed-anew moment next f g ps old holds old_is holds_is never area rs rest refusal.TooFewProviders (
+          closed-anew moment next f g ps old holds old_is holds_is never s.area s.records rest
+          refusal.TooFewProviders (
             start,
-            same-rereads-over area rs next f ps,
+            same-rereads-over s.area s.records next f ps,
             is-up,
             (let e = uses-as in omega (arith, few, e)),
             (g, never, refl),
           )
 
       opened-anew : provider_count v ≤ length ps → (streamless : IsStreamless v) →
-          IsMadeAnew moment next Reopen events.Opened (with_vault v streamless next)
-          (devices old f ps) (devices holds g ps)
+          IsMadeAnew moment next Reopen events.Opened (with_vault v streamless next) (devices old f ps)
+          (devices holds g ps)
       opened-anew enough streamless = record {
         before = start;
-        stands_before = stands-over area rs rest next f ps old (untold-images old start old_is);
+        stands_before = stands-over s.area s.records rest next f ps old (untold-images old start old_is);
         makes = record {
-          state = opened start rs rs area (provider_or_empty ps) (length ps) g;
+          state = opened start s.records s.records s.area (provider_or_empty ps) (length ps) g;
           spelled = tt;
           happens = (
             start,
-            same-rereads-over area rs next f ps,
+            same-rereads-over s.area s.records next f ps,
             is-up,
             (let e = uses-as in omega (arith, enough, e)),
             (g, never, refl),
@@ -233,80 +232,58 @@ module _ (told : Option Cells) (area : Area) (rs : List Record) (is_read : IsRea
 
 -- ---- by the client
 
-module _ (c left : Client) (left_is : left ≡ without_vault (client_next_job c)) (old new : Option Cells)
-    (f g : ℕ) where
-  module _ (moment : ℕ) (ps : List Provider) (none : is_some old ≡ false) (goes : Goes IsResynced old new)
-      (never : f ≤ g) where
+module _ (c left : Client) (left_is : left ≡ without_vault (client_next_job c)) where
+  -- a client that holds no vault stands, with its devices, for some closed state
+  pub left-standing : (old new : Option Cells) (g : ℕ) (ps : List Provider) → is_some old ≡ false →
+      Goes IsResynced old new → IsStanding left (devices new g ps)
+  left-standing old new g ps none goes =
+      rw left_is (closed-standing (without_vault (client_next_job c)) g ps new refl
+      (untold-goes IsResynced old new none goes))
+
+  module _ {old new : Option Cells} {f g : ℕ} (ps : List Provider) (none : is_some old ≡ false) (moment : ℕ)
+      {T : Type 0} where
     -- a reopening that fails, for what it read or by the disk, is an event of some closed state
     pub refused-anew : (why : StartFault) (result : Result Unit ReopenFault) →
-        IsErrAnd result (λ e. e ≡ reopen_fault.NotOpened why) → (why ≡ start_fault.DiskFault → Rose f g) →
-        ((why ≡ start_fault.DiskFault → ⊥) → g ≡ f) → UnlessBadJournal result
+        IsErrAnd result (λ e. e ≡ reopen_fault.NotOpened why) → StartsOver {T = T} old new f g (Err why) →
+        UnlessBadJournal result
         (IsMadeAnew moment (client_next_job c) Reopen (reopen_outcome result) left (devices old f ps)
         (devices new g ps))
-    refused-anew why result is rose stays =
-        subst (λ (x : Client). UnlessBadJournal result
-        (IsMadeAnew moment (client_next_job c) Reopen (reopen_outcome result) x (devices old f ps)
-        (devices new g ps))) (sym left_is)
-        (subst (λ (r : Result Unit ReopenFault). UnlessBadJournal r
-        (IsMadeAnew moment (client_next_job c) Reopen (reopen_outcome r)
-        (without_vault (client_next_job c)) (devices old f ps) (devices new g ps)))
-        (sym (err-is result (reopen_fault.NotOpened why) is))
+    refused-anew why result is start =
+        rw (left_is, err-is result (reopen_fault.NotOpened why) is)
         (fault-anew moment (client_next_job c) f g ps old new (is_some-none old none)
-        (untold-goes IsResynced old new none goes) never why rose stays))
+        (untold-goes IsResynced old new none start.disk.resynced) start.disk.called.cause.never_falls why start)
 
-    -- a reopening with too few providers is refused, as an event of some closed state
-    pub few-are : (v : Vault) → WasOpened v old new g left.next_job → length ps < provider_count v →
-        IsMadeAnew moment (client_next_job c) Reopen (events.Refused refusal.TooFewProviders) left
-        (devices old f ps) (devices new g ps)
-    few-are v was few =
-        (let all : WasOpened v old new g (client_next_job c) =
-        subst (λ (x : Client). WasOpened v old new g x.next_job) left_is was in
-        subst (λ (x : Client). IsMadeAnew moment (client_next_job c) Reopen
-        (events.Refused refusal.TooFewProviders) x (devices old f ps) (devices new g ps)) (sym left_is)
-        (few-anew old all.0 all.1 all.2 v new g (client_next_job c) all.3 f ps moment old (is_some-none old none)
-        (untold-goes IsResynced old new none goes) never few))
+    module _ {x : T} (start : StartsOver old new f g (Ok x)) {v : Vault}
+        (s : IsStarted v old new g left.next_job) where
+      -- a reopening with too few providers is refused, as an event of some closed state
+      pub few-are : length ps < provider_count v →
+          IsMadeAnew moment (client_next_job c) Reopen (events.Refused refusal.TooFewProviders) left
+          (devices old f ps) (devices new g ps)
+      few-are few = rw left_is (few-anew (rw left_is at s) f ps moment old (is_some-none old none)
+          (untold-goes IsResynced old new none start.disk.resynced) start.disk.called.cause.never_falls few)
 
-    -- a reopening with enough providers opens, as an event of some closed state
-    pub enough-are : (v : Vault) → WasOpened v old new g left.next_job → provider_count v ≤ length ps →
-        (streamless : IsStreamless v) → IsMadeAnew moment (client_next_job c) Reopen events.Opened
-        (with_vault v streamless left.next_job) (devices old f ps) (devices new g ps)
-    enough-are v was enough streamless =
-        (let all : WasOpened v old new g (client_next_job c) =
-        subst (λ (x : Client). WasOpened v old new g x.next_job) left_is was in
-        subst (λ (x : Client). IsMadeAnew moment (client_next_job c) Reopen events.Opened
-        (with_vault v streamless x.next_job) (devices old f ps) (devices new g ps))
-        (sym left_is)
-        (opened-anew old all.0 all.1 all.2 v new g (client_next_job c) all.3 f ps moment old (is_some-none old none)
-        (untold-goes IsResynced old new none goes) never enough streamless))
-
-    -- a client that holds no vault stands, with its devices, for some closed state
-    pub left-standing : IsStanding left (devices new g ps)
-    left-standing =
-        subst (λ (x : Client). IsStanding x (devices new g ps)) (sym left_is)
-        (closed-standing (without_vault (client_next_job c)) g ps new refl (untold-goes IsResynced old new none goes))
+      -- a reopening with enough providers opens, as an event of some closed state
+      pub enough-are : provider_count v ≤ length ps → (streamless : IsStreamless v) →
+          IsMadeAnew moment (client_next_job c) Reopen events.Opened (with_vault v streamless left.next_job)
+          (devices old f ps) (devices new g ps)
+      enough-are enough streamless =
+          rw left_is (opened-anew (rw left_is at s) f ps moment old (is_some-none old none)
+          (untold-goes IsResynced old new none start.disk.resynced) start.disk.called.cause.never_falls enough
+          streamless)
 
   -- a vault over enough providers stands for each state just opened over what was read, and there is one
-  pub opens-over : (v : Vault) (handed : ℕ) → WasOpened v old new g left.next_job →
-      provider_count v ≤ handed → (streamless : IsStreamless v) →
-      OpensOver old (client_next_job c) handed (with_vault v streamless left.next_job) new g
-  opens-over v handed was enough streamless =
-      (let all : WasOpened v old new g (client_next_job c) =
-      subst (λ (x : Client). WasOpened v old new g x.next_job) left_is was in
-      record {
-        area = all.0;
-        records = all.1;
-        is_read = all.2;
-        each = λ w providers just. all.3 w providers just;
+  pub opens-over : {old new : Option Cells} {g : ℕ} {v : Vault} (handed : ℕ)
+      (s : IsStarted v old new g left.next_job) → provider_count v ≤ handed →
+      OpensOver old (client_next_job c) handed (with_vault v s.streams left.next_job) new g
+  opens-over {old} {new} {g} handed s enough =
+      (let all : IsStarted _ old new g (client_next_job c) = rw left_is at s in
+      rw left_is (record {
+        area = all.area;
+        records = all.records;
+        is_read = all.is_read;
+        each = λ w providers just. all.stands w providers just;
         one = λ providers as_many. (
-          record (closed-over all.0 all.1 (client_next_job c) g providers) { is_open = true },
-          just-opened old all.0 all.1 all.2 v new g (client_next_job c) all.3 g providers
-              (omega (arith, enough, as_many)),
+          record (closed-over all.area all.records (client_next_job c) g providers) { is_open = true },
+          just-opened all g providers (omega (arith, enough, as_many)),
         );
-      })
-
--- ---- inits
-
--- an image of a disk as it was is one that a failed init may leave
-pub left-same : (s : Setup) (told : Option Cells) → IfSome told (λ cells. EachImage told (MayBeLeft s cells))
-left-same s None = tt
-left-same s (Some cells) = λ image is. inl is
+      }))

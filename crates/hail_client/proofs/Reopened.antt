@@ -1,11 +1,13 @@
 -- A reopening as an event of the machine.
-use Rattle.hail_client.proofs.Words.{◌≡◌, ◌≢◌, ◌⊎◌, inl, inr, ℕ, zero, suc, ◌<◌, ◌≤◌, false, List, [], replicate, length-take, Option, Some, None, refl, ap, sym, subst, ◌∙◌, arith, is_some, slice_get, option_map, length-replicate, Cells, reads, synced, Rose, Goes, Provider, Record, largest_journal, Area, StandsActive, setup_of, Reopen, State, setup_in, given_up, StandsForState, Reopens, IsSetUp, IsNotSetUp, IsSound, IsAtRest, events-sound, StartFault, Vault, AreHanded, IsJustOpened, devices, AreDevices, journal_read, IsRead, IsResynced, IsStartFault, LiesInJournal, provider_count, Stands, IsStreamless, Shows, shown-read, shown-long, read-accepted, read-fits, bytes-shown, shown-again, with_vault, without_vault, start_refusal, anyone, StandsClosed, MakesEvent}
-use Rattle.std.proofs.Common.{true, length}
+use Rattle.hail_client.proofs.Words.{◌≡◌, ◌≢◌, ◌⊎◌, inl, inr, ℕ, zero, suc, ◌<◌, ◌≤◌, false, List, [], replicate, length-take, Option, Some, None, refl, ap, sym, subst, ◌∙◌, arith, is_some, slice_get, option_map, length-replicate, Cells, reads, synced, Rose, Goes, Provider, Record, largest_journal, Area, StandsActive, setup_of, Reopen, State, setup_in, given_up, StandsForState, Reopens, IsSetUp, IsNotSetUp, IsSound, IsAtRest, events-sound, StartFault, Vault, AreHanded, IsJustOpened, devices, AreDevices, journal_read, IsResynced, IsStartFault, provider_count, Stands, IsStreamless, Shows, shown-read, shown-long, read-accepted, read-fits, bytes-shown, shown-again, with_vault, without_vault, start_refusal, anyone, StandsClosed, MakesEvent}
+use Rattle.std.proofs.Common.{true, length, Err}
 use Rattle.record_defs.specs.Records.{Setup}
 use Rattle.record_defs.specs.Reading.{HasNoSetup}
 use Rattle.machine_defs.specs.Events as events
 use Rattle.machine_defs.specs.Refusals as refusal
 use Rattle.vault_open.specs.declared.fault.StartFault.TheVariants as start_fault
+use Rattle.vault_open.specs.Disks.{StartsOver}
+use Rattle.vault.specs.Started.{IsStarted}
 use Rattle.hail_client.proofs.Settled.{AreLeft, left_with, left-rereads, left-sound, same-left, read-left, left-set_up, none-read}
 use Rattle.opening_defs.proofs.Readings.{bad-none}
 use Rattle.device_defs.proofs.PickLaws.{IsImage-reads}
@@ -187,43 +189,41 @@ module _ (w : State) (moment next : ℕ) (old : Cells) (f0 f1 : ℕ) (ps : List 
       ∙ ap (λ (l : List Record). is_some (setup_of l)) none
 
   -- a start that fails, by the disk or by what it read, is a reopening that the machine refuses
-  pub fault-event : (new : Option Cells) (why : StartFault) → Goes IsResynced (Some old) new →
-      IsStartFault (journal_read old) why → (LiesInJournal why → new ≡ option_map synced (Some old)) →
-      (why ≡ start_fault.DiskFault → Rose f0 f1) → ((why ≡ start_fault.DiskFault → ⊥) → f1 ≡ f0) →
+  pub fault-event : {T : Type 0} {new : Option Cells} (why : StartFault) →
+      StartsOver {T = T} (Some old) new f0 f1 (Err why) →
       MakesEvent w moment Reopen (events.Refused (start_refusal why)) (without_vault next) (devices new f1 ps)
-  fault-event new start_fault.DiskFault goes is lies rose stays =
+  fault-event {T} {new} start_fault.DiskFault start =
       refused-at new refusal.DiskFault left
-      (f1, le, subst (λ (k : ℕ). Rose k f1) (sym are.faults) (rose refl), refl)
-      (resynced-images new goes) refl refl (λ j. refl) refl refl
-  fault-event new start_fault.Memory goes is lies rose stays =
+      (f1, le, subst (λ (k : ℕ). Rose k f1) (sym are.faults) (start.disk.called.cause.rose refl), refl)
+      (resynced-images new start.disk.resynced) refl refl (λ j. refl) refl refl
+  fault-event {T} {new} start_fault.Memory start =
       refused-at new refusal.Memory left
-      (ap (λ n. record (given_up w) { disk_faults = n }) (stays (λ e. cc) ∙ sym are.faults))
-      (resynced-images new goes) refl refl (λ j. refl) refl refl
-  fault-event new start_fault.NotSetUp goes is lies rose stays =
-      (let none = none-read w (reads old) sound.journal read (free-read is) in
+      (ap (λ n. record (given_up w) { disk_faults = n })
+      (start.disk.called.no_fault (λ e. cc) ∙ sym are.faults))
+      (resynced-images new start.disk.resynced) refl refl (λ j. refl) refl refl
+  fault-event {T} {new} start_fault.NotSetUp start =
+      (let none = none-read w (reads old) sound.journal read (free-read start.refused) in
       refused-at new refusal.NotSetUp (record bare { disk_faults = f1 })
       (bare, left-rereads w w.records w.journal w.area (same-left w), none-set none.0, (f1, le, refl))
       (shown-again new bare (record bare { disk_faults = f1 }) refl refl refl refl
-      (synced-images new bare (lies tt) none.1)) refl refl (λ j. refl) refl refl)
-  fault-event new (start_fault.BadJournal at) goes is lies rose stays = absurd (not-bad at is)
+      (synced-images new bare (start.disk.synced tt) none.1)) refl refl (λ j. refl) refl refl)
+  fault-event (start_fault.BadJournal at) start = absurd (not-bad at start.refused)
 
   -- records were read
-  module _ (new : Option Cells) (area : Area) (js : List Record) (is_read : IsRead (Some old) area js)
-      (is_synced : new ≡ option_map synced (Some old)) (v : Vault)
-      (stands : (u : State) (qs : List Provider) → IsJustOpened u area js next f1 qs →
-      Stands v (devices new f1 qs) u) where
-    whole : StandsActive (reads old) area js
-    whole = active-front largest_journal (reads old) area js is_read.reads_are.1
+  module _ {new : Option Cells} {v : Vault} (s : IsStarted v (Some old) new f1 next)
+      (is_synced : new ≡ option_map synced (Some old)) where
+    whole : StandsActive (reads old) s.area s.records
+    whole = active-front largest_journal (reads old) s.area s.records s.is_read.reads_are.1
 
     -- the history with them
-    kept : (rs : List Record) × AreLeft w rs js area
-    kept = read-left w area js (shown-read w (reads old) area js sound.journal read whole)
+    kept : (rs : List Record) × AreLeft w rs s.records s.area
+    kept = read-left w s.area s.records (shown-read w (reads old) s.area s.records sound.journal read whole)
 
     abbrev here : State
-    here = left_with w kept.0 js area
+    here = left_with w kept.0 s.records s.area
 
     uses-as : provider_count v ≡ (setup_in here).n
-    uses-as = count-is w kept.0 js area sound kept.1 is_read.some v new f1 next is_next stands
+    uses-as = count-is w kept.0 s.records s.area sound kept.1 s.is_read.some v new f1 next is_next s.stands
 
     -- a start with too few providers is a reopening that the machine refuses
     pub few-event : length ps < provider_count v →
@@ -235,8 +235,8 @@ module _ (w : State) (moment next : ℕ) (old : Cells) (f0 f1 : ℕ) (ps : List 
         (let e = uses-as in omega (arith, count, few, e)) in
         refused-at new refusal.TooFewProviders (record here { disk_faults = f1 }) (
           here,
-          left-rereads w kept.0 js area kept.1,
-          up w kept.0 js area sound kept.1 is_read.some,
+          left-rereads w kept.0 s.records s.area kept.1,
+          up w kept.0 s.records s.area sound kept.1 s.is_read.some,
           fewer,
           (f1, le, refl),
         )
@@ -246,24 +246,23 @@ module _ (w : State) (moment next : ℕ) (old : Cells) (f0 f1 : ℕ) (ps : List 
 
     -- a start with enough providers is a reopening that the machine makes
     pub opened-event : provider_count v ≤ length ps → (streamless : IsStreamless v) →
-        MakesEvent w moment Reopen events.Opened (with_vault v streamless next)
-        (devices new f1 ps)
+        MakesEvent w moment Reopen events.Opened (with_vault v streamless next) (devices new f1 ps)
     opened-event enough streamless =
         (let count = are.providers.count in
         let many : (setup_in here).n ≤ length ps = (let e = uses-as in omega (arith, enough, e)) in
         let many_handed : (setup_in here).n ≤ w.handed = omega (arith, many, count) in
         record {
-          state = opened w kept.0 js area w.providers w.handed f1;
+          state = opened w kept.0 s.records s.area w.providers w.handed f1;
           spelled = tt;
           happens = (
             here,
-            left-rereads w kept.0 js area kept.1,
-            up w kept.0 js area sound kept.1 is_read.some,
+            left-rereads w kept.0 s.records s.area kept.1,
+            up w kept.0 s.records s.area sound kept.1 s.is_read.some,
             many_handed,
             (f1, le, refl),
           );
-          stands = subst (λ (k : ℕ). Stands v (devices new f1 ps) (opened w kept.0 js area w.providers k f1))
-              (sym count)
-              (stands-opened w kept.0 js area sound kept.1 is_read.some v new f1 next is_next stands
-              w.providers ps (record { count = refl; each = are.providers.each }) many);
+          stands = subst (λ (k : ℕ). Stands v (devices new f1 ps)
+              (opened w kept.0 s.records s.area w.providers k f1)) (sym count)
+              (stands-opened w kept.0 s.records s.area sound kept.1 s.is_read.some v new f1 next is_next
+              s.stands w.providers ps (record { count = refl; each = are.providers.each }) many);
         })

@@ -7,6 +7,7 @@
 --   IfJob result P              == P holds of the turn, where the step was one of a job of the vault
 --   HeardIs turn entries        == the end of a job tells that it heard these; a scrub and a pack hear nothing
 --   UnlessPack result P         == P holds, where the step was none of a pack
+--   started result              == how the start within a reopening went
 --   reopen_outcome result       == of a reopening
 --   UnlessBadJournal result P   == P holds unless what the reopening read was no journal, which is no outcome
 --                                  of the machine
@@ -86,6 +87,11 @@ start_refusal start_fault.DiskFault = refusal.DiskFault
 start_refusal start_fault.NotSetUp = refusal.NotSetUp
 start_refusal (start_fault.BadJournal at) = refusal.BadJournal at
 start_refusal start_fault.Memory = refusal.Memory
+
+-- the start within a reopening, which went well where too few providers were handed in
+abbrev pub started : Result Unit ReopenFault → Result Unit StartFault
+started (Err (reopen_fault.NotOpened why)) = Err why
+started result = Ok tt
 
 -- why no vault is open after a reopening
 abbrev pub reopen_refusal : ReopenFault → Refusal

@@ -15,6 +15,8 @@
 --   IsMadeAnew moment next event outcome c old new == from some closed state over the devices, the next job
 --                                                     having this number, an event has this outcome: a run
 --                                                     begins there
+--   IsReopened old new result                      == a vault is open behind a reopening where it was done, and
+--                                                     job numbers go on
 --   OpensOver read next handed c holds faults      == a vault is open over some records that the disk, where
 --                                                     it tells, reads: client and devices stand for each
 --                                                     state that was just opened over them, and there is one
@@ -24,7 +26,7 @@
 --                                                     devices stand for the last state of it
 --   RunsJobOn start ms job turn c d                == behind these moments a job, a scrub or a pack was
 --                                                     stepped until this turn, at which it did not go on
-use Rattle.std.specs.Prelude.{◌≡◌, ◌≢◌, ℕ, false, List, ◌∷◌, ◌++◌, length, Option, Some, None, IfSome}
+use Rattle.std.specs.Prelude.{◌≡◌, ◌≢◌, ℕ, false, List, ◌∷◌, ◌++◌, length, Option, Some, None, Result, IfSome, is_ok}
 use Rattle.device_defs.specs.Cells.{Cells}
 use Rattle.device_defs.specs.Providers.{Provider}
 use Rattle.record_defs.specs.Records.{Record}
@@ -54,6 +56,8 @@ use Rattle.hail_client.specs.declared.alone.Alone.TheVariants as alone
 use Rattle.hail_client.specs.declared.alone.ScrubJob.{ScrubJob}
 use Rattle.hail_client.specs.declared.client.Client.{Client}
 use Rattle.hail_client.specs.declared.turn.ClientTurn.{ClientTurn}
+use Rattle.hail_client.specs.declared.fault.ReopenFault.{ReopenFault}
+use Rattle.hail_client.specs.Client.{is_open, client_next_job}
 use Rattle.hail_client.specs.Outcomes.{step_outcome, HeardIs, UnlessPack}
 
 -- no vault is open in a state
@@ -116,6 +120,13 @@ pub record IsMadeAnew (moment next : ℕ) (event : Event) (outcome : Outcome) (c
   pub before : State
   pub stands_before : StandsClosed next old before
   pub makes : MakesEvent before moment event outcome c new
+
+-- a client behind a reopening
+pub record IsReopened (old new : Client) (result : Result Unit ReopenFault) : Type 0 where
+  -- a vault is open where it was done, and none after an error
+  pub opens : is_open new ≡ is_ok result
+  -- job numbers go on
+  pub next_job : client_next_job new ≡ client_next_job old
 
 -- client and devices stand for each state that was just opened over some records that were read, and there
 -- is one

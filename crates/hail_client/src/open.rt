@@ -1,26 +1,16 @@
-ghost use Rattle.std.specs.Prelude.{◌≡◌, ◌↔◌, ℕ, true, false, List, Err, IsSome, IfSome, IfErr, OnOk, OnErr, IsErrOf, is_ok, is_some, length};
-ghost use Rattle.std.specs.Option.{option_map};
-ghost use Rattle.device_defs.specs.Disks.{synced};
-ghost use Rattle.device_defs.specs.Faults.{HasCause};
-ghost use Rattle.device_defs.specs.Images.{EachImage};
+ghost use Rattle.std.specs.Prelude.{◌≡◌, ℕ, true, false, List, Err, IsSome, OnOk, IsErrOf, is_some, length};
 ghost use Rattle.device_defs.specs.Providers.{Provider};
-ghost use Rattle.device_defs.specs.Told.{Goes};
 ghost use Rattle.machine_defs.specs.Events.{Init, Reopen, Stop, Stopped};
-ghost use Rattle.record_defs.specs.Records.{is_setup};
 ghost use Rattle.machine_defs.specs.States.{State};
 ghost use Rattle.record_codec.specs.Entries.{with_master};
 ghost use Rattle.vault_open.specs.Devices.{devices};
-ghost use Rattle.opening_defs.specs.Journals.{journal_read, IsSetUpOn, IsResynced, MayBeLeft};
-ghost use Rattle.vault_open.specs.Causes.{IsInitFault, IsStartFault, IsNoWrite, LiesInJournal};
+ghost use Rattle.vault_open.specs.Disks.{CallsDisk, SetsUp, StartsOver};
 ghost use Rattle.vault_open.specs.declared.fault.InitFault.TheVariants as init_fault;
-ghost use Rattle.vault_open.specs.declared.fault.StartFault.{StartFault as StartFaultData};
-ghost use Rattle.vault_open.specs.declared.fault.StartFault.TheVariants as start_fault;
-ghost use Rattle.hail_client.specs.declared.fault.ReopenFault.TheVariants as reopen_fault;
 ghost use Rattle.vault_open.specs.Inits.{init_outcome};
 ghost use Rattle.vault.specs.Streams.{IsStreamless};
 ghost use Rattle.hail_client.specs.Client.{is_open, client_next_job, with_vault, without_vault};
-ghost use Rattle.hail_client.specs.Outcomes.{reopen_outcome, UnlessBadJournal};
-ghost use Rattle.hail_client.specs.Stands.{ClientStands, MakesEvent, IsMadeAnew, IsStanding, OpensOver};
+ghost use Rattle.hail_client.specs.Outcomes.{started, reopen_outcome, UnlessBadJournal};
+ghost use Rattle.hail_client.specs.Stands.{ClientStands, MakesEvent, IsMadeAnew, IsStanding, IsReopened, OpensOver};
 
 use crate::begin::bytes_are_bytes;
 use crate::client::Client;
@@ -47,25 +37,13 @@ impl Client {
             (devices (D.holds disk.new) (D.faults disk.new) providers) }
         ensures already { is_open self.now ≡ true
             → (result ≡ Err init_fault.Already) × (disk.new ≡ disk.old) }
-        ensures ok { OnOk result (Goes (IsSetUpOn (with_master setup.now master.now.0)) (D.holds disk.old)
-            (D.holds disk.new)) }
-        ensures refused { is_open self.now ≡ false
-            → IfErr result (λ why. IfSome (D.holds disk.old)
-            (λ cells. IsInitFault (journal_read cells) (with_master setup.now master.now.0) why)) }
-        ensures bad_setup { is_open self.now ≡ false
-            → IsErrOf result init_fault.BadSetup ↔ (is_setup (with_master setup.now master.now.0) ≡ false) }
-        ensures looked { IfErr result
-            (λ why. IsNoWrite why → Goes IsResynced (D.holds disk.old) (D.holds disk.new)) }
-        ensures left { OnErr result (IfSome (D.holds disk.old)
-            (λ cells. EachImage (D.holds disk.new)
-            (MayBeLeft (with_master setup.now master.now.0) cells))) }
+        ensures set_up { is_open self.now ≡ false
+            → SetsUp (with_master setup.now master.now.0) (D.holds disk.old) (D.holds disk.new) result }
         ensures standing { (providers : List Provider)
             → IsStanding self.now (devices (D.holds disk.old) (D.faults disk.old) providers)
             → IsStanding self.now (devices (D.holds disk.new) (D.faults disk.new) providers) }
-        ensures tells { is_some (D.holds disk.new) ≡ is_some (D.holds disk.old) }
-        ensures no_fault { (IsErrOf result init_fault.DiskFault → ⊥) → D.faults disk.new ≡ D.faults disk.old }
-        ensures cause { HasCause (D.faults disk.old) (D.faults disk.new)
-            (IsErrOf result init_fault.DiskFault) }
+        ensures called { CallsDisk (D.holds disk.old) (D.holds disk.new) (D.faults disk.old)
+            (D.faults disk.new) (IsErrOf result init_fault.DiskFault) }
     {
         setups_are_spelled(*setup, master);
         if self.vault.is_some() {
@@ -99,21 +77,9 @@ impl Client {
         ensures standing { (providers : List Provider) → length providers ≡ handed
             → IsStanding self.old (devices (D.holds disk.old) (D.faults disk.old) providers)
             → IsStanding self.new (devices (D.holds disk.new) (D.faults disk.new) providers) }
-        ensures opens { is_open self.new ≡ is_ok result }
-        ensures next_job { client_next_job self.new ≡ client_next_job self.old }
-        ensures refused { (why : StartFaultData) → IsErrOf result (reopen_fault.NotOpened why)
-            → IfSome (D.holds disk.old) (λ cells. IsStartFault (journal_read cells) why) }
-        ensures synced { OnOk result (D.holds disk.new ≡ option_map synced (D.holds disk.old)) }
-        ensures resynced { (why : StartFaultData) → IsErrOf result (reopen_fault.NotOpened why)
-            → LiesInJournal why
-            → D.holds disk.new ≡ option_map synced (D.holds disk.old) }
-        ensures few { IsErrOf result reopen_fault.TooFewProviders
-            → D.holds disk.new ≡ option_map synced (D.holds disk.old) }
-        ensures disk { Goes IsResynced (D.holds disk.old) (D.holds disk.new) }
-        ensures no_fault { (IsErrOf result (reopen_fault.NotOpened start_fault.DiskFault) → ⊥)
-            → D.faults disk.new ≡ D.faults disk.old }
-        ensures cause { HasCause (D.faults disk.old) (D.faults disk.new)
-            (IsErrOf result (reopen_fault.NotOpened start_fault.DiskFault)) }
+        ensures reopened { IsReopened self.old self.new result }
+        ensures start { StartsOver (D.holds disk.old) (D.holds disk.new) (D.faults disk.old)
+            (D.faults disk.new) (started result) }
     {
         self.give_up();
         let vault = Vault::start(alloc, disk, self.next_job)?;

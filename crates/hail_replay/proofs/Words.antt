@@ -7,7 +7,7 @@ pub use Rattle.std.specs.Prelude.{IfSome, is_ok, is_some, IsSome, nat_lt, OnErr,
 pub use Rattle.std.specs.Vec.Iter.{into_iter_items}
 pub use Rattle.command_defs.specs.Seen.{Ending, nobody, provider_at, ReadsUpTo, Seen, sinking}
 pub use Rattle.command_defs.specs.Sinking.{Sinking, WritesLine}
-pub use Rattle.device_defs.proofs.Lasting.{is_some-goes, rose-before, told_then-nothing}
+pub use Rattle.device_defs.proofs.Lasting.{rose-before, told_then-nothing}
 pub use Rattle.device_defs.specs.Cells.{Cells}
 pub use Rattle.device_defs.specs.Providers.{HasPlace, Held, Provider, with_symbol, without_block}
 pub use Rattle.device_defs.specs.Told.{TakesFront, then_told, told_then}

@@ -1,4 +1,4 @@
-use Rattle.hail_replay.proofs.Words.{Some, map, refl, ap₂, arith, IsSome, length-map, HasPlace, with_symbol, without_block, is_some-goes, Init, Alter, Lose, Stop, Reopen, GetJob, DropJob, AuditJob, RepairJob, UpgradeJob, devices, replace_outcome}
+use Rattle.hail_replay.proofs.Words.{Some, map, refl, ap₂, arith, IsSome, length-map, HasPlace, with_symbol, without_block, Init, Alter, Lose, Stop, Reopen, GetJob, DropJob, AuditJob, RepairJob, UpgradeJob, devices, replace_outcome}
 use Rattle.record_codec.specs.Entries.{with_master}
 use Rattle.provider_model.specs.Seen.{provider_seen}
 use Rattle.hail_replay.specs.declared.came.Came.TheVariants as came
@@ -16,7 +16,8 @@ returns-in-Init g c =
         machine = λ start ms told R. once (Init (with_master c.in-Init.setup c.in-Init.master.0))
             (Some (came.Inited c.init.result)) _ _ _ _
             (λ w moment T. c.init.ensures.machine w ps moment told T) (λ w es T. refl) start ms R;
-        kept = init-kept _ _ _ _ _ ps c.init.ensures.tells c.init.ensures.cause.never_falls
+        kept = init-kept _ _ _ _ _ ps c.init.ensures.called.tells
+            c.init.ensures.called.cause.never_falls
             (c.init.ensures.standing ps) c.requires.standing;
       });
     }
@@ -31,8 +32,8 @@ returns-in-Reopen g c =
         machine = λ start ms told R. once Reopen (Some (came.Reopened c.reopen.result)) _ _ _ _
             (λ w moment T. c.reopen.ensures.machine w ps moment told count T) (λ w es T. refl) start ms R;
         kept = reopen-kept _ _ _ _ _ _ ps _ c.reopen.result
-            (is_some-goes _ _ _ c.reopen.ensures.disk) c.reopen.ensures.cause.never_falls count
-            c.reopen.ensures.opens c.reopen.ensures.next_job c.reopen.ensures.opened;
+            c.reopen.ensures.start.disk.called.tells c.reopen.ensures.start.disk.called.cause.never_falls count
+            c.reopen.ensures.reopened.opens c.reopen.ensures.reopened.next_job c.reopen.ensures.opened;
       });
     }
 

@@ -1,7 +1,6 @@
 use Rattle.hail_client.proofs.Words.{sym, ◌∙◌, is_some-none, with_master}
 use Rattle.hail_client.proofs.Begun.{init-open, init-closed}
-use Rattle.hail_client.proofs.Anew.{by-told, closed-standing, left-same}
-use Rattle.opening_defs.proofs.Resyncs.{resynced-same}
+use Rattle.hail_client.proofs.Anew.{by-told, closed-standing}
 use Rattle.hail_client.proofs.client.Client.init.Goals as goal
 
 pub returns-then-is_some-clause-machine : goal.returns-then-is_some-clause-machine
@@ -16,13 +15,6 @@ returns-clause-machine g c = λ w providers moment told stands.
     (g.D.Disk.faults c.args.disk.now) (g.D.Disk.faults c.init.new.disk) providers c.init.result
     (sym c.is_some.ensures ∙ c.if-is_some.false) told (c.init.ensures.machine w providers moment) stands
 
-pub returns-then-is_some-clause-looked : goal.returns-then-is_some-clause-looked
-returns-then-is_some-clause-looked g c = λ unwritten. resynced-same (g.D.Disk.holds c.args.disk.now)
-
-pub returns-then-is_some-clause-left : goal.returns-then-is_some-clause-left
-returns-then-is_some-clause-left g c =
-    left-same (with_master c.args.setup.now c.args.master.now.0) (g.D.Disk.holds c.args.disk.now)
-
 pub returns-clause-standing : goal.returns-clause-standing
 returns-clause-standing g c = λ providers S.
     by-told (g.D.Disk.holds c.args.disk.now)
@@ -31,4 +23,4 @@ returns-clause-standing g c = λ providers S.
     (λ none. closed-standing c.args.self.now
     (g.D.Disk.faults c.init.new.disk) providers (g.D.Disk.holds c.init.new.disk)
     (sym c.is_some.ensures ∙ c.if-is_some.false)
-    (is_some-none (g.D.Disk.holds c.init.new.disk) (c.init.ensures.tells ∙ none)))
+    (is_some-none (g.D.Disk.holds c.init.new.disk) (c.init.ensures.called.tells ∙ none)))
