@@ -1,8 +1,9 @@
 -- The states for which a vault that was just opened stands.
-use Rattle.command_jobs.proofs.Words.{◌≡◌, ℕ, ◌≤◌, List, length, replicate, Option, None, ap, sym, subst, ◌∙◌, arith, length-replicate, Cells, Provider, Record, Area, setup_or_none, State, setup_in, Seen, nobody, setup_in_effect, IsRead, IsJustOpened, with_master, Vault, Devices, devices, vault_setup, master_of, table_of, next_job_of, provider_count, Stands, IsStreamless, AreRecords, IsFreshOver}
+use Rattle.command_jobs.proofs.Words.{◌≡◌, ℕ, ◌≤◌, List, length, replicate, Option, None, ap, sym, subst, ◌∙◌, arith, length-replicate, Cells, Provider, Record, Area, setup_or_none, State, setup_in, Seen, nobody, setup_in_effect, IsJustOpened, with_master, Vault, Devices, devices, vault_setup, master_of, table_of, provider_count, Stands, AreRecords, IsFreshOver}
 use Rattle.record_defs.specs.Records.{Setup}
 use Rattle.command_defs.specs.Opens as opens
 use Rattle.vault_table.specs.Values.{IsFoldOf}
+use Rattle.vault.specs.Started.{IsStarted}
 use Rattle.command_jobs.proofs.Readings.{read-records}
 
 -- what the laws on commands say of opened states
@@ -48,28 +49,24 @@ setup-over w area records faults providers J =
     ap setup_or_none (sym J.at_rest.rest.journal.alike.setup) ∙ ap setup_in_effect J.journal
 
 -- a vault that stands for each such state is fresh over the records
-pub fresh-vault : ThereIsOne →
-    (v : Vault) (area : Area) (records : List Record) (told holds : Option Cells) (faults : ℕ) →
-    IsRead told area records →
-    ((w : State) (providers : List Provider) → IsJustOpened w area records 1 faults providers →
-    Stands v (devices holds faults providers) w) → next_job_of v ≡ 1 → IsStreamless v →
-    IsFreshOver v area records holds faults
-fresh-vault there v area records told holds faults r stands first streams =
-    (let ps : List Provider = replicate (setup_in_effect records).n nobody in
-    let few : (setup_in_effect records).n ≤ length ps =
-    (let e = length-replicate (setup_in_effect records).n nobody in omega (arith, e)) in
-    let R = read-records told area records r in
-    let x = there-opened there area records faults ps R few in
-    let S = stands x.0 ps x.1 in
-    let s = sym S.desk.setup ∙ setup-over x.0 area records faults ps x.1 in
+pub fresh-vault : ThereIsOne → {v : Vault} {told holds : Option Cells} {faults : ℕ}
+    (s : IsStarted v told holds faults 1) → IsFreshOver v s.area s.records holds faults
+fresh-vault there {v} {told} {holds} {faults} s =
+    (let ps : List Provider = replicate (setup_in_effect s.records).n nobody in
+    let few : (setup_in_effect s.records).n ≤ length ps =
+    (let e = length-replicate (setup_in_effect s.records).n nobody in omega (arith, e)) in
+    let R = read-records told s.area s.records s.is_read in
+    let x = there-opened there s.area s.records faults ps R few in
+    let S = s.stands x.0 ps x.1 in
+    let up = sym S.desk.setup ∙ setup-over x.0 s.area s.records faults ps x.1 in
     record {
       read = R;
-      stands = stands;
-      providers = ap (λ (z : Setup). z.n) s;
-      tolerance = ap (λ (z : Setup). z.tolerance) s;
+      stands = s.stands;
+      providers = ap (λ (z : Setup). z.n) up;
+      tolerance = ap (λ (z : Setup). z.tolerance) up;
       table = subst (λ rs. IsFoldOf rs (table_of v)) x.1.journal S.desk.core.table;
-      next_job = first;
-      streams = streams;
+      next_job = s.number;
+      streams = s.streams;
     })
 
 -- the setup of a vault that was just opened

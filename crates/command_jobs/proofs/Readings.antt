@@ -1,9 +1,14 @@
 -- What a start says of a disk, in the words of the commands.
-use Rattle.command_jobs.proofs.Words.{◌≡◌, ℕ, List, Option, Some, None, Result, Ok, Err, refl, ap, sym, subst, ◌∙◌, inl, inr, IfSome, IfErr, option_map, Cells, reads, Goes, reads-firm, Record, Area, journal_read, IsRead, IsResynced, AreRecords, unopened_of, IsUnopened, LiesInStore}
+use Rattle.command_jobs.proofs.Words.{◌≡◌, ℕ, List, Option, Some, None, Result, Ok, Err, refl, ap, sym, subst, ◌∙◌, inl, inr, IfSome, IfErr, option_map, Cells, reads, Goes, reads-firm, Record, Area, journal_read, IsRead, IsResynced, AreRecords, unopened_of, IsUnopened}
 use Rattle.std.specs.Result.{IsErrAnd}
+use Rattle.std.specs.Prelude.{IsErrOf}
 use Rattle.vault_open.specs.declared.fault.StartFault.{StartFault}
 use Rattle.vault_open.specs.declared.fault.StartFault.TheVariants as start_fault
-use Rattle.vault_open.specs.Causes.{IsStartFault, LiesInJournal}
+use Rattle.vault_open.specs.Causes.{IsStartFault}
+use Rattle.vault_open.specs.Disks.{ReadsDisk, StartsOver}
+use Rattle.vault_open.proofs.Stores.{reads-as}
+use Rattle.command_jobs.specs.Opened.{HasJudged}
+use Rattle.command_jobs.specs.declared.open.Unopened.TheVariants as unopened
 
 -- records that a disk reads are records of a journal
 pub read-records : (told : Option Cells) (area : Area) (rs : List Record) → IsRead told area rs →
@@ -21,12 +26,16 @@ fault-seen None handed (start_fault.BadJournal at) h = tt
 fault-seen (Some cells) handed (start_fault.BadJournal at) h = h
 fault-seen told handed start_fault.Memory h = tt
 
--- a cause of a start that lies in the store lies in the journal
-pub lies-read : (why : StartFault) → LiesInStore (unopened_of why) → LiesInJournal why
-lies-read start_fault.DiskFault h = h
-lies-read start_fault.NotSetUp h = h
-lies-read (start_fault.BadJournal at) h = h
-lies-read start_fault.Memory h = h
+-- a start that fails reads the disk as an opening does that fails for the same cause
+pub unopened-reads : {T U : Type 0} {old new : Option Cells} {f g : ℕ} (why : StartFault) →
+    StartsOver {T = T} old new f g (Err why) →
+    ReadsDisk old new f g (HasJudged {T = U} (Err (unopened_of why)))
+    (IsErrOf {T = U} (Err (unopened_of why)) unopened.DiskFault)
+unopened-reads start_fault.DiskFault start = reads-as (λ j. j) (λ e. refl) (λ e. refl) start.disk
+unopened-reads start_fault.NotSetUp start = reads-as (λ j. j) (λ e. absurd cc) (λ e. absurd cc) start.disk
+unopened-reads (start_fault.BadJournal at) start =
+    reads-as (λ j. j) (λ e. absurd cc) (λ e. absurd cc) start.disk
+unopened-reads start_fault.Memory start = reads-as (λ j. j) (λ e. absurd cc) (λ e. absurd cc) start.disk
 
 -- a disk that is synced again reads as before
 pub reads-resynced : (old new : Option Cells) → Goes IsResynced old new →

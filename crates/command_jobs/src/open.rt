@@ -1,14 +1,11 @@
-ghost use Rattle.std.specs.Prelude.{◌≡◌, List, IfOk, IfErr, OnOk, IsErrOf};
+ghost use Rattle.std.specs.Prelude.{◌≡◌, List, IfOk, IfErr, IsErrOf};
 ghost use Rattle.std.specs.Option.{option_map};
 ghost use Rattle.device_defs.specs.Cells.{reads};
-ghost use Rattle.device_defs.specs.Disks.{synced};
-ghost use Rattle.device_defs.specs.Faults.{HasCause};
-ghost use Rattle.device_defs.specs.Told.{Goes};
 ghost use Rattle.record_defs.specs.Records.{Record};
 ghost use Rattle.record_defs.specs.Areas.{Area};
-ghost use Rattle.opening_defs.specs.Journals.{IsResynced};
+ghost use Rattle.vault_open.specs.Disks.{ReadsDisk};
 ghost use Rattle.command_jobs.specs.declared.open.Unopened.TheVariants as unopened;
-ghost use Rattle.command_jobs.specs.Opened.{IsFreshOver, IsReadFor, IsFreshFor, IsUnopened, LiesInStore, unopened_of};
+ghost use Rattle.command_jobs.specs.Opened.{IsFreshOver, IsReadFor, IsFreshFor, IsUnopened, HasJudged, unopened_of};
 
 use disk_model::Disk;
 use job_laws::alone::opened_states;
@@ -55,12 +52,8 @@ pub fn open_vault<D: Disk>(alloc: Global, disk: &mut D, handed: usize) -> Result
     ensures ready { IfOk result (λ vault. IsFreshFor vault (D.holds disk.new) (D.faults disk.new) handed) }
     ensures refused { IfErr result (IsUnopened (D.holds disk.old) handed) }
     ensures reads { option_map reads (D.holds disk.new) ≡ option_map reads (D.holds disk.old) }
-    ensures disk { Goes IsResynced (D.holds disk.old) (D.holds disk.new) }
-    ensures synced { OnOk result (D.holds disk.new ≡ option_map synced (D.holds disk.old)) }
-    ensures resynced { IfErr result
-        (λ why. LiesInStore why → D.holds disk.new ≡ option_map synced (D.holds disk.old)) }
-    ensures no_fault { (IsErrOf result unopened.DiskFault → ⊥) → D.faults disk.new ≡ D.faults disk.old }
-    ensures cause { HasCause (D.faults disk.old) (D.faults disk.new) (IsErrOf result unopened.DiskFault) }
+    ensures disk { ReadsDisk (D.holds disk.old) (D.holds disk.new) (D.faults disk.old) (D.faults disk.new)
+        (HasJudged result) (IsErrOf result unopened.DiskFault) }
 {
     opened_states();
     let vault = Vault::start(alloc, disk, FIRST_JOB)?;
