@@ -1,17 +1,17 @@
 //! Bodies of command_jobs's public functions, for its must-fail edits to spoil.
 ghost use Rattle.std.specs.Prelude.{◌≡◌, ℕ, List, Option, None, false, length, map, IfOk, IsErrOf};
 ghost use Rattle.device_defs.specs.Cells.{Cells};
-ghost use Rattle.device_defs.specs.Faults.{HasCause};
 ghost use Rattle.device_defs.specs.Providers.{Provider};
 ghost use Rattle.record_defs.specs.Records.{Record};
 ghost use Rattle.command_defs.specs.Seen.{Seen};
 ghost use Rattle.command_defs.specs.Opens as opens;
 ghost use Rattle.provider_model.specs.Seen.{provider_seen};
 ghost use Rattle.vault_open.specs.Devices.{devices};
+ghost use Rattle.vault_open.specs.Disks.{ReadsDisk};
 ghost use Rattle.code_defs.specs.Profiles.{is_unknown};
 ghost use Rattle.vault.specs.Devices.{devices_seen};
 ghost use Rattle.command_jobs.specs.declared.open.Unopened.TheVariants as unopened;
-ghost use Rattle.command_jobs.specs.Opened.{IsFreshOver, IsFreshFor};
+ghost use Rattle.command_jobs.specs.Opened.{IsFreshOver, IsFreshFor, HasJudged};
 ghost use Rattle.command_jobs.specs.Kinds.{kind_of};
 ghost use Rattle.command_jobs.specs.Ends.{IsSeenBefore, IsSeenAfter, EndsOver};
 ghost use Rattle.command_jobs.specs.Packs.{PackEndsOver};
@@ -29,7 +29,8 @@ use vault::{BeginFault, Ended, PackAnswer, Vault};
 
 /// `open_vault`.
 pub fn open_vault<D: Disk>(alloc: Global, disk: &mut D, handed: usize) -> Result<Vault, Unopened>
-    ensures cause { HasCause (D.faults disk.old) (D.faults disk.new) (IsErrOf result unopened.DiskFault) }
+    ensures disk { ReadsDisk (D.holds disk.old) (D.holds disk.new) (D.faults disk.old) (D.faults disk.new)
+        (HasJudged result) (IsErrOf result unopened.DiskFault) }
 {
     let opened = command_jobs::open_vault(alloc, disk, handed);
     opened

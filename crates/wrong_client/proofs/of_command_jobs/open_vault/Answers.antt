@@ -1,4 +1,4 @@
 use Rattle.wrong_client.proofs.of_command_jobs.open_vault.Goals as goal
 
 pub returns : goal.returns
-returns g c = record { cause = c.open_vault-opened.ensures.cause }
+returns g c = c.open_vault-opened.ensures.disk
