@@ -1,7 +1,7 @@
 //! Bodies of vault's public functions, for its must-fail edits to spoil.
-ghost use Rattle.std.specs.Prelude.{◌≡◌, ◌<◌, ◌≤◌, ◌-◌, ◌^◌, ℕ, Bool, List, None, Err, true, false, length, is_some, slice_get, IfOk, IsErrOf};
+ghost use Rattle.std.specs.Prelude.{◌≡◌, ◌<◌, ◌≤◌, ◌-◌, ◌^◌, ℕ, Bool, List, None, Err, true, false, length, is_some, slice_get, IfOk};
 ghost use Rattle.std.specs.Option.{option_map};
-ghost use Rattle.device_defs.specs.Faults.{HasCause, one_more};
+ghost use Rattle.device_defs.specs.Faults.{one_more};
 ghost use Rattle.device_defs.specs.Providers.{Provider};
 ghost use Rattle.journal_pack.specs.Packs.{moves_of};
 ghost use Rattle.machine_defs.specs.Alone.{new_scrub};
@@ -11,7 +11,7 @@ ghost use Rattle.record_defs.specs.Areas.{text_length};
 ghost use Rattle.hail_scrub.specs.Stands.{ScrubIs};
 ghost use Rattle.vault_core.specs.declared.wish.BeginFault.TheVariants as fault;
 ghost use Rattle.vault_open.specs.Devices.{Devices, devices};
-ghost use Rattle.vault_open.specs.declared.fault.StartFault.TheVariants as start_fault;
+ghost use Rattle.vault_open.specs.Disks.{StartsOver};
 ghost use Rattle.vault.specs.Devices.{cells_by, devices_seen};
 ghost use Rattle.vault.specs.Heard.{entry_heard};
 ghost use Rattle.vault.specs.Outcomes.{IsNoAction};
@@ -30,9 +30,8 @@ use vault::{BeginFault, Heard, HeardList, PackJob, PackTurn, StartFault, Turn, V
 
 /// `Vault::start`.
 pub fn start<D: Disk>(alloc: Global, disk: &mut D, first: u32) -> Result<Vault, StartFault>
-    ensures no_fault { (IsErrOf result start_fault.DiskFault → ⊥) → D.faults disk.new ≡ D.faults disk.old }
-    ensures cause { HasCause (D.faults disk.old) (D.faults disk.new)
-        (IsErrOf result start_fault.DiskFault) }
+    ensures start { StartsOver (D.holds disk.old) (D.holds disk.new) (D.faults disk.old) (D.faults disk.new)
+        result }
 {
     let told = Vault::start(alloc, disk, first);
     told

@@ -1,12 +1,11 @@
 //! Bodies of vault_open's public functions, for its must-fail edits to spoil.
-ghost use Rattle.std.specs.Prelude.{◌≡◌, List, IfErr, IfOk, IfSome, IsErrOf, OnOk};
-ghost use Rattle.device_defs.specs.Told.{Goes};
+ghost use Rattle.std.specs.Prelude.{◌≡◌, List, IfOk, IsErrOf};
 ghost use Rattle.record_defs.specs.Records.{Record};
 ghost use Rattle.record_defs.specs.Areas.{Area};
 ghost use Rattle.record_codec.specs.Entries.{with_master};
-ghost use Rattle.opening_defs.specs.Journals.{journal_read, IsRead, IsSetUpOn};
+ghost use Rattle.opening_defs.specs.Journals.{IsRead};
 ghost use Rattle.vault_open.specs.declared.fault.InitFault.TheVariants as init_fault;
-ghost use Rattle.vault_open.specs.Causes.{IsStartFault};
+ghost use Rattle.vault_open.specs.Disks.{SetsUp, StartsOver};
 ghost use Rattle.vault_open.specs.Stores.{IsStoreOf};
 
 use disk_model::Disk;
@@ -22,9 +21,9 @@ pub fn init<D: Disk>(
     master: &Master,
     setup: &Setup,
 ) -> Result<(), InitFault>
-    ensures ok { OnOk result (Goes (IsSetUpOn (with_master setup.now master.now.0)) (D.holds disk.old)
-        (D.holds disk.new)) }
     ensures unlooked { IsErrOf result init_fault.BadSetup → disk.new ≡ disk.old }
+    ensures set_up { SetsUp (with_master setup.now master.now.0) (D.holds disk.old) (D.holds disk.new)
+        result }
 {
     let told = vault_open::init(alloc, disk, master, setup);
     told
@@ -34,8 +33,8 @@ pub fn init<D: Disk>(
 pub fn read_store<D: Disk>(alloc: Global, disk: &mut D) -> Result<Store, StartFault>
     ensures read { IfOk result (λ store. (area : Area) × (rs : List Record)
         × IsRead (D.holds disk.old) area rs × IsStoreOf store area rs (D.holds disk.new)) }
-    ensures refused { IfErr result
-        (λ why. IfSome (D.holds disk.old) (λ cells. IsStartFault (journal_read cells) why)) }
+    ensures start { StartsOver (D.holds disk.old) (D.holds disk.new) (D.faults disk.old) (D.faults disk.new)
+        result }
 {
     let told = vault_open::read_store(alloc, disk);
     told

@@ -1,4 +1,4 @@
-use Rattle.hail_top.proofs.Words.{Err, err-same, length, map, refl, ap, sym, length-map, Seen, seen, begun, provider_seen, Unopened}
+use Rattle.hail_top.proofs.Words.{length, map, refl, sym, length-map, Seen, seen, begun, provider_seen}
 use Rattle.command_defs.specs.Commands.{unstarted}
 use Rattle.hail_top.proofs.Unopened.{unopened-told}
 use Rattle.hail_top.proofs.Opened.{opened-read, no_count_falls, still}
@@ -14,8 +14,8 @@ returns-in-Ok-clause-answers g c left count =
     let opened = opened-read old found.0 found.1 (length c.args.providers.now)
     (sym (length-map c.args.providers.now see)) found.2 in
     begun found.1 opened ((c.answer_job.ensures.over found.1 old left count opened found.3
-    (record { reads = c.in-Ok.ensures.reads; faults = c.in-Ok.ensures.no_fault (λ e. cc); providers = refl })
-    c.in-Ok.ensures.synced refl refl).answers)
+    (record { reads = c.in-Ok.ensures.reads; faults = c.in-Ok.ensures.disk.called.no_fault (λ e. cc); providers = refl })
+    (c.in-Ok.ensures.disk.synced tt) refl refl).answers)
 
 pub returns-in-Ok-clause-counts : goal.returns-in-Ok-clause-counts
 returns-in-Ok-clause-counts g c left count =
@@ -27,14 +27,12 @@ returns-in-Ok-clause-counts g c left count =
     let opened = opened-read old found.0 found.1 (length c.args.providers.now)
     (sym (length-map c.args.providers.now see)) found.2 in
     no_count_falls old _ (c.answer_job.ensures.over found.1 old left count opened found.3
-    (record { reads = c.in-Ok.ensures.reads; faults = c.in-Ok.ensures.no_fault (λ e. cc); providers = refl })
-    c.in-Ok.ensures.synced refl refl).counts (still count) c.answer_job.ensures.count
+    (record { reads = c.in-Ok.ensures.reads; faults = c.in-Ok.ensures.disk.called.no_fault (λ e. cc); providers = refl })
+    (c.in-Ok.ensures.disk.synced tt) refl refl).counts (still count) c.answer_job.ensures.count
 
 pub returns-in-Err-clause-answers : goal.returns-in-Err-clause-answers
 returns-in-Err-clause-answers g c left count =
     let see = provider_seen g.P.Provider in
     unstarted (unopened-told _ _ _ c.in-Err.why (length c.args.providers.now) c.unopened.ensures
     (sym (length-map c.args.providers.now see)) c.in-Err.ensures.refused c.in-Err.ensures.disk
-    c.in-Err.ensures.resynced
-    (λ same. c.in-Err.ensures.cause.rose (ap (λ (w : Unopened). Err w) same))
-    (λ none. c.in-Err.ensures.no_fault (λ e. none (err-same _ _ e))) refl refl)
+    refl refl)

@@ -1,4 +1,4 @@
-use Rattle.hail_top.proofs.Words.{Err, err-same, refl, ap, sym, Seen, seen, Unopened}
+use Rattle.hail_top.proofs.Words.{refl, sym, Seen, seen}
 use Rattle.command_defs.specs.Commands.{unstarted}
 use Rattle.hail_top.proofs.Unopened.{unopened-told}
 use Rattle.hail_top.proofs.Opened.{opened-read}
@@ -13,12 +13,10 @@ returns-in-Ok-clause-answers g c providers left count handed =
     let found = c.in-Ok.ensures.opened in
     listed-told found.1 old _ _ _ c.of.ensures
     (opened-read old found.0 found.1 c.args.handed (sym handed) found.2)
-    (c.write_files-status.ensures.written found.1 found.3.table) c.in-Ok.ensures.synced refl
+    (c.write_files-status.ensures.written found.1 found.3.table) (c.in-Ok.ensures.disk.synced tt) refl
 
 pub returns-in-Err-clause-answers : goal.returns-in-Err-clause-answers
 returns-in-Err-clause-answers g c providers left count handed =
     unstarted (unopened-told _ _ _ c.in-Err.why c.args.handed c.unopened.ensures
     (sym handed) c.in-Err.ensures.refused c.in-Err.ensures.disk
-    c.in-Err.ensures.resynced
-    (λ same. c.in-Err.ensures.cause.rose (ap (λ (w : Unopened). Err w) same))
-    (λ none. c.in-Err.ensures.no_fault (λ e. none (err-same _ _ e))) refl refl)
+    refl refl)

@@ -6,13 +6,14 @@ use Rattle.hail_top.proofs.set_up.set_up_disk.Goals as goal
 pub returns-in-Ok-clause-answers : goal.returns-in-Ok-clause-answers
 returns-in-Ok-clause-answers g c providers left left' count count' =
     ready-told (with_master c.args.setup.now c.args.master.now.0) _ _ _ _ _ c.of.ensures c.ready_line.ensures
-    c.write_text.ensures.writes c.in-Ok.ensures.ok refl
+    c.write_text.ensures.writes c.in-Ok.ensures.set_up.ok refl
 
 pub returns-in-Err-clause-answers : goal.returns-in-Err-clause-answers
 returns-in-Err-clause-answers g c providers left left' count count' =
     not_set_up-told (with_master c.args.setup.now c.args.master.now.0) _ _ _ c.in-Err.fault
-    c.not_set_up.ensures c.in-Err.ensures.refused c.in-Err.ensures.looked c.in-Err.ensures.left
-    (λ same. c.in-Err.ensures.cause.rose (ap (λ (f : InitFault). Err f) same)) refl refl
+    c.not_set_up.ensures c.in-Err.ensures.set_up.refused c.in-Err.ensures.set_up.looked
+    c.in-Err.ensures.set_up.left
+    (λ same. c.in-Err.ensures.called.cause.rose (ap (λ (f : InitFault). Err f) same)) refl refl
 
 pub returns-in-Ok-clause-goes_on : goal.returns-in-Ok-clause-goes_on
 returns-in-Ok-clause-goes_on g c providers =
