@@ -2,7 +2,7 @@
 use Rattle.hail_scrub.proofs.Words.{◌≡◌, ℕ, ◌+◌, ◌-◌, ◌*◌, ◌<◌, ◌≤◌, Bool, List, [], ◌∷◌, ◌++◌, length, Some, refl, ap, sym, subst, ◌∙◌, arith, length-append, vec_len, slice_get, slice_set, SeenBlock, present_blocks, length-present_blocks, Provider, Fetches, IsBlock, Action, Fetch, Work, given_of, Grows, HasRoom, Blocks, present_more, if_given, Spot, Cursor, Progress, most_steps, fetches_from, past_stripe, todo_at, item_object, fetched_at, size_in, phase_at, scrub_view, next_to_do, called_by, IsSpot, IsCursor, IsAmid, IsProgress, MakesNext}
 use Rattle.std.proofs.Common.{vec_capacity}
 use Rattle.std.proofs.Math.Nat.{mul-le-mul_left}
-use Rattle.code_defs.proofs.Profiles.{size-bound, size_is}
+use Rattle.code_defs.proofs.Profiles.{size-bound}
 use Rattle.code_points.specs.declared.profile.Profile.{Profile}
 use Rattle.hail_scrub.specs.declared.cursor.Cursor.TheVariants as cursor
 use Rattle.hail_scrub.specs.declared.turn.ScrubTurn.TheVariants as turn

@@ -1,5 +1,5 @@
 -- An opening of a scrub.
-use Rattle.hail_scrub.proofs.Words.{◌≡◌, ℕ, ◌+◌, ◌*◌, ◌<◌, ◌≤◌, ◌==◌, ◌^◌, Bool, true, false, List, [], ◌∷◌, ◌++◌, length, map, Vec, Global, Some, refl, ap, sym, subst, ◌∙◌, arith, slice_get_within, slice_get, get_or, slice_index, with_item, if◌then◌else◌, All, flat_map, get-set_same, Object, SeenBlock, GivesSymbols, LosesRow, present_blocks, length-present_blocks, Provider, Action, Store, Work, bench_object, turned, bench_kind, file_kind, blocks_in, HasEmptied, Bench, Blocks, Spot, Cursor, Progress, ScrubView, most_steps, store_of, stores_from, past_stripe, todo_at, item_object, rows_of, fetched_at, size_in, phase_at, scrub_view, IsItem, IsSpot, IsCursor, CursorIsAt, StoresOnlyAt, HasAdded, IsProgress, off_in, stores_in, MakesNext}
+use Rattle.hail_scrub.proofs.Words.{◌≡◌, ℕ, ◌+◌, ◌*◌, ◌<◌, ◌≤◌, ◌==◌, ◌^◌, Bool, true, false, List, [], ◌∷◌, ◌++◌, length, map, Vec, Global, Some, refl, ap, sym, subst, ◌∙◌, arith, slice_get_within, slice_get, get_or, slice_index, with_item, if◌then◌else◌, All, flat_map, get-set_same, Object, SeenBlock, GivesSymbols, LosesRow, present_blocks, length-present_blocks, Provider, Action, Store, Work, bench_object, turned, bench_kind, file_kind, blocks_in, Bench, Blocks, Spot, Cursor, Progress, ScrubView, most_steps, store_of, stores_from, past_stripe, todo_at, item_object, rows_of, fetched_at, size_in, phase_at, scrub_view, IsItem, IsSpot, IsCursor, TakesIn, IsProgress, off_in, stores_in, MakesNext}
 use Rattle.std.proofs.Common.{vec_capacity}
 use Rattle.column_codec.specs.declared.codec.Codec.{Codec}
 use Rattle.hail_scrub.specs.declared.cursor.Cursor.TheVariants as cursor
@@ -153,22 +153,8 @@ module _ (p : Progress) (W : IsProgress p) (spot : Spot) (here : p.cursor ≡ cu
 
       module _ (off : List ℕ)
           (found : IsSurveyed (turned b0 spot.item.file.id) spot.stripe (blocks_in b) b1.rows.items off)
-          (q : Progress) (same : q ≡ record p {
-            blocks = q.blocks;
-            benches = bs;
-            codec = cd;
-            off = off;
-            found = q.found;
-            left = q.left;
-            cursor = q.cursor;
-          })
-          (at : CursorIsAt p.providers p.items.items off q.cursor
-          (stores_from p.providers 0 off spot.item.file.id spot.stripe
-          ++ past_stripe p.providers p.items.items spot))
-          (behind : StoresOnlyAt spot q.cursor)
-          (left : q.left + (p.providers + 1)
-          ≡ p.left + length (stores_from p.providers 0 off spot.item.file.id spot.stripe))
-          (falls : q.left < p.left) (emptied : HasEmptied b q.blocks) (added : HasAdded p.found off q.found) where
+          (q : Progress)
+          (T : TakesIn (record p { blocks = b; benches = bs; codec = cd }) spot off q) where
         abbrev after : Progress
         after = record p {
           blocks = q.blocks;
@@ -184,41 +170,41 @@ module _ (p : Progress) (W : IsProgress p) (spot : Spot) (here : p.cursor ≡ cu
         stores = stores_from p.providers 0 off spot.item.file.id spot.stripe
 
         none_left : length q.blocks.present.items ≡ 0
-        none_left = ap length emptied.present
+        none_left = ap length T.emptied.present
 
         left_after : q.left ≡ most_steps p.providers (stores ++ past_stripe p.providers p.items.items spot)
         left_after =
             let a = left-append p.providers stores (past_stripe p.providers p.items.items spot) in
             let s = left-stores p.providers 0 p.providers off spot.item.file.id spot.stripe in
-            omega (arith, left, left_is, a, s)
+            omega (arith, T.left spot.item.file.id spot.stripe, left_is, a, s)
 
         whole_after : IsProgress after
         whole_after = record {
           few = W.few;
           few_items = W.few_items;
           items = items_stay;
-          placed = at.placed;
-          present = none_left ∙ sym at.fresh;
-          symbols = ap length emptied.symbols
+          placed = T.at.placed;
+          present = none_left ∙ sym T.at.fresh;
+          symbols = ap length T.emptied.symbols
               ∙ (let e : 0 ≡ 0 * size_in q.cursor = omega arith in e)
-              ∙ ap (λ (k : ℕ). k * size_in q.cursor) (sym at.fresh);
+              ∙ ap (λ (k : ℕ). k * size_in q.cursor) (sym T.at.fresh);
           room_present = omega
-              (arith, W.room_present, emptied.present_room, ap vec_capacity present);
+              (arith, W.room_present, T.emptied.present_room, ap vec_capacity present);
           room_symbols = omega
-              (arith, W.room_symbols, emptied.symbols_room, ap vec_capacity symbols);
-          left = left_after ∙ ap (most_steps p.providers) (sym at.todo_is);
-          long_symbols = added.long_symbols ∙ W.long_symbols;
-          long_blocks = added.long_blocks ∙ W.long_blocks;
-          few_stripes = omega (arith, W.few_stripes, falls, added.stripes_are);
-          few_symbols = λ k. (let f = W.few_symbols k in let g = added.symbols_are k in
-              let h = found.few k in omega (arith, f, g, h, falls));
-          few_blocks = λ k. (let f = W.few_blocks k in let g = added.blocks_are k in
-              let h = one_at_most (slice_index off k == 0) in omega (arith, f, g, h, falls));
+              (arith, W.room_symbols, T.emptied.symbols_room, ap vec_capacity symbols);
+          left = left_after ∙ ap (most_steps p.providers) (sym T.at.todo_is);
+          long_symbols = T.found.long_symbols ∙ W.long_symbols;
+          long_blocks = T.found.long_blocks ∙ W.long_blocks;
+          few_stripes = omega (arith, W.few_stripes, T.falls, T.found.stripes_are);
+          few_symbols = λ k. (let f = W.few_symbols k in let g = T.found.symbols_are k in
+              let h = found.few k in omega (arith, f, g, h, T.falls));
+          few_blocks = λ k. (let f = W.few_blocks k in let g = T.found.blocks_are k in
+              let h = one_at_most (slice_index off k == 0) in omega (arith, f, g, h, T.falls));
         }
 
         -- the scrub is whole
         pub open_whole : IsProgress q
-        open_whole = subst IsProgress (sym same) whole_after
+        open_whole = subst IsProgress (sym T.same) whole_after
 
         abbrev x : Object
         x = item_object p.master.0 spot.item
@@ -233,7 +219,7 @@ module _ (p : Progress) (W : IsProgress p) (spot : Spot) (here : p.cursor ≡ cu
 
         -- and it is a step
         pub open_step : (ps : List Provider) → MakesNext (scrub_view p) ps turn.More (scrub_view q) ps
-        open_step ps = subst (λ (z : Progress). MakesNext (scrub_view p) ps turn.More (scrub_view z) ps) (sym same)
+        open_step ps = subst (λ (z : Progress). MakesNext (scrub_view p) ps turn.More (scrub_view z) ps) (sym T.same)
             (record {
               action = Work spot.item.file.id spot.stripe;
               rest = past_stripe p.providers p.items.items spot;
@@ -252,22 +238,22 @@ module _ (p : Progress) (W : IsProgress p) (spot : Spot) (here : p.cursor ≡ cu
                       (turned_is b0 p.master.0 spot.item serves)
                       (subst (λ (l : List SeenBlock). GivesSymbols (turned b0 spot.item.file.id) spot.stripe l
                       b1.rows.items) seen_is found.gives);
-                  todo_is = at.todo_is
+                  todo_is = T.at.todo_is
                       ∙ ap (λ (l : List Action). l ++ past_stripe p.providers p.items.items spot)
                       (stores_are p.providers x spot.stripe seen b1.rows.items off off_are);
                   providers_stay = refl;
                   objects_stay = refl;
-                  behind = phase_behind after spot q.cursor b1.rows.items behind none_left
+                  behind = phase_behind after spot q.cursor b1.rows.items T.behind none_left
                       (ap rows_of (get-set_same p.benches.items spot.item.bench b1
                       (slice_get_within p.benches.items spot.item.bench b0 there)));
-                  stripes_are = added.stripes_are;
-                  symbols_are = λ j below. added.symbols_are j
+                  stripes_are = T.found.stripes_are;
+                  symbols_are = λ j below. T.found.symbols_are j
                       ∙ ap (λ (k : ℕ). slice_index p.found.symbols j + k) (off_are j below);
-                  blocks_are = λ j below. added.blocks_are j
+                  blocks_are = λ j below. T.found.blocks_are j
                       ∙ ap (λ (k : ℕ). slice_index p.found.blocks j + (if k == 0 then 0 else 1))
                       (off_are j below);
-                  long_symbols = added.long_symbols ∙ W.long_symbols;
-                  long_blocks = added.long_blocks ∙ W.long_blocks;
+                  long_symbols = T.found.long_symbols ∙ W.long_symbols;
+                  long_blocks = T.found.long_blocks ∙ W.long_blocks;
                 },
                 refl,
               );

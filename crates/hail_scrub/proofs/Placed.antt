@@ -1,13 +1,8 @@
 -- The file that a scrub works on.
-use Rattle.hail_scrub.proofs.Words.{◌≡◌, ℕ, zero, suc, ◌<◌, Bool, List, [], ◌∷◌, length, map, Some, refl, ap, sym, subst, ◌∙◌, arith, slice_get, slice_set, get_or, option_map, length-map, slice_get-map, slice_get-get_or, slice_get_read, slice_get_within, Object, present_blocks, turned, bench_kind, file_kind, Bench, Item, Spot, Cursor, Progress, scrub_left, item_object, bench_rows, size_in, phase_at, scrub_view, IsItem, IsSpot, StoresOnlyAt, IsAmid, IsProgress, IsOne, GoesPast}
+use Rattle.hail_scrub.proofs.Words.{◌≡◌, ℕ, zero, suc, ◌<◌, Bool, List, [], ◌∷◌, length, map, Some, refl, ap, sym, subst, ◌∙◌, arith, slice_get, slice_set, get_or, option_map, length-map, slice_get-map, slice_get_read, slice_get_within, Object, present_blocks, turned, bench_kind, file_kind, Bench, Item, Spot, Cursor, Progress, scrub_left, item_object, bench_rows, size_in, phase_at, scrub_view, IsItem, IsSpot, StoresOnlyAt, IsAmid, IsProgress, IsOne, GoesPast}
 use Rattle.hail_scrub.specs.declared.cursor.Cursor.TheVariants as cursor
 use Rattle.hail_scrub.specs.Views as views
 use Rattle.hail_scrub.proofs.Rests.{all_get}
-
--- what is read at a place of a list stands there, as it is seen
-pub seen_there : {X Y : Type 0} (see : X → Y) (xs : List X) (k : ℕ) (x : X) → k < length xs →
-    slice_get (map see xs) k ≡ Some (see (get_or xs k x))
-seen_there see xs k x within = slice_get-map see xs k ∙ ap (option_map see) (slice_get-get_or xs k x within)
 
 -- ---- benches
 

@@ -1,9 +1,9 @@
 -- The words in which this crate is proved, passed on from one place. Declares nothing.
-pub use Rattle.std.proofs.Common.{ap, append_assoc, arith, Bool, Bor, cond, drop, false, get_or, Global, IfSome, inl, inr, length, length-append, length-drop, length-set, length-take-le, List, map, None, Option, refl, replicate, Some, subst, suc, sym, take, true, Vec, vec_len, zero, zero-add, ℕ, [], ◌*◌, ◌++◌, ◌+◌, ◌-◌, ◌<◌, ◌==◌, ◌^◌, ◌∙◌, ◌∷◌, ◌≡◌, ◌≢◌, ◌≤◌, ◌⊎◌}
+pub use Rattle.std.proofs.Common.{ap, append_assoc, arith, Bool, Bor, cond, drop, false, get_or, Global, IfSome, inl, inr, length, length-append, length-drop, length-set, length-take-le, List, map, None, Option, refl, replicate, Some, subst, suc, sym, take, true, Vec, vec_len, zero, zero-add, ℕ, [], ◌*◌, ◌++◌, ◌+◌, ◌-◌, ◌<◌, ◌==◌, ◌^◌, ◌∙◌, ◌∷◌, ◌≡◌, ◌≤◌, ◌⊎◌}
 pub use Rattle.std.proofs.lemmas.Bool.{cases_Bool, cases_eq, eq-eqb, ne_eqb}
-pub use Rattle.std.proofs.lemmas.List.{append-nil, drop_all, drop_more, get_or_read, length-map, map-set, take_more}
+pub use Rattle.std.proofs.lemmas.List.{append-nil, drop_all, drop_more, length-map, map-set, take_more}
 pub use Rattle.std.proofs.lemmas.List.Elements.{All-head, All-push, All-tail}
-pub use Rattle.std.proofs.lemmas.Option.{slice_get-get_or, slice_get-map, slice_get_read, slice_get_within}
+pub use Rattle.std.proofs.lemmas.Option.{slice_get-map, slice_get_read, slice_get_within}
 pub use Rattle.std.specs.List.{All, flat_map, range_with_len}
 pub use Rattle.std.specs.Option.{option_copied, option_map}
 pub use Rattle.std.specs.Prelude.{if◌then◌else◌, option_and_then, slice_get, slice_index, slice_set, sum_by}
@@ -35,15 +35,15 @@ pub use Rattle.provider_model.specs.Seen.{provider_seen}
 pub use Rattle.record_defs.specs.Records.{Record, Setup}
 pub use Rattle.record_defs.specs.Table.{files_of, setup_of}
 pub use Rattle.stripe_bench.proofs.Gifts.{gifts_give, gifts_more, present_more, worked_is}
-pub use Rattle.stripe_bench.proofs.Sights.{called_at, fails_by, fetches_by, found_no_memory, if_given, no_memory_by, stores_by, was_failed, was_stored}
+pub use Rattle.stripe_bench.proofs.Sights.{called-only, fails_by, fetches_by, found_no_memory, if_given, no_memory_by, seen-at, stores_by, was_failed, was_stored}
 pub use Rattle.stripe_bench.specs.Bench.{bench_kind, file_kind}
-pub use Rattle.stripe_bench.specs.Blocks.{blocks_in, given_of, Grows, HasEmptied, HasRoom}
-pub use Rattle.stripe_bench.specs.Calls.{CalledOnce, provider_by}
+pub use Rattle.stripe_bench.specs.Blocks.{blocks_in, given_of, Grows, HasRoom}
+pub use Rattle.stripe_bench.specs.Calls.{CallsOnly, provider_by}
 pub use Rattle.stripe_bench.specs.Gifts.{fetched_gifts}
 pub use Rattle.stripe_bench.specs.declared.blocks.Blocks.{Blocks}
 pub use Rattle.hail_scrub.specs.Begins.{AreApart, AreFilesOf, HaveOneCount, held, IsFileOf, IsNewScrub}
 pub use Rattle.hail_scrub.specs.Begun.{AreItems, file_actions, file_providers, IsFileAmong}
-pub use Rattle.hail_scrub.specs.Progress.{bench_rows, CanRun, CursorIsAt, fetched_at, HasAdded, IsAmid, IsAtFirst, IsCursor, IsItem, IsProgress, IsSpot, item_object, phase_at, rows_of, scrub_view, size_in, StoresOnlyAt}
+pub use Rattle.hail_scrub.specs.Progress.{bench_rows, CanRun, CursorIsAt, fetched_at, IsAmid, IsAtFirst, IsCursor, IsItem, IsProgress, IsSpot, item_object, phase_at, rows_of, scrub_view, size_in, StoresOnlyAt, TakesIn}
 pub use Rattle.hail_scrub.specs.Stands.{IsOver, IsStripeInWork, MakesScrubStep, scrub_answer, ScrubIs, ScrubStands}
 pub use Rattle.hail_scrub.specs.Steps.{CallsAt, ComesTo, FetchesOne, GoesPast, IsOne, LosesOne, MakesNext, off_in, OpensOne, stores_in, StoresOne}
 pub use Rattle.hail_scrub.specs.Todo.{fetches_from, item_actions, items_on, numbers_between, opening_of, past_stripe, store_of, stores_from, stripes_from, todo_at}

@@ -15,13 +15,15 @@
 --   IsAtFirst c                         == a cursor is at the first fetch of a stripe, or at the end
 --   HasAdded old off new                == what was found, with a stripe more whose blocks are off by so many
 --                                          symbols
+--   TakesIn old spot off new            == the opening of a stripe was taken in
 --   IsProgress p                        == what its parts owe each other
-use Rattle.std.specs.Prelude.{◌≡◌, ℕ, ◌+◌, ◌*◌, ◌==◌, ◌<◌, ◌≤◌, ◌^◌, All, false, List, [], length, map, Option, None, Some, slice_get, slice_index, vec_capacity, if◌then◌else◌}
+use Rattle.std.specs.Prelude.{◌≡◌, ℕ, ◌+◌, ◌++◌, ◌*◌, ◌==◌, ◌<◌, ◌≤◌, ◌^◌, All, false, List, [], length, map, Option, None, Some, slice_get, slice_index, vec_capacity, if◌then◌else◌}
 use Rattle.column_defs.specs.Objects.{Object}
 use Rattle.column_codec.specs.PresentBlocks.{present_blocks}
 use Rattle.file_layout.specs.Files.{shaped_object}
 use Rattle.machine_defs.specs.Actions.{Action}
 use Rattle.stripe_bench.specs.Bench.{bench_kind, file_kind}
+use Rattle.stripe_bench.specs.Blocks.{HasEmptied}
 use Rattle.column_codec.specs.declared.bench.Bench.{Bench}
 use Rattle.hail_scrub.specs.declared.cursor.Item.{Item}
 use Rattle.hail_scrub.specs.declared.cursor.Spot.{Spot}
@@ -30,7 +32,7 @@ use Rattle.hail_scrub.specs.declared.cursor.Cursor.TheVariants as cursor
 use Rattle.hail_scrub.specs.declared.progress.Found.{Found}
 use Rattle.hail_scrub.specs.declared.progress.Progress.{Progress}
 use Rattle.hail_scrub.specs.Views.{Stage, Between, Fetched, Opened, ScrubView, most_steps}
-use Rattle.hail_scrub.specs.Todo.{todo_at}
+use Rattle.hail_scrub.specs.Todo.{stores_from, past_stripe, todo_at}
 
 -- the object of a file
 abbrev pub item_object : List ℕ → Item → Object
@@ -86,7 +88,7 @@ pub record IsItem (n : ℕ) (master : List ℕ) (kinds : List Object) (item : It
   pub providers : item.file.shape.n ≡ n
   pub some_providers : 0 < n
   pub some : 0 < item.stripes
-  pub few : item.stripes ≤ 2 ^ 22
+  pub few : item.stripes ≤ item.file.length
   pub bench : slice_get kinds item.bench ≡ Some (file_kind master item.file)
 
 -- a stripe of one of the files
@@ -138,6 +140,30 @@ pub record HasAdded (old : Found) (off : List ℕ) (new : Found) : Type 0 where
       ≡ slice_index old.blocks j + (if slice_index off j == 0 then 0 else 1)
   pub long_symbols : length new.symbols ≡ length old.symbols
   pub long_blocks : length new.blocks ≡ length old.blocks
+
+-- the opening of a stripe was taken in, whose blocks are off by so many symbols
+pub record TakesIn (old : Progress) (spot : Spot) (off : List ℕ) (new : Progress) : Type 0 where
+  -- it is at the stores that are due, or behind the stripe
+  pub at : CursorIsAt old.providers old.items.items off new.cursor
+      (stores_from old.providers 0 off spot.item.file.id spot.stripe
+      ++ past_stripe old.providers old.items.items spot)
+  pub behind : StoresOnlyAt spot new.cursor
+  -- the opening is made, with a store on each provider that may have been due; those that are due are left
+  pub left : (o t : ℕ) → new.left + (old.providers + 1)
+      ≡ old.left + length (stores_from old.providers 0 off o t)
+  pub falls : new.left < old.left
+  -- the blocks are gone
+  pub emptied : HasEmptied old.blocks new.blocks
+  -- the stripe is counted
+  pub found : HasAdded old.found off new.found
+  -- nothing else changed
+  pub same : new ≡ record old {
+    blocks = new.blocks;
+    off = off;
+    found = new.found;
+    left = new.left;
+    cursor = new.cursor;
+  }
 
 -- what the parts of a scrub owe each other
 pub record IsProgress (p : Progress) : Type 0 where

@@ -1,7 +1,7 @@
 //! How a scrub begins. All memory that it takes itself is taken here.
 ghost use Rattle.std.specs.Prelude.{◌≡◌, ◌<◌, ◌≤◌, ◌+◌, ◌*◌, ◌++◌, ◌∷◌, ◌^◌, ℕ, [], All, List, Some, IfOk, OnOk, length, map, slice_get, sum_by};
 ghost use Rattle.machine_defs.specs.States.{Scrub as MachineScrub};
-ghost use Rattle.record_defs.specs.Records.{Setup, most_files, largest_file};
+ghost use Rattle.record_defs.specs.Records.{Setup, most_files};
 ghost use Rattle.stripe_bench.specs.Bench.{bench_kind};
 ghost use Rattle.file_layout.specs.declared.file.FileShape.{FileShape as FileValue};
 ghost use Rattle.hail_scrub.specs.declared.cursor.Item.{Item as ItemValue};
@@ -88,7 +88,7 @@ fn take_all(
 fn count_left(items: &[Item], providers: u32) -> u64
     requires few { length items.now ≤ most_files }
     requires providers { providers ≤ 16 }
-    requires stripes { All (λ (item : ItemValue). item.stripes ≤ largest_file) items.now }
+    requires stripes { All (λ (item : ItemValue). item.stripes ≤ item.file.length) items.now }
     ensures left { result ≡ 1 + sum_by (λ (item : ItemValue). item.stripes * (2 * providers + 1)) items.now }
     ensures most { result ≤ 2 ^ 40 }
 {

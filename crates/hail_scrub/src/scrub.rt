@@ -1,4 +1,4 @@
-ghost use Rattle.std.specs.Prelude.{◌≡◌, ◌≢◌, ◌<◌, ◌≤◌, ℕ, Bool, Some, None, length, map, slice_get};
+ghost use Rattle.std.specs.Prelude.{◌≡◌, ◌<◌, ◌≤◌, Bool, length, map};
 ghost use Rattle.stripe_bench.specs.Calls.{sight};
 ghost use Rattle.machine_defs.specs.States.{State, Scrub as MachineScrub};
 
@@ -29,9 +29,9 @@ impl Model for Scrub {
 }
 
 impl Scrub {
-    ghost use Rattle.std.specs.Prelude.{◌≡◌, ◌≢◌, ◌<◌, ◌≤◌, ℕ, Bool, Some, None, length, map, slice_get};
+    ghost use Rattle.std.specs.Prelude.{◌≡◌, ◌<◌, ◌≤◌, Bool, length, map};
     ghost use Rattle.hail_scrub.specs.Views.{scrub_left, next_to_do, called_by};
-    ghost use Rattle.stripe_bench.specs.Calls.{CalledOnce};
+    ghost use Rattle.stripe_bench.specs.Calls.{CallsOnly};
     ghost use Rattle.hail_scrub.specs.Stands.{ScrubStands, MakesScrubStep, IsOver};
 
     /// Makes the next action: a fetch, an opening, a store, or the end. Conditions: the scrub has not ended, so
@@ -45,12 +45,7 @@ impl Scrub {
         ensures left { scrub_left self.new < scrub_left self.old }
         ensures over { IsOver result self.new }
         ensures providers { self.new.providers ≡ self.old.providers }
-        ensures count { length providers.new ≡ length providers.old }
-        ensures away { called_by (next_to_do self.old) ≡ None → providers.new ≡ providers.old }
-        ensures others { (j k : ℕ) → called_by (next_to_do self.old) ≡ Some j → k ≢ j
-            → slice_get providers.new k ≡ slice_get providers.old k }
-        ensures one_call { (j : ℕ) → called_by (next_to_do self.old) ≡ Some j
-            → CalledOnce P.calls j providers.old providers.new }
+        ensures calls { CallsOnly P.calls (called_by (next_to_do self.old)) providers.old providers.new }
     {
         self.progress.step(providers)
     }

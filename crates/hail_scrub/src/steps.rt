@@ -1,15 +1,13 @@
 //! The steps of a scrub: each is its next action.
-ghost use Rattle.std.specs.Prelude.{◌≡◌, ◌≢◌, ◌<◌, ◌≤◌, ◌+◌, ◌++◌, ◌^◌, ◌==◌, ℕ, All, [], List, Some, None, length, map, slice_index, slice_get, if◌then◌else◌};
+ghost use Rattle.std.specs.Prelude.{◌≡◌, ◌<◌, ◌≤◌, ◌+◌, ◌^◌, ◌==◌, ℕ, All, [], List, Some, length, map, slice_index, if◌then◌else◌};
 ghost use Rattle.record_defs.specs.Records.{most_files};
 ghost use Rattle.device_defs.specs.Providers.{Provider as ProviderSeen};
 ghost use Rattle.provider_model.specs.Seen.{provider_seen};
 ghost use Rattle.hail_scrub.specs.declared.cursor.Cursor.TheVariants as cursor;
 ghost use Rattle.hail_scrub.specs.declared.turn.ScrubTurn.TheVariants as turn;
 ghost use Rattle.hail_scrub.specs.Views.{scrub_left, next_to_do, called_by};
-ghost use Rattle.stripe_bench.specs.Calls.{CalledOnce};
-ghost use Rattle.stripe_bench.specs.Blocks.{HasEmptied};
-ghost use Rattle.hail_scrub.specs.Todo.{stores_from, past_stripe};
-ghost use Rattle.hail_scrub.specs.Progress.{scrub_view, CanRun, IsSpot, CursorIsAt, StoresOnlyAt, HasAdded, IsProgress};
+ghost use Rattle.stripe_bench.specs.Calls.{CallsOnly};
+ghost use Rattle.hail_scrub.specs.Progress.{scrub_view, CanRun, IsSpot, HasAdded, TakesIn, IsProgress};
 ghost use Rattle.hail_scrub.specs.Steps.{MakesNext};
 
 use crate::compare::{count_off, survey};
@@ -87,9 +85,7 @@ impl Progress {
             (scrub_view self.new) (map (provider_seen P.Provider) providers.new) }
         ensures left { scrub_left (scrub_view self.new) < scrub_left (scrub_view self.old) }
         ensures providers { self.new.providers ≡ self.old.providers }
-        ensures count { length providers.new ≡ length providers.old }
-        ensures others { (k : ℕ) → k ≢ provider → slice_get providers.new k ≡ slice_get providers.old k }
-        ensures called { CalledOnce P.calls provider providers.old providers.new }
+        ensures calls { CallsOnly P.calls (Some provider) providers.old providers.new }
     {
         let index = provider as usize;
         self.blocks.turn_to(spot.item.file.profile.size as usize);
@@ -112,22 +108,7 @@ impl Progress {
         requires blocks { (j : ℕ) → slice_index self.old.found.blocks j ≤ 2 ^ 50 }
         requires left { self.old.providers + 1 ≤ self.old.left }
         requires most { self.old.left ≤ 2 ^ 50 }
-        ensures at { CursorIsAt self.old.providers self.old.items.items off self.new.cursor
-            (stores_from self.old.providers 0 off spot.item.file.id spot.stripe
-            ++ past_stripe self.old.providers self.old.items.items spot) }
-        ensures behind { StoresOnlyAt spot self.new.cursor }
-        ensures left { (o t : ℕ) → self.new.left + (self.old.providers + 1)
-            ≡ self.old.left + length (stores_from self.old.providers 0 off o t) }
-        ensures falls { self.new.left < self.old.left }
-        ensures emptied { HasEmptied self.old.blocks self.new.blocks }
-        ensures found { HasAdded self.old.found off self.new.found }
-        ensures same { self.new ≡ record self.old {
-          blocks = self.new.blocks;
-          off = off;
-          found = self.new.found;
-          left = self.new.left;
-          cursor = self.new.cursor;
-        } }
+        ensures { TakesIn self.old spot off self.new }
     {
         self.blocks.clear();
         self.off = off;
@@ -177,9 +158,7 @@ impl Progress {
             (scrub_view self.new) (map (provider_seen P.Provider) providers.new) }
         ensures left { scrub_left (scrub_view self.new) < scrub_left (scrub_view self.old) }
         ensures providers { self.new.providers ≡ self.old.providers }
-        ensures count { length providers.new ≡ length providers.old }
-        ensures others { (k : ℕ) → k ≢ provider → slice_get providers.new k ≡ slice_get providers.old k }
-        ensures called { CalledOnce P.calls provider providers.old providers.new }
+        ensures calls { CallsOnly P.calls (Some provider) providers.old providers.new }
     {
         let index = provider as usize;
         let bench = &mut self.benches[spot.item.bench];
@@ -235,12 +214,8 @@ impl Progress {
             (scrub_view self.new) (map (provider_seen P.Provider) providers.new) }
         ensures left { scrub_left (scrub_view self.new) < scrub_left (scrub_view self.old) }
         ensures providers { self.new.providers ≡ self.old.providers }
-        ensures count { length providers.new ≡ length providers.old }
-        ensures away { called_by (next_to_do (scrub_view self.old)) ≡ None → providers.new ≡ providers.old }
-        ensures others { (j k : ℕ) → called_by (next_to_do (scrub_view self.old)) ≡ Some j → k ≢ j
-            → slice_get providers.new k ≡ slice_get providers.old k }
-        ensures one_call { (j : ℕ) → called_by (next_to_do (scrub_view self.old)) ≡ Some j
-            → CalledOnce P.calls j providers.old providers.new }
+        ensures calls { CallsOnly P.calls (called_by (next_to_do (scrub_view self.old))) providers.old
+            providers.new }
     {
         match self.cursor {
             Cursor::Fetching { spot, provider } => self.fetch(spot, provider, providers),

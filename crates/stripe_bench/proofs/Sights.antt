@@ -1,15 +1,16 @@
 -- What fetches and stores show of providers holds of the same providers with no content told; what a store's
--- answer says of its provider.
-use Rattle.std.proofs.Common.{◌≡◌, ℕ, ◌<◌, Bool, true, false, List, length, get_or, Option, None, Some, Result, Ok, Err, refl, ap, sym, subst, ◌∙◌, inl, inr}
-use Rattle.std.specs.Prelude.{IfSome, slice_set}
+-- answer says of its provider; which provider of a list was called.
+use Rattle.std.proofs.Common.{◌≡◌, ℕ, ◌<◌, Bool, true, false, List, length, map, get_or, Option, None, Some, Result, Ok, Err, refl, ap, sym, subst, ◌∙◌, inl, inr}
+use Rattle.std.specs.Prelude.{IfSome, slice_get, slice_set}
 use Rattle.std.specs.Option.{option_map}
-use Rattle.std.proofs.lemmas.Option.{slice_get-get_or}
-use Rattle.algebra_laws.proofs.Lists.{get-set_same}
+use Rattle.std.proofs.lemmas.List.{length-set}
+use Rattle.std.proofs.lemmas.Option.{none-some, same_Some, slice_get-get_or, slice_get-map}
+use Rattle.algebra_laws.proofs.Lists.{get-set_other, get-set_same}
 use Rattle.device_defs.specs.Faults.{one_more}
 use Rattle.device_defs.specs.Providers.{Provider}
 use Rattle.device_defs.specs.ProviderCalls.{StoreCounts, Stores, FindsNoMemory, FailsToStore, Fetches, IsBlock}
 use Rattle.stripe_bench.specs.Blocks.{given_of}
-use Rattle.stripe_bench.specs.Calls.{CalledOnce, provider_by}
+use Rattle.stripe_bench.specs.Calls.{CalledOnce, CallsOnly, provider_by}
 use Rattle.provider_model.specs.Seen.{StoresAs}
 use Rattle.provider_model.specs.declared.fault.StoreFault.{StoreFault}
 use Rattle.provider_model.specs.declared.fault.StoreFault.TheVariants as store_fault
@@ -60,12 +61,35 @@ pub if_given : (P : List ℕ → Type 0) (found : Bool) (block : List ℕ) → P
 if_given P true block h = h
 if_given P false block h = tt
 
--- a provider of a list was called once at its place, by its count of calls
-pub called_at : {X : Type 0} (calls : X → ℕ) (xs : List X) (k : ℕ) (d y : X) → k < length xs
-    → calls y ≡ one_more (calls (get_or xs k d)) → CalledOnce calls k xs (slice_set xs k y)
-called_at calls xs k d y within made =
-    ap (option_map calls) (get-set_same xs k y within) ∙ ap Some made
-    ∙ sym (ap (option_map (λ p. one_more (calls p))) (slice_get-get_or xs k d within))
+-- ---- a provider of a list
+
+-- what is seen of one stands at its place
+pub seen-at : {X Y : Type 0} (seen : X → Y) (xs : List X) (k : ℕ) (d : X) → k < length xs
+    → slice_get (map seen xs) k ≡ Some (seen (get_or xs k d))
+seen-at seen xs k d within = slice_get-map seen xs k ∙ ap (option_map seen) (slice_get-get_or xs k d within)
+
+-- where one was called and put back, it alone was called
+pub called-only : {X : Type 0} (calls : X → ℕ) (xs : List X) (k : ℕ) (d y : X) → k < length xs
+    → calls y ≡ one_more (calls (get_or xs k d)) → CallsOnly calls (Some k) xs (slice_set xs k y)
+called-only calls xs k d y within made = record {
+  count = length-set xs k y;
+  away = λ none. absurd (none-some k (sym none));
+  others = λ i other. get-set_other xs k i y (λ e. other (ap Some (sym e)));
+  one_call = λ i is. subst (λ (j : ℕ). CalledOnce calls j xs (slice_set xs k y))
+      (same_Some k i is)
+      (ap (option_map calls) (get-set_same xs k y within) ∙ ap Some made
+      ∙ sym (ap (option_map (λ p. one_more (calls p))) (slice_get-get_or xs k d within)));
+}
+
+-- where none is named, none was
+pub called-none : {X : Type 0} (calls : X → ℕ) (called : Option ℕ) (xs : List X) → called ≡ None
+    → CallsOnly calls called xs xs
+called-none calls called xs none = record {
+  count = refl;
+  away = λ e. refl;
+  others = λ k e. refl;
+  one_call = λ j e. absurd (none-some j (sym none ∙ e));
+}
 
 -- ---- what a store came to
 

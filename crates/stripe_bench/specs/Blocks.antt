@@ -6,6 +6,7 @@
 --   blocks_in blocks          == the blocks, each where its provider gave it
 --   last_blocks n blocks      == the last n of them
 --   HasEmptied old new        == the blocks are gone, and their room is left
+--   IsEmptyFor count each b   == there is no block yet, and room for so many, each of so many symbols
 use Rattle.std.specs.Prelude.{◌≡◌, ℕ, ◌+◌, ◌-◌, ◌*◌, ◌<◌, ◌≤◌, ◌^◌, All, Bool, List, [], ◌∷◌, ◌++◌, length, drop, Option, Some, None, vec_len, vec_capacity, if◌then◌else◌}
 use Rattle.column_defs.specs.Opened.{SeenBlock}
 use Rattle.column_codec.specs.PresentBlocks.{present_blocks}
@@ -47,3 +48,13 @@ pub record HasEmptied (old new : Blocks) : Type 0 where
   pub size : new.size ≡ old.size
   pub present_room : vec_capacity new.present ≡ vec_capacity old.present
   pub symbols_room : vec_capacity new.symbols ≡ vec_capacity old.symbols
+
+-- no block yet, with room for so many, each of so many symbols
+pub record IsEmptyFor (count each : ℕ) (b : Blocks) : Type 0 where
+  pub size : b.size ≡ each
+  pub present : b.present.items ≡ []
+  pub symbols : b.symbols.items ≡ []
+  pub no_present : vec_len b.present ≡ 0
+  pub no_symbols : vec_len b.symbols ≡ 0
+  pub room_present : count ≤ vec_capacity b.present
+  pub room_symbols : count * each ≤ vec_capacity b.symbols

@@ -2,9 +2,12 @@
 --
 --   CalledOnce calls j old new == of a list of devices the one at place j was called once, by their counts of
 --                                 calls
+--   CallsOnly calls called old new
+--                              == of these devices only the one that is named was called, once; the others
+--                                 stay as they are
 --   provider_by is_told p      == a provider, or the same with nothing told of what it holds
 --   sight is_told P p          == what is seen of a provider, with its content or without
-use Rattle.std.specs.Prelude.{◌≡◌, ℕ, Bool, true, false, List, None, slice_get}
+use Rattle.std.specs.Prelude.{◌≡◌, ◌≢◌, ℕ, Bool, true, false, List, length, Option, None, Some, slice_get}
 use Rattle.std.specs.Option.{option_map}
 use Rattle.device_defs.specs.Faults.{one_more}
 use Rattle.device_defs.specs.Providers.{Provider}
@@ -15,6 +18,13 @@ use Rattle.provider_model.specs.Seen.{provider_seen}
 abbrev pub CalledOnce : {X : Type 0} → (X → ℕ) → ℕ → List X → List X → Type 0
 CalledOnce calls j old new =
     option_map calls (slice_get new j) ≡ option_map (λ p. one_more (calls p)) (slice_get old j)
+
+-- of these devices only the one that is named, if one is, was called, once; the others stay as they are
+pub record CallsOnly {X : Type 0} (calls : X → ℕ) (called : Option ℕ) (old new : List X) : Type 0 where
+  pub count : length new ≡ length old
+  pub away : called ≡ None → new ≡ old
+  pub others : (k : ℕ) → called ≢ Some k → slice_get new k ≡ slice_get old k
+  pub one_call : (j : ℕ) → called ≡ Some j → CalledOnce calls j old new
 
 -- a provider, or the same with nothing told of what it holds
 abbrev pub provider_by : Bool → Provider → Provider

@@ -1,4 +1,5 @@
-ghost use Rattle.std.specs.Prelude.{◌≡◌, ◌≤◌, ◌*◌, ◌^◌, [], IfOk, vec_len, vec_capacity};
+ghost use Rattle.std.specs.Prelude.{◌≡◌, ◌≤◌, ◌^◌, IfOk};
+ghost use Rattle.stripe_bench.specs.Blocks.{IsEmptyFor};
 
 use crate::blocks::Blocks;
 use hail_field::Memory;
@@ -10,13 +11,7 @@ impl Blocks {
         requires some { 1 ≤ size }
         requires few { size ≤ 128 }
         requires count { count ≤ 2 ^ 32 }
-        ensures size { IfOk result (λ b. b.size ≡ size) }
-        ensures present { IfOk result (λ b. b.present.items ≡ []) }
-        ensures symbols { IfOk result (λ b. b.symbols.items ≡ []) }
-        ensures no_present { IfOk result (λ b. vec_len b.present ≡ 0) }
-        ensures no_symbols { IfOk result (λ b. vec_len b.symbols ≡ 0) }
-        ensures room_present { IfOk result (λ b. count ≤ vec_capacity b.present) }
-        ensures room_symbols { IfOk result (λ b. count * size ≤ vec_capacity b.symbols) }
+        ensures { IfOk result (IsEmptyFor count size) }
     {
         Ok(Blocks {
             present: Vec::with_capacity(alloc, count)?,

@@ -1,6 +1,6 @@
-use Rattle.hail_scrub.proofs.Words.{◌<◌, arith, map-set, get-set_other, provider_seen, called_at}
+use Rattle.hail_scrub.proofs.Words.{◌<◌, arith, map-set, provider_seen, seen-at, called-only}
 use Rattle.hail_scrub.proofs.Fetching.{fetch_spot, fetch_within, fetch_some, fetch_whole, fetch_step}
-use Rattle.hail_scrub.proofs.Placed.{seen_there, falls_by}
+use Rattle.hail_scrub.proofs.Placed.{falls_by}
 use Rattle.hail_scrub.proofs.progress.Progress.fetch.Goals as goal
 
 pub returns-clause-whole : goal.returns-clause-whole
@@ -24,7 +24,7 @@ returns-clause-step g c =
     c.fetch.new.self c.fetch_after-self.result made.0 made.1 c.turn_to.ensures.present c.turn_to.ensures.symbols
     c.turn_to.ensures.size made.2 (after.todo p.items.items p.off) (after.placed p.items.items p.off
     (fetch_spot p c.requires.whole c.args.spot c.args.provider c.requires.here)) after.count after.amid _ _ _ _
-    (seen_there seen c.args.providers.now c.args.provider c.index-providers-index.result
+    (seen-at seen c.args.providers.now c.args.provider c.index-providers-index.result
     (omega (arith, less, c.requires.there)))
     (map-set seen c.args.providers.now c.args.provider c.fetch.new.from) made.3
 
@@ -34,12 +34,8 @@ returns-clause-left g c =
     let some : 0 < p.left = fetch_some p c.requires.whole c.args.spot c.args.provider c.requires.here in
     falls_by p _ c.requires.whole (returns-clause-whole g c) (omega (arith, some))
 
-pub returns-clause-others : goal.returns-clause-others
-returns-clause-others g c = λ k other.
-    get-set_other c.args.providers.now c.args.provider k c.fetch.new.from other
-
-pub returns-clause-called : goal.returns-clause-called
-returns-clause-called g c =
+pub returns-clause-calls : goal.returns-clause-calls
+returns-clause-calls g c =
     let less = fetch_within c.args.self.now c.requires.whole c.args.spot c.args.provider c.requires.here in
-    called_at g.P.Provider.calls c.args.providers.now c.args.provider c.index-providers-index.result
+    called-only g.P.Provider.calls c.args.providers.now c.args.provider c.index-providers-index.result
     c.fetch.new.from (omega (arith, less, c.requires.there)) c.fetch.ensures.called

@@ -13,22 +13,18 @@ stop-requires c =
 pub returns-in-Ok-clause-whole : goal.returns-in-Ok-clause-whole
 returns-in-Ok-clause-whole c =
     let turned_to = c.turn_to.ensures in
-    let made = c.take.ensures in
     open_whole c.args.self.now c.requires.whole c.args.spot c.requires.here c.turn_to.new.self
     c.index_mut-bench.result.now turned_to.present turned_to.symbols turned_to.size
     c.index_mut-bench.ensures.value c.survey.new.bench c.survey.ensures.object c.survey.new.codec c.in-Ok.off
-    c.in-Ok.ensures.surveyed c.take.new.self made.same made.at made.behind
-    (made.left c.args.spot.item.file.id c.args.spot.stripe) made.falls made.emptied made.found
+    c.in-Ok.ensures.surveyed c.take.new.self c.take.ensures
 
 pub returns-in-Ok-clause-step : goal.returns-in-Ok-clause-step
 returns-in-Ok-clause-step c =
     let turned_to = c.turn_to.ensures in
-    let made = c.take.ensures in
     open_step c.args.self.now c.requires.whole c.args.spot c.requires.here c.turn_to.new.self
     c.index_mut-bench.result.now turned_to.present turned_to.symbols turned_to.size
     c.index_mut-bench.ensures.value c.survey.new.bench c.survey.ensures.object c.survey.new.codec c.in-Ok.off
-    c.in-Ok.ensures.surveyed c.take.new.self made.same made.at made.behind
-    (made.left c.args.spot.item.file.id c.args.spot.stripe) made.falls made.emptied made.found
+    c.in-Ok.ensures.surveyed c.take.new.self c.take.ensures
 
 pub returns-in-Ok-clause-left : goal.returns-in-Ok-clause-left
 returns-in-Ok-clause-left c =

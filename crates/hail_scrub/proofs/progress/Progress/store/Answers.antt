@@ -1,5 +1,5 @@
-use Rattle.hail_scrub.proofs.Words.{◌<◌, map, sym, subst, arith, slice_set, map-set, get-set_other, provider_seen, scrub_view, MakesNext, called_at, was_stored, was_failed, found_no_memory}
-use Rattle.hail_scrub.proofs.Placed.{bench_there, seen_there, falls_by}
+use Rattle.hail_scrub.proofs.Words.{◌<◌, map, sym, subst, arith, slice_set, map-set, provider_seen, scrub_view, MakesNext, seen-at, called-only, was_stored, was_failed, found_no_memory}
+use Rattle.hail_scrub.proofs.Placed.{bench_there, falls_by}
 use Rattle.hail_scrub.proofs.Storing.{store_spot, store_within, store_some, store_fits, store_whole, store_done_whole, store_done, store_fails, store_finds_none}
 use Rattle.hail_scrub.proofs.progress.Progress.store.Goals as goal
 
@@ -45,7 +45,7 @@ returns-in-Ok-clause-step g c =
     c.index_mut-bench.ensures.value c.store_stripe.new.bench c.store_stripe.ensures.object after.result
     (rw c.deref.ensures.value at after.ensures.at) after.ensures.behind
     c.store_stripe.ensures.rows _ _ _ _
-    (seen_there seen c.args.providers.now c.args.provider c.index-providers-index.result
+    (seen-at seen c.args.providers.now c.args.provider c.index-providers-index.result
     (omega (arith, less, c.requires.there)))
     (map-set seen c.args.providers.now c.args.provider c.store_stripe.new.to)
     (was_stored _ _ _ _ _ _ _ c.in-Ok.is c.store_stripe.ensures.stored)
@@ -56,14 +56,10 @@ returns-in-Ok-clause-left g c =
     let some : 0 < p.left = store_some p c.requires.whole c.args.spot c.args.provider c.requires.here in
     falls_by p _ c.requires.whole (returns-in-Ok-clause-whole g c) (omega (arith, some))
 
-pub returns-in-Ok-clause-others : goal.returns-in-Ok-clause-others
-returns-in-Ok-clause-others g c = λ k other.
-    get-set_other c.args.providers.now c.args.provider k c.store_stripe.new.to other
-
-pub returns-in-Ok-clause-called : goal.returns-in-Ok-clause-called
-returns-in-Ok-clause-called g c =
+pub returns-in-Ok-clause-calls : goal.returns-in-Ok-clause-calls
+returns-in-Ok-clause-calls g c =
     let less = store_within c.args.self.now c.requires.whole c.args.spot c.args.provider c.requires.here in
-    called_at g.P.Provider.calls c.args.providers.now c.args.provider c.index-providers-index.result
+    called-only g.P.Provider.calls c.args.providers.now c.args.provider c.index-providers-index.result
     c.store_stripe.new.to (omega (arith, less, c.requires.there)) c.store_stripe.ensures.called
 
 pub returns-in-Err-Failed-clause-step : goal.returns-in-Err-Failed-clause-step
@@ -76,19 +72,15 @@ returns-in-Err-Failed-clause-step g c =
     (map seen (slice_set c.args.providers.now j c.store_stripe.new.to))) (sym c.stop.ensures.answer)
     (store_fails p c.requires.whole c.args.spot j c.requires.here c.index_mut-bench.result.now
     c.index_mut-bench.ensures.value _ _ _ _ _ c.stop.ensures.over
-    (seen_there seen c.args.providers.now j c.index-providers-index.result
+    (seen-at seen c.args.providers.now j c.index-providers-index.result
     (omega (arith, less, c.requires.there)))
     (map-set seen c.args.providers.now j c.store_stripe.new.to)
     (was_failed _ _ _ _ _ _ _ c.in-Err-Failed.is c.in-Err-Failed.field-0-is c.store_stripe.ensures.stored))
 
-pub returns-in-Err-Failed-clause-others : goal.returns-in-Err-Failed-clause-others
-returns-in-Err-Failed-clause-others g c = λ k other.
-    get-set_other c.args.providers.now c.args.provider k c.store_stripe.new.to other
-
-pub returns-in-Err-Failed-clause-called : goal.returns-in-Err-Failed-clause-called
-returns-in-Err-Failed-clause-called g c =
+pub returns-in-Err-Failed-clause-calls : goal.returns-in-Err-Failed-clause-calls
+returns-in-Err-Failed-clause-calls g c =
     let less = store_within c.args.self.now c.requires.whole c.args.spot c.args.provider c.requires.here in
-    called_at g.P.Provider.calls c.args.providers.now c.args.provider c.index-providers-index.result
+    called-only g.P.Provider.calls c.args.providers.now c.args.provider c.index-providers-index.result
     c.store_stripe.new.to (omega (arith, less, c.requires.there)) c.store_stripe.ensures.called
 
 pub returns-in-Err-Memory-clause-step : goal.returns-in-Err-Memory-clause-step
@@ -101,17 +93,13 @@ returns-in-Err-Memory-clause-step g c =
     (map seen (slice_set c.args.providers.now j c.store_stripe.new.to))) (sym c.stop-in-Err-Memory.ensures.answer)
     (store_finds_none p c.requires.whole c.args.spot j c.requires.here c.index_mut-bench.result.now
     c.index_mut-bench.ensures.value _ _ _ _ _ c.stop-in-Err-Memory.ensures.over
-    (seen_there seen c.args.providers.now j c.index-providers-index.result
+    (seen-at seen c.args.providers.now j c.index-providers-index.result
     (omega (arith, less, c.requires.there)))
     (map-set seen c.args.providers.now j c.store_stripe.new.to)
     (found_no_memory _ _ _ _ _ _ _ c.in-Err-Memory.is c.in-Err-Memory.field-0-is c.store_stripe.ensures.stored))
 
-pub returns-in-Err-Memory-clause-others : goal.returns-in-Err-Memory-clause-others
-returns-in-Err-Memory-clause-others g c = λ k other.
-    get-set_other c.args.providers.now c.args.provider k c.store_stripe.new.to other
-
-pub returns-in-Err-Memory-clause-called : goal.returns-in-Err-Memory-clause-called
-returns-in-Err-Memory-clause-called g c =
+pub returns-in-Err-Memory-clause-calls : goal.returns-in-Err-Memory-clause-calls
+returns-in-Err-Memory-clause-calls g c =
     let less = store_within c.args.self.now c.requires.whole c.args.spot c.args.provider c.requires.here in
-    called_at g.P.Provider.calls c.args.providers.now c.args.provider c.index-providers-index.result
+    called-only g.P.Provider.calls c.args.providers.now c.args.provider c.index-providers-index.result
     c.store_stripe.new.to (omega (arith, less, c.requires.there)) c.store_stripe.ensures.called

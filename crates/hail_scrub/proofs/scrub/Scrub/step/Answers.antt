@@ -1,4 +1,4 @@
-use Rattle.hail_scrub.proofs.Words.{List, map, ap, sym, subst, ◌∙◌, Provider, provider_seen, ScrubView, next_to_do, called_by, provider_by, ScrubStands, MakesScrubStep, scrub_view}
+use Rattle.hail_scrub.proofs.Words.{List, map, sym, subst, Provider, provider_seen, CallsOnly, ScrubView, next_to_do, called_by, provider_by, ScrubStands, MakesScrubStep, scrub_view}
 use Rattle.hail_scrub.proofs.Machine.{made_step}
 use Rattle.hail_scrub.proofs.Overs.{cursor_ends, over_is}
 use Rattle.hail_scrub.proofs.Sights.{map_twice, step_by}
@@ -20,9 +20,10 @@ returns-clause-machine g c = λ w m is_told stands.
     (sym (map_twice by seen c.args.providers.now)) stands))
     c.step.result new (map by qs) (step_by is_told v ps c.step.result new qs c.step.ensures.step))
 
-pub returns-clause-others : goal.returns-clause-others
-returns-clause-others g c = λ j k is other.
-    c.step.ensures.others j k (ap (λ (v : ScrubView). called_by (next_to_do v)) c.self.view_is ∙ is) other
+pub returns-clause-calls : goal.returns-clause-calls
+returns-clause-calls g c =
+    subst (λ (v : ScrubView). CallsOnly g.P.Provider.calls (called_by (next_to_do v)) c.args.providers.now
+    c.step.new.providers) c.self.view_is c.step.ensures.calls
 
 pub returns-clause-over : goal.returns-clause-over
 returns-clause-over g c =
