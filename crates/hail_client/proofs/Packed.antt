@@ -10,8 +10,10 @@ use Rattle.machine_defs.specs.Refusals as refusal
 use Rattle.machine_defs.specs.States as states
 use Rattle.vault_core.specs.Coming.{Coming}
 use Rattle.vault_core.specs.declared.wish.BeginFault.TheVariants as fault
-use Rattle.vault.specs.Steps.{CallsNext}
+use Rattle.stripe_bench.proofs.Sights.{called-none}
+use Rattle.vault.specs.Steps.{CallsNext, CallsPack}
 use Rattle.vault.specs.declared.packing.PackAnswer.{PackAnswer}
+use Rattle.vault.specs.declared.packing.PackTurn.{PackTurn}
 use Rattle.vault.specs.declared.packing.PackTurn.TheVariants as turn
 use Rattle.hail_client.specs.declared.alone.Alone.TheVariants as alone
 use Rattle.hail_client.specs.declared.turn.ClientTurn.TheVariants as client_turn
@@ -144,20 +146,14 @@ module _ (c : Client) (v : Vault) (job : PackJob) (number : ℕ) (is : c.vault �
       ∙ cond_true (job.number == number) _ _ (eq-eqb job.number number same)
 
   -- it calls the disk as long as moves are left, and no provider
-  pub calls-pack : {W X : Type 0} (D : DiskGhosts W) (P : ProviderGhosts X) (disk new : W) (ps : List X) →
-      is_some (D.holds new) ≡ is_some (D.holds disk) →
-      (moves_of job.pack < 4 → D.calls new ≡ one_more (D.calls disk)) → (moves_of job.pack ≡ 4 → new ≡ disk) →
+  pub calls-pack : {W X : Type 0} (D : DiskGhosts W) (P : ProviderGhosts X) (disk new : W) (ps : List X)
+      (t : PackTurn) → CallsPack D job.pack t disk new →
       CallsNext D P (client_coming c number) disk ps new ps
-  calls-pack D P disk new ps tells called ends = record {
-    tells = tells;
-    still = λ e. ends (calls-last (moves_of job.pack) job.undone (sym (ap calls_disk coming) ∙ e));
-    one_disk_call = λ e. called (calls-first (moves_of job.pack) (sym (ap calls_disk coming) ∙ e));
-    away = λ e. refl;
-    count = refl;
-    others = λ j k e other. refl;
-    one_provider_call = λ j e.
-        absurd (let f : None ≡ Some j = sym (no-provider (moves_of job.pack)) ∙ (sym (ap called_provider coming) ∙ e)
-        in cc);
+  calls-pack D P disk new ps t calls = record {
+    tells = calls.tells;
+    still = λ e. (calls.ends (calls-last (moves_of job.pack) job.undone (sym (ap calls_disk coming) ∙ e))).1;
+    one_disk_call = λ e. calls.called (calls-first (moves_of job.pack) (sym (ap calls_disk coming) ∙ e));
+    called = called-none P.calls _ ps (ap called_provider coming ∙ no-provider (moves_of job.pack));
   }
 
   -- something is next for it

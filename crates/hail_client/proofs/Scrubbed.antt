@@ -5,7 +5,7 @@ use Rattle.std.proofs.Common.{true, length}
 use Rattle.std.specs.Coded.{Unit-prop, le_prop}
 use Rattle.disk_model.specs.declared.disk.Disk.{Ghosts as DiskGhosts}
 use Rattle.provider_model.specs.declared.provider.Provider.{Ghosts as ProviderGhosts}
-use Rattle.stripe_bench.specs.Calls.{CalledOnce}
+use Rattle.stripe_bench.specs.Calls.{CallsOnly}
 use Rattle.vault.specs.Steps.{CallsNext}
 use Rattle.journal_core.proofs.BeyondLemmas.{goes_still}
 use Rattle.machine_defs.specs.Actions.{Action, WriteBody, SyncBody, WriteGate, SyncGate, Store, Fetch, Ask, Work, Remove, End}
@@ -197,22 +197,15 @@ module _ (c : Client) (v : Vault) (job : ScrubJob) (number : ℕ) (is : c.vault 
 
   -- it calls no disk, and of the providers only the one that its next action names
   pub calls-scrub : {W X : Type 0} (D : DiskGhosts W) (P : ProviderGhosts X) (disk : W) (ps qs : List X) →
-      length qs ≡ length ps → (called_by (next_to_do job.scrub) ≡ None → qs ≡ ps) →
-      ((j k : ℕ) → called_by (next_to_do job.scrub) ≡ Some j → k ≢ j → slice_get qs k ≡ slice_get ps k) →
-      ((j : ℕ) → called_by (next_to_do job.scrub) ≡ Some j → CalledOnce P.calls j ps qs) →
+      CallsOnly P.calls (called_by (next_to_do job.scrub)) ps qs →
       CallsNext D P (client_coming c number) disk ps disk qs
-  calls-scrub D P disk ps qs count away others one_call =
-      (let one : called_provider (client_coming c number) ≡ called_by (next_to_do job.scrub) =
-      ap called_provider coming ∙ next.provider in
-      record {
-        tells = refl;
-        still = λ none. refl;
-        one_disk_call = λ e. absurd (false≢true (sym next.disk ∙ (sym (ap calls_disk coming) ∙ e)));
-        away = λ e. away (sym one ∙ e);
-        count = count;
-        others = λ j k e other. others j k (sym one ∙ e) other;
-        one_provider_call = λ j e. one_call j (sym one ∙ e);
-      })
+  calls-scrub D P disk ps qs calls = record {
+    tells = refl;
+    still = λ none. refl;
+    one_disk_call = λ e. absurd (false≢true (sym next.disk ∙ (sym (ap calls_disk coming) ∙ e)));
+    called = subst (λ (o : Option ℕ). CallsOnly P.calls o ps qs)
+        (sym (ap called_provider coming ∙ next.provider)) calls;
+  }
 
   -- something is next for it
   pub has-next : {X : Type 0} → client_coming c number ≡ IsNoJob → X

@@ -1,7 +1,5 @@
 -- Which devices a step called, and what it did to its job.
-use Rattle.vault.proofs.Words.{◌≡◌, ◌⊎◌, inl, inr, ◌<◌, ℕ, true, false, get_or, map, List, None, Some, refl, sym, ap, subst, ◌∙◌, is_some, option_map, false≢true, none-some, get-set_other, slice_get, slice_set, slice_get-get_or, slice_get-map, same_value, Coming, IsNoJob, core_left, seen_action, calls_disk, called_provider, CalledOnce, called_at, CoreView, KeepsStreams, Desk, Vault, Reply, Answer, Turn, IfEnded, IsNoAction, HasPaddedCounts, IsStopped}
-use Rattle.std.proofs.Common.{◌≢◌, length}
-use Rattle.std.proofs.lemmas.List.{length-set}
+use Rattle.vault.proofs.Words.{◌≡◌, ◌⊎◌, inl, inr, ◌<◌, ℕ, true, false, List, None, Some, refl, sym, ap, subst, ◌∙◌, is_some, false≢true, Coming, IsNoJob, core_left, seen_action, calls_disk, called_provider, CoreView, KeepsStreams, Desk, Vault, Reply, Answer, Turn, IfEnded, IsNoAction, HasPaddedCounts, IsStopped, Option, called-none, CallsOnly}
 use Rattle.device_defs.specs.Faults.{one_more}
 use Rattle.disk_model.specs.declared.disk.Disk.{Ghosts as DiskGhosts}
 use Rattle.provider_model.specs.declared.provider.Provider.{Ghosts as ProviderGhosts}
@@ -10,26 +8,10 @@ use Rattle.vault_core.specs.declared.action.Action.{Action as ActionValue}
 use Rattle.vault_core.specs.declared.action.Action.TheVariants as act
 use Rattle.vault_core.specs.Coming.{Acts}
 use Rattle.vault.specs.Seen.{IsUnchanged}
-use Rattle.vault.specs.Steps.{OnlyCalled, CallsNext, HasActed, LeavesVault}
+use Rattle.vault.specs.Steps.{CallsNext, HasActed, LeavesVault}
 use Rattle.vault.specs.declared.turn.Turn.TheVariants as turn
 use Rattle.vault.proofs.Hands.{keeps_same}
 use Rattle.vault.proofs.Replies.{goes_not_on, padded_end}
-
--- ---- a provider of a list
-
--- where one was called and put back, it alone was called
-pub called-only : {X : Type 0} (calls : X → ℕ) (xs : List X) (k : ℕ) (d y : X) → k < length xs
-    → calls y ≡ one_more (calls (get_or xs k d)) → OnlyCalled calls k xs (slice_set xs k y)
-called-only calls xs k d y within made = record {
-  count = length-set xs k y;
-  others = λ i other. get-set_other xs k i y other;
-  called = called_at calls xs k d y within made;
-}
-
--- what is seen of it stands at its place
-pub seen-at : {X Y : Type 0} (seen : X → Y) (xs : List X) (k : ℕ) (d : X) → k < length xs
-    → slice_get (map seen xs) k ≡ Some (seen (get_or xs k d))
-seen-at seen xs k d within = slice_get-map seen xs k ∙ ap (option_map seen) (slice_get-get_or xs k d within)
 
 -- ---- what comes next calls
 
@@ -49,20 +31,13 @@ module _ {W X : Type 0} (D : DiskGhosts W) (P : ProviderGhosts X) (disk : W) (ps
     (same : a ≡ b) where
   -- a provider, and it alone
   pub calls-provider : (j : ℕ) (qs : List X) → called_provider a ≡ Some j → calls_disk a ≡ false
-      → OnlyCalled P.calls j ps qs → CallsNext D P b disk ps disk qs
-  calls-provider j qs one none only =
-      let its : called_provider b ≡ Some j = ap called_provider (sym same) ∙ one in
-      record {
-        tells = refl;
-        still = λ e. refl;
-        one_disk_call = λ calls. calls-none a b same none calls;
-        away = λ e. absurd (none-some j (sym e ∙ its));
-        count = only.count;
-        others = λ i k called other. only.others k
-            (subst (λ (x : ℕ). k ≢ x) (same_value (called_provider b) i j called its) other);
-        one_provider_call = λ i called. subst (λ (x : ℕ). CalledOnce P.calls x ps qs)
-            (same_value (called_provider b) j i its called) only.called;
-      }
+      → CallsOnly P.calls (Some j) ps qs → CallsNext D P b disk ps disk qs
+  calls-provider j qs one none only = record {
+    tells = refl;
+    still = λ e. refl;
+    one_disk_call = λ calls. calls-none a b same none calls;
+    called = subst (λ (x : Option ℕ). CallsOnly P.calls x ps qs) (sym one ∙ ap called_provider same) only;
+  }
 
   -- no device
   pub calls-nothing : called_provider a ≡ None → calls_disk a ≡ false → CallsNext D P b disk ps disk ps
@@ -70,11 +45,7 @@ module _ {W X : Type 0} (D : DiskGhosts W) (P : ProviderGhosts X) (disk : W) (ps
     tells = refl;
     still = λ e. refl;
     one_disk_call = λ calls. calls-none a b same none calls;
-    away = λ e. refl;
-    count = refl;
-    others = λ i k called other. refl;
-    one_provider_call = λ i called.
-        absurd (none-some i (sym nobody ∙ ap called_provider same ∙ called));
+    called = called-none P.calls _ ps (ap called_provider (sym same) ∙ nobody);
   }
 
   -- the disk
@@ -85,10 +56,7 @@ module _ {W X : Type 0} (D : DiskGhosts W) (P : ProviderGhosts X) (disk : W) (ps
     tells = tells;
     still = λ none. calls-none b a (sym same) none moves;
     one_disk_call = λ calls. called;
-    away = λ e. refl;
-    count = refl;
-    others = λ i k e other. refl;
-    one_provider_call = λ i e. absurd (none-some i (sym nobody ∙ ap called_provider same ∙ e));
+    called = called-none P.calls _ ps (ap called_provider (sym same) ∙ nobody);
   }
 
 -- a move of an append calls the disk

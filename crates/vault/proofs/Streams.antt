@@ -1,6 +1,6 @@
 -- Streams of a vault: which wait, how they begin, and how they are given up.
 use mathlib.Core.Bool.{Bool-set}
-use Rattle.vault.proofs.Words.{◌≡◌, ℕ, ◌+◌, ◌*◌, ◌≤◌, true, List, [], ◌∷◌, take, Option, Some, None, Result, Ok, Err, refl, sym, ap, subst, ◌∙◌, inl, inr, arith, IsSome, is_some, slice_get, IfOk, OnErr, remove, cases_Bool, cases_eq, false≢true, All-head, All-tail, All-take, ∥∥₁_map, ℕ_set, none-some, AllPass-from_list_all, list_all-from_AllPass, length-take, Provider, with_master, Setup, is_byte, largest_file, beginning, chosen, BeginsAt, AreBytes, PutJob, Job, job_of, without_job, State, setup_in, ended, cond_true, cond_false, number_of, found_more, found_without, numbered-below, IsBench, CoreIs, stripe_size, CoreJob, CoreView, job_in, told_by, told_in, wanted_at, wanted_by, wants_in, pair_some, BeginFault, Devices, devices, Desk, Running, StreamTask, IsStreaming, piece_size, IsBenchFor, DeskStands, DeskMakesBegin, PutEndsIn, HasEnds, IsAtWork, begin_outcome, place_in, IsSameDesk, KeepsAll, stripe_by, OpensStream, IsStream, IsRunning, AreRunning, setup_same, handed_same}
+use Rattle.vault.proofs.Words.{◌≡◌, ℕ, ◌+◌, ◌*◌, ◌≤◌, true, List, [], ◌∷◌, take, Option, Some, None, Result, Ok, Err, refl, sym, ap, subst, ◌∙◌, inl, inr, arith, IsSome, is_some, slice_get, remove, cases_Bool, cases_eq, false≢true, All-head, All-tail, All-take, ∥∥₁_map, ℕ_set, none-some, AllPass-from_list_all, list_all-from_AllPass, length-take, Provider, with_master, Setup, is_byte, largest_file, beginning, chosen, BeginsAt, AreBytes, PutJob, Job, job_of, without_job, State, setup_in, ended, cond_true, cond_false, number_of, found_more, found_without, numbered-below, IsBench, CoreIs, stripe_size, CoreJob, CoreView, job_in, told_by, told_in, wanted_at, wanted_by, wants_in, pair_some, BeginFault, Devices, devices, Desk, Running, StreamTask, IsStreaming, piece_size, IsBenchFor, DeskStands, DeskMakesBegin, PutEndsIn, HasEnds, IsAtWork, begin_outcome, place_in, IsSameDesk, KeepsAll, stripe_by, OpensStream, IsStream, IsRunning, AreRunning, setup_same, handed_same}
 use Rattle.std.proofs.Common.{◌==◌, length}
 use Rattle.std.specs.List.{All}
 use Rattle.vault.proofs.AtWork.{by_work}

@@ -1,5 +1,5 @@
 -- What calls of devices show holds of the same devices with no content told.
-use Rattle.vault.proofs.Words.{ℕ, ◌<◌, ◌^◌, Bool, true, false, List, Option, None, refl, ◌∙◌, inl, inr, IfSome, Cells, Provider, OtherCounts, IsBlock, Asks, Removes, Goes, Question, Task, Asked, IsAuditing, given_of, cells_by, provider_by, if_given, TakesFetch, fetch_size, MakesMove, Result, Ok, Err, Some, ◌≡◌, ap, is_some}
+use Rattle.vault.proofs.Words.{ℕ, ◌<◌, ◌^◌, Bool, true, false, List, Option, None, refl, inl, inr, IfSome, Cells, Provider, OtherCounts, IsBlock, Asks, Removes, Goes, Question, Task, Asked, IsAuditing, given_of, cells_by, provider_by, if_given, TakesFetch, fetch_size, MakesMove, Result, Ok, Err, Some, ◌≡◌, ap, is_some}
 use Rattle.stream_model.specs.declared.fault.WriteFault.{WriteFault}
 use Rattle.stream_model.specs.declared.fault.WriteFault.TheVariants as write_fault
 use Rattle.std.proofs.lemmas.Result.{on_ok_weaker}

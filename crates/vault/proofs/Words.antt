@@ -12,7 +12,7 @@ pub use Rattle.std.proofs.lemmas.List.Folds.{list_all-append, list_any-append}
 pub use Rattle.std.proofs.lemmas.List.FromFn.{length-range_with_len}
 pub use Rattle.std.proofs.lemmas.List.Quantifiers.{position-Some}
 pub use Rattle.std.proofs.lemmas.List.Sums.{AllPass-from_list_all, list_all-from_AllPass, sum_by-append, sum_by-cons}
-pub use Rattle.std.proofs.lemmas.Option.{none-some, same_Some, slice_get-get_or, slice_get-map, slice_get_within}
+pub use Rattle.std.proofs.lemmas.Option.{none-some, same_Some, slice_get-get_or, slice_get_within}
 pub use Rattle.std.proofs.lemmas.Result.{IfOk-weaker}
 pub use Rattle.std.proofs.lemmas.Slice.Zip.{AllZip-long}
 pub use Rattle.std.specs.Int.{from_le_bytes, to_le_bytes, w128}
@@ -46,10 +46,10 @@ pub use Rattle.hail_field.specs.declared.symbol.Symbol.{Symbol}
 pub use Rattle.hail_scrub.proofs.Machine.{handed_same, setup_same}
 pub use Rattle.journal_core.proofs.BeyondLemmas.{goes_still}
 pub use Rattle.journal_core.specs.Appends.{Appends, body_of, gate_of}
-pub use Rattle.journal_core.specs.Moves.{cells_after, IsWrite, MayTear, SameFrom}
-pub use Rattle.journal_core.specs.Texts.{AllStandIn, IsAfterMovesIn, IsApart, MayStandIn, MayStandWith, StandsFirm}
+pub use Rattle.journal_core.specs.Moves.{cells_after, MayTear, SameFrom}
+pub use Rattle.journal_core.specs.Texts.{AllStandIn, IsAfterMovesIn, IsApart, MayStandWith, StandsFirm}
 pub use Rattle.journal_pack.proofs.Tabled.{packed-folds}
-pub use Rattle.journal_pack.specs.Packs.{Packs, text_of, to_of, WritesText}
+pub use Rattle.journal_pack.specs.Packs.{Packs, to_of, WritesText}
 pub use Rattle.journal_pack.specs.declared.pack.Pack.{Pack}
 pub use Rattle.machine_defs.proofs.JobLists.{cond_false, cond_true, found_itself, found_more, found_none, found_with, found_without, number_of, same_value}
 pub use Rattle.machine_defs.proofs.Sights.{length-aims, stored-file}
@@ -93,10 +93,10 @@ pub use Rattle.state_laws.proofs.Written.{setup-providers, setup-rounds, setup-v
 pub use Rattle.state_laws.specs.Orders.{AreAscending, AreNumbered, moves_before, moves_made}
 pub use Rattle.state_laws.specs.Sound.{IsDoubtOf, IsGatedDoubt, IsSound}
 pub use Rattle.stripe_bench.proofs.Gifts.{gifts_give, gifts_more, present_more, worked_is, worked_other}
-pub use Rattle.stripe_bench.proofs.Sights.{called_at, fails_by, fetches_by, found_no_memory, if_given, no_memory_by, stores_by, was_failed, was_stored}
+pub use Rattle.stripe_bench.proofs.Sights.{called-none, called-only, fails_by, fetches_by, found_no_memory, if_given, no_memory_by, seen-at, stores_by, was_failed, was_stored}
 pub use Rattle.stripe_bench.specs.Bench.{IsBench}
 pub use Rattle.stripe_bench.specs.Blocks.{blocks_in, given_of, Grows, last_blocks}
-pub use Rattle.stripe_bench.specs.Calls.{CalledOnce, provider_by, sight}
+pub use Rattle.stripe_bench.specs.Calls.{CallsOnly, provider_by, sight}
 pub use Rattle.stripe_bench.specs.declared.blocks.Blocks.{Blocks}
 pub use Rattle.vault_core.proofs.Alike.{table-like}
 pub use Rattle.vault_core.proofs.Onward.{asks_ask}

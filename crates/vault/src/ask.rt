@@ -1,4 +1,4 @@
-ghost use Rattle.std.specs.Prelude.{◌≡◌, ◌<◌, ◌≤◌, ◌^◌, ◌==◌, ℕ, Bool, Option, length, map, position, IfSome};
+ghost use Rattle.std.specs.Prelude.{◌≡◌, ◌<◌, ◌≤◌, ◌^◌, ◌==◌, ℕ, Bool, Option, length, map, position, IfSome, Some};
 ghost use Rattle.column_defs.specs.Challenges.{honest_answer};
 ghost use Rattle.device_defs.specs.Cells.{Cells};
 ghost use Rattle.device_defs.specs.Faults.{one_more};
@@ -10,10 +10,10 @@ ghost use Rattle.provider_model.specs.Seen.{provider_seen};
 ghost use Rattle.vault_core.specs.declared.pinned.Pinned.{Pinned as PinnedValue};
 ghost use Rattle.vault_open.specs.Devices.{devices};
 ghost use Rattle.vault.specs.Asking.{pin_among, pin_in, profile_or, IsQuestion, challenge_put, Asked, MayAsk, TellsAsk, IsAuditing, MayPut};
-ghost use Rattle.stripe_bench.specs.Calls.{sight};
+ghost use Rattle.stripe_bench.specs.Calls.{CallsOnly, sight};
 ghost use Rattle.vault.specs.Desks.{DeskStands, IsAtWork, Comes, DeskMakesStep};
 ghost use Rattle.vault.specs.Running.{RunsIn};
-ghost use Rattle.vault.specs.Steps.{OnlyCalled, HasActed};
+ghost use Rattle.vault.specs.Steps.{HasActed};
 ghost use Rattle.vault.specs.declared.turn.Turn.TheVariants as turn;
 
 use crate::desk::Desk;
@@ -279,7 +279,7 @@ impl Desk {
             → DeskMakesStep w moment job result self.new
             (devices holds faults (map (sight is_told P.Provider) providers.old))
             (devices holds faults (map (sight is_told P.Provider) providers.new)) }
-        ensures calls { OnlyCalled P.calls provider providers.old providers.new }
+        ensures calls { CallsOnly P.calls (Some provider) providers.old providers.new }
         ensures acted { HasActed self.old.core self.new.core job result }
         ensures more { result ≡ turn.More }
     {

@@ -1,4 +1,4 @@
-ghost use Rattle.std.specs.Prelude.{◌≡◌, ◌<◌, ℕ, Bool, List, Option, length, map};
+ghost use Rattle.std.specs.Prelude.{◌≡◌, ◌<◌, ℕ, Bool, List, Option, length, map, Some};
 ghost use Rattle.device_defs.specs.Cells.{Cells};
 ghost use Rattle.device_defs.specs.Faults.{one_more};
 ghost use Rattle.device_defs.specs.ProviderCalls.{Fetches as FetchesOf};
@@ -8,10 +8,10 @@ ghost use Rattle.provider_model.specs.Seen.{provider_seen};
 ghost use Rattle.vault_open.specs.Devices.{devices};
 ghost use Rattle.stripe_bench.specs.Blocks.{given_of};
 ghost use Rattle.vault.specs.Benches.{TurnsTo};
-ghost use Rattle.stripe_bench.specs.Calls.{sight};
+ghost use Rattle.stripe_bench.specs.Calls.{CallsOnly, sight};
 ghost use Rattle.vault.specs.Desks.{DeskStands, IsAtWork, Comes, DeskMakesStep};
 ghost use Rattle.vault.specs.Fetching.{TakesFetch, HasRoomFor, GrowsFetches, HasRoomForFetch, fetch_size};
-ghost use Rattle.vault.specs.Steps.{OnlyCalled, HasActed};
+ghost use Rattle.vault.specs.Steps.{HasActed};
 ghost use Rattle.vault.specs.declared.turn.Turn.TheVariants as turn;
 
 use crate::desk::Desk;
@@ -89,7 +89,7 @@ impl Desk {
             → DeskMakesStep w moment job result self.new
             (devices holds faults (map (sight is_told P.Provider) providers.old))
             (devices holds faults (map (sight is_told P.Provider) providers.new)) }
-        ensures calls { OnlyCalled P.calls provider providers.old providers.new }
+        ensures calls { CallsOnly P.calls (Some provider) providers.old providers.new }
         ensures acted { HasActed self.old.core self.new.core job result }
         ensures more { result ≡ turn.More }
     {

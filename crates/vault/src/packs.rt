@@ -1,8 +1,8 @@
 //! A pack of the journal, which runs alone beside the vault's jobs.
-ghost use Rattle.std.specs.Prelude.{◌≡◌, ◌<◌, ◌+◌, ◌-◌, ◌^◌, Bool, List, true, None, Err, IfOk, OnErr, is_some};
-ghost use Rattle.device_defs.specs.Faults.{HasCause, one_more};
+ghost use Rattle.std.specs.Prelude.{◌≡◌, ◌<◌, ◌-◌, ◌^◌, Bool, List, true, Err, IfOk, OnErr, is_some};
+ghost use Rattle.device_defs.specs.Faults.{HasCause};
 ghost use Rattle.device_defs.specs.Providers.{Provider};
-ghost use Rattle.journal_pack.specs.Packs.{to_of, text_of, moves_of};
+ghost use Rattle.journal_pack.specs.Packs.{moves_of};
 ghost use Rattle.machine_defs.specs.States.{State};
 ghost use Rattle.record_defs.specs.Areas.{text_length};
 ghost use Rattle.vault_core.specs.declared.wish.BeginFault.TheVariants as fault;
@@ -11,9 +11,10 @@ ghost use Rattle.vault.specs.declared.packing.PackAnswer.TheVariants as answer;
 ghost use Rattle.vault.specs.declared.packing.PackTurn.TheVariants as pack_turn;
 ghost use Rattle.vault.specs.Calls.{PacksCells};
 ghost use Rattle.vault.specs.Devices.{cells_by};
-ghost use Rattle.vault.specs.Packing.{IsPackOf, StandsPacking, PacksOver, MakesPackStep, IfMore, IfPackDone, IsPackDone};
+ghost use Rattle.vault.specs.Packing.{IsPackOf, StandsPacking, PacksOver, MakesPackStep, IfMore};
 ghost use Rattle.vault.specs.Seen.{held_by, next_job_of, IsUnchanged};
 ghost use Rattle.vault.specs.Stands.{Stands};
+ghost use Rattle.vault.specs.Steps.{CallsPack, IsPackOn, LeavesPacking};
 ghost use Rattle.vault.specs.Streams.{KeepsStreamless};
 
 use crate::packing::{PackAnswer, PackJob, PackTurn};
@@ -68,19 +69,12 @@ impl Vault {
             (devices (cells_by is_told (D.holds disk.old)) (D.faults disk.old) providers) w
             → MakesPackStep w job.number result self.new
             (devices (cells_by is_told (D.holds disk.new)) (D.faults disk.new) providers) }
-        ensures goes_on { IfMore result (λ next. IsPackOf self.new next × (next.number ≡ job.number)
-            × (moves_of next.pack ≡ moves_of job.pack + 1)) }
+        ensures goes_on { IfMore result (IsPackOn self.new job) }
         ensures moves { PacksCells job.pack result (D.holds disk.old) (D.holds disk.new) }
-        ensures same { IfMore result (λ next. (to_of next.pack ≡ to_of job.pack)
-            × (text_of next.pack ≡ text_of job.pack)) }
-        ensures ends { moves_of job.pack ≡ 4 → IsPackDone result × (disk.new ≡ disk.old) }
-        ensures called { moves_of job.pack < 4 → D.calls disk.new ≡ one_more (D.calls disk.old) }
-        ensures free { IfPackDone result (held_by self.new ≡ None) }
-        ensures next_job { next_job_of self.new ≡ next_job_of self.old }
-        ensures tells { is_some (D.holds disk.new) ≡ is_some (D.holds disk.old) }
+        ensures calls { CallsPack D.Disk job.pack result disk.old disk.new }
         ensures cause { HasCause (D.faults disk.old) (D.faults disk.new)
             (result ≡ pack_turn.Done answer.DiskFault) }
-        ensures streams { KeepsStreamless self.old self.new }
+        ensures leaves { LeavesPacking self.old self.new result }
     {
         let PackJob {
             number,

@@ -1,14 +1,14 @@
-ghost use Rattle.std.specs.Prelude.{◌≡◌, ◌<◌, ℕ, Bool, Option, length, map};
+ghost use Rattle.std.specs.Prelude.{◌≡◌, ◌<◌, ℕ, Bool, Option, length, map, Some};
 ghost use Rattle.device_defs.specs.Cells.{Cells};
 ghost use Rattle.device_defs.specs.Faults.{one_more};
 ghost use Rattle.device_defs.specs.ProviderCalls.{Removes};
 ghost use Rattle.machine_defs.specs.Actions.{Remove};
 ghost use Rattle.machine_defs.specs.States.{State};
-ghost use Rattle.stripe_bench.specs.Calls.{sight};
+ghost use Rattle.stripe_bench.specs.Calls.{CallsOnly, sight};
 ghost use Rattle.vault_open.specs.Devices.{devices};
 ghost use Rattle.provider_model.specs.Seen.{provider_seen};
 ghost use Rattle.vault.specs.Desks.{DeskStands, Comes, DeskMakesStep};
-ghost use Rattle.vault.specs.Steps.{OnlyCalled, HasActed};
+ghost use Rattle.vault.specs.Steps.{HasActed};
 ghost use Rattle.vault.specs.declared.turn.Turn.TheVariants as turn;
 
 use crate::desk::Desk;
@@ -41,7 +41,7 @@ impl Desk {
             → DeskMakesStep w moment job result self.new
             (devices holds faults (map (sight is_told P.Provider) providers.old))
             (devices holds faults (map (sight is_told P.Provider) providers.new)) }
-        ensures calls { OnlyCalled P.calls provider providers.old providers.new }
+        ensures calls { CallsOnly P.calls (Some provider) providers.old providers.new }
         ensures acted { HasActed self.old.core self.new.core job result }
         ensures more { result ≡ turn.More }
     {

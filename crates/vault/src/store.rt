@@ -1,4 +1,4 @@
-ghost use Rattle.std.specs.Prelude.{◌≡◌, ◌<◌, ℕ, Bool, Option, length, map};
+ghost use Rattle.std.specs.Prelude.{◌≡◌, ◌<◌, ℕ, Bool, Option, length, map, Some};
 ghost use Rattle.column_defs.specs.Columns.{column_of_symbols};
 ghost use Rattle.device_defs.specs.Cells.{Cells};
 ghost use Rattle.device_defs.specs.Faults.{one_more};
@@ -6,9 +6,9 @@ ghost use Rattle.machine_defs.specs.Actions.{Store};
 ghost use Rattle.machine_defs.specs.States.{State};
 ghost use Rattle.provider_model.specs.Seen.{StoresAs, provider_seen};
 ghost use Rattle.vault_open.specs.Devices.{devices};
-ghost use Rattle.stripe_bench.specs.Calls.{sight};
+ghost use Rattle.stripe_bench.specs.Calls.{CallsOnly, sight};
 ghost use Rattle.vault.specs.Desks.{DeskStands, IsAtWork, Comes, DeskMakesStep};
-ghost use Rattle.vault.specs.Steps.{OnlyCalled, HasActed};
+ghost use Rattle.vault.specs.Steps.{HasActed};
 ghost use Rattle.column_codec.specs.Bench.{turned};
 ghost use Rattle.vault.specs.Storing.{stored_block, KeepsTask, IsStorer};
 
@@ -106,7 +106,7 @@ impl Desk {
             → DeskMakesStep w moment job result self.new
             (devices holds faults (map (sight is_told P.Provider) providers.old))
             (devices holds faults (map (sight is_told P.Provider) providers.new)) }
-        ensures calls { OnlyCalled P.calls provider providers.old providers.new }
+        ensures calls { CallsOnly P.calls (Some provider) providers.old providers.new }
         ensures acted { HasActed self.old.core self.new.core job result }
     {
         let place = self.place_of(job);

@@ -1,7 +1,7 @@
 //! Bodies of vault's public functions, for its must-fail edits to spoil.
 ghost use Rattle.std.specs.Prelude.{◌≡◌, ◌<◌, ◌≤◌, ◌-◌, ◌^◌, ℕ, Bool, List, None, Err, true, false, length, is_some, slice_get, IfOk};
 ghost use Rattle.std.specs.Option.{option_map};
-ghost use Rattle.device_defs.specs.Faults.{one_more};
+ghost use Rattle.device_defs.specs.Faults.{HasCause};
 ghost use Rattle.device_defs.specs.Providers.{Provider};
 ghost use Rattle.journal_pack.specs.Packs.{moves_of};
 ghost use Rattle.machine_defs.specs.Alone.{new_scrub};
@@ -15,10 +15,10 @@ ghost use Rattle.vault_open.specs.Disks.{StartsOver};
 ghost use Rattle.vault.specs.Devices.{cells_by, devices_seen};
 ghost use Rattle.vault.specs.Heard.{entry_heard};
 ghost use Rattle.vault.specs.Outcomes.{IsNoAction};
-ghost use Rattle.vault.specs.Packing.{IsPackOf, StandsPacking, PacksOver, MakesPackStep, IsPackDone};
+ghost use Rattle.vault.specs.Packing.{IsPackOf, StandsPacking, PacksOver, MakesPackStep};
 ghost use Rattle.vault.specs.Seen.{held_by, next_job_of, provider_count, coming_of, IsUnchanged};
 ghost use Rattle.vault.specs.Stands.{Stands, HoldsOver, MakesBegin, MakesStep};
-ghost use Rattle.vault.specs.Steps.{CallsNext};
+ghost use Rattle.vault.specs.Steps.{CallsNext, CallsPack};
 ghost use Rattle.vault.specs.Streams.{wants_of, stripe_of, IsPiece, FitsPiece};
 
 use disk_model::Disk;
@@ -155,8 +155,7 @@ pub fn step_pack<D: Disk>(vault: &mut Vault, job: PackJob, disk: &mut D) -> Pack
         (devices (cells_by is_told (D.holds disk.old)) (D.faults disk.old) providers) w
         → MakesPackStep w job.number result vault.new
         (devices (cells_by is_told (D.holds disk.new)) (D.faults disk.new) providers) }
-    ensures ends { moves_of job.pack ≡ 4 → IsPackDone result × (disk.new ≡ disk.old) }
-    ensures called { moves_of job.pack < 4 → D.calls disk.new ≡ one_more (D.calls disk.old) }
+    ensures calls { CallsPack D.Disk job.pack result disk.old disk.new }
 {
     let turn = vault.step_pack(job, disk);
     turn

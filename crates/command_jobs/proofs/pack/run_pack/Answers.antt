@@ -32,28 +32,28 @@ step_pack-requires g c = c.loop-next.invariant.is_of
 
 pub loop-next-smaller : goal.loop-next-smaller
 loop-next-smaller g c =
-    let more = c.in-More.ensures.goes_on.2 in
+    let more = c.in-More.ensures.goes_on.moves in
     let undone = c.in-More.next.undone in
     omega (arith, more, undone)
 
 pub loop-next-preserved : goal.loop-next-preserved
 loop-next-preserved g c = record {
-  is_of = c.in-More.ensures.goes_on.0;
-  number = c.in-More.ensures.goes_on.1 ∙ c.loop-next.invariant.number;
-  to = c.in-More.ensures.same.0 ∙ c.loop-next.invariant.to;
-  text = c.in-More.ensures.same.1 ∙ c.loop-next.invariant.text;
+  is_of = c.in-More.ensures.goes_on.is_of;
+  number = c.in-More.ensures.goes_on.number ∙ c.loop-next.invariant.number;
+  to = c.in-More.ensures.goes_on.to ∙ c.loop-next.invariant.to;
+  text = c.in-More.ensures.goes_on.text ∙ c.loop-next.invariant.text;
   cells = λ told is long low. pack-cells c.loop-next.job.pack (moves_of c.in-More.next.pack)
       (to_of c.in_ok-job.job.pack) (text_of c.in_ok-job.job.pack) told _ _ c.loop-next.invariant.to
       c.loop-next.invariant.text
-      (let more = c.in-More.ensures.goes_on.2 in let undone = c.in-More.next.undone in
-      omega (arith, more, undone)) c.in-More.ensures.goes_on.2 low
+      (let more = c.in-More.ensures.goes_on.moves in let undone = c.in-More.next.undone in
+      omega (arith, more, undone)) c.in-More.ensures.goes_on.moves low
       (c.loop-next.invariant.cells told is long low) c.in-More.ensures.moves;
   way = λ w moment providers stands.
       let way = c.loop-next.invariant.way w moment providers stands in
       pack-more w c.in_ok-job.job.number moment c.loop-next.vault c.step_pack.new.self c.loop-next.job _ _
       c.loop-next.invariant.number way c.in-More.next
       (c.in-More.ensures.machine (now w way.steps) providers true way.stands);
-  tells = c.step_pack.ensures.tells ∙ c.loop-next.invariant.tells;
+  tells = c.step_pack.ensures.calls.tells ∙ c.loop-next.invariant.tells;
   faults = (let a = c.loop-next.invariant.faults in let b = c.step_pack.ensures.cause.never_falls in
       omega (arith, a, b));
 }
@@ -71,7 +71,7 @@ returns-in-Done-clause-ended g c = λ records providers old new opened fresh bef
     (c.in-Done.ensures.machine (now w way.steps) providers true way.stands))
     (let a = c.loop-next.invariant.faults in let b = c.step_pack.ensures.cause.never_falls in
     omega (arith, a, b))
-    (c.step_pack.ensures.tells ∙ c.loop-next.invariant.tells) before after c.told_packs_leave.ensures
+    (c.step_pack.ensures.calls.tells ∙ c.loop-next.invariant.tells) before after c.told_packs_leave.ensures
 
 pub returns-in-Done-clause-around : goal.returns-in-Done-clause-around
 returns-in-Done-clause-around g c = λ area records told fresh is.
@@ -85,7 +85,7 @@ returns-in-Done-clause-around g c = λ area records told fresh is.
     (starts-low (other_area area) (packed records) c.in_ok-job.job.pack S.writes)) c.in-Done.ensures.moves
 
 pub returns-in-Done-clause-tells : goal.returns-in-Done-clause-tells
-returns-in-Done-clause-tells g c = c.step_pack.ensures.tells ∙ c.loop-next.invariant.tells
+returns-in-Done-clause-tells g c = c.step_pack.ensures.calls.tells ∙ c.loop-next.invariant.tells
 
 pub returns-in-Done-clause-count : goal.returns-in-Done-clause-count
 returns-in-Done-clause-count g c =

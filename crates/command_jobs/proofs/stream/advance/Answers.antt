@@ -80,14 +80,14 @@ loop-vault-preserved g c =
       tells = c.in-More.ensures.calls.tells ∙ c.loop-vault.invariant.tells;
       left = (let a = c.in-More.ensures.left refl in let b = c.loop-vault.invariant.left in
           omega (arith, a, b));
-      count = c.in-More.ensures.calls.count ∙ c.loop-vault.invariant.count;
+      count = c.in-More.ensures.calls.called.count ∙ c.loop-vault.invariant.count;
     }
 
 pub returns-then-is_some-clause-tells : goal.returns-then-is_some-clause-tells
 returns-then-is_some-clause-tells g c = c.in-More.ensures.calls.tells ∙ c.loop-vault.invariant.tells
 
 pub returns-then-is_some-clause-count : goal.returns-then-is_some-clause-count
-returns-then-is_some-clause-count g c = c.in-More.ensures.calls.count ∙ c.loop-vault.invariant.count
+returns-then-is_some-clause-count g c = c.in-More.ensures.calls.called.count ∙ c.loop-vault.invariant.count
 
 pub returns-in-Done-clause-went : goal.returns-in-Done-clause-went
 returns-in-Done-clause-went g c = λ start w kind own moment d way b.
@@ -104,7 +104,7 @@ pub returns-in-Done-clause-tells : goal.returns-in-Done-clause-tells
 returns-in-Done-clause-tells g c = c.in-Done.ensures.calls.tells ∙ c.loop-vault.invariant.tells
 
 pub returns-in-Done-clause-count : goal.returns-in-Done-clause-count
-returns-in-Done-clause-count g c = c.in-Done.ensures.calls.count ∙ c.loop-vault.invariant.count
+returns-in-Done-clause-count g c = c.in-Done.ensures.calls.called.count ∙ c.loop-vault.invariant.count
 
 pub unreachable-requires : goal.unreachable-requires
 unreachable-requires g c =

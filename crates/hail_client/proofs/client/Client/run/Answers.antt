@@ -17,7 +17,7 @@ loop-turn-preserved-else-not-goes_on-4 g c = (
   λ opened. (let S = c.loop-turn.invariant.1 (sym c.step-turn.ensures.stays_open ∙ opened) in
       let M = (c.step-turn.ensures.machine S.state 0 S.stands).makes in
       record { state = M.state; stands = M.stands }),
-  c.step-turn.ensures.calls.count ∙ c.loop-turn.invariant.2,
+  c.step-turn.ensures.calls.called.count ∙ c.loop-turn.invariant.2,
   c.step-turn.ensures.calls.tells ∙ c.loop-turn.invariant.3,
 )
 
@@ -35,7 +35,7 @@ loop-turn-preserved-else-not-goes_on-5 g c = (
   λ opened. (let S = c.loop-turn.invariant.1 (sym c.step-turn.ensures.stays_open ∙ opened) in
       let M = (c.step-turn.ensures.machine S.state 0 S.stands).makes in
       record { state = M.state; stands = M.stands }),
-  c.step-turn.ensures.calls.count ∙ c.loop-turn.invariant.2,
+  c.step-turn.ensures.calls.called.count ∙ c.loop-turn.invariant.2,
   c.step-turn.ensures.calls.tells ∙ c.loop-turn.invariant.3,
 )
 

@@ -113,8 +113,7 @@ returns-in-More-clause-machine g c =
 pub returns-in-More-clause-calls : goal.returns-in-More-clause-calls
 returns-in-More-clause-calls g c =
     calls-scrub c.args.self.now c.in-Some.vault c.in-Scrub.running c.args.job c.in-Some.is (more-is g c)
-    (more-number g c) (more-next g c) g.D.Disk g.P.Provider _ _ _ c.step-in-Scrub.ensures.count
-    c.step-in-Scrub.ensures.away c.step-in-Scrub.ensures.others c.step-in-Scrub.ensures.one_call
+    (more-number g c) (more-next g c) g.D.Disk g.P.Provider _ _ _ c.step-in-Scrub.ensures.calls
 
 pub returns-in-More-clause-no_job : goal.returns-in-More-clause-no_job
 returns-in-More-clause-no_job g c = λ e. has-next c.args.self.now c.in-Some.vault c.in-Scrub.running
@@ -165,8 +164,7 @@ returns-in-Done-clause-machine g c =
 pub returns-in-Done-clause-calls : goal.returns-in-Done-clause-calls
 returns-in-Done-clause-calls g c =
     calls-scrub c.args.self.now c.in-Some.vault c.in-Scrub.running c.args.job c.in-Some.is (done-is g c)
-    (done-number g c) (done-next g c) g.D.Disk g.P.Provider _ _ _ c.step-in-Scrub.ensures.count
-    c.step-in-Scrub.ensures.away c.step-in-Scrub.ensures.others c.step-in-Scrub.ensures.one_call
+    (done-number g c) (done-next g c) g.D.Disk g.P.Provider _ _ _ c.step-in-Scrub.ensures.calls
 
 pub returns-in-Done-clause-no_job : goal.returns-in-Done-clause-no_job
 returns-in-Done-clause-no_job g c = λ e. has-next c.args.self.now c.in-Some.vault c.in-Scrub.running
@@ -192,7 +190,7 @@ pub invariant_of-self-in-Done-step_pack : goal.invariant_of-self-in-Done-step_pa
 invariant_of-self-in-Done-step_pack g c = record {
   at_work = free-works c.step_pack.new.self c.take.new.self c.take.ensures.after;
   streamless = streamless-on c.in-Some.vault c.step_pack.new.self c.args.self.now.vault c.in-Some.is
-      c.step_pack.ensures.streams c.args.self.now.streamless;
+      c.step_pack.ensures.leaves.streams c.args.self.now.streamless;
 }
 
 pub returns-in-More-step_pack-clause-machine : goal.returns-in-More-step_pack-clause-machine
@@ -243,8 +241,7 @@ returns-in-More-step_pack-clause-calls g c =
     (taken c.args.self.now.alone c.take.result c.in-Some-take.alone (alone.Pack c.in-Pack.running)
     c.take.ensures.value c.in-Some-take.is c.in-Pack.is)
     (number-taken c.in-Some-take.alone (alone.Pack c.in-Pack.running) c.number.result c.args.job c.in-Pack.is
-    c.number.ensures c.if-number-job.false) g.D.Disk g.P.Provider _ _ _
-    c.step_pack.ensures.tells c.step_pack.ensures.called (λ four. (c.step_pack.ensures.ends four).1)
+    c.number.ensures c.if-number-job.false) g.D.Disk g.P.Provider _ _ _ _ c.step_pack.ensures.calls
 
 pub returns-in-Done-step_pack-clause-calls : goal.returns-in-Done-step_pack-clause-calls
 returns-in-Done-step_pack-clause-calls g c =
@@ -252,5 +249,4 @@ returns-in-Done-step_pack-clause-calls g c =
     (taken c.args.self.now.alone c.take.result c.in-Some-take.alone (alone.Pack c.in-Pack.running)
     c.take.ensures.value c.in-Some-take.is c.in-Pack.is)
     (number-taken c.in-Some-take.alone (alone.Pack c.in-Pack.running) c.number.result c.args.job c.in-Pack.is
-    c.number.ensures c.if-number-job.false) g.D.Disk g.P.Provider _ _ _
-    c.step_pack.ensures.tells c.step_pack.ensures.called (λ four. (c.step_pack.ensures.ends four).1)
+    c.number.ensures c.if-number-job.false) g.D.Disk g.P.Provider _ _ _ _ c.step_pack.ensures.calls

@@ -1,11 +1,10 @@
-use Rattle.vault.proofs.Words.{None, refl, arith, [], ∥∥₁_map, map-set, sight}
+use Rattle.vault.proofs.Words.{None, refl, arith, [], ∥∥₁_map, map-set, sight, called-only, seen-at}
 use Rattle.vault.proofs.AskJoin.{put_there, ask_there, tell_there, ask_step, told_takes}
 use Rattle.vault.proofs.AtWork.{by_work, place_there}
 use Rattle.vault.proofs.JobPlaces.{item_at, place_within}
 use Rattle.vault.proofs.Props.{ask_prop, tell_prop}
 use Rattle.vault.proofs.RunningJobs.{runs_next}
 use Rattle.vault.proofs.Untold.{asks_by, answered, audits_on}
-use Rattle.vault.proofs.Called.{called-only, seen-at}
 use Rattle.vault.proofs.desk.Desk.ask.Goals as goal
 
 pub question-question-requires-clause-runs : goal.question-question-requires-clause-runs

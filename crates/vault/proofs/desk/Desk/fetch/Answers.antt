@@ -1,11 +1,10 @@
-use Rattle.vault.proofs.Words.{None, refl, arith, map-set, sight, fetches_by}
+use Rattle.vault.proofs.Words.{None, refl, arith, map-set, sight, fetches_by, called-only, seen-at}
 use Rattle.vault.proofs.AtWork.{by_work, place_there}
 use Rattle.vault.proofs.FetchStep.{room_there, fetch_step}
 use Rattle.vault.proofs.JobPlaces.{item_at, place_within}
 use Rattle.vault.proofs.Props.{room_prop}
 use Rattle.vault.proofs.Replies.{replies}
 use Rattle.vault.proofs.Untold.{taken}
-use Rattle.vault.proofs.Called.{called-only, seen-at}
 use Rattle.vault.proofs.desk.Desk.fetch.Goals as goal
 
 pub place_of-place-requires : goal.place_of-place-requires

@@ -1,8 +1,7 @@
-use Rattle.vault.proofs.Words.{refl, map-set, sight}
+use Rattle.vault.proofs.Words.{refl, map-set, sight, called-only, seen-at}
 use Rattle.vault.proofs.RemoveStep.{remove_step}
 use Rattle.vault.proofs.Replies.{replies}
 use Rattle.vault.proofs.Untold.{removes_by}
-use Rattle.vault.proofs.Called.{called-only, seen-at}
 use Rattle.vault.proofs.desk.Desk.remove.Goals as goal
 
 pub returns-clause-machine : goal.returns-clause-machine

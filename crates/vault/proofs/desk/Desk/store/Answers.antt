@@ -1,11 +1,11 @@
-use Rattle.vault.proofs.Words.{None, refl, ap, arith, is_some, map-set, sight, stores_by, fails_by, no_memory_by, was_stored, was_failed, found_no_memory}
+use Rattle.vault.proofs.Words.{None, refl, ap, arith, is_some, map-set, sight, stores_by, fails_by, no_memory_by, was_stored, was_failed, found_no_memory, called-only, seen-at}
 use Rattle.vault.proofs.JobPlaces.{item_at, place_within}
 use Rattle.vault.proofs.Replies.{replies}
 use Rattle.vault.proofs.AtWork.{by_work, place_there}
 use Rattle.vault.proofs.Props.{storer_prop}
 use Rattle.vault.proofs.Stops.{place_set}
 use Rattle.vault.proofs.StoreStep.{storer_there, store_step, failed_step, no_memory_step}
-use Rattle.vault.proofs.Called.{called-only, seen-at, stopped-acted}
+use Rattle.vault.proofs.Called.{stopped-acted}
 use Rattle.vault.proofs.desk.Desk.store.Goals as goal
 
 pub place_of-place-requires : goal.place_of-place-requires

@@ -87,14 +87,8 @@ returns-then-is_made-clause-moves g c = (c.is_made.ensures.0 c.if-is_made.true, 
 pub returns-in-Ok-true-clause-moves : goal.returns-in-Ok-true-clause-moves
 returns-in-Ok-true-clause-moves g c = c.in-Ok-true.ensures.disk.does
 
-pub returns-in-Ok-true-clause-same : goal.returns-in-Ok-true-clause-same
-returns-in-Ok-true-clause-same g c = (c.in-Ok-true.ensures.moves.to, c.in-Ok-true.ensures.moves.text)
-
 pub returns-in-Ok-false-clause-moves : goal.returns-in-Ok-false-clause-moves
 returns-in-Ok-false-clause-moves g c = c.in-Ok-false.ensures.disk.does
-
-pub returns-in-Ok-false-clause-same : goal.returns-in-Ok-false-clause-same
-returns-in-Ok-false-clause-same g c = (c.in-Ok-false.ensures.moves.to, c.in-Ok-false.ensures.moves.text)
 
 pub returns-in-Err-Failed-clause-moves : goal.returns-in-Err-Failed-clause-moves
 returns-in-Err-Failed-clause-moves g c = c.in-Err-Failed.ensures.disk.torn (ap Err c.in-Err-Failed.field-0-is)
