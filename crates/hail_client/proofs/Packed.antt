@@ -3,7 +3,6 @@ use mathlib.Core.Bool.{Bool-set}
 use Rattle.hail_client.proofs.Words.{◌≡◌, ℕ, zero, suc, ◌==◌, ◌<◌, ◌≤◌, ◌^◌, false, List, [], ◌∷◌, Option, None, Some, Result, Err, refl, ap, sym, subst, ◌∙◌, inl, inr, ◌⊎◌, arith, is_some, unwrap_or, ∥∥₁_elim, ℕ_set, false≢true, eq-eqb, is_some-none, Cells, Provider, Pack, moves_of, is_too_long, pack_refusal, BeginsPack, BeginPack, Step, Refused, More, Ended, Happens, State, cond_true, version_of, refusal_of, IsNoJob, calls_disk, called_provider, calls-nothing, BeginFault, Devices, devices, PackJob, Vault, IsPackOf, StandsPacking, pack_answer, PacksOver, MakesPackStep, held_by, IsUnchanged, Stands, client_coming, coming_by, pack_coming, pack_alone, Alone, Client, client_begin_outcome, StandsBy, ClientStands, MakesEvent, ClientMakesStep}
 use Rattle.std.proofs.Common.{true, length}
 use Rattle.std.proofs.Props.{props}
-use Rattle.device_defs.specs.Faults.{one_more}
 use Rattle.disk_model.specs.declared.disk.Disk.{Ghosts as DiskGhosts}
 use Rattle.provider_model.specs.declared.provider.Provider.{Ghosts as ProviderGhosts}
 use Rattle.machine_defs.specs.Refusals as refusal

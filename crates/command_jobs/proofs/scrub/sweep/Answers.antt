@@ -13,7 +13,7 @@ loop-answer-init g c = (
 pub loop-answer-preserved : goal.loop-answer-preserved
 loop-answer-preserved g c = (
   c.in-More.ensures.over,
-  omega (arith, c.loop-answer.invariant.1, c.step.ensures.providers, c.step.ensures.count),
+  omega (arith, c.loop-answer.invariant.1, c.step.ensures.providers, c.step.ensures.calls.count),
   λ w m moment opened unbarred idle stands.
       let way = c.loop-answer.invariant.2 w m moment opened unbarred idle stands in
       sweep-more w m moment c.loop-answer.scrub c.step.new.self _ _ opened unbarred way
