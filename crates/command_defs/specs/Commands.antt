@@ -4,8 +4,9 @@
 --   AnswersInit of Inits            == `init`
 --   MayBeWhole name bytes own area records answers
 --                                   == the job of a put has ended with its last record in effect, or in doubt
---   IsUnbegun answers               == the job was refused, or found no memory to begin
---   ReadsWithin size old new        == fewer bytes than so many were read of a source, no more than a file has
+--   DidNotBegin answers             == the job was refused, or found no memory to begin
+--   ReadsWithin before size old new == of a source of which so many bytes were read before, some next ones
+--                                      were read, fewer than size; in all no more than a file has
 --   AnswersPut name own old new end == `put`, with the profile that it names: it opens the store, and reads its
 --                                      source stripe by stripe, the first one before its job begins
 --   AnswersAlone kind old new end   == `get`, `drop`, `audit`, `repair`, `upgrade`: they open the store and
@@ -15,9 +16,8 @@
 --   AnswersPack of Packs            == `pack`
 --   Answers command old new end     == how a command ends, by its words
 --   IsUsage old new end             == words that are no form of a command: status 2, or that of no memory
-use Rattle.std.specs.Prelude.{◌≡◌, ⊤, ℕ, ◌<◌, ◌≤◌, false, IsTrue, List, [], length, Option, None, Some, IfSome}
+use Rattle.std.specs.Prelude.{◌≡◌, ⊤, ℕ, ◌+◌, ◌<◌, ◌≤◌, false, IsTrue, List, [], length, Option, None, Some, IfSome}
 use Rattle.device_defs.specs.Faults.{Rose}
-use Rattle.device_defs.specs.Told.{then_told}
 use Rattle.record_defs.specs.Records.{Record, largest_file}
 use Rattle.record_defs.specs.Areas.{Area}
 use Rattle.record_defs.specs.Table.{files_of}
@@ -55,18 +55,18 @@ MayBeWhole name bytes own area records (AnswersJob.ended answer unrefused runs l
     MayHaveEnd records left.after left.doubt name (length bytes) own
 
 -- the job was refused, or found no memory to begin
-abbrev pub IsUnbegun : {kind : Kind} {own : Option ℕ} {area : Area} {records : List Record} {old new : Seen}
+abbrev pub DidNotBegin : {kind : Kind} {own : Option ℕ} {area : Area} {records : List Record} {old new : Seen}
     {end : Ending} → AnswersJob kind own area records old new end → Type 0
-IsUnbegun (AnswersJob.refused why is synced refused) = ⊤
-IsUnbegun (AnswersJob.no_memory synced refused) = ⊤
-IsUnbegun (AnswersJob.ended answer unrefused runs left ends) = ⊥
+DidNotBegin (AnswersJob.refused why is synced refused) = ⊤
+DidNotBegin (AnswersJob.no_memory synced refused) = ⊤
+DidNotBegin (AnswersJob.ended answer unrefused runs left ends) = ⊥
 
--- fewer bytes than so many were read of a source, and no more than a file may have
-pub record ReadsWithin (size : ℕ) (old new : Option (List ℕ)) : Type 0 where
+-- fewer next bytes than so many were read of a source, and with those before no more than a file may have
+pub record ReadsWithin (before size : ℕ) (old new : Option (List ℕ)) : Type 0 where
   pub bytes : List ℕ
-  pub front : old ≡ then_told bytes new
+  pub read : ReadsFront old new bytes
   pub short : length bytes < size
-  pub few : length bytes ≤ largest_file
+  pub limit : before + length bytes ≤ largest_file
 
 -- A `put`, with the profile that it names; where there is none of its number, or no memory for a stripe, the
 -- source is not read. The job is one of a file of the bytes that were read: the whole source, where its last
@@ -78,7 +78,7 @@ pub data AnswersPut (name : List ℕ) (own : Option ℕ) (old new : Seen) (end :
       → IsSynced old new → SameSource old new → IsRefused 20 0 old new end → AnswersPut name own old new end
   source_fault : (records : List Record) → IsOpened old records → is_unknown own ≡ false
       → Rose old.source_faults new.source_faults → IsSynced old new →
-      ReadsWithin (put_stripe records own) old.source new.source → IsRefused 14 0 old new end
+      ReadsWithin 0 (put_stripe records own) old.source new.source → IsRefused 14 0 old new end
       → AnswersPut name own old new end
   no_memory : new.source ≡ old.source → IsRefused 70 0 old new end
       → AnswersPut name own old new end
@@ -87,7 +87,7 @@ pub data AnswersPut (name : List ℕ) (own : Option ℕ) (old new : Seen) (end :
       → ReadsFront old.source new.source bytes → length bytes ≤ largest_file →
       (answers : AnswersJob (PutJob name bytes) own opened.area records old new end)
       → (MayBeWhole name bytes own opened.area records answers → IfSome new.source (λ left. left ≡ []))
-      → (IsUnbegun answers → length bytes ≤ put_stripe records own)
+      → (DidNotBegin answers → length bytes ≤ put_stripe records own)
       → AnswersPut name own old new end
   given_up : (records : List Record) (bytes : List ℕ) → (opened : IsOpened old records)
       → is_unknown own ≡ false → refusal_over opened.area records (PutJob name bytes) own ≡ None →

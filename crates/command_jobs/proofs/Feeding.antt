@@ -1,8 +1,8 @@
 -- A stream on its way from piece to piece.
-use Rattle.command_jobs.proofs.Words.{◌≡◌, ℕ, ◌+◌, ◌*◌, ◌<◌, ◌≤◌, Bool, true, false, List, [], ◌++◌, length, take, Option, Some, None, refl, ap, sym, subst, ◌∙◌, inl, inr, arith, IfSome, is_some, nat_lt, ltb-true, lt-ltb, cases_lt, length-append, length-take-le, take-append_seam, largest_file, AreBytes, PutJob, job_of, now, State, ReadsFront, Vault, Stands, wants_of, told_of, stripe_of, IsPiece, FitsPiece, Devices, IsUnderWay, IsStripe, IsBegun, StreamEnds, StreamStops}
+use Rattle.command_jobs.proofs.Words.{◌≡◌, ℕ, ◌+◌, ◌*◌, ◌<◌, ◌≤◌, Bool, true, false, List, [], ◌++◌, length, take, Option, Some, None, refl, ap, sym, subst, ◌∙◌, inl, inr, arith, IfSome, is_some, nat_lt, ltb-true, lt-ltb, cases_lt, length-append, length-take-le, take-append_seam, largest_file, AreBytes, PutJob, job_of, now, State, ReadsFront, Vault, Stands, wants_of, told_of, stripe_of, IsPiece, FitsPiece, Devices, IsUnderWay, IsStripe, IsBegun, StreamEnds, StreamStops, ReadsWithin}
 use Rattle.std.proofs.Common.{append_assoc, append-nil}
 use Rattle.vault.specs.declared.turn.Ended.{Ended}
-use Rattle.command_jobs.specs.Pieces.{ReadsPiece, ReadsShort}
+use Rattle.command_jobs.specs.Pieces.{ReadsPiece}
 use Rattle.command_jobs.proofs.Fed.{Follows, follows-itself, IsFed, fed-first, fed-under-way, fed-size, fed-given, fed-on, fed-end, fed-waits-on, fed-place, Went}
 use Rattle.command_jobs.proofs.ReadBytes.{bytes-append, bytes-front, reads-none, reads-on}
 
@@ -281,7 +281,7 @@ module _ {first : List ℕ} {size : ℕ} {old : Vault} {d : Devices} {v : Vault}
         }
 
         -- a read failed
-        pub stops-short : (room : ℕ) (rest : Option (List ℕ)) → room ≡ size → ReadsShort read room left rest →
+        pub stops-short : (room : ℕ) (rest : Option (List ℕ)) → room ≡ size → ReadsWithin read room left rest →
             StreamStops first size old d f was rest (λ count. count ≤ largest_file)
         stops-short room rest room_is R = record {
           more = W.more ++ R.bytes;

@@ -8,6 +8,7 @@ pub use Rattle.std.specs.List.{All, AllZip, list_all}
 pub use Rattle.std.specs.Option.{option_map}
 pub use Rattle.std.specs.Prelude.{IfErr, IfSome, is_some, IsTrue, nat_lt, slice_get}
 pub use Rattle.algebra_laws.proofs.Options.{some-not-none}
+pub use Rattle.command_defs.specs.Commands.{ReadsWithin}
 pub use Rattle.command_defs.specs.GivenUp.{PartLeft, PartRan, PartRuns, put_stripe}
 pub use Rattle.command_defs.specs.JobRuns.{AreSteps, GoesOnTo}
 pub use Rattle.command_defs.specs.Jobs.{IsNext, IsNextRecord, LeavesBy, LeftAlone, outside, RanAlone, RunsAlone, SameAround, SameOutside, with_next}

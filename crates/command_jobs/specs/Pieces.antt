@@ -4,8 +4,6 @@
 --                                  == of a source of which so many bytes were read before, the next ones lie
 --                                     at the front of a stripe: they fill it, or the source is at its end, or
 --                                     they are more than a file may have
---   ReadsShort before size old new == some next bytes were read, which fill no stripe, and the next read
---                                     failed
 use Rattle.std.specs.Prelude.{◌≡◌, ℕ, ◌+◌, ◌<◌, ◌≤◌, List, [], length, take, Option, IfSome}
 use Rattle.record_defs.specs.Records.{largest_file}
 use Rattle.command_defs.specs.Seen.{ReadsFront}
@@ -16,10 +14,3 @@ pub record ReadsPiece (before : ℕ) (stripe : List ℕ) (count : ℕ) (old new 
   pub limit : before + count ≤ largest_file + 1
   pub read : ReadsFront old new (take count stripe)
   pub end : count < length stripe → before + count ≤ largest_file → IfSome new (λ left. left ≡ [])
-
--- next bytes that fill no stripe, before a read that failed
-pub record ReadsShort (before size : ℕ) (old new : Option (List ℕ)) : Type 0 where
-  pub bytes : List ℕ
-  pub read : ReadsFront old new bytes
-  pub short : length bytes < size
-  pub limit : before + length bytes ≤ largest_file

@@ -24,6 +24,7 @@ use Rattle.machine_defs.specs.Begins.{chosen}
 use Rattle.machine_defs.specs.States.{State, setup_in}
 use Rattle.command_defs.specs.Seen.{Seen, ReadsFront}
 use Rattle.command_defs.specs.Refusals as commands
+use Rattle.command_defs.specs.Commands.{ReadsWithin}
 use Rattle.command_defs.specs.Puts.{MayHaveEnd}
 use Rattle.command_defs.specs.GivenUp.{put_stripe, PartRuns, PartLeft}
 use Rattle.vault_core.specs.declared.wish.BeginFault.{BeginFault}
@@ -37,7 +38,6 @@ use Rattle.command_jobs.specs.declared.stream.Streamed.TheVariants as streamed
 use Rattle.command_jobs.specs.declared.stream.Unbegun.{Unbegun}
 use Rattle.command_jobs.specs.declared.stream.Unbegun.TheVariants as unbegun
 use Rattle.command_jobs.specs.Going.{IsOnly, OnWay, EndsEarly}
-use Rattle.command_jobs.specs.Pieces.{ReadsShort}
 use Rattle.command_jobs.specs.Ends.{NoFaultUndone, IsRefusedOver, EndsOver}
 
 -- a stripe may have so many bytes: some symbols of 16 bytes each, and no more than a file
@@ -155,7 +155,7 @@ pub record IsRefusedRead (area : Area) (records : List Record) (name : List ℕ)
 -- there was no memory for one
 abbrev pub IsUnbegunOver : Area → List Record → List ℕ → Option ℕ → Unbegun → Option (List ℕ)
     → Option (List ℕ) → Type 0
-IsUnbegunOver area records name own unbegun.SourceFault was left = ReadsShort 0 (put_stripe records own) was left
+IsUnbegunOver area records name own unbegun.SourceFault was left = ReadsWithin 0 (put_stripe records own) was left
 IsUnbegunOver area records name own unbegun.Memory was left = left ≡ was
 IsUnbegunOver area records name own (unbegun.Refused why) was left =
     IsRefusedRead area records name own why was left

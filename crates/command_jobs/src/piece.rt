@@ -3,7 +3,8 @@ ghost use Rattle.std.specs.Prelude.{◌≡◌, length, ◌≤◌, IfOk, OnErr, I
 ghost use Rattle.device_defs.specs.Faults.{HasCause};
 ghost use Rattle.record_defs.specs.Records.{largest_file};
 ghost use Rattle.machine_defs.specs.Events.{AreBytes};
-ghost use Rattle.command_jobs.specs.Pieces.{ReadsPiece, ReadsShort};
+ghost use Rattle.command_defs.specs.Commands.{ReadsWithin};
+ghost use Rattle.command_jobs.specs.Pieces.{ReadsPiece};
 
 use stream_model::{Failed, Source};
 
@@ -25,7 +26,7 @@ pub(crate) fn read_piece<S: Source>(
     requires { before ≤ largest_file }
     ensures piece { IfOk result (λ count. ReadsPiece before stripe.new count (S.left source.old)
         (S.left source.new)) }
-    ensures short { OnErr result (ReadsShort before (length stripe.new) (S.left source.old)
+    ensures short { OnErr result (ReadsWithin before (length stripe.new) (S.left source.old)
         (S.left source.new)) }
     ensures room { length stripe.new ≡ length stripe.old }
     ensures cause { HasCause (S.faults source.old) (S.faults source.new) (IsErr result) }

@@ -1,5 +1,5 @@
 -- How a put ends whose vault was opened.
-use Rattle.hail_top.proofs.Words.{◌≡◌, ℕ, true, false, List, [], length, refl, ap, sym, ◌∙◌, subst, inl, inr, arith, IfSome, option_map, synced, Rose, Record, Area, Answer, Entry, PutJob, Seen, Ending, KeepsDisk, IsSynced, sinking, setup_in_effect, IsOpened, ran_alone, is_unknown, status_of, RunsAlone, LeftAlone, AnswersPut, begun, bad_profile, given_up, BeginFault, refusal_of, Devices, Ended, machine_answer, Unbegun, IsSeenBefore, IsRefusedOver, ending_with, unbegun_ending, TellsPut, TellsStreamed, PutsOver, resynced}
+use Rattle.hail_top.proofs.Words.{◌≡◌, ℕ, true, false, List, [], length, refl, ap, sym, ◌∙◌, subst, inl, inr, IfSome, option_map, synced, Rose, Record, Area, Answer, Entry, PutJob, Seen, Ending, KeepsDisk, IsSynced, sinking, setup_in_effect, IsOpened, ran_alone, is_unknown, status_of, RunsAlone, LeftAlone, AnswersPut, begun, bad_profile, given_up, BeginFault, refusal_of, Devices, Ended, machine_answer, Unbegun, IsSeenBefore, IsRefusedOver, ending_with, unbegun_ending, TellsPut, TellsStreamed, PutsOver, resynced}
 use Rattle.std.proofs.Common.{Option}
 use Rattle.command_defs.specs.Puts.{MayHaveEnd}
 use Rattle.command_defs.specs.Jobs as jobs
@@ -74,13 +74,8 @@ unbegun-put name own records old new d end why count left is_count is_left opene
         IsUnbegunOver opened.area records name own why old.source new.source → AnswersPut name own old new end
     by_cause unbegun.SourceFault is rose taken =
         source_fault records opened known (subst (λ (n : ℕ). Rose n new.source_faults) (sym is_count) (rose refl))
-        synced_here
-        (record {
-          bytes = taken.bytes;
-          front = taken.read.front;
-          short = taken.short;
-          few = (let l = taken.limit in omega (arith, l));
-        }) (refused-told 14 0 old new end is kept same_providers silent (λ e. faults ∙ before.faults))
+        synced_here taken
+        (refused-told 14 0 old new end is kept same_providers silent (λ e. faults ∙ before.faults))
     by_cause unbegun.Memory is rose taken =
         no_memory taken (refused-told 70 0 old new end is kept same_providers silent (λ e. faults ∙ before.faults))
     by_cause (unbegun.Refused why) is rose r = by_refusal why is r

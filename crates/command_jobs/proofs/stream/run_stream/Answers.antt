@@ -1,9 +1,8 @@
-use Rattle.command_jobs.proofs.Words.{◌≡◌, ℕ, ◌≤◌, ◌++◌, List, Option, length, map, take, drop, refl, ap, sym, subst, ◌∙◌, arith, rules, length-map, length-take-le, take-append_seam, Record, largest_file, Area, PutJob, setup_in_effect, put_stripe, ReadsFront, Rose, rose-before, devices_seen, provider_seen, IsFreshOver, StreamsTo, IsUnbegunOver}
+use Rattle.command_jobs.proofs.Words.{◌≡◌, ℕ, ◌≤◌, ◌++◌, List, Option, length, map, take, drop, refl, ap, sym, subst, ◌∙◌, arith, rules, length-map, length-take-le, take-append_seam, Record, largest_file, Area, PutJob, setup_in_effect, put_stripe, ReadsFront, ReadsWithin, Rose, rose-before, devices_seen, provider_seen, IsFreshOver, StreamsTo, IsUnbegunOver}
 use Rattle.command_jobs.specs.declared.stream.Unbegun.{Unbegun}
 use Rattle.command_jobs.specs.declared.stream.Unbegun.TheVariants as unbegun
 use Rattle.command_jobs.proofs.Alone.{refused-over}
 use Rattle.command_jobs.proofs.Beginning.{stripe-over, is-stripe, first-number, all-begun}
-use Rattle.command_jobs.specs.Pieces.{ReadsShort}
 use Rattle.command_jobs.proofs.Readings.{told-by}
 use Rattle.command_jobs.proofs.Streaming.{streams-over}
 use Rattle.command_jobs.proofs.stream.run_stream.Goals as goal
@@ -24,7 +23,7 @@ returns-in_err-first-clause-refused g c = told-by c.from_residual-in_err-first.r
     (g.S.Source.left c.read_piece.new.source))
     c.from_residual-in_err-first.ensures.1 (λ area records fresh.
     let room : length c.read_piece.new.stripe ≡ c.stripe_size.result = search rules in
-    subst (λ (size : ℕ). ReadsShort 0 size (g.S.Source.left c.args.source.now)
+    subst (λ (size : ℕ). ReadsWithin 0 size (g.S.Source.left c.args.source.now)
     (g.S.Source.left c.read_piece.new.source))
     (room ∙ (c.stripe_size.ensures ∙ stripe-over c.opened_states.ensures c.args.vault area records
     (g.D.Disk.holds c.args.disk.now) (g.D.Disk.faults c.args.disk.now) fresh c.args.profile))

@@ -10,7 +10,7 @@ returns c = record {
   disk_fault = unlisted (Unstarted.disk_fault (λ low. omega arith) (quiet refl refl refl (λ e. omega (arith, e)))) (refl, refl);
   sink_fault = sink-fault;
   source_fault = AnswersPut.source_fault four_records put-old.known.opened refl (λ low. omega arith)
-      (same-disk four_records) (record { bytes = []; front = refl; short = omega arith; few = omega arith })
+      (same-disk four_records) (record { bytes = []; read = record { are_bytes = refl; front = refl }; short = omega arith; limit = omega arith })
       (quiet refl refl refl (λ e. refl));
   no_memory = unlisted (Unstarted.no_memory (quiet refl refl refl (λ e. refl))) (refl, refl);
   bad_journal = unlisted (Unstarted.bad_journal 0 (long, inl (no_magic, refl)) (quiet refl refl refl (λ e. refl)))
