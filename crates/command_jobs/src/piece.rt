@@ -9,7 +9,7 @@ ghost use Rattle.command_jobs.specs.Pieces.{ReadsPiece};
 use stream_model::{Failed, Source};
 
 /// How many bytes of a source are read at most: one more than the longest file has.
-const PAST_LONGEST: usize = (1 << 22) + 1;
+const PAST_LONGEST: usize = record_defs::LARGEST_FILE as usize + 1;
 
 /// What a slice of bytes holds are bytes.
 pub(crate) fn bytes_are_bytes(bytes: &[u8])
