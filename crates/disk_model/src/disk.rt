@@ -1,10 +1,11 @@
-ghost use Rattle.std.specs.Prelude.{◌≡◌, ◌+◌, ◌^◌, ◌≤◌, ℕ, Option, length, take, drop, IfOk, OnOk, IsErr, IfSome, IsErrOf};
+ghost use Rattle.std.specs.Prelude.{◌≡◌, ◌+◌, ◌≤◌, ℕ, Option, length, take, drop, IfOk, OnOk, IsErr, IfSome, IsErrOf};
 ghost use Rattle.std.specs.Option.{option_map};
 ghost use Rattle.stream_model.specs.declared.fault.WriteFault.TheVariants as write_fault;
 ghost use Rattle.device_defs.specs.Faults.{HasCause, one_more};
 ghost use Rattle.device_defs.specs.Told.{Goes};
 ghost use Rattle.device_defs.specs.Cells.{Cells, reads};
 ghost use Rattle.device_defs.specs.Disks.{written, Torn, synced, Stopped};
+ghost use Rattle.record_defs.specs.Records.{largest_journal};
 
 use stream_model::{Failed, WriteFault};
 
@@ -40,7 +41,7 @@ pub trait Disk {
 
     /// Replaces or adds bytes from the offset on. A gap before it is filled with zero bytes.
     fn write_at(&mut self, at: u64, bytes: &[u8]) -> Result<(), WriteFault>
-        requires { at + length bytes.now ≤ 2 ^ 24 }
+        requires { at + length bytes.now ≤ largest_journal }
         ensures ok { OnOk result (holds self.new ≡ option_map (written at bytes.now) (holds self.old)) }
         ensures failed { IsErrOf result write_fault.Failed
             → Goes (Torn at (length bytes.now)) (holds self.old) (holds self.new) }

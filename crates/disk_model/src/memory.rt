@@ -1,10 +1,11 @@
-ghost use Rattle.std.specs.Prelude.{◌≡◌, ◌⊎◌, ◌↔◌, ◌+◌, ◌^◌, ◌≤◌, Some, length, take, drop, IfOk, OnOk, OnErr, IsErr, IsErrOf, IsTrue};
+ghost use Rattle.std.specs.Prelude.{◌≡◌, ◌⊎◌, ◌↔◌, ◌+◌, ◌≤◌, Some, length, take, drop, IfOk, OnOk, OnErr, IsErr, IsErrOf, IsTrue};
 ghost use Rattle.stream_model.specs.declared.fault.WriteFault.TheVariants as write_fault;
 ghost use Rattle.device_defs.specs.Faults.{HasCause};
 ghost use Rattle.device_defs.specs.Calls.{fails_next, no_calls, called};
 ghost use Rattle.device_defs.specs.Cells.{reads, firm};
 ghost use Rattle.device_defs.specs.Disks.{written, halved, marked, Torn, synced, Stopped};
 ghost use Rattle.device_defs.specs.Picks.{picked};
+ghost use Rattle.record_defs.specs.Records.{largest_journal};
 
 use crate::disk::Disk;
 use crate::sure::SureDisk;
@@ -85,7 +86,7 @@ impl Disk for MemDisk {
     /// A failing write makes loose what the range had, and writes the first half of the bytes, rounded down,
     /// if there is room for it.
     fn write_at(&mut self, at: u64, bytes: &[u8]) -> Result<(), WriteFault>
-        requires { at + length bytes.now ≤ 2 ^ 24 }
+        requires { at + length bytes.now ≤ largest_journal }
         ensures ok { OnOk result (self.new.cells ≡ written at bytes.now self.old.cells) }
         ensures failed { IsErrOf result write_fault.Failed
             → (self.new.cells ≡ halved at bytes.now self.old.cells)

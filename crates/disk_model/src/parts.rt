@@ -1,8 +1,9 @@
 // Bytes of a disk in memory, and beside them marks that tell which are loose.
-ghost use Rattle.std.specs.Prelude.{◌≡◌, ◌⊎◌, ◌+◌, ◌-◌, ◌^◌, ◌≤◌, length, replicate, true, false, ◌++◌, OnOk, OnErr};
+ghost use Rattle.std.specs.Prelude.{◌≡◌, ◌⊎◌, ◌+◌, ◌-◌, ◌≤◌, length, replicate, true, false, ◌++◌, OnOk, OnErr};
 ghost use Rattle.std.specs.List.{zip};
 ghost use Rattle.device_defs.specs.Disks.{spliced, written, halved, marked};
 ghost use Rattle.device_defs.specs.Picks.{picked};
+ghost use Rattle.record_defs.specs.Records.{largest_journal};
 ghost use Rattle.disk_model.specs.Ranges.{IsUnmarkedOutside};
 
 use crate::range::LooseRange;
@@ -55,7 +56,7 @@ pub fn put(
     at: usize,
     bytes: &[u8],
 ) -> Result<(), AllocError>
-    requires room { at + length bytes.now ≤ 2 ^ 24 }
+    requires room { at + length bytes.now ≤ largest_journal }
     requires same_len { length marks.old.items ≡ length held.old.items }
     ensures same_len { length marks.new.items ≡ length held.new.items }
     ensures ok { OnOk result (zip held.new.items marks.new.items ≡ written at bytes.now
@@ -81,7 +82,7 @@ pub fn put(
 
 /// Writes the first half, if there is room, and none otherwise. All of the range up to the new end is loose.
 pub fn tear(held: &mut Vec<u8>, marks: &mut Vec<bool>, at: usize, bytes: &[u8])
-    requires room { at + length bytes.now ≤ 2 ^ 24 }
+    requires room { at + length bytes.now ≤ largest_journal }
     requires same_len { length marks.old.items ≡ length held.old.items }
     ensures same_len { length marks.new.items ≡ length held.new.items }
     ensures torn { (zip held.new.items marks.new.items

@@ -1,9 +1,10 @@
-ghost use Rattle.std.specs.Prelude.{◌≡◌, ◌+◌, ◌^◌, ◌≤◌, Some, min, length, take, drop, IfOk, IfErr, OnOk, OnErr, IsOk};
+ghost use Rattle.std.specs.Prelude.{◌≡◌, ◌+◌, ◌≤◌, Some, min, length, take, drop, IfOk, IfErr, OnOk, OnErr, IsOk};
 ghost use Rattle.stream_model.specs.declared.fault.WriteFault.TheVariants as write_fault;
 ghost use Rattle.device_defs.specs.Cells.{reads, firm};
 ghost use Rattle.device_defs.specs.Disks.{written, halved, marked, synced, Stopped};
 ghost use Rattle.device_defs.specs.Faults.{one_more};
 ghost use Rattle.device_defs.specs.Picks.{picked};
+ghost use Rattle.record_defs.specs.Records.{largest_journal};
 
 use crate::disk::Disk;
 use crate::parts::{pick, put, tear, unmark};
@@ -36,7 +37,7 @@ impl Model for SureDisk {
 }
 
 impl SureDisk {
-    ghost use Rattle.std.specs.Prelude.{◌≡◌, ◌⊎◌, ◌+◌, ◌^◌, ◌≤◌, length, IfOk};
+    ghost use Rattle.std.specs.Prelude.{◌≡◌, ◌⊎◌, ◌+◌, ◌≤◌, length, IfOk};
     ghost use Rattle.device_defs.specs.Cells.{reads, firm};
     ghost use Rattle.device_defs.specs.Disks.{halved, marked};
 
@@ -65,7 +66,7 @@ impl SureDisk {
     /// What a failing write of the disk in memory does: it writes the first half of the bytes, rounded down,
     /// if it has room, and none otherwise.
     pub(crate) fn tear_at(&mut self, at: u64, bytes: &[u8])
-        requires { at + length bytes.now ≤ 2 ^ 24 }
+        requires { at + length bytes.now ≤ largest_journal }
         ensures torn { (self.new.cells ≡ halved at bytes.now self.old.cells)
             ⊎ (self.new.cells ≡ marked at (length bytes.now) self.old.cells) }
         ensures calls { self.new.made ≡ self.old.made }
@@ -113,7 +114,7 @@ impl Disk for SureDisk {
     }
 
     fn write_at(&mut self, at: u64, bytes: &[u8]) -> Result<(), WriteFault>
-        requires { at + length bytes.now ≤ 2 ^ 24 }
+        requires { at + length bytes.now ≤ largest_journal }
         ensures ok { OnOk result (self.new.cells ≡ written at bytes.now self.old.cells) }
         ensures memory { OnErr result (self.new.cells ≡ self.old.cells) }
         ensures sure { IfErr result (λ e. e ≡ write_fault.Memory) }

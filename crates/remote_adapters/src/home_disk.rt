@@ -1,5 +1,6 @@
-ghost use Rattle.std.specs.Prelude.{◌≡◌, ◌≤◌, ◌<◌, ◌+◌, ◌^◌, None, length, IfOk, OnOk, OnErr, IsErr, IsErrOf};
+ghost use Rattle.std.specs.Prelude.{◌≡◌, ◌≤◌, ◌<◌, ◌+◌, None, length, IfOk, OnOk, OnErr, IsErr, IsErrOf};
 ghost use Rattle.stream_model.specs.declared.fault.WriteFault.TheVariants as write_fault;
+ghost use Rattle.record_defs.specs.Records.{largest_journal};
 ghost use Rattle.hail_adapters.specs.DiskCounts.{not_called, with_call, with_fault};
 ghost use Rattle.remote_adapters.specs.Passes.{with_pass, HasFailed};
 
@@ -39,7 +40,7 @@ fn write_behind<R: Files + Clone + Drop>(
     at: u64,
     bytes: &[u8],
 ) -> Result<(), WriteFault>
-    requires { at + length bytes.now ≤ 2 ^ 24 }
+    requires { at + length bytes.now ≤ largest_journal }
     ensures passed { OnOk result (barrier.new ≡ with_pass barrier.old) }
     ensures stopped { barrier.old.stopped < barrier.new.stopped → disk.new ≡ disk.old }
     ensures stays { HasFailed barrier.old → IsErr result }
@@ -112,7 +113,7 @@ impl<R: Files + Clone + Drop> Disk for HomeDisk<R> {
     }
 
     fn write_at(&mut self, at: u64, bytes: &[u8]) -> Result<(), WriteFault>
-        requires { at + length bytes.now ≤ 2 ^ 24 }
+        requires { at + length bytes.now ≤ largest_journal }
         ensures ok { OnOk result (self.new.disk ≡ with_call self.old.disk) }
         ensures failed { IsErrOf result write_fault.Failed → self.new.disk ≡ with_fault (with_call self.old.disk) }
         ensures memory { IsErrOf result write_fault.Memory → self.new.disk ≡ with_call self.old.disk }

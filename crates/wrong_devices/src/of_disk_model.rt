@@ -1,9 +1,10 @@
 //! Bodies of the disk in memory, for disk_model's must-fail edits to spoil.
-ghost use Rattle.std.specs.Prelude.{◌≡◌, ◌+◌, ◌^◌, ◌≤◌, length, take, drop, IfOk, OnOk, IsErrOf};
+ghost use Rattle.std.specs.Prelude.{◌≡◌, ◌+◌, ◌≤◌, length, take, drop, IfOk, OnOk, IsErrOf};
 ghost use Rattle.stream_model.specs.declared.fault.WriteFault.TheVariants as write_fault;
 ghost use Rattle.device_defs.specs.Cells.{reads, firm};
 ghost use Rattle.device_defs.specs.Disks.{written, Torn, synced};
 ghost use Rattle.device_defs.specs.Picks.{picked};
+ghost use Rattle.record_defs.specs.Records.{largest_journal};
 
 use disk_model::{Disk, MemDisk};
 use stream_model::{Failed, WriteFault};
@@ -18,7 +19,7 @@ pub fn read_at(disk: &mut MemDisk, at: u64, out: &mut [u8]) -> Result<usize, Fai
 
 /// `MemDisk::write_at`.
 pub fn write_at(disk: &mut MemDisk, at: u64, bytes: &[u8]) -> Result<(), WriteFault>
-    requires { at + length bytes.now ≤ 2 ^ 24 }
+    requires { at + length bytes.now ≤ largest_journal }
     ensures ok { OnOk result (disk.new.cells ≡ written at bytes.now disk.old.cells) }
     ensures torn { IsErrOf result write_fault.Failed
         → Torn at (length bytes.now) disk.old.cells disk.new.cells }
