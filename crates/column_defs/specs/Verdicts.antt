@@ -9,9 +9,7 @@
 --                                           is absent or does not agree
 --   Judges o c heard old new             == a round turns these sums into those
 --   is_flagged tolerance counts j        == the count of provider j exceeds the tolerance
---   flags_some tolerance counts          == some count does
 use Rattle.std.specs.Prelude.{◌≡◌, ◌⊎◌, ℕ, ◌+◌, Bool, List, ◌∷◌, Option, nat_lt, slice_index, if◌then◌else◌}
-use Rattle.std.specs.List.{list_any}
 use Rattle.code_defs.specs.Polynomials.{value, is_seen}
 use Rattle.code_defs.specs.DispersalCode.{Accepts, AcceptsNone}
 use Rattle.column_defs.specs.Objects.{Object, points}
@@ -49,7 +47,3 @@ Judges o c heard old new =
 -- a provider is flagged by its count
 abbrev pub is_flagged : ℕ → List ℕ → ℕ → Bool
 is_flagged tolerance counts j = nat_lt tolerance (slice_index counts j)
-
--- some provider is flagged
-abbrev pub flags_some : ℕ → List ℕ → Bool
-flags_some tolerance counts = list_any (λ count. nat_lt tolerance count) counts

@@ -3,7 +3,7 @@
 --
 --   Mark                     == a moment of a run, told from the moments so far as the number of events
 --                               before it
---   settled_by tolerance r   == the audit that a record settles as it comes into effect: an AuditDone that
+--   settled_by setup r       == the audit that a record settles as it comes into effect: an AuditDone that
 --                               flags nobody its own, and a RepairDone that of its number
 --   since start ms           == the begin of the last audit that was settled, or 0, the start of the run
 --   relies kind              == a job relies on what providers hold: a get, a repair
@@ -14,8 +14,8 @@
 use Rattle.std.specs.Prelude.{◌≡◌, ℕ, ◌≤◌, Bool, true, false, IsTrue, List, [], ◌∷◌, Option, None, Some, if◌then◌else◌}
 use Rattle.code_defs.specs.Points.{upto}
 use Rattle.column_defs.specs.Forgeries.{count_of}
-use Rattle.column_defs.specs.Verdicts.{flags_some}
-use Rattle.record_defs.specs.Records.{Record, AuditDone, RepairDone}
+use Rattle.record_defs.specs.Records.{Record, Setup, AuditDone, RepairDone}
+use Rattle.record_defs.specs.Table.{exceeds}
 use Rattle.machine_defs.specs.Jobs.{Kind, GetJob, RepairJob, Job, job_of}
 use Rattle.machine_defs.specs.States.{State, setup_in}
 use Rattle.machine_defs.specs.Runs.{Moment, now, first_moments, is_replaced_since, came}
@@ -25,11 +25,11 @@ abbrev pub Mark : Type 0
 Mark = List Moment → ℕ
 
 -- the audit that a record settles as it comes into effect
-abbrev pub settled_by : ℕ → Option Record → Option ℕ
-settled_by tolerance (Some (AuditDone number undecided counts)) =
-    if flags_some tolerance counts then None else Some number
-settled_by tolerance (Some (RepairDone number)) = Some number
-settled_by tolerance came_in = None
+abbrev pub settled_by : Setup → Option Record → Option ℕ
+settled_by setup (Some (AuditDone number undecided counts)) =
+    if exceeds (Some setup) counts then None else Some number
+settled_by setup (Some (RepairDone number)) = Some number
+settled_by setup came_in = None
 
 -- the begin of an audit that has just been settled, or else the mark before
 abbrev pub mark_after : State → Option ℕ → ℕ → ℕ
@@ -40,7 +40,7 @@ mark_after w (Some number) before = w.audits number
 abbrev pub since : State → Mark
 since start [] = 0
 since start (m ∷ ms) =
-    mark_after m.state (settled_by (setup_in m.state).tolerance (came (now start ms) m.state))
+    mark_after m.state (settled_by (setup_in m.state) (came (now start ms) m.state))
     (since start ms)
 
 -- gets and repairs rely on what providers hold

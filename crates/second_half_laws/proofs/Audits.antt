@@ -1,5 +1,5 @@
 -- Audits, what is due, repairs and the mark, in a calm run in which no audit missed damage.
-use Rattle.second_half_laws.proofs.Words.{true, ◌⊎◌, refl, ap, sym, subst, ◌∙◌, inl, inr, arith, cases_Bool, cases_eq, In, is_flagged, flags_some, Record, Setup, SetUp, AuditDone, RepairDone, File, Due, setup_of, next_audit, due_of, AuditJob, RepairJob, Job, job_of, Action, WriteBody, SyncGate, Store, profiled, stripes_of, State, Doubt, IsStart, setup_in, file_in, refusal_of_begin, pinned_file, beginning, next_action, block_to_store, Moment, now, first_moments, is_replaced_since, came, IsRun, Mark, settled_by, mark_after, since, Misses, MissesNone, told_block, cond_true, cond_false, number_of, Job_is, Changes, audits, Pins_is, pins_is, setup_same, All, first_more, first_all, IsBad, IsReplaced, WasWrong, WrongAt, Remains, IsFlaggedBy, Never, PrecedesPuts, IsClear}
+use Rattle.second_half_laws.proofs.Words.{true, ◌⊎◌, refl, ap, sym, subst, ◌∙◌, inl, inr, arith, cases_Bool, cases_eq, In, is_flagged, exceeds, Record, Setup, SetUp, AuditDone, RepairDone, File, Due, setup_of, next_audit, due_of, AuditJob, RepairJob, Job, job_of, Action, WriteBody, SyncGate, Store, profiled, stripes_of, State, Doubt, IsStart, setup_in, file_in, refusal_of_begin, pinned_file, beginning, next_action, block_to_store, Moment, now, first_moments, is_replaced_since, came, IsRun, Mark, settled_by, mark_after, since, Misses, MissesNone, told_block, cond_true, cond_false, number_of, Job_is, Changes, audits, Pins_is, pins_is, setup_same, All, first_more, first_all, IsBad, IsReplaced, WasWrong, WrongAt, Remains, IsFlaggedBy, Never, PrecedesPuts, IsClear}
 use Rattle.std.proofs.Common.{◌≡◌, ℕ, ◌+◌, ◌<◌, false, List, ◌∷◌, length, Option, Some, None}
 use Rattle.machine_defs.proofs.Numbers as num
 use Rattle.run_laws.proofs.InEffect as eff
@@ -292,13 +292,13 @@ module _ (limit : ℕ) (mark : Mark) (start : State) (m : Moment) (ms : List Mom
 
       settled_audit : (d : Doubt) (number u : ℕ) (c : List ℕ) → past.doubt ≡ Some d →
           d.entry ≡ AuditDone number u c → came past m.state ≡ Some (AuditDone number u c) →
-          flags_some (setup_in m.state).tolerance c ≡ false → IsClear start (m ∷ ms) (m.state.audits number)
+          exceeds (Some (setup_in m.state)) c ≡ false → IsClear start (m ∷ ms) (m.state.audits number)
           Never
       settled_audit d number u c at e came_in none = (let P = E.audit_doubt d number u c at e in
           subst (λ n. IsClear start (m ∷ ms) n Never) (sym (audits_below T number P.0)) (on _ _ Never P.1
           (G.audit_doubt d number u c at e) (λ q f i s stood h setup l b bad w.
           inl (since_more (past.audits number) i m ms (unmissed number u c i f.id came_in P.0
-          (subst (λ (t : Setup). i < t.n) setup l) (cc (none_flagged _ c i none)) w)))))
+          (subst (λ (t : Setup). i < t.n) setup l) (cc (none_flagged (setup_in m.state) c i none)) w)))))
 
       settled_repair : (d : Doubt) (number : ℕ) → past.doubt ≡ Some d → d.entry ≡ RepairDone number →
           IsClear start (m ∷ ms) (m.state.audits number) Never
@@ -308,10 +308,10 @@ module _ (limit : ℕ) (mark : Mark) (start : State) (m : Moment) (ms : List Mom
           bad x. absurd x)))
 
       by_entry : (d : Doubt) → past.doubt ≡ Some d → (r : Record) → d.entry ≡ r → came past m.state ≡ Some r →
-          IsClear start (m ∷ ms) (mark_after m.state (settled_by (setup_in m.state).tolerance (Some r))
+          IsClear start (m ∷ ms) (mark_after m.state (settled_by (setup_in m.state) (Some r))
           (since start ms)) Never
       by_entry d at (AuditDone number u c) e came_in =
-          elim (cases_Bool (flags_some (setup_in m.state).tolerance c)) [
+          elim (cases_Bool (exceeds (Some (setup_in m.state)) c)) [
             | inl t ↦ subst (λ z. IsClear start (m ∷ ms) (mark_after m.state z (since start ms)) Never)
                 (sym (cond_true _ None _ t)) stays
             | inr f ↦ subst (λ z. IsClear start (m ∷ ms) (mark_after m.state z (since start ms)) Never)
@@ -329,9 +329,9 @@ module _ (limit : ℕ) (mark : Mark) (start : State) (m : Moment) (ms : List Mom
       ]
         where
           as_came : (o : Option Record) → came past m.state ≡ o →
-              IsClear start (m ∷ ms) (mark_after m.state (settled_by (setup_in m.state).tolerance o)
+              IsClear start (m ∷ ms) (mark_after m.state (settled_by (setup_in m.state) o)
               (since start ms)) Never → IsClear start (m ∷ ms) (since start (m ∷ ms)) Never
           as_came o e P = subst
               (λ z. IsClear start (m ∷ ms)
-              (mark_after m.state (settled_by (setup_in m.state).tolerance z) (since start ms)) Never)
+              (mark_after m.state (settled_by (setup_in m.state) z) (since start ms)) Never)
               (sym e) P

@@ -1,5 +1,5 @@
 -- Lemmas on wrong blocks, on replacements and on what records fold to.
-use Rattle.second_half_laws.proofs.Words.{true, cond, ◌⊎◌, ◌&&◌, refl, ap, sym, subst, ◌∙◌, inl, inr, arith, nat_le, nat_lt, is_some, option_map, cases_Bool, and_parts, and_from, or_cases, or_left, or_right, leb-true, le-leb, le-ltb, eq-eqb, false≢true, some-not-none, Object, stripes, columns, is_wrong_block, is_flagged, flags_some, length-column_of_symbols, Record, Setup, SetUp, PutDone, Drop, AuditDone, RepairDone, PutDoneIn, Resume, InEffect, RepairDue, File, Due, file_as, setup_of, profile_in, started_as, is_start_of, is_same_name, file_of, due_of, exceeds, Held, sized, State, AreFirst, file_object, done_record, Moment, is_replacement, is_replaced_since, is_wrong_told, is_wrong_now, told_block, cond_true, cond_false, IsAppended, put_ended, done-ended, IsBad, IsReplaced, IsEndOfPut}
+use Rattle.second_half_laws.proofs.Words.{true, cond, ◌⊎◌, ◌&&◌, refl, ap, sym, subst, ◌∙◌, inl, inr, arith, nat_le, nat_lt, is_some, option_map, cases_Bool, and_parts, and_from, or_cases, or_left, or_right, leb-true, le-leb, le-ltb, eq-eqb, false≢true, some-not-none, Object, stripes, columns, is_wrong_block, is_flagged, length-column_of_symbols, Record, Setup, SetUp, PutDone, Drop, AuditDone, RepairDone, PutDoneIn, Resume, InEffect, RepairDue, File, Due, file_as, setup_of, profile_in, started_as, is_start_of, is_same_name, file_of, due_of, exceeds, Held, sized, State, AreFirst, file_object, done_record, Moment, is_replacement, is_replaced_since, is_wrong_told, is_wrong_now, told_block, cond_true, cond_false, IsAppended, put_ended, done-ended, IsBad, IsReplaced, IsEndOfPut}
 use Rattle.std.proofs.Common.{◌≡◌, ℕ, suc, zero, ◌≤◌, ◌<◌, ◌==◌, Bool, false, List, [], ◌∷◌, length, Option, Some, None}
 use Rattle.code_defs.proofs.Codewords.{differences-same}
 use Rattle.column_defs.proofs.ForgeryLaws.{wrong-block}
@@ -161,16 +161,16 @@ due_done (RepairDue number counts) rs u good h = absurd good
 due_done r rs u good h = inl h
 
 -- where no count exceeds the tolerance, no provider is flagged
-pub none_flagged : (tolerance : ℕ) (counts : List ℕ) (j : ℕ) → flags_some tolerance counts ≡ false →
-    is_flagged tolerance counts j ≡ false
-none_flagged tolerance [] j h = le-ltb tolerance 0 (omega arith)
-none_flagged tolerance (c ∷ cs) zero h = elim (cases_Bool (nat_lt tolerance c)) [
+pub none_flagged : (s : Setup) (counts : List ℕ) (j : ℕ) → exceeds (Some s) counts ≡ false →
+    is_flagged s.tolerance counts j ≡ false
+none_flagged s [] j h = le-ltb s.tolerance 0 (omega arith)
+none_flagged s (c ∷ cs) zero h = elim (cases_Bool (nat_lt s.tolerance c)) [
   | inl t ↦ absurd (false≢true (cc))
   | inr f ↦
       f
 ]
-none_flagged tolerance (c ∷ cs) (suc j) h = none_flagged tolerance cs j
-    (elim (cases_Bool (flags_some tolerance cs)) [
+none_flagged s (c ∷ cs) (suc j) h = none_flagged s cs j
+    (elim (cases_Bool (exceeds (Some s) cs)) [
       | inl t ↦ absurd (false≢true (sym h ∙ or_right _ _ t))
       | inr f ↦ f
     ])

@@ -1,6 +1,6 @@
 -- What holds in every run of the record in doubt, of the begins of audits, and of moments before which no put
 -- began that works.
-use Rattle.second_half_laws.proofs.Words.{true, ◌⊎◌, refl, ap, sym, subst, ◌∙◌, inl, inr, arith, is_some, cases_Bool, cases_eq, cases_lt, and_right, and_from, eqb-true, eq-eqb, ne_eqb, false≢true, In, some-not-none, columns, flags_some, Record, Setup, SetUp, PutStart, Drop, AuditStart, AuditDone, RepairDone, Version, File, Due, setup_of, next_id, next_audit, started_as, file_of, due_of, Kind, PutJob, GetJob, DropJob, AuditJob, RepairJob, UpgradeJob, Pinned, Job, job_of, advanced, WriteBody, WriteGate, SyncGate, Store, Remove, profiled, stripes_of, State, Append, Doubt, Scrub, Scrubbing, IsStart, setup_in, object_in, worked_object, file_in, is_put_or_check, refusal_of_begin, pinned_file, beginning, pinned_profile, Writes, done_record, is_first_append, audits_drawn, next_action, block_to_store, Moment, now, is_replaced_since, newest, came, IsRun, settled_by, mark_after, since, begun_of, told_block, cond_true, cond_false, same_value, number_of, found_none, IsPlain, IsGated, Job_is, Append_is, Records_is, Block_is, Changes, some_told, changes, objects, audits, HasNumber, next_of_records, at_three, first_above, first_below, drawn_later, put_ended, done-ended, not_busy, right_false, IsFair, HasPin, is_fair, store_place, any_aim, Wrote, pinned_stands, Pins_is, pins_is, stands_quiet, setup_same, All, all, store_kinds, remove_kinds, IsEndOfPut, PrecedesPuts}
+use Rattle.second_half_laws.proofs.Words.{true, ◌⊎◌, refl, ap, sym, subst, ◌∙◌, inl, inr, arith, is_some, cases_Bool, cases_eq, cases_lt, and_right, and_from, eqb-true, eq-eqb, ne_eqb, false≢true, In, some-not-none, columns, exceeds, Record, Setup, SetUp, PutStart, Drop, AuditStart, AuditDone, RepairDone, Version, File, Due, setup_of, next_id, next_audit, started_as, file_of, due_of, Kind, PutJob, GetJob, DropJob, AuditJob, RepairJob, UpgradeJob, Pinned, Job, job_of, advanced, WriteBody, WriteGate, SyncGate, Store, Remove, profiled, stripes_of, State, Append, Doubt, Scrub, Scrubbing, IsStart, setup_in, object_in, worked_object, file_in, is_put_or_check, refusal_of_begin, pinned_file, beginning, pinned_profile, Writes, done_record, is_first_append, audits_drawn, next_action, block_to_store, Moment, now, is_replaced_since, newest, came, IsRun, settled_by, mark_after, since, begun_of, told_block, cond_true, cond_false, same_value, number_of, found_none, IsPlain, IsGated, Job_is, Append_is, Records_is, Block_is, Changes, some_told, changes, objects, audits, HasNumber, next_of_records, at_three, first_above, first_below, drawn_later, put_ended, done-ended, not_busy, right_false, IsFair, HasPin, is_fair, store_place, any_aim, Wrote, pinned_stands, Pins_is, pins_is, stands_quiet, setup_same, All, all, store_kinds, remove_kinds, IsEndOfPut, PrecedesPuts}
 use Rattle.std.proofs.Common.{◌≡◌, ℕ, suc, ◌+◌, ◌≤◌, ◌<◌, ◌==◌, false, List, [], ◌∷◌, length, Option, Some, None}
 use Rattle.machine_defs.specs.Refusals as refusal
 use Rattle.machine_defs.proofs.Numbers as num
@@ -1059,16 +1059,16 @@ module _ (limit : ℕ) (start : State) (m : Moment) (ms : List Moment) (A : All 
   ]
     where
       as_came : (o : Option Record) → came w m.state ≡ o →
-          PrecedesPuts start (m ∷ ms) (mark_after m.state (settled_by (setup_in m.state).tolerance o)
+          PrecedesPuts start (m ∷ ms) (mark_after m.state (settled_by (setup_in m.state) o)
           (since start ms)) → PrecedesPuts start (m ∷ ms) (since start (m ∷ ms))
       as_came o e P = subst
           (λ z. PrecedesPuts start (m ∷ ms)
-          (mark_after m.state (settled_by (setup_in m.state).tolerance z) (since start ms))) (sym e) P
+          (mark_after m.state (settled_by (setup_in m.state) z) (since start ms))) (sym e) P
 
       by_entry : (d : Doubt) → w.doubt ≡ Some d → (r : Record) → d.entry ≡ r →
-          PrecedesPuts start (m ∷ ms) (mark_after m.state (settled_by (setup_in m.state).tolerance (Some r))
+          PrecedesPuts start (m ∷ ms) (mark_after m.state (settled_by (setup_in m.state) (Some r))
           (since start ms))
-      by_entry d at (AuditDone number u c) e = elim (cases_Bool (flags_some (setup_in m.state).tolerance c)) [
+      by_entry d at (AuditDone number u c) e = elim (cases_Bool (exceeds (Some (setup_in m.state)) c)) [
         | inl t ↦ subst (λ z. PrecedesPuts start (m ∷ ms) (mark_after m.state z (since start ms)))
             (sym (cond_true _ None _ t)) (before_on (since start ms) E.mark)
         | inr f ↦ subst (λ z. PrecedesPuts start (m ∷ ms) (mark_after m.state z (since start ms)))

@@ -18,7 +18,7 @@ unfoldable pub use Rattle.column_defs.specs.Columns.{is_wrong}
 pub use Rattle.column_defs.specs.Forgeries.{count_of, is_agreeing, IsRow, IsStripeForgery}
 pub use Rattle.column_defs.specs.Objects.{bytes_of_symbols, kept_by, Object, point, stripes, symbols_in}
 pub use Rattle.column_defs.specs.Opened.{AcceptsRow, AcceptsSymbols, AllOpen, bare, block_at, GivesSymbols, LosesRow, OpensFile, OpensTo, SeenBlock, symbol_in}
-pub use Rattle.column_defs.specs.Verdicts.{flags_some, is_flagged, Judges, Sums}
+pub use Rattle.column_defs.specs.Verdicts.{is_flagged, Judges, Sums}
 pub use Rattle.column_laws.proofs.Counts.{count_of-within, opens-at}
 pub use Rattle.column_laws.proofs.RightRows.{given-right, kept-symbol, row-right, symbols-right}
 pub use Rattle.column_laws.proofs.UniqueLaws.{profile-room}
@@ -53,7 +53,7 @@ pub use Rattle.machine_defs.proofs.Untouched.{begun_later, both_none, none_left,
 pub use Rattle.machine_defs.proofs.Written.{IsAppended, IsWritten}
 pub use Rattle.machine_defs.specs.Actions.{Action, actions_by, append_actions, Ask, ask_actions, End, ends_append, Fetch, machine_pins, on_each_provider, on_each_stripe, open_actions, read_actions, Remove, remove_actions, repair_actions, rewrite_actions, rounds_of, Store, store_actions, SyncBody, SyncGate, Work, WriteBody, WriteGate}
 unfoldable pub use Rattle.machine_defs.specs.Actions.{actions_of}
-pub use Rattle.machine_defs.specs.Alone.{alone_refusal, BeginsAlone, block_to_scrub, differs, is_too_long, new_pack, new_scrub, number_alone, off_by, opened_scrub, Packs, scrub_actions, scrub_stores, scrubbed_object, Scrubs, StepsAlone, StepsScrub, unalone}
+pub use Rattle.machine_defs.specs.Alone.{alone_refusal, BeginsAlone, block_to_scrub, differs, new_pack, new_scrub, number_alone, off_by, opened_scrub, Packs, scrub_actions, scrub_stores, scrubbed_object, Scrubs, StepsAlone, StepsScrub, unalone}
 pub use Rattle.machine_defs.specs.Answers.{Answer, Audited, Got, Lost, Put, Repaired}
 pub use Rattle.machine_defs.specs.Appends.{audits_drawn, done_record, is_first_append, is_pinned, Moves, removable, subject_drawn, taken_out, Writes}
 pub use Rattle.machine_defs.specs.Audits.{asked_challenge, HasSums, JudgesFiles, JudgesRound, JudgesRounds}
