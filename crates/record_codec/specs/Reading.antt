@@ -3,7 +3,7 @@
 use Rattle.std.specs.Prelude.{ℕ, ◌&&◌, List, [], ◌∷◌, length, take, drop, Option, Some, None, nat_lt, nat_le, ◌==◌, if◌then◌else◌}
 use Rattle.std.specs.Int.{Width, w16, w32, w64, byte_len, from_le_bytes}
 use Rattle.std.proofs.Common.{zero, suc}
-use Rattle.record_defs.specs.Records.{Setup, Record, SetUp, PutStart, PutDone, Drop, AuditStart, AuditDone, RepairDone, PutDoneIn, Version, Resume, InEffect, RepairDue, is_name, is_setup}
+use Rattle.record_defs.specs.Records.{Setup, Record, SetUp, PutStart, PutDone, Drop, AuditStart, AuditDone, RepairDone, PutDoneIn, Version, Resume, InEffect, RepairDue, is_name, is_setup, largest_file}
 
 infixl 10 ◌>>=◌
 -- a step that reads on where the one before found something
@@ -57,7 +57,7 @@ unfoldable pub put_done_at : List ℕ → Option (Record × List ℕ)
 put_done_at bytes = do
   id ← number_at w64 bytes
   len ← number_at w32 id.1
-  if nat_le len.0 4194304 then Some (PutDone id.0 len.0, len.1) else None
+  if nat_le len.0 largest_file then Some (PutDone id.0 len.0, len.1) else None
 
 -- a drop: the name
 unfoldable pub drop_at : List ℕ → Option (Record × List ℕ)
@@ -109,7 +109,7 @@ object_at bytes = do
   id ← number_at w64 bytes
   size ← number_at w32 id.1
   profile ← profile_at size.1
-  if nat_le size.0 4194304 then Some ((id.0, size.0, profile.0), profile.1) else None
+  if nat_le size.0 largest_file then Some ((id.0, size.0, profile.0), profile.1) else None
 
 -- the end of a put with its profile
 unfoldable pub put_done_in_at : List ℕ → Option (Record × List ℕ)
