@@ -1,12 +1,14 @@
-ghost use Rattle.std.specs.Prelude.{◌≤◌, ◌^◌};
+ghost use Rattle.std.specs.Prelude.{◌≤◌};
+ghost use Rattle.record_defs.specs.Records.{largest_file};
 
 use code_points::find_profile;
 use file_layout::*;
 use hail_field::Shape;
+use record_defs::LARGEST_FILE;
 
 /// A file of this many bytes in stripes of 32.
 fn file(length: u32) -> FileShape
-    requires { length ≤ 2 ^ 22 }
+    requires { length ≤ largest_file }
 {
     FileShape {
         id: 1,
@@ -23,7 +25,7 @@ fn files_have_stripes_and_rows(rt: HostRuntime) {
         file(1).stripes(),
         file(32).stripes(),
         file(33).stripes(),
-        file(1 << 22).stripes(),
+        file(LARGEST_FILE).stripes(),
     ];
     assert!(rt; stripes == [0, 1, 1, 2, 131_072] && file(33).rows() == 12);
 }

@@ -1,17 +1,18 @@
 ghost use Rattle.std.specs.Prelude.{◌≡◌, ◌≤◌, ◌^◌};
 ghost use Rattle.std.specs.Int.{w128, from_le_bytes};
+ghost use Rattle.record_defs.specs.Records.{largest_file};
 
 use code_points::Profile;
 use hail_field::{Shape, Symbol};
 
-/// A stored file: its object number, its length in bytes, at most 2^22, and the codes that it is stored with.
+/// A stored file: its object number, its length in bytes, at most that of the largest one, and the codes that it is stored with.
 #[derive(Clone, Copy, Debug, PartialEq, Eq)]
 pub struct FileShape {
     pub id: u64,
     pub length: u32,
     pub shape: Shape,
     pub profile: Profile,
-    ghost short: { length ≤ 2 ^ 22 },
+    ghost short: { length ≤ largest_file },
 }
 
 // The symbol of the first 16 bytes, those past the end being zero.
