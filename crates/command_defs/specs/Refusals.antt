@@ -3,21 +3,21 @@
 --   sight_over area records  == what the refusals of a begin see of these records, where nothing runs
 --   refusal_over area records kind own
 --                            == the first one that applies; None where the job begins
---   reaches_over area records == a text in the first area reaches into the second, which a pack would write
 --   pack_refusal_over area records
 --                            == why a pack is refused; None where it begins
 --   status_of refusal        == the status that tells of it
 --
 -- area is that of the journal. own is the profile that a put names; None where it names none, and of every
 -- other job.
-use Rattle.std.specs.Prelude.{ℕ, ◌==◌, Bool, false, List, [], ◌∷◌, Option, None, Some, nat_lt}
+use Rattle.std.specs.Prelude.{ℕ, false, List, [], Option}
 use Rattle.record_defs.specs.Records.{Record}
-use Rattle.record_defs.specs.Areas.{Area, A, B, base_of, end_in}
+use Rattle.record_defs.specs.Areas.{Area, end_in}
 use Rattle.record_defs.specs.Table.{version_of, next_id, next_audit, files_of, due_of}
 use Rattle.machine_defs.specs.Jobs.{Kind, aim_of}
 use Rattle.machine_defs.specs.Refusals as refusal
 use Rattle.machine_defs.specs.Refusals.{Refusal, first_refusal}
 use Rattle.machine_defs.specs.Sights.{Sight, causes}
+use Rattle.machine_defs.specs.Alone.{pack_causes}
 use Rattle.command_defs.specs.Opens.{setup_in_effect}
 
 -- what the refusals of a begin see of records, where nothing runs and no disk call failed
@@ -39,16 +39,9 @@ sight_over area records = record {
 abbrev pub refusal_over : Area → List Record → Kind → Option ℕ → Option Refusal
 refusal_over area records kind own = first_refusal (causes 1 (sight_over area records) (aim_of kind) own)
 
--- a text in the first area reaches into the second
-abbrev pub reaches_over : Area → List Record → Bool
-reaches_over A records = nat_lt (base_of B) (end_in A records)
-reaches_over B records = false
-
 -- why a pack is refused
 abbrev pub pack_refusal_over : Area → List Record → Option Refusal
-pack_refusal_over area records =
-    first_refusal (record { applies = version_of records == 1; refusal = refusal.OldVersion }
-    ∷ record { applies = reaches_over area records; refusal = refusal.PackTooLong } ∷ [])
+pack_refusal_over area records = first_refusal (pack_causes (version_of records) area records)
 
 -- the status that tells of a refusal; the others do not come where one job runs alone
 abbrev pub status_of : Refusal → ℕ

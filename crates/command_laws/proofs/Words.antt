@@ -35,7 +35,7 @@ pub use Rattle.command_defs.specs.Packs.{AnswersPack, PackedAlone, PackLeaves, P
 pub use Rattle.command_defs.specs.Puts.{MayHaveEnd, put_done, put_records, PutIsCut, PutLeaves}
 pub use Rattle.command_defs.specs.Ran.{IsCut, IsCutInDoubt, IsWhole, job_number, object_at_begin, object_numbered, Ran, ran_alone, SameHeld, setup_at_begin, stripes_at_begin}
 pub use Rattle.code_defs.specs.Profiles.{is_unknown}
-pub use Rattle.command_defs.specs.Refusals.{pack_refusal_over, reaches_over, refusal_over, sight_over, status_of}
+pub use Rattle.command_defs.specs.Refusals.{pack_refusal_over, refusal_over, sight_over, status_of}
 pub use Rattle.command_defs.specs.Repairs.{blocks_at, flags, Gave, GivesPlace, held_at, IfFlagged, IsTruth, LosesAtPlace, PartlyRewrittenOn, Place, places_of, RepairGives, RewritesAll, RewritesPart, RewrittenOn}
 pub use Rattle.command_defs.specs.Row.{AnswersRow}
 pub use Rattle.command_defs.specs.Scrubs.{AnswersScrub, everyone, RanScrub, RunsScrub, ScrubbedAlone, ScrubGives, ScrubsAlone, SweepsAll}
@@ -60,7 +60,7 @@ pub use Rattle.lone_laws.specs.Walked.{MayName, WalkedAt}
 pub use Rattle.machine_defs.proofs.JobLists.{cond_false, cond_true, same_value}
 pub use Rattle.machine_defs.specs.Actions.{Action, End, Store, SyncBody, SyncGate, Work, WriteBody, WriteGate}
 unfoldable pub use Rattle.machine_defs.specs.Actions.{actions_of}
-pub use Rattle.machine_defs.specs.Alone.{number_alone, unalone}
+pub use Rattle.machine_defs.specs.Alone.{number_alone, reaches_over, unalone}
 pub use Rattle.machine_defs.specs.Answers.{Answer, Audited, Got, Packed, Put, Repaired, Scrubbed, Upgraded}
 pub use Rattle.machine_defs.specs.Begins.{beginning, BeginsAt, chosen, refusal_of_begin}
 pub use Rattle.machine_defs.specs.Events.{Alter, AreBytes, BeginPack, BeginScrub, Begun, Continue, Continued, Ended, Event, Init, IsSpelled, IsSpelledKind, Listed, Lose, More, Names, NothingHeld, Opened, Outcome, Refused, Reopen, Replaced, Step, Stop, Stopped as HasStopped}

@@ -11,6 +11,7 @@ ghost use Rattle.record_defs.specs.Packed.{packed};
 ghost use Rattle.record_defs.specs.Table.{File, Due, version_of, next_id, file_of, due_of};
 ghost use Rattle.record_defs.specs.Reading.{HasNoSetup};
 ghost use Rattle.machine_defs.specs.Jobs.{Kind, PutJob, DropJob, AuditJob, RepairJob, UpgradeJob};
+ghost use Rattle.machine_defs.specs.Alone.{reaches_over};
 ghost use Rattle.machine_defs.specs.Events.{AreBytes};
 ghost use Rattle.machine_defs.specs.Heard.{HoldsForgery};
 ghost use Rattle.machine_defs.specs.Refusals.{Refusal};
@@ -19,7 +20,7 @@ ghost use Rattle.command_defs.specs.Forms.{Command, Numbers, RowOf, InitWith, Ge
 ghost use Rattle.command_defs.specs.Seen.{Seen, Ending, IsRefused, provider_at};
 ghost use Rattle.opening_defs.specs.Journals.{journal_read, IsRead, IsBadStart};
 ghost use Rattle.command_defs.specs.Opens.{setup_in_effect, object_in_effect};
-ghost use Rattle.command_defs.specs.Refusals.{sight_over, refusal_over, reaches_over, pack_refusal_over, status_of};
+ghost use Rattle.command_defs.specs.Refusals.{sight_over, refusal_over, pack_refusal_over, status_of};
 ghost use Rattle.command_defs.specs.Lines.{stored_line, dropped_line, upgraded_line, packed_line};
 ghost use Rattle.command_defs.specs.Jobs.{AnswersJob};
 ghost use Rattle.command_defs.specs.Commands.{AnswersAlone, Answers};

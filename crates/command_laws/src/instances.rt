@@ -5,6 +5,7 @@ ghost use Rattle.record_defs.specs.Records.{SetUp, is_name, largest_file, larges
 ghost use Rattle.record_defs.specs.Areas.{A, end_in};
 ghost use Rattle.record_defs.specs.Packed.{packed};
 ghost use Rattle.record_defs.specs.Table.{version_of, next_id, files_of};
+ghost use Rattle.machine_defs.specs.Alone.{reaches_over};
 ghost use Rattle.machine_defs.specs.Events.{AreBytes};
 ghost use Rattle.machine_defs.specs.Openings.{IsNotSetUp};
 ghost use Rattle.machine_defs.specs.Sights.{is_crowded_for};
@@ -12,7 +13,7 @@ ghost use Rattle.machine_defs.specs.States.{State};
 ghost use Rattle.command_defs.specs.Forms.{InitWith, PutUnder, PutAt, GetOf, ListAll, AuditAll, RepairAll, UpgradeJournal, ScrubAll, PackJournal, RowOf};
 ghost use Rattle.command_defs.specs.Lines.{list_lines};
 ghost use Rattle.command_defs.specs.Opens.{setup_in_effect};
-ghost use Rattle.command_defs.specs.Refusals.{sight_over, reaches_over};
+ghost use Rattle.command_defs.specs.Refusals.{sight_over};
 ghost use Rattle.command_defs.specs.Seen.{NoCountFalls};
 ghost use Rattle.command_defs.specs.Commands.{Answers, IsUsage};
 ghost use Rattle.job_laws.specs.Failing.{bad_seen};

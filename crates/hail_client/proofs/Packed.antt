@@ -1,6 +1,6 @@
 -- A pack that runs alone beside a client's vault: its begin and its steps, as events of the machine.
 use mathlib.Core.Bool.{Bool-set}
-use Rattle.hail_client.proofs.Words.{◌≡◌, ℕ, zero, suc, ◌==◌, ◌<◌, ◌≤◌, ◌^◌, false, List, [], ◌∷◌, Option, None, Some, Result, Err, refl, ap, sym, subst, ◌∙◌, inl, inr, ◌⊎◌, arith, is_some, unwrap_or, ∥∥₁_elim, ℕ_set, false≢true, eq-eqb, is_some-none, Cells, Provider, Pack, moves_of, is_too_long, pack_refusal, BeginsPack, BeginPack, Step, Refused, More, Ended, Happens, State, cond_true, version_of, refusal_of, IsNoJob, calls_disk, called_provider, calls-nothing, BeginFault, Devices, devices, PackJob, Vault, IsPackOf, StandsPacking, pack_answer, PacksOver, MakesPackStep, held_by, IsUnchanged, Stands, client_coming, coming_by, pack_coming, pack_alone, Alone, Client, client_begin_outcome, StandsBy, ClientStands, MakesEvent, ClientMakesStep}
+use Rattle.hail_client.proofs.Words.{◌≡◌, ℕ, zero, suc, ◌==◌, ◌<◌, ◌≤◌, ◌^◌, false, List, [], ◌∷◌, Option, None, Some, Result, Err, refl, ap, sym, subst, ◌∙◌, inl, inr, ◌⊎◌, arith, is_some, unwrap_or, ∥∥₁_elim, ℕ_set, false≢true, eq-eqb, is_some-none, Cells, Provider, Pack, moves_of, pack_causes, pack_refusal, BeginsPack, BeginPack, Step, Refused, More, Ended, Happens, State, cond_true, version_of, refusal_of, IsNoJob, calls_disk, called_provider, calls-nothing, BeginFault, Devices, devices, PackJob, Vault, IsPackOf, StandsPacking, pack_answer, PacksOver, MakesPackStep, held_by, IsUnchanged, Stands, client_coming, coming_by, pack_coming, pack_alone, Alone, Client, client_begin_outcome, StandsBy, ClientStands, MakesEvent, ClientMakesStep}
 use Rattle.std.proofs.Common.{true, length}
 use Rattle.std.proofs.Props.{props}
 use Rattle.disk_model.specs.declared.disk.Disk.{Ghosts as DiskGhosts}
@@ -58,8 +58,7 @@ IsBusy result = result ≡ Err fault.Busy
 busy-why : (w : State) (a : states.Alone) → w.is_barred ≡ false → w.alone ≡ Some a →
     pack_refusal w ≡ Some refusal.Busy
 busy-why w a free alone_is = alone-busy w a free alone_is
-    (record { applies = version_of w.records == 1; refusal = refusal.OldVersion }
-    ∷ record { applies = is_too_long w w.area; refusal = refusal.PackTooLong } ∷ [])
+    (pack_causes (version_of w.records) w.area w.journal)
 
 refused-why : (w : State) (why : BeginFault) →
     ((pack_refusal w ≡ Some (refusal_of why)) ⊎ (why ≡ fault.Memory)) →

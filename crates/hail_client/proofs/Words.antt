@@ -22,7 +22,7 @@ pub use Rattle.hail_scrub.specs.Views.{called_by, next_to_do, scrub_left, ScrubV
 pub use Rattle.journal_pack.specs.Packs.{moves_of, WritesText}
 pub use Rattle.journal_pack.specs.declared.pack.Pack.{Pack}
 pub use Rattle.machine_defs.proofs.JobLists.{cond_false, cond_true}
-pub use Rattle.machine_defs.specs.Alone.{alone_refusal, BeginsPack, BeginsScrub, is_too_long, new_pack, new_scrub, number_alone, pack_refusal, Scrubs, StepsScrub, unalone}
+pub use Rattle.machine_defs.specs.Alone.{alone_refusal, BeginsPack, BeginsScrub, pack_causes, new_pack, new_scrub, number_alone, pack_refusal, Scrubs, StepsScrub, unalone}
 pub use Rattle.machine_defs.specs.Events.{Alter, AreBytes, Begin, BeginPack, BeginScrub, Begun, Closed, Continue, Continued, Ended, Event, Init, IsSpelled, IsSpelledKind, Listed, Lose, More, Names, NothingHeld, Opened, Outcome, put_event, Ready, Refused, Reopen, Step, Stop}
 pub use Rattle.machine_defs.specs.Heard.{heard_by}
 pub use Rattle.machine_defs.specs.Jobs.{aim_of, AuditJob, DropJob, GetJob, job_of, Kind, PutJob, RepairJob, UpgradeJob}

@@ -1,8 +1,7 @@
 -- Where nothing runs, a begin of the machine is refused as that of a command over the journal that the disk
 -- holds.
-use Rattle.job_laws.proofs.Words.{◌≡◌, ℕ, ◌+◌, ◌==◌, ◌||◌, Option, None, ◌∙◌, Bool, false, List, [], ◌∷◌, ap, refl, sym, length, add-zero, is_some, nat_lt, Record, Area, A, B, end_in, is_too_long, pack_refusal, Kind, PutJob, aim_of, Job, Refusal, first_refusal, setup_or_none, State, Alone, setup_in, reserved, Sight, aims_of, sight_of, causes, refusal_of_begin, IsOpenAtRest}
+use Rattle.job_laws.proofs.Words.{◌≡◌, ℕ, ◌+◌, Option, None, ◌∙◌, false, List, [], ap, refl, sym, add-zero, is_some, Record, Area, end_in, pack_refusal, Kind, PutJob, aim_of, first_refusal, setup_or_none, State, setup_in, reserved, Sight, aims_of, sight_of, causes, refusal_of_begin, IsOpenAtRest}
 use Rattle.std.specs.Prelude.{sum_by}
-use Rattle.machine_defs.specs.Refusals as refusal
 use Rattle.command_defs.specs.Refusals as commands
 use Rattle.command_defs.specs.Refusals.{sight_over}
 
@@ -28,20 +27,6 @@ module _ (w : State) where
       refusal_of_begin 8 alone kind own ≡ commands.refusal_over w.area w.journal kind own
   refusal-alone kind own = ap (λ (x : Sight). first_refusal (causes 8 x (aim_of kind) own)) sight-alone
       ∙ any-limit w.area w.journal kind own
-
-  -- what refuses a pack: that jobs may not go on, that something runs, and of the journal its version and
-  -- length
-  abbrev refused_by : Bool → List Job → Option Alone → ℕ → Bool → Option Refusal
-  refused_by barred jobs alone version long =
-      first_refusal (record { applies = barred; refusal = refusal.MustReopen }
-      ∷ record { applies = nat_lt 0 (length jobs) || is_some alone; refusal = refusal.Busy }
-      ∷ record { applies = version == 1; refusal = refusal.OldVersion }
-      ∷ record { applies = long; refusal = refusal.PackTooLong } ∷ [])
-
-  -- the machine's text is too long for a pack where the command's is
-  long-alike : (area : Area) → w.area ≡ area → is_too_long w area ≡ commands.reaches_over area w.journal
-  long-alike A e = cc
-  long-alike B e = refl
 
   module _ {first : ℕ} (O : IsOpenAtRest w first) where
     -- refusals see the same in the state and in the one over the journal
@@ -70,4 +55,4 @@ module _ (w : State) where
 
     -- so is a pack
     pub pack-refusal-of : pack_refusal w ≡ commands.pack_refusal_over w.area w.journal
-    pack-refusal-of = cc (long-alike w.area refl)
+    pack-refusal-of = cc

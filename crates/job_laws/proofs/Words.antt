@@ -54,7 +54,7 @@ pub use Rattle.machine_defs.proofs.NextActions.{next_stands}
 pub use Rattle.machine_defs.proofs.RecordFacts.{listed_file}
 pub use Rattle.machine_defs.specs.Actions.{Action, actions_by, actions_left, append_actions, appends_left, Ask, ask_actions, End, Fetch, machine_pins, on_each_provider, on_each_stripe, open_actions, read_actions, Remove, remove_actions, repair_actions, rewrite_actions, rounds_of, Store, store_actions, SyncBody, SyncGate, Work, WriteBody, WriteGate}
 unfoldable pub use Rattle.machine_defs.specs.Actions.{actions_of}
-pub use Rattle.machine_defs.specs.Alone.{differs, found_more, is_too_long, new_scrub, number_alone, opened_scrub, pack_refusal, Packs, scrub_actions, scrubbing, Scrubs, StepsAlone, StepsScrub, unalone}
+pub use Rattle.machine_defs.specs.Alone.{differs, found_more, new_scrub, number_alone, opened_scrub, pack_refusal, Packs, scrub_actions, scrubbing, Scrubs, StepsAlone, StepsScrub, unalone}
 pub use Rattle.machine_defs.specs.Answers.{Answer, Audited, DiskFault, Dropped, Got, Lost, Memory, ProviderFault, Put, Repaired, Scrubbed, Upgraded}
 pub use Rattle.machine_defs.specs.Appends.{audits_drawn, barred, begun_append, bytes_drawn, done_append, done_record, doubted, is_first_append, is_pinned, moved, Moves, removable, subject_drawn, taken_out, unappended, Writes}
 pub use Rattle.machine_defs.specs.Audits.{asked_challenge, challenge_in, HasSums, JudgesFiles, JudgesRounds}

@@ -1,5 +1,5 @@
 -- Each event makes such changes and no others.
-use Rattle.machine_defs.proofs.Words.{◌≡◌, ◌≤◌, Bool, false, ◌⊎◌, ◌&&◌, refl, ap, sym, subst, ◌∙◌, inl, inr, arith, is_some, nat_lt, option_map, lt-ltb, eqb-true, eq-eqb, ne_eqb, cases_Bool, and_parts, and_from, false≢true, Record, Setup, SetUp, next_id, setup_of, version_of, Held, Provider, with_block, without_object, LosesPart, Stores, Removes, Replaces, Kind, PutJob, GetJob, DropJob, AuditJob, RepairJob, UpgradeJob, Job, Given, Fetched, Answered, Worked, job_of, with_job, without_job, advanced, advanced_with, Action, WriteBody, SyncBody, WriteGate, SyncGate, Store, Fetch, Ask, Work, Remove, Event, Init, Begin, BeginAt, BeginScrub, BeginPack, Step, Stop, Reopen, Continue, Outcome, Ready, Refused, Opened, Begun, More, Ended, Replaced, NothingHeld, Stopped, Continued, State, Append, Doubt, Scrub, Alone, Scrubbing, setup_in, worked_object, with_provider, going_on, beginning, Writes, begun_append, done_append, subject_drawn, bytes_drawn, is_first_append, taken_out, next_action, block_to_store, alone_refusal, scrubbing, block_to_scrub, is_too_long, Cause, first_refusal, LeavesDoubt, Happens, GivesSymbols, blocks_given, Answer, refusal_of_begin}
+use Rattle.machine_defs.proofs.Words.{◌≡◌, ◌≤◌, Bool, false, ◌⊎◌, ◌&&◌, refl, ap, sym, subst, ◌∙◌, inl, inr, arith, is_some, nat_lt, option_map, lt-ltb, eqb-true, eq-eqb, ne_eqb, cases_Bool, and_parts, and_from, false≢true, Record, Setup, SetUp, next_id, setup_of, version_of, Held, Provider, with_block, without_object, LosesPart, Stores, Removes, Replaces, Kind, PutJob, GetJob, DropJob, AuditJob, RepairJob, UpgradeJob, Job, Given, Fetched, Answered, Worked, job_of, with_job, without_job, advanced, advanced_with, Action, WriteBody, SyncBody, WriteGate, SyncGate, Store, Fetch, Ask, Work, Remove, Event, Init, Begin, BeginAt, BeginScrub, BeginPack, Step, Stop, Reopen, Continue, Outcome, Ready, Refused, Opened, Begun, More, Ended, Replaced, NothingHeld, Stopped, Continued, State, Append, Doubt, Scrub, Alone, Scrubbing, setup_in, worked_object, with_provider, going_on, beginning, Writes, begun_append, done_append, subject_drawn, bytes_drawn, is_first_append, taken_out, next_action, block_to_store, alone_refusal, scrubbing, block_to_scrub, pack_causes, Cause, first_refusal, LeavesDoubt, Happens, GivesSymbols, blocks_given, Answer, refusal_of_begin}
 use Rattle.std.proofs.Common.{ℕ, ◌+◌, ◌<◌, ◌==◌, true, List, [], ◌∷◌, ◌++◌, Option, Some, None}
 use Rattle.std.specs.Prelude.{◌||◌, length}
 use Rattle.device_defs.specs.Told.{Goes}
@@ -620,13 +620,7 @@ module _ (limit moment : ℕ) (old : State) where
         begins (BeginAt profile name bytes) (PutJob name bytes) (Some profile) is_open allowed;
     scrub = λ allowed. begins_alone BeginScrub [] _ allowed;
     pack = λ allowed. begins_alone BeginPack
-        (record {
-          applies = version_of old.records == 1;
-          refusal = refusal.OldVersion;
-        } ∷ record {
-          applies = is_too_long old old.area;
-          refusal = refusal.PackTooLong;
-        } ∷ []) _ allowed;
+        (pack_causes (version_of old.records) old.area old.journal) _ allowed;
     stops = λ picks rs js area so.
         gives_all_up (Stop picks) Stopped _ refl refl (settles rs _ refl so) refl refl refl;
     opens = λ rs js area so up faults low.

@@ -20,7 +20,7 @@ pub use Rattle.record_defs.specs.Records.{all_profiles, AuditDone, AuditStart, D
 pub use Rattle.record_defs.specs.Table.{due_of, exceeds, File, file_as, file_of, files_of, is_name_before, is_same_name, is_start_of, next_audit, next_id, profile_in, setup_of, started_as, version_of, with_file, with_put, without_file}
 pub use Rattle.machine_defs.specs.Actions.{Action, actions_by, append_actions, Ask, ask_actions, End, Fetch, machine_pins, on_each_provider, on_each_stripe, open_actions, read_actions, Remove, remove_actions, repair_actions, rewrite_actions, rounds_of, Store, store_actions, SyncBody, SyncGate, Work, WriteBody, WriteGate}
 unfoldable pub use Rattle.machine_defs.specs.Actions.{actions_of}
-pub use Rattle.machine_defs.specs.Alone.{alone_refusal, BeginsAlone, block_to_scrub, is_too_long, new_pack, new_scrub, number_alone, pack_refusal, Packs, scrubbed_object, scrubbing, Scrubs, StepsAlone, StepsScrub}
+pub use Rattle.machine_defs.specs.Alone.{alone_refusal, BeginsAlone, block_to_scrub, pack_causes, new_pack, new_scrub, number_alone, pack_refusal, Packs, scrubbed_object, scrubbing, Scrubs, StepsAlone, StepsScrub}
 pub use Rattle.machine_defs.specs.Answers.{Answer, Put}
 pub use Rattle.machine_defs.specs.Appends.{barred, begun_append, bytes_drawn, done_append, done_record, doubted, is_first_append, is_pinned, IsAt, moved, Moves, removable, subject_drawn, taken_out, unappended, Writes}
 pub use Rattle.machine_defs.specs.Began.{GivesUp, IsBeginOf, IsBeginOfKind, IsOfJob, IsPutBegin, NoneBegan, WasBegun}

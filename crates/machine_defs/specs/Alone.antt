@@ -12,18 +12,21 @@
 --   Scrubs old scrub action rest outcome new == what an action of a scrub may come to, with these behind it
 --   Packs old pack moves outcome new         == what a move of a pack may come to, by how many are made
 --   StepsAlone old alone outcome new         == a step of what runs alone
+--   reaches_over area records                == a text in the first area reaches into the second, which a pack
+--                                               would write
+--   pack_causes version area journal         == what refuses a pack of a journal, but for what runs
 --   BeginsScrub, BeginsPack                  == what their begins may come to
-use Rattle.std.specs.Prelude.{◌≡◌, ◌⊎◌, ℕ, zero, suc, ◌+◌, ◌^◌, ◌==◌, ◌||◌, Bool, true, false, List, [], ◌∷◌, ◌++◌, length, map, Option, None, Some, is_some, nat_lt, if◌then◌else◌}
+use Rattle.std.specs.Prelude.{◌≡◌, ◌⊎◌, ℕ, zero, suc, ◌+◌, ◌==◌, ◌||◌, Bool, true, false, List, [], ◌∷◌, ◌++◌, length, map, Option, None, Some, is_some, nat_lt, if◌then◌else◌}
 use Rattle.std.specs.List.{flat_map}
 use Rattle.code_defs.specs.Points.{upto}
 use Rattle.code_defs.specs.ServerCode.{differences}
 use Rattle.column_defs.specs.Objects.{Object}
 use Rattle.column_defs.specs.Columns.{column_of_symbols}
 use Rattle.column_defs.specs.Opened.{GivesSymbols, LosesRow}
-use Rattle.record_defs.specs.Records.{Setup}
+use Rattle.record_defs.specs.Records.{Setup, Record}
 use Rattle.record_defs.specs.Table.{version_of, files_of}
 use Rattle.record_defs.specs.Packed.{packed}
-use Rattle.record_defs.specs.Areas.{Area, A, B, other_area, text_length}
+use Rattle.record_defs.specs.Areas.{Area, A, B, base_of, end_in, other_area, text_length}
 use Rattle.device_defs.specs.ProviderCalls.{Stores, FailsToStore, FindsNoMemory, Fetches}
 use Rattle.machine_defs.specs.Jobs.{Pinned, Fetched, Worked}
 use Rattle.machine_defs.specs.Setups.{profiled}
@@ -32,7 +35,7 @@ use Rattle.machine_defs.specs.Refusals as refusal
 use Rattle.machine_defs.specs.Refusals.{Refusal, Cause, first_refusal}
 use Rattle.machine_defs.specs.Answers.{Scrubbed, Packed, Lost, ProviderFault, DiskFault, Memory}
 use Rattle.machine_defs.specs.Events.{Outcome, Closed, Refused, Begun, More, Ended}
-use Rattle.machine_defs.specs.States.{State, Found, Scrub, Pack, Alone, Scrubbing, Packing, setup_in, object_among, journal_end, DiskCall, DiskFails, ProviderCall}
+use Rattle.machine_defs.specs.States.{State, Found, Scrub, Pack, Alone, Scrubbing, Packing, setup_in, object_among, DiskCall, DiskFails, ProviderCall}
 use Rattle.machine_defs.specs.Begins.{pin_all}
 use Rattle.machine_defs.specs.Given.{block_given, blocks_given, symbols_given}
 
@@ -201,16 +204,19 @@ abbrev pub BeginsScrub : ℕ → State → Outcome → State → Type 0
 BeginsScrub moment old outcome new =
     BeginsAlone old (alone_refusal old []) (Scrubbing (new_scrub old moment)) outcome new
 
--- an area A whose text reaches into area B
-abbrev pub is_too_long : State → Area → Bool
-is_too_long w A = nat_lt (2 ^ 23) (journal_end w)
-is_too_long w B = false
+-- a text in the first area reaches into the second
+abbrev pub reaches_over : Area → List Record → Bool
+reaches_over A records = nat_lt (base_of B) (end_in A records)
+reaches_over B records = false
+
+-- why a pack of a journal of this version is refused
+abbrev pub pack_causes : ℕ → Area → List Record → List Cause
+pack_causes version area journal = record { applies = version == 1; refusal = refusal.OldVersion }
+    ∷ record { applies = reaches_over area journal; refusal = refusal.PackTooLong } ∷ []
 
 -- why a begin of a pack is refused
 abbrev pub pack_refusal : State → Option Refusal
-pack_refusal w =
-    alone_refusal w (record { applies = version_of w.records == 1; refusal = refusal.OldVersion }
-    ∷ record { applies = is_too_long w w.area; refusal = refusal.PackTooLong } ∷ [])
+pack_refusal w = alone_refusal w (pack_causes (version_of w.records) w.area w.journal)
 
 -- a begin of a pack
 abbrev pub BeginsPack : State → Outcome → State → Type 0

@@ -1,5 +1,5 @@
 -- Sound states after a begin and after each step of what runs alone: a scrub and a pack.
-use Rattle.state_laws.proofs.Words.{◌≡◌, zero, suc, ◌==◌, true, false, ◌||◌, length, Option, refl, ap, sym, subst, ◌∙◌, inl, inr, arith, sum_by, is_some, nat_lt, cases_Bool, false≢true, eq-eqb, some-not-none, Setup, largest_journal, setup_of, version_of, files_of, AreAccepted, other_area, end_in, few-files_of, Job, Action, Store, Fetch, Work, End, Outcome, Closed, Refused, Begun, More, Ended, State, Append, Scrub, Pack, Alone, Scrubbing, Packing, setup_in, journal_end, reserved, alone_refusal, Scrubs, StepsScrub, Packs, StepsAlone, new_scrub, new_pack, is_too_long, BeginsAlone, BeginsScrub, BeginsPack, Cause, same_value, found_none, setup_same, none-is, left_false, right_false, AreNumbered, AreHeld, IsDoubtOf, starts_left, IsSoundJournal, IsSwitchable, IsSound}
+use Rattle.state_laws.proofs.Words.{◌≡◌, zero, suc, ◌==◌, true, false, ◌||◌, length, Option, refl, ap, sym, subst, ◌∙◌, inl, inr, arith, sum_by, is_some, nat_lt, cases_Bool, false≢true, eq-eqb, some-not-none, Setup, largest_journal, setup_of, version_of, files_of, AreAccepted, other_area, end_in, few-files_of, Job, Action, Store, Fetch, Work, End, Outcome, Closed, Refused, Begun, More, Ended, State, Append, Scrub, Pack, Alone, Scrubbing, Packing, setup_in, journal_end, reserved, alone_refusal, Scrubs, StepsScrub, Packs, StepsAlone, new_scrub, new_pack, pack_causes, BeginsAlone, BeginsScrub, BeginsPack, Cause, same_value, found_none, setup_same, none-is, left_false, right_false, AreNumbered, AreHeld, IsDoubtOf, starts_left, IsSoundJournal, IsSwitchable, IsSound}
 use Rattle.std.proofs.Common.{ℕ, ◌+◌, ◌≤◌, List, [], ◌∷◌, Some, None}
 use Rattle.machine_defs.specs.Answers as answer
 use Rattle.machine_defs.specs.Refusals as refusal
@@ -258,9 +258,7 @@ causes_alone w more =
     ∷ record { applies = nat_lt 0 (length w.jobs) || is_some w.alone; refusal = refusal.Busy } ∷ more
 
 abbrev causes_pack : State → List Cause
-causes_pack w =
-    record { applies = version_of w.records == 1; refusal = refusal.OldVersion }
-    ∷ record { applies = is_too_long w w.area; refusal = refusal.PackTooLong } ∷ []
+causes_pack w = pack_causes (version_of w.records) w.area w.journal
 
 module _ (limit : ℕ) (old : State) (S : IsSound limit old) where
   begins : (more : List Cause) (x : Alone) (r : Outcome) (new : State) →

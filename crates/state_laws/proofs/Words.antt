@@ -23,7 +23,7 @@ pub use Rattle.machine_defs.proofs.Refused.{left_false, none-is, none_lone, not_
 pub use Rattle.machine_defs.proofs.Sights.{any-aims, length-aims, stored-file}
 pub use Rattle.machine_defs.specs.Actions.{Action, actions_by, actions_left, append_actions, appends_left, Ask, ask_actions, End, ends_append, Fetch, machine_pins, on_each_provider, on_each_stripe, open_actions, read_actions, Remove, remove_actions, repair_actions, rewrite_actions, rounds_of, Store, store_actions, SyncBody, SyncGate, Work, WriteBody, WriteGate}
 unfoldable pub use Rattle.machine_defs.specs.Actions.{actions_of}
-pub use Rattle.machine_defs.specs.Alone.{alone_refusal, BeginsAlone, BeginsPack, BeginsScrub, is_too_long, new_pack, new_scrub, packing, Packs, Scrubs, StepsAlone, StepsScrub, switched, switching, unalone}
+pub use Rattle.machine_defs.specs.Alone.{alone_refusal, BeginsAlone, BeginsPack, BeginsScrub, pack_causes, new_pack, new_scrub, packing, Packs, Scrubs, StepsAlone, StepsScrub, switched, switching, unalone}
 pub use Rattle.machine_defs.specs.Answers.{Answer, Packed, Upgraded}
 pub use Rattle.machine_defs.specs.Appends.{audits_drawn, begun_append, bytes_drawn, done_append, done_record, is_first_append, is_pinned, IsAt, removable, subject_drawn, taken_out, Writes}
 pub use Rattle.machine_defs.specs.Audits.{challenge_in, HasSums, JudgesFiles, JudgesRound, JudgesRounds}

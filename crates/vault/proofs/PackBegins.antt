@@ -1,7 +1,7 @@
 -- A pack that begins.
-use Rattle.vault.proofs.Words.{◌≡◌, ◌⊎◌, ℕ, ◌+◌, ◌≤◌, ◌^◌, false, List, [], ◌∷◌, Option, Some, None, Ok, refl, sym, ap, ◌∙◌, subst, inl, inr, arith, IfSome, IsSome, IsTrue, is_some, nat_lt, list_all, ℕ_set, props, is_some-none, is_in_grammar, version_of, AreAccepted, Area, A, B, other_area, base_of, end_in, entries_size, text_length, packed, packed-spelled, HasPadding, IsInGrammar, IsFoldOf, is_too_long, pack_refusal, new_pack, Begun, Cause, State, pack-begins, version-either, StandsFirm, IsApart, WritesText, CoreJob, CoreView, Devices, devices, shown-again, Desk, Flight, PackJob, Vault, DeskStands, IsAtWork, IsFlight, IsQuiet, IsPackOf, PacksOver, pack_begun, handed_same}
+use Rattle.vault.proofs.Words.{◌≡◌, ◌⊎◌, ℕ, ◌+◌, ◌≤◌, ◌^◌, false, List, [], ◌∷◌, Option, Some, None, Ok, refl, sym, ap, ◌∙◌, subst, inl, inr, arith, IfSome, IsSome, IsTrue, is_some, nat_lt, list_all, ℕ_set, props, is_some-none, is_in_grammar, version_of, AreAccepted, Area, A, B, other_area, base_of, end_in, entries_size, text_length, packed, packed-spelled, HasPadding, IsInGrammar, IsFoldOf, pack_causes, reaches_over, pack_refusal, new_pack, Begun, Cause, State, pack-begins, version-either, StandsFirm, IsApart, WritesText, CoreJob, CoreView, Devices, devices, shown-again, Desk, Flight, PackJob, Vault, DeskStands, IsAtWork, IsFlight, IsQuiet, IsPackOf, PacksOver, pack_begun, handed_same}
 use Rattle.std.proofs.Common.{length}
-use Rattle.std.specs.Prelude.{◌==◌, ◌||◌, All}
+use Rattle.std.specs.Prelude.{◌||◌, All}
 use mathlib.Core.Bool.{Bool-set}
 use Rattle.record_defs.specs.Records.{Record as Entry}
 use Rattle.record_codec.specs.declared.records.Record.{Record}
@@ -113,24 +113,19 @@ module _ (v : Desk) (at : IsAtWork v) where
 -- ---- the begin
 
 -- a text that is not too long does not reach into the other area
-apart : (w : State) (area : Area) → w.area ≡ area → is_too_long w area ≡ false → IsApart area w.journal
-apart w A here fits =
-    (let e : end_in w.area w.journal ≡ end_in A w.journal = ap (λ (a : Area). end_in a w.journal) here in
-    let l = at_most (2 ^ 23) (end_in w.area w.journal) fits in omega (arith, e, l))
+apart : (area : Area) (rs : List Entry) → reaches_over area rs ≡ false → IsApart area rs
+apart A rs fits = at_most (2 ^ 23) (end_in A rs) fits
   where
     at_most : (a b : ℕ) → nat_lt a b ≡ false → b ≤ a
     at_most a b h = grind (arith, h)
-apart w B here fits = tt
+apart B rs fits = tt
 
 -- the causes for which a pack is refused
 abbrev causes_pack : State → List Cause
 causes_pack w =
     record { applies = w.is_barred; refusal = refusal.MustReopen }
-    ∷ record {
-      applies = nat_lt 0 (length w.jobs) || is_some w.alone;
-      refusal = refusal.Busy;
-    } ∷ record { applies = version_of w.records == 1; refusal = refusal.OldVersion }
-    ∷ record { applies = is_too_long w w.area; refusal = refusal.PackTooLong } ∷ []
+    ∷ record { applies = nat_lt 0 (length w.jobs) || is_some w.alone; refusal = refusal.Busy }
+    ∷ pack_causes (version_of w.records) w.area w.journal
 
 -- a pack that begins stands for the one that the machine begins
 pub pack-begun : (v : Desk) (core : CoreView) (v' : Vault) (job : PackJob) (w : State) (d : Devices)
@@ -189,7 +184,7 @@ pack-begun v core v' job w d S allowed quiet drew same is_of number before moves
         on_way = λ l. record {
           writes = writes;
           in_grammar = packed-spelled w.journal S.core.sound.journal.accepted S.core.sound.journal.spelled;
-          apart = apart w w.area refl (none-applies (causes_pack w) allowed).1.1.1.0;
+          apart = apart w.area w.journal (none-applies (causes_pack w) allowed).1.1.1.0;
           disk = subst (λ (n : ℕ). IfSome d.holds (IsAfterPack n w.area w.journal (packed w.journal)))
               (sym moves) firm;
         };

@@ -55,7 +55,7 @@ pub use Rattle.machine_defs.proofs.JobLists.{cond_false, cond_true, found_itself
 pub use Rattle.machine_defs.proofs.Sights.{length-aims, stored-file}
 pub use Rattle.machine_defs.specs.Actions.{actions_by, actions_left, append_actions, ask_actions, End, Fetch, machine_pins, on_each_provider, on_each_stripe, open_actions, Plan, read_actions, Remove, remove_actions, repair_actions, rewrite_actions, rounds_of, store_actions, SyncBody, SyncGate, Work, WriteBody, WriteGate}
 unfoldable pub use Rattle.machine_defs.specs.Actions.{actions_of}
-pub use Rattle.machine_defs.specs.Alone.{alone_refusal, barred_pack, is_too_long, new_pack, new_scrub, pack_refusal, packing, switched, switching, unalone}
+pub use Rattle.machine_defs.specs.Alone.{alone_refusal, barred_pack, pack_causes, reaches_over, new_pack, new_scrub, pack_refusal, packing, switched, switching, unalone}
 pub use Rattle.machine_defs.specs.Appends.{barred, begun_append, done_append, doubted, is_first_append, IsAt, moved, Moves, subject_drawn, taken_out, unappended, Writes}
 pub use Rattle.machine_defs.specs.Audits.{asked_challenge, challenge_in, HasSums, JudgesFiles, JudgesRound, JudgesRounds}
 pub use Rattle.machine_defs.specs.Begins.{begin_refusal, beginning, BeginsAt, chosen, new_job, pin_all, pin_by, pin_each, pin_found, pinned_file, refusal_of_begin}

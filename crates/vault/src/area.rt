@@ -4,7 +4,7 @@ ghost use Rattle.std.specs.Option.{option_map};
 ghost use Rattle.journal_core.specs.Texts.{StandsFirm};
 ghost use Rattle.journal_pack.specs.Packs.{moves_of, WritesText};
 ghost use Rattle.journal_pack.specs.Tables.{packed_table};
-ghost use Rattle.machine_defs.specs.Alone.{is_too_long, pack_refusal, switched};
+ghost use Rattle.machine_defs.specs.Alone.{reaches_over, pack_refusal, switched};
 ghost use Rattle.machine_defs.specs.States.{State};
 ghost use Rattle.record_defs.specs.Areas.{Area, other_area, base_of, text_length};
 ghost use Rattle.record_defs.specs.Packed.{packed};
@@ -35,7 +35,7 @@ impl Desk {
 
     /// Whether the journal stands in the first area, and its text reaches into the second.
     fn is_too_long(&self) -> bool
-        ensures { (w : State) (d : Devices) → DeskStands self.now d w → result ≡ is_too_long w w.area }
+        ensures { (w : State) (d : Devices) → DeskStands self.now d w → result ≡ reaches_over w.area w.journal }
     {
         self.base == FIRST_BASE && self.core.end() > SECOND_BASE
     }
