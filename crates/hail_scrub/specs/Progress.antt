@@ -19,6 +19,7 @@
 --   IsProgress p                        == what its parts owe each other
 use Rattle.std.specs.Prelude.{◌≡◌, ℕ, ◌+◌, ◌++◌, ◌*◌, ◌==◌, ◌<◌, ◌≤◌, ◌^◌, All, false, List, [], length, map, Option, None, Some, slice_get, slice_index, vec_capacity, if◌then◌else◌}
 use Rattle.column_defs.specs.Objects.{Object}
+use Rattle.record_defs.specs.Records.{most_files, largest_file}
 use Rattle.column_codec.specs.PresentBlocks.{present_blocks}
 use Rattle.file_layout.specs.Files.{shaped_object}
 use Rattle.machine_defs.specs.Actions.{Action}
@@ -88,7 +89,7 @@ pub record IsItem (n : ℕ) (master : List ℕ) (kinds : List Object) (item : It
   pub providers : item.file.shape.n ≡ n
   pub some_providers : 0 < n
   pub some : 0 < item.stripes
-  pub few : item.stripes ≤ item.file.length
+  pub few : item.stripes ≤ largest_file
   pub bench : slice_get kinds item.bench ≡ Some (file_kind master item.file)
 
 -- a stripe of one of the files
@@ -168,7 +169,7 @@ pub record TakesIn (old : Progress) (spot : Spot) (off : List ℕ) (new : Progre
 -- what the parts of a scrub owe each other
 pub record IsProgress (p : Progress) : Type 0 where
   pub few : p.providers ≤ 16
-  pub few_items : length p.items.items ≤ 1024
+  pub few_items : length p.items.items ≤ most_files
   pub items : All (IsItem p.providers p.master.0 (map bench_kind p.benches.items)) p.items.items
   pub placed : IsCursor p.providers p.items.items p.off p.cursor
   pub present : length p.blocks.present.items ≡ fetched_at p.providers p.cursor

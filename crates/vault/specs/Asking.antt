@@ -27,6 +27,7 @@ use Rattle.std.specs.Prelude.{◌≡◌, ℕ, ◌+◌, ◌-◌, ◌*◌, ◌≤�
 use Rattle.std.specs.List.{list_all}
 use Rattle.column_defs.specs.Challenges.{Challenge, challenge_of}
 use Rattle.code_defs.specs.Profiles.{profile_of}
+use Rattle.record_defs.specs.Records.{largest_file}
 use Rattle.code_points.specs.Profile.{plain_profile}
 use Rattle.column_defs.specs.Objects.{Object, stripes}
 use Rattle.column_defs.specs.Verdicts.{Sums, Judges}
@@ -197,5 +198,5 @@ pub record MayPut (v : Desk) (job object : ℕ) : Type 0 where
   pub few_picks : v.setup.picks ≤ 64
   pub file : Pinned
   pub found : pin_in v.core job object ≡ Some file
-  pub few : file.length ≤ 2 ^ 22
+  pub few : file.length ≤ largest_file
   pub rows : 1 ≤ stripes (vault_object v file.profile object) file.length * (profile_of file.profile).size

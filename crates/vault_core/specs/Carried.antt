@@ -19,10 +19,10 @@
 --   job_begun w moment kind own == the state after a begin, of a put also with a profile of its own
 --   IsNextOf w number next      == what comes next for a job in a state of the machine
 --   IsEntryOf w number e        == the record that the append of a job writes in a state of the machine
-use Rattle.std.specs.Prelude.{◌≡◌, ℕ, ◌+◌, ◌*◌, ◌^◌, ◌<◌, ◌≤◌, ◌&&◌, Bool, true, false, not, IsTrue, [], ◌∷◌, ◌++◌, length, map, replicate, slice_get, Option, None, Some}
+use Rattle.std.specs.Prelude.{◌≡◌, ℕ, ◌+◌, ◌*◌, ◌<◌, ◌≤◌, ◌&&◌, Bool, true, false, not, IsTrue, [], ◌∷◌, ◌++◌, length, map, replicate, slice_get, Option, None, Some}
 use Rattle.std.specs.List.{AllZip}
 use Rattle.column_defs.specs.Verdicts.{Sums}
-use Rattle.record_defs.specs.Records.{Setup, Record}
+use Rattle.record_defs.specs.Records.{Setup, Record, largest_file}
 use Rattle.machine_defs.specs.Jobs.{Kind, AuditJob, Aim, ToPut, aim_of, Job, job_of}
 use Rattle.machine_defs.specs.Jobs.{Pinned as PinnedBytes}
 use Rattle.machine_defs.specs.Actions.{Action, Plan, actions_of}
@@ -82,7 +82,7 @@ has_asked s j =
 
 -- a put of the longest file
 abbrev pub longest : Aim → Aim
-longest (ToPut name size) = ToPut name (2 ^ 22)
+longest (ToPut name size) = ToPut name largest_file
 longest aim = aim
 
 -- a plan as a core sees it
@@ -97,7 +97,7 @@ IsAimOf (Some told) w kind = aim_of_wish w ≡ longest (aim_of kind)
 
 -- a put of this aim is not too long
 abbrev pub IsShortAim : Aim → Type 0
-IsShortAim (ToPut name size) = size ≤ 2 ^ 22
+IsShortAim (ToPut name size) = size ≤ largest_file
 IsShortAim aim = Unit {0}
 
 -- the machine's kind of a wish, or of a stream, with at most 2^22 bytes

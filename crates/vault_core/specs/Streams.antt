@@ -16,7 +16,7 @@
 --                                   bytes
 --   FitsGiven last length job    == a put of the machine has at least so many bytes, or exactly so many where
 --                                   the last were given
-use Rattle.std.specs.Prelude.{◌≡◌, ℕ, ◌+◌, ◌*◌, ◌^◌, ◌<◌, ◌≤◌, ◌==◌, Bool, true, false, Option, None, Some, position, slice_get}
+use Rattle.std.specs.Prelude.{◌≡◌, ℕ, ◌+◌, ◌*◌, ◌<◌, ◌≤◌, ◌==◌, Bool, true, false, Option, None, Some, position, slice_get}
 use Rattle.std.specs.List.{All}
 use Rattle.column_defs.specs.Objects.{stripe_symbols}
 use Rattle.record_defs.specs.Records.{Setup, largest_file}
@@ -30,7 +30,7 @@ stripe_size s profile = 16 * stripe_symbols (object_of (profiled s profile) 0)
 
 -- a put of the longest file
 abbrev pub IsLongest : Aim → Type 0
-IsLongest (ToPut name size) = size ≡ 2 ^ 22
+IsLongest (ToPut name size) = size ≡ largest_file
 IsLongest aim = ⊥
 
 -- of a stream that was given so many stripes, which the longest file has: it has made no action behind their
@@ -39,7 +39,7 @@ abbrev pub IsToldAs : Setup → CoreJob → Option ℕ → Type 0
 IsToldAs s j None = Unit {0}
 IsToldAs s j (Some stripes) =
     (j.place ≤ 4 + stripes * s.n) × (0 < stripe_size s j.plan.profile)
-    × (stripes * stripe_size s j.plan.profile ≤ 2 ^ 22) × IsLongest j.plan.aim
+    × (stripes * stripe_size s j.plan.profile ≤ largest_file) × IsLongest j.plan.aim
 
 -- an open stream has made no action behind the stores of the stripes given so far
 abbrev pub IsTold : Setup → CoreJob → Type 0

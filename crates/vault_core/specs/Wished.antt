@@ -7,8 +7,8 @@
 --   is_closer w     == it has a last append: a put, an audit, a repair, an upgrade
 --   HasName w       == the name of a wish is a name
 --   IsShort w       == a put has at most 2^22 bytes
-use Rattle.std.specs.Prelude.{ℕ, ◌≤◌, ◌^◌, Bool, true, false, Option, None, IsTrue}
-use Rattle.record_defs.specs.Records.{is_name}
+use Rattle.std.specs.Prelude.{ℕ, ◌≤◌, Bool, true, false, Option, None, IsTrue}
+use Rattle.record_defs.specs.Records.{is_name, largest_file}
 use Rattle.record_defs.specs.Table.{File, find_file}
 use Rattle.machine_defs.specs.Jobs.{Aim, ToPut, ToGet, ToDrop, ToAudit, ToRepair, ToUpgrade}
 use Rattle.vault_table.specs.Values.{Kept}
@@ -59,5 +59,5 @@ HasName w = Unit {0}
 
 -- a put has at most 2^22 bytes
 abbrev pub IsShort : Wish → Type 0
-IsShort (wish.Put name size own) = size ≤ 2 ^ 22
+IsShort (wish.Put name size own) = size ≤ largest_file
 IsShort w = Unit {0}

@@ -1,7 +1,7 @@
 //! The last records of jobs.
 ghost use Rattle.std.specs.Prelude.{◌≡◌, ◌≤◌, ◌<◌, ◌^◌, IsTrue, nat_lt};
 ghost use Rattle.machine_defs.specs.Appends.{done_record};
-ghost use Rattle.record_defs.specs.Records.{AuditDone, RepairDone, Version, all_profiles};
+ghost use Rattle.record_defs.specs.Records.{AuditDone, RepairDone, Version, all_profiles, largest_file};
 ghost use Rattle.std.specs.List.{All};
 ghost use Rattle.record_codec.specs.Entries.{entry_of, counted, IsInGrammar, IsPadded};
 
@@ -10,7 +10,7 @@ use record_codec::{Counts, Record};
 /// The last record of a put: in the second version it has the file's profile.
 pub fn put_done(version: u8, id: u64, length: u32, profile: u8) -> Record
     ensures value { entry_of result ≡ done_record version id length profile }
-    ensures in_grammar { length ≤ 2 ^ 22 → IsTrue (nat_lt profile all_profiles) → IsInGrammar result }
+    ensures in_grammar { length ≤ largest_file → IsTrue (nat_lt profile all_profiles) → IsInGrammar result }
 {
     if version == 2 {
         Record::PutDoneIn {

@@ -1,6 +1,6 @@
-ghost use Rattle.std.specs.Prelude.{◌≡◌, ◌+◌, ◌<◌, ◌≤◌, ◌^◌, ◌||◌, ℕ, Option, None, Some, length, IsTrue, true, false, IfSome, IsSome, if◌then◌else◌, nat_le, ◌∷◌, []};
+ghost use Rattle.std.specs.Prelude.{◌≡◌, ◌+◌, ◌<◌, ◌≤◌, ◌||◌, ℕ, Option, None, Some, length, IsTrue, true, false, IfSome, IsSome, if◌then◌else◌, nat_le, ◌∷◌, []};
 ghost use Rattle.std.specs.Option.{option_map};
-ghost use Rattle.record_defs.specs.Records.{record_size};
+ghost use Rattle.record_defs.specs.Records.{record_size, largest_journal};
 ghost use Rattle.machine_defs.specs.Jobs.{job_of};
 ghost use Rattle.machine_defs.specs.Actions.{WriteBody};
 ghost use Rattle.vault_table.specs.Values.{setup_of_pair, file_of_entry};
@@ -170,7 +170,7 @@ impl Core {
         ensures value { option_map entry_of result ≡ entry_in self.now job }
         ensures there { calls_disk (next_in self.now job) ≡ true → IsSome result }
         ensures in_grammar { IfSome result (λ entry. IsInGrammar entry) }
-        ensures room { IfSome result (λ entry. self.now.end + (1 + record_size (entry_of entry)) ≤ 2 ^ 24) }
+        ensures room { IfSome result (λ entry. self.now.end + (1 + record_size (entry_of entry)) ≤ largest_journal) }
     {
         let running = self.find(job)?;
         running.entry_over(&self.table)
@@ -183,7 +183,7 @@ impl Core {
         ensures machine { (w : State) → CoreIs self.now w → wants_in self.now job ≡ None
             → IsEntryOf w job (option_map entry_of result) }
         ensures in_grammar { IfSome result (λ entry. IsInGrammar entry) }
-        ensures room { IfSome result (λ entry. self.now.end + (1 + record_size (entry_of entry)) ≤ 2 ^ 24) }
+        ensures room { IfSome result (λ entry. self.now.end + (1 + record_size (entry_of entry)) ≤ largest_journal) }
     {
         self.writing(job)
     }

@@ -1,5 +1,5 @@
-ghost use Rattle.std.specs.Prelude.{◌≡◌, ◌≤◌, ◌^◌, IsTrue, false, []};
-ghost use Rattle.record_defs.specs.Records.{is_setup};
+ghost use Rattle.std.specs.Prelude.{◌≡◌, ◌≤◌, IsTrue, false, []};
+ghost use Rattle.record_defs.specs.Records.{is_setup, largest_journal};
 ghost use Rattle.machine_defs.specs.Setups.{setup_or_none};
 
 use crate::job::Job;
@@ -42,7 +42,7 @@ impl Core {
     pub fn new(alloc: Global, table: Table, end: u64, first: u32) -> Core
         requires set_up { IsTrue (is_setup (setup_or_none table.setup)) }
         requires least { 9 ≤ end }
-        requires most { end ≤ 2 ^ 24 }
+        requires most { end ≤ largest_journal }
         ensures { result ≡ record { table = table; setup = setup_or_none table.setup; end = end; jobs = []; next_job = first; append = None; barred = false } }
     {
         let (setup, master) = match table.setup() {

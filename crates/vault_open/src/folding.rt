@@ -1,5 +1,5 @@
-ghost use Rattle.std.specs.Prelude.{◌≡◌, ◌≤◌, ◌^◌, List, [], length, IfOk, IfErr};
-ghost use Rattle.record_defs.specs.Records.{Record};
+ghost use Rattle.std.specs.Prelude.{◌≡◌, ◌≤◌, List, [], length, IfOk, IfErr};
+ghost use Rattle.record_defs.specs.Records.{Record, largest_journal};
 ghost use Rattle.record_defs.specs.Areas.{Area, IsSwitched};
 ghost use Rattle.journal_core.specs.Gates.{IsReadIn};
 ghost use Rattle.vault_open.specs.Faults.{refusal_answer};
@@ -23,7 +23,7 @@ fn answer_to(why: Refused, at: u64) -> StartFault
 /// The fold of the records of the active area, whose first gate stands at `base`, and the offset past the gate
 /// that closes its text, both in bytes from the start of the disk. The time is linear in the number of bytes.
 fn fold_area(alloc: Global, bytes: &[u8], base: usize) -> Result<(Table, u64), StartFault>
-    requires short { length bytes.now ≤ 2 ^ 24 }
+    requires short { length bytes.now ≤ largest_journal }
     requires first { (area : Area) × IsSwitched bytes.now area × IsReadIn bytes.now area [] base }
     ensures ok { IfOk result (λ x. (area : Area) × (rs : List Record)
         × IsFolded bytes.now area rs x.0 base x.1) }
@@ -43,7 +43,7 @@ fn fold_area(alloc: Global, bytes: &[u8], base: usize) -> Result<(Table, u64), S
 /// The fold of the records of the active area, where that begins, and the offset past the gate that closes its
 /// text.
 pub(crate) fn fold_active(alloc: Global, bytes: &[u8]) -> Result<(Table, u64, u64), StartFault>
-    requires { length bytes.now ≤ 2 ^ 24 }
+    requires { length bytes.now ≤ largest_journal }
     ensures ok { IfOk result (λ x. (area : Area) × (rs : List Record)
         × IsFolded bytes.now area rs x.0 x.1 x.2) }
     ensures refused { IfErr result (IsFoldFault bytes.now) }
